@@ -1,6 +1,7 @@
 //! The reading of the pool.
 
 ghost use Rattle.std.specs.Prelude.{◌≡◌, false};
+ghost use Rattle.std.specs.List.{list_all};
 ghost use Rattle.jtypes.specs.Layout.{Takes, first};
 ghost use Rattle.constpool.specs.Pool.{is_text_byte, utf8, integer, long, method_handle, body, constant, slot, slots, takes_two};
 
@@ -14,13 +15,19 @@ fn is_text_byte(b: u8) -> bool
     b != 0 && b < 0xF0
 }
 
+fn is_text(bytes: &[u8]) -> bool
+    ensures { result ≡ list_all is_text_byte bytes.now }
+{
+    bytes.iter().all(|b| is_text_byte(*b))
+}
+
 #[tactic(auto, unfolding(crate::specs::Pool::utf8))]
 fn read_utf8(alloc: Global, cursor: &mut Cursor<'_>) -> Result<Constant, Refusal>
     ensures { Takes (λ x. x) result (first utf8 cursor.old) cursor.new }
 {
     let length = cursor.u16()?;
     let text = cursor.part(usize::from(length))?;
-    if !text.iter().all(|b| is_text_byte(*b)) {
+    if !is_text(text) {
         return Err(Refusal::BadPool);
     }
     let text = Vec::from_slice(alloc, text)?;
