@@ -1,0 +1,155 @@
+//! What the paths of one method take at most.
+
+use decode::{Instruction, Placed};
+use frames::Reached;
+use std::alloc::{AllocError, Global};
+use typecheck::Typed;
+
+/// Steps and words, and the greatest slots and depth of nested activations. Sums saturate, far above every limit.
+#[derive(Clone, Copy, Debug, PartialEq, Eq)]
+pub struct Cost {
+    pub steps: u32,
+    pub words: u32,
+    pub slots: u32,
+    pub depth: u32,
+}
+
+impl Cost {
+    /// No path.
+    const NONE: Cost = Cost {
+        steps: 0,
+        words: 0,
+        slots: 0,
+        depth: 0,
+    };
+
+    /// The greater of each.
+    fn or(self, other: Cost) -> Cost {
+        Cost {
+            steps: self.steps.max(other.steps),
+            words: self.words.max(other.words),
+            slots: self.slots.max(other.slots),
+            depth: self.depth.max(other.depth),
+        }
+    }
+
+    /// One instruction before, and so many words.
+    fn after_one(self, words: u32) -> Cost {
+        Cost {
+            steps: self.steps.saturating_add(1),
+            words: self.words.saturating_add(words),
+            slots: self.slots,
+            depth: self.depth,
+        }
+    }
+
+    /// A call and its callee before, in an activation of so many slots.
+    fn after_call(self, own_slots: u32, callee: Cost) -> Cost {
+        Cost {
+            steps: self.steps.saturating_add(callee.steps).saturating_add(1),
+            words: self.words.saturating_add(callee.words),
+            slots: self.slots.max(callee.slots.saturating_add(own_slots)),
+            depth: self.depth.max(callee.depth.saturating_add(1)),
+        }
+    }
+}
+
+/// The slots of one activation.
+fn own_slots(method: &Typed) -> u32 {
+    u32::from(method.environment.max_locals) + u32::from(method.environment.max_stack)
+}
+
+/// The words of a new array whose length is the constant before; other instructions take none.
+fn words_at(method: &Typed, p: &Placed) -> u32 {
+    match p.instruction {
+        Instruction::NewArray(_) => match pushed_before(method, p.place) {
+            Some(n) => u32::try_from(n).unwrap_or(0).saturating_add(1),
+            None => 1,
+        },
+        _ => 0,
+    }
+}
+
+/// The int constant pushed directly before a place.
+fn pushed_before(method: &Typed, place: usize) -> Option<i32> {
+    method.code.before(place)?.instruction.pushed_int()
+}
+
+/// Whether a newarray has a constant length from 0 to 65,535 before it, and no declared frame.
+pub fn has_length(method: &Typed, p: &Placed) -> bool {
+    let constant = match pushed_before(method, p.place) {
+        Some(n) => 0 <= n && n <= 65_535,
+        None => false,
+    };
+    constant && method.declared.binary_search(&p.place).is_err()
+}
+
+/// The cost from a place on, in the row of the costs by places.
+fn cost_at(costs: &[Cost], place: usize) -> Cost {
+    costs.get(place).copied().unwrap_or(Cost::NONE)
+}
+
+fn cost_at_target(costs: &[Cost], target: i64) -> Cost {
+    match usize::try_from(target) {
+        Ok(place) => cost_at(costs, place),
+        Err(_) => Cost::NONE,
+    }
+}
+
+/// The cost of the method that an own call reaches, if it is known; of other calls none is asked.
+fn callee_cost(method: &Typed, place: usize, known: &[Option<Cost>]) -> Option<Cost> {
+    match method.callee(place) {
+        Some(callee) => match callee.reached {
+            Reached::Own(k) => known.get(k).copied().flatten(),
+            Reached::Library(_) => None,
+        },
+        None => None,
+    }
+}
+
+/// The cost from one instruction on, from the costs behind it.
+fn cost_of(method: &Typed, p: &Placed, costs: &[Cost], known: &[Option<Cost>]) -> Cost {
+    let slots = own_slots(method);
+    let next = cost_at(costs, p.next);
+    match p.instruction {
+        Instruction::Return(_) | Instruction::ReturnVoid => Cost {
+            steps: 1,
+            words: 0,
+            slots,
+            depth: 1,
+        },
+        Instruction::Goto(target) => cost_at_target(costs, target).after_one(0),
+        Instruction::Branch(_, target) => { cost_at_target(costs, target).or(next).after_one(0) }
+        Instruction::Invoke(_, _) => match callee_cost(method, p.place, known) {
+            Some(callee) => next.after_call(slots, callee),
+            None => next.after_one(0),
+        },
+        _ => next.after_one(words_at(method, p)),
+    }
+}
+
+/// Whether each own call of a method reaches one whose cost is known.
+pub fn is_ready(method: &Typed, known: &[Option<Cost>]) -> bool {
+    method.calls.iter().all(|called| match called.callee.reached {
+        Reached::Own(k) => known.get(k).copied().flatten().is_some(),
+        Reached::Library(_) => true,
+    })
+}
+
+/// What the paths of a method take at most, from what those of the methods that it calls do: one pass from its end to its start,
+/// since every branch goes forward.
+pub fn greatest(alloc: Global, method: &Typed, known: &[Option<Cost>]) -> Result<Cost, AllocError> {
+    let code = method.code.as_slice();
+    let size = match code.last() {
+        Some(p) => p.place.saturating_add(1),
+        None => 0,
+    };
+    let mut costs = vec![in alloc; Cost::NONE; size]?;
+    for p in code.iter().rev() {
+        let cost = cost_of(method, p, &costs, known);
+        if let Some(row) = costs.get_mut(p.place) {
+            *row = cost;
+        }
+    }
+    Ok(cost_at(&costs, 0))
+}

@@ -1,0 +1,108 @@
+//! The verdict, level by level.
+
+use crate::instructions::judge_instructions;
+use crate::shape::{Shape, is_process, judge_shape};
+use bounds::{Bounds, bound};
+use classfile::{ClassFile, ClassView, CodeParts, contents_named, read_class};
+use constpool::names;
+use decode::Code;
+use frames::{Environment, method_signature};
+use jtypes::Refusal;
+use std::alloc::Global;
+use typecheck::{Typed, check_method};
+
+/// A class that was accepted.
+#[derive(Debug, Drop)]
+pub struct Verified {
+    class: ClassFile,
+    methods: Vec<Typed>,
+    bounds: Bounds,
+}
+
+impl Verified {
+    /// What an invocation takes at most.
+    pub fn bounds(&self) -> Bounds {
+        self.bounds
+    }
+
+    pub fn view(&self) -> ClassView<'_> {
+        self.class.view()
+    }
+
+    /// The method with this number among the methods of the class, but the constructor.
+    pub fn method(&self, number: usize) -> Option<&Typed> {
+        match self.methods.binary_search_by_key(&number, |m| m.number) {
+            Ok(i) => self.methods.get(i),
+            Err(_) => None,
+        }
+    }
+
+    /// `process` with the erased descriptor.
+    pub fn process(&self) -> Option<&Typed> {
+        self.methods.iter().find(|m| m.is_process)
+    }
+}
+
+/// Checks the types of the method with this number.
+fn judge_method(
+    alloc: Global,
+    class: &ClassFile,
+    number: usize,
+    parts: &CodeParts,
+    code: Code,
+) -> Result<Typed, Refusal> {
+    let view = class.view();
+    let Some(method) = view.method(number) else {
+        return Err(Refusal::BadDescriptor);
+    };
+    let Some(signature) = method_signature(alloc, &view, &method)? else {
+        return Err(Refusal::BadDescriptor);
+    };
+    let is_process = match class.parts.methods.as_slice().get(number) {
+        Some(member) => is_process(class, member),
+        None => false,
+    };
+    let environment = Environment {
+        signature,
+        max_stack: parts.max_stack,
+        max_locals: parts.max_locals,
+    };
+    let tables = contents_named(
+        alloc,
+        &class.pool,
+        names::STACK_MAP_TABLE,
+        parts.attributes.as_slice(),
+    )?;
+    check_method(alloc, number, is_process, environment, &tables, code, &view)
+}
+
+/// Checks the types of the methods but the constructor.
+fn judge_types(
+    alloc: Global,
+    class: &ClassFile,
+    codes: &[CodeParts],
+    instructions: Vec<Option<Code>>,
+) -> Result<Vec<Typed>, Refusal> {
+    let mut methods = Vec::new(alloc);
+    for (number, (parts, code)) in codes.iter().zip(instructions).enumerate() {
+        if let Some(code) = code {
+            methods.push(judge_method(alloc, class, number, parts, code)?)?;
+        }
+    }
+    Ok(methods)
+}
+
+/// Judges the bytes of a class, level by level: its layout, its shape, its instructions, their types, and its bounds
+/// (JVMS §4, §4.10.1).
+pub fn verify(alloc: Global, bytes: &[u8]) -> Result<Verified, Refusal> {
+    let class = read_class(alloc, bytes)?;
+    let Shape { codes, constructor } = judge_shape(alloc, &class)?;
+    let instructions = judge_instructions(alloc, &class, &codes, constructor)?;
+    let methods = judge_types(alloc, &class, &codes, instructions)?;
+    let bounds = bound(alloc, &methods)?;
+    Ok(Verified {
+        class,
+        methods,
+        bounds,
+    })
+}
