@@ -201,7 +201,7 @@ fn read_operands(
 }
 
 /// Reads the instruction at a place of a code, and leaves the cursor behind it.
-#[tactic(auto, unfolding(crate::specs::Code::one))]
+#[tactic(auto, unfolding(crate::specs::Code::one, crate::specs::Code::by_form))]
 pub fn read_instruction(
     alloc: Global,
     pool: &Pool,
