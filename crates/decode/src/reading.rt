@@ -1,0 +1,257 @@
+//! The reading of instructions.
+
+ghost use Rattle.std.specs.Prelude.{◌≡◌, ◌≢◌, ◌+ℤ◌, length, is_some, if◌then◌else◌, Ok, Err, IfOk, IfErr, pos, List, ℕ};
+ghost use Rattle.jtypes.specs.declared.refusal.Refusal.{Refusal};
+ghost use Rattle.jtypes.specs.Layout.{Gives, Takes, first};
+ghost use Rattle.constpool.specs.Lookup.{constant_at, class_at, method_at, interface_method_at};
+ghost use Rattle.decode.specs.declared.instruction.Form.TheVariants as form;
+ghost use Rattle.decode.specs.Code.{signed_byte, signed_short, int_constant, long_constant, array_of_code, slots_of_member, is_count, operands, by_form, one, IsSequence};
+ghost use Rattle.decode.specs.Places.{CodeStands};
+ghost use Rattle.decode.specs.Reading.{Reads};
+
+use crate::instruction::{Form, Instruction, Placed};
+use crate::sequence::Code;
+use crate::table::form_of;
+use constpool::{Constant, Pool, param_slots, parse_method_descriptor};
+use jtypes::{ArrayKind, Cursor, Invoke, Pushed, Refusal};
+use std::alloc::{AllocError, Global};
+
+#[tactic(auto, unfolding(crate::specs::Code::signed_byte))]
+fn read_signed_byte(cursor: &mut Cursor<'_>) -> Result<i8, Refusal>
+    ensures { Takes (λ x. x) result (first signed_byte cursor.old) cursor.new }
+{
+    Ok(cursor.u8_operand()?.cast_signed())
+}
+
+#[tactic(auto, unfolding(crate::specs::Code::signed_short))]
+fn read_signed_short(cursor: &mut Cursor<'_>) -> Result<i16, Refusal>
+    ensures { Takes (λ x. x) result (first signed_short cursor.old) cursor.new }
+{
+    Ok(cursor.u16_operand()?.cast_signed())
+}
+
+/// What `ldc` and `ldc_w` push. Constants that a JVM would load, but no int, are outside the profile.
+#[tactic(auto, unfolding(crate::specs::Code::int_constant))]
+fn int_constant(pool: &Pool, opcode: u8, index: u16) -> Result<Instruction, Refusal>
+    ensures { (rest : List ℕ) → Takes (λ x. x) result (first (int_constant opcode (constant_at pool.now index)) rest) rest }
+{
+    match pool.constant(index) {
+        Some(Constant::Integer(value)) => Ok(Instruction::Push(Pushed::Int(*value))),
+        Some(
+            Constant::Float(_)
+            | Constant::Double(_)
+            | Constant::String(_)
+            | Constant::Class(_)
+            | Constant::MethodHandle(..)
+            | Constant::MethodType(_),
+        ) => Err(Refusal::OutsideProfile(opcode)),
+        _ => Err(Refusal::BadOperand),
+    }
+}
+
+/// What `ldc2_w` pushes.
+#[tactic(auto, unfolding(crate::specs::Code::long_constant))]
+fn long_constant(pool: &Pool, opcode: u8, index: u16) -> Result<Instruction, Refusal>
+    ensures { (rest : List ℕ) → Takes (λ x. x) result (first (long_constant opcode (constant_at pool.now index)) rest) rest }
+{
+    match pool.constant(index) {
+        Some(Constant::Long(value)) => Ok(Instruction::Push(Pushed::Long(*value))),
+        Some(
+            Constant::Float(_)
+            | Constant::Double(_)
+            | Constant::String(_)
+            | Constant::Class(_)
+            | Constant::MethodHandle(..)
+            | Constant::MethodType(_),
+        ) => Err(Refusal::OutsideProfile(opcode)),
+        _ => Err(Refusal::BadOperand),
+    }
+}
+
+/// A place that lies so far from a branch.
+fn target_from(place: usize, offset: i16) -> i128
+    ensures { result ≡ pos place +ℤ offset }
+{
+    place as i128 + i128::from(offset)
+}
+
+/// That the index names a method of a class.
+fn check_method(pool: &Pool, index: u16) -> Result<(), Refusal>
+    ensures { result ≡ (if is_some (method_at pool.now index) then Ok tt else Err Refusal.BadOperand) }
+{
+    match pool.method(index) {
+        Some(_) => Ok(()),
+        None => Err(Refusal::BadOperand),
+    }
+}
+
+/// That the index names a class.
+fn check_class(pool: &Pool, index: u16) -> Result<(), Refusal>
+    ensures { result ≡ (if is_some (class_at pool.now index) then Ok tt else Err Refusal.BadOperand) }
+{
+    match pool.class(index) {
+        Some(_) => Ok(()),
+        None => Err(Refusal::BadOperand),
+    }
+}
+
+/// Whether a call of the interface's method takes so many slots, its receiver's among them.
+fn takes_slots(alloc: Global, pool: &Pool, index: u16, slots: u8) -> Result<bool, AllocError>
+    ensures { IfOk result (λ b. b ≡ is_count (slots_of_member (interface_method_at pool.now index)) slots) }
+{
+    let Some(method) = pool.interface_method(index) else {
+        return Ok(false);
+    };
+    match parse_method_descriptor(alloc, method.descriptor) {
+        Ok(sig) => Ok(slots > 0 && param_slots(&sig) == usize::from(slots) - 1),
+        Err(Refusal::NoMemory) => Err(AllocError),
+        Err(_) => Ok(false),
+    }
+}
+
+/// The operands of `invokeinterface`: an index, the slots that the call takes, and a byte that is 0.
+#[tactic(auto, unfolding(crate::specs::Code::operands))]
+fn read_invoke_interface(
+    alloc: Global,
+    pool: &Pool,
+    cursor: &mut Cursor<'_>,
+) -> Result<Instruction, Refusal>
+    ensures { (at opcode : ℕ) → Takes (λ x. x) result (first (operands pool.now at opcode form.InvokeInterface) cursor.old) cursor.new }
+{
+    let index = cursor.u16_operand()?;
+    let slots = cursor.u8_operand()?;
+    let zero = cursor.u8_operand()?;
+    if takes_slots(alloc, pool, index, slots)? && zero == 0 {
+        Ok(Instruction::Invoke(Invoke::Interface, index))
+    } else {
+        Err(Refusal::BadOperand)
+    }
+}
+
+/// What `newarray` makes: 10 is int and 11 long, and 4 to 9 are the other primitive types.
+#[tactic(auto, unfolding(crate::specs::Code::array_of_code))]
+fn array_of_code(opcode: u8, code: u8) -> Result<Instruction, Refusal>
+    ensures { (rest : List ℕ) → Takes (λ x. x) result (first (array_of_code opcode code) rest) rest }
+{
+    match code {
+        10 => Ok(Instruction::NewArray(ArrayKind::Int)),
+        11 => Ok(Instruction::NewArray(ArrayKind::Long)),
+        4..=9 => Err(Refusal::OutsideProfile(opcode)),
+        _ => Err(Refusal::BadOperand),
+    }
+}
+
+#[tactic(auto, unfolding(crate::specs::Code::operands))]
+fn read_operands(
+    alloc: Global,
+    pool: &Pool,
+    place: usize,
+    opcode: u8,
+    form: Form,
+    cursor: &mut Cursor<'_>,
+) -> Result<Instruction, Refusal>
+    ensures { Takes (λ x. x) result (first (operands pool.now place opcode form) cursor.old) cursor.new }
+{
+    match form {
+        Form::Alone(instruction) => Ok(instruction),
+        Form::PushByte => {
+            let value = i32::from(read_signed_byte(cursor)?);
+            Ok(Instruction::Push(Pushed::Int(value)))
+        },
+        Form::PushShort => {
+            let value = i32::from(read_signed_short(cursor)?);
+            Ok(Instruction::Push(Pushed::Int(value)))
+        },
+        Form::IntConstant => int_constant(pool, opcode, u16::from(cursor.u8_operand()?)),
+        Form::WideIntConstant => int_constant(pool, opcode, cursor.u16_operand()?),
+        Form::LongConstant => long_constant(pool, opcode, cursor.u16_operand()?),
+        Form::Load(kind) => Ok(Instruction::Load(kind, u16::from(cursor.u8_operand()?))),
+        Form::Store(kind) => Ok(Instruction::Store(kind, u16::from(cursor.u8_operand()?))),
+        Form::Increment => {
+            let local = u16::from(cursor.u8_operand()?);
+            let value = i16::from(read_signed_byte(cursor)?);
+            Ok(Instruction::Increment(local, value))
+        }
+        Form::Branch(test) => {
+            let offset = read_signed_short(cursor)?;
+            Ok(Instruction::Branch(test, target_from(place, offset)))
+        }
+        Form::Goto => {
+            let offset = read_signed_short(cursor)?;
+            Ok(Instruction::Goto(target_from(place, offset)))
+        }
+        Form::Invoke(kind) => {
+            let index = cursor.u16_operand()?;
+            check_method(pool, index)?;
+            Ok(Instruction::Invoke(kind, index))
+        }
+        Form::InvokeInterface => read_invoke_interface(alloc, pool, cursor),
+        Form::NewArray => array_of_code(opcode, cursor.u8_operand()?),
+        Form::CheckCast => {
+            let index = cursor.u16_operand()?;
+            check_class(pool, index)?;
+            Ok(Instruction::CheckCast(index))
+        }
+        Form::InstanceOf => {
+            let index = cursor.u16_operand()?;
+            check_class(pool, index)?;
+            Ok(Instruction::InstanceOf(index))
+        }
+    }
+}
+
+/// Reads the instruction at a place of a code, and leaves the cursor behind it.
+#[tactic(auto, unfolding(crate::specs::Code::one, crate::specs::Code::by_form))]
+pub fn read_instruction(
+    alloc: Global,
+    pool: &Pool,
+    place: usize,
+    cursor: &mut Cursor<'_>,
+) -> Result<Instruction, Refusal>
+    ensures { Takes (λ x. x) result (first (one pool.now place) cursor.old) cursor.new }
+{
+    let opcode = cursor.u8_operand()?;
+    match form_of(opcode) {
+        Some(form) => read_operands(alloc, pool, place, opcode, form, cursor),
+        None if opcode < 0xCA => Err(Refusal::OutsideProfile(opcode)),
+        None => Err(Refusal::UnknownOpcode),
+    }
+}
+
+/// The instructions of a code, up to its end.
+fn read_sequence(alloc: Global, pool: &Pool, bytes: &[u8]) -> Result<Vec<Placed>, Refusal>
+    ensures { Reads pool.now bytes.now result }
+{
+    let mut placed = Vec::new(alloc);
+    let mut cursor = Cursor::new(bytes);
+    while !cursor.is_empty() {
+        let place = bytes.len() - cursor.rest().len();
+        let instruction = read_instruction(alloc, pool, place, &mut cursor)?;
+        let next = bytes.len() - cursor.rest().len();
+        placed.push(Placed {
+            place,
+            next,
+            instruction,
+        })?;
+    }
+    Ok(placed)
+}
+
+/// Reads the bytes of a code as instructions end to end, from place 0 on (JVMS SE 8 §4.7.3, §4.9.1).
+///
+/// Each branch of the answer leads forward, to the place of an instruction. Whether the members that
+/// are called exist, and what the instructions find on the stack, is judged elsewhere.
+pub fn decode(alloc: Global, bytes: &[u8], pool: &Pool) -> Result<Code, Refusal>
+    // The bytes, all of them, are these instructions.
+    ensures found { IfOk result (λ code. IsSequence pool.now 0 bytes.now code) }
+
+    // A code is answered only where no refusal stands, and a refusal that is answered stands.
+    ensures accepted { IfOk result (λ _. (r : Refusal) → CodeStands pool.now bytes.now r → ⊥) }
+    ensures refused { IfErr result (λ r. r ≢ Refusal.NoMemory → CodeStands pool.now bytes.now r) }
+{
+    let code = Code::new(read_sequence(alloc, pool, bytes)?);
+    match code.target_refusal() {
+        Some(refusal) => Err(refusal),
+        None => Ok(code),
+    }
+}
