@@ -89,7 +89,7 @@ fn cost_at(costs: &[Cost], place: usize) -> Cost {
     costs.get(place).copied().unwrap_or(Cost::NONE)
 }
 
-fn cost_at_target(costs: &[Cost], target: i64) -> Cost {
+fn cost_at_target(costs: &[Cost], target: i128) -> Cost {
     match usize::try_from(target) {
         Ok(place) => cost_at(costs, place),
         Err(_) => Cost::NONE,

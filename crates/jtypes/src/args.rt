@@ -1,6 +1,6 @@
 //! The arguments of an invocation.
 
-ghost use Rattle.std.specs.Prelude.{◌≡◌, ◌≤◌, ◌<◌, length, IfSome, IfNone};
+ghost use Rattle.std.specs.Prelude.{◌≡◌, ◌≤◌, ◌<◌, [], length, IfSome, IfNone};
 
 use crate::Arg;
 use std::marker::Model;
@@ -32,6 +32,16 @@ impl Model for Args {
 impl Args {
     /// The most arguments.
     pub const MOST: usize = 8;
+
+    /// No arguments.
+    pub fn none() -> Args
+        ensures { result ≡ [] }
+    {
+        Args {
+            items: [Arg::Null; 8],
+            count: 0,
+        }
+    }
 
     /// These arguments; `None` where there are more than eight.
     pub fn of(args: &[Arg]) -> Option<Args>

@@ -25,7 +25,7 @@ fn is_declared(declared: &[Declared], place: usize) -> bool {
 }
 
 /// The frame declared at the target of an instruction that has one.
-fn declared_at_target<'a>(declared: &'a [Declared], target: i64) -> Option<&'a Frame> {
+fn declared_at_target<'a>(declared: &'a [Declared], target: i128) -> Option<&'a Frame> {
     match usize::try_from(target) {
         Ok(place) => declared_at(declared, place),
         Err(_) => None,

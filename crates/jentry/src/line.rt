@@ -1,0 +1,134 @@
+//! The command line.
+
+use crate::output::Failure;
+use clap::error::ErrorKind;
+use clap::{Arg as Word, ArgAction, ArgMatches, Command, Error};
+use jtypes::{Arg, Args};
+use std::alloc::{AllocError, Global};
+
+/// What is asked of the program.
+#[derive(Debug)]
+pub enum Request<'a> {
+    /// Judge the class in this file.
+    Check { file: &'a str },
+    /// Judge it, and run it on this key, with this entry before and these arguments.
+    Run {
+        file: &'a str,
+        key: i64,
+        before: Option<i64>,
+        args: Args,
+    },
+}
+
+fn value<'a>(alloc: Global, name: &'a str) -> Word<'a> {
+    Word::new(alloc, name)
+        .required(true)
+        .action(ArgAction::Set)
+}
+
+/// The form of a line: `check FILE` and `run FILE KEY VALUE [ARGS..]`, with no other options.
+fn form<'a>(alloc: Global) -> Result<Command<'a>, AllocError> {
+    let check = Command::new(alloc, "check")
+        .disable_help_flag(true)
+        .arg(value(alloc, "FILE"))?;
+    let args = Word::new(alloc, "ARGS").num_args(0..).action(ArgAction::Append);
+    let run = Command::new(alloc, "run")
+        .disable_help_flag(true)
+        .arg(value(alloc, "FILE"))?
+        .arg(value(alloc, "KEY"))?
+        .arg(value(alloc, "VALUE"))?
+        .arg(args)?;
+    Command::new(alloc, "jentry")
+        .no_binary_name(true)
+        .disable_help_flag(true)
+        .disable_help_subcommand(true)
+        .subcommand_required(true)
+        .subcommand(check)?
+        .subcommand(run)
+}
+
+fn matches_of<'a>(alloc: Global, words: &'a [&'a str]) -> Result<ArgMatches<'a>, Error> {
+    form(alloc)?.try_get_matches_from(words)
+}
+
+/// A decimal number that a long holds; leading zeros are digits as others.
+fn number(text: &str) -> Option<i64> {
+    if text.is_empty() || !text.bytes().all(|b| b.is_ascii_digit()) {
+        return None;
+    }
+    text.parse::<i64>().ok()
+}
+
+/// An argument: a number, a number that an int holds followed by `i`, or `null`.
+fn argument(text: &str) -> Option<Arg> {
+    if text == "null" {
+        return Some(Arg::Null);
+    }
+    match text.strip_suffix("i") {
+        None => Some(Arg::Long(number(text)?)),
+        Some(digits) => {
+            let n = i32::try_from(number(digits)?).ok()?;
+            Some(Arg::Integer(n))
+        }
+    }
+}
+
+/// An entry: a number, or `none`.
+fn entry(text: &str) -> Option<Option<i64>> {
+    if text == "none" {
+        return Some(None);
+    }
+    Some(Some(number(text)?))
+}
+
+/// The arguments, of which there are at most eight.
+fn arguments(words: &[&str]) -> Option<Args> {
+    if words.len() > Args::MOST {
+        return None;
+    }
+    let mut args = [Arg::Null; 8];
+    for (place, word) in args.iter_mut().zip(words) {
+        *place = argument(word)?;
+    }
+    Args::of(&args[..words.len()])
+}
+
+/// The values of a line that runs a class.
+fn run_of<'a>(matches: &ArgMatches<'a>, file: &'a str) -> Option<Request<'a>> {
+    let key = number(matches.get_str("KEY")?)?;
+    let before = entry(matches.get_str("VALUE")?)?;
+    let args = match matches.get_strs("ARGS") {
+        Some(words) => arguments(words)?,
+        None => Args::none(),
+    };
+    Some(Request::Run {
+        file,
+        key,
+        before,
+        args,
+    })
+}
+
+fn request_of<'a>(matches: &ArgMatches<'a>) -> Result<Request<'a>, Failure<'a>> {
+    let Some((name, found)) = matches.subcommand() else {
+        return Err(Failure::BadCommandLine);
+    };
+    let Some(file) = found.get_str("FILE") else {
+        return Err(Failure::BadCommandLine);
+    };
+    if name == "check" {
+        return Ok(Request::Check { file });
+    }
+    run_of(found, file).ok_or(Failure::BadArgument)
+}
+
+/// The request of a line: its form is judged first, then its values.
+pub fn parse<'a>(alloc: Global, words: &'a [&'a str]) -> Result<Request<'a>, Failure<'a>> {
+    match matches_of(alloc, words) {
+        Ok(matches) => request_of(&matches),
+        Err(e) => match e.kind() {
+            ErrorKind::OutOfMemory => Err(Failure::NoMemory),
+            _ => Err(Failure::BadCommandLine),
+        },
+    }
+}

@@ -1,0 +1,35 @@
+//! The program.
+#![tactic(auto)]
+
+mod command;
+mod files;
+mod line;
+mod output;
+
+use command::command;
+use files::RealFiles;
+use std::env;
+use std::process::ExitCode;
+
+fn main(rt: HostRuntime) -> ExitCode {
+    let mut words = Vec::new(rt.alloc());
+    match env::args(&rt) {
+        Ok(args) => {
+            for word in args.skip(1) {
+                if words.push(word).is_err() {
+                    return ExitCode::from(output::OTHER);
+                }
+            }
+        }
+        Err(_) => {}
+    }
+    let files = RealFiles::new(&rt);
+    ExitCode::from(command(
+        rt.alloc(),
+        &words,
+        &files,
+        &mut rt.stdin(),
+        &mut rt.stdout(),
+        &mut rt.stderr(),
+    ))
+}

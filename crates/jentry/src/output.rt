@@ -1,0 +1,153 @@
+//! What the program writes, and its statuses.
+
+use crate::files::FileFault;
+use jtypes::{Arg, Effect, Refusal};
+use machine::{Done, Ending};
+use std::alloc::{AllocError, Global};
+use thiserror::Error;
+use verify::Bounds;
+
+/// The status of a class that is accepted, and of a run that returns.
+pub const OK: u8 = 0;
+/// Of a word that is not understood.
+pub const USAGE: u8 = 1;
+/// Of a class that is refused.
+pub const REFUSED: u8 = 2;
+/// Of a file that can't be read, an output that can't be written, and want of memory.
+pub const OTHER: u8 = 3;
+/// Of a run that throws.
+pub const THREW: u8 = 4;
+/// Of a run that meets a fault of the machine's own.
+pub const FAULT: u8 = 5;
+
+/// Why a command was not done.
+#[derive(Clone, Copy, Debug, PartialEq, Eq, Error)]
+pub enum Failure<'a> {
+    #[error("error: bad command line")]
+    BadCommandLine,
+    #[error("error: bad argument")]
+    BadArgument,
+    #[error("error: cannot read {0}")]
+    CannotRead(&'a str),
+    #[error("error: no memory")]
+    NoMemory,
+    #[error("error: cannot write")]
+    CannotWrite,
+}
+
+impl From<AllocError> for Failure<'_> {
+    fn from(_e: AllocError) -> Self {
+        Failure::NoMemory
+    }
+}
+
+impl<'a> Failure<'a> {
+    pub fn status(self) -> u8 {
+        match self {
+            Failure::BadCommandLine | Failure::BadArgument => USAGE,
+            Failure::CannotRead(_) | Failure::NoMemory | Failure::CannotWrite => OTHER,
+        }
+    }
+
+    /// The failure of a file by its name.
+    pub fn of_file(fault: FileFault, name: &'a str) -> Failure<'a> {
+        match fault {
+            FileFault::CannotRead => Failure::CannotRead(name),
+            FileFault::NoMemory => Failure::NoMemory,
+        }
+    }
+}
+
+/// What is written to the output, and the program's status.
+pub struct Answer {
+    pub text: String,
+    pub status: u8,
+}
+
+/// The line of a class that is accepted.
+pub fn accepted(alloc: Global, bounds: Bounds) -> Result<Answer, AllocError> {
+    let Bounds {
+        steps,
+        words,
+        slots,
+        depth,
+    } = bounds;
+    Ok(Answer {
+        text: format!(in alloc; "accepted steps={steps} words={words} slots={slots} depth={depth}\n")?,
+        status: OK,
+    })
+}
+
+/// The line of a class that is refused: the number, the name, and for some the place or the opcode.
+pub fn refused(alloc: Global, refusal: Refusal) -> Result<Answer, AllocError> {
+    let number = refusal.number();
+    Ok(Answer {
+        text: format!(in alloc; "refused {number} {refusal}\n")?,
+        status: REFUSED,
+    })
+}
+
+/// A result: a number, a number followed by `i`, or `null`.
+fn result_text(alloc: Global, result: Arg) -> Result<String, AllocError> {
+    match result {
+        Arg::Null => String::from_str(alloc, "null"),
+        Arg::Long(n) => format!(in alloc; "{n}"),
+        Arg::Integer(n) => format!(in alloc; "{n}i"),
+    }
+}
+
+/// The entry after an effect on the entry before.
+fn entry_after(effect: Effect, before: Option<i64>) -> Option<i64> {
+    match effect {
+        Effect::Keep => before,
+        Effect::Put(value) => Some(value),
+        Effect::Delete => None,
+    }
+}
+
+fn entry_text(alloc: Global, entry: Option<i64>) -> Result<String, AllocError> {
+    match entry {
+        Some(value) => format!(in alloc; "{value}"),
+        None => String::from_str(alloc, "none"),
+    }
+}
+
+/// The first line of a run, and the status.
+fn outcome(alloc: Global, outcome: Ending) -> Result<Answer, AllocError> {
+    match outcome {
+        Ending::Returned(result) => {
+            let text = result_text(alloc, result)?;
+            Ok(Answer {
+                text: format!(in alloc; "result {text}\n")?,
+                status: OK,
+            })
+        }
+        Ending::Threw(fault) => {
+            let number = fault.number();
+            let name = fault.name();
+            Ok(Answer {
+                text: format!(in alloc; "threw {number} {name}\n")?,
+                status: THREW,
+            })
+        }
+        Ending::Fault(fault) => {
+            let number = fault.number();
+            let name = fault.name();
+            Ok(Answer {
+                text: format!(in alloc; "fault {number} {name}\n")?,
+                status: FAULT,
+            })
+        }
+    }
+}
+
+/// The three lines of a run on an entry.
+pub fn ran(alloc: Global, done: Done, before: Option<i64>) -> Result<Answer, AllocError> {
+    let Answer { mut text, status } = outcome(alloc, done.outcome)?;
+    let entry = entry_text(alloc, entry_after(done.effect, before))?;
+    let steps = done.steps;
+    let words = done.words;
+    let rest = format!(in alloc; "value {entry}\nsteps {steps} words {words}\n")?;
+    text.push_str(rest.as_str())?;
+    Ok(Answer { text, status })
+}
