@@ -1,6 +1,7 @@
 //! The reading of descriptors.
 
-ghost use Rattle.std.specs.Prelude.{◌≡◌, ◌≢◌, ◌<◌, length, None, Some, IfOk, IfErr, option_map};
+ghost use Rattle.std.specs.Prelude.{◌≡◌, ◌≢◌, ◌<◌, ◌==◌, length, None, Some, IfOk, IfErr, option_map};
+ghost use Rattle.std.specs.List.{position};
 ghost use Rattle.jtypes.specs.Layout.{Gives};
 ghost use Rattle.constpool.specs.Descriptor.{sig_of, read_type, read_params, read_result, read_class_type, before_semicolon, param_slots};
 ghost use Rattle.constpool.specs.Parsing.{parsed};
@@ -10,11 +11,18 @@ use crate::{FieldType, Sig, names};
 use jtypes::{Items, Refusal};
 use std::alloc::Global;
 
+/// Where the first semicolon stands.
+fn semicolon(bytes: &[u8]) -> Option<usize>
+    ensures { result ≡ position (λ b. b == 59) bytes.now }
+{
+    bytes.iter().position(|b| *b == b';')
+}
+
 /// What stands before the first semicolon, and what after it.
 fn before_semicolon(bytes: &[u8]) -> Option<(&[u8], &[u8])>
     ensures { option_map (λ p. (p.0.now, p.1.now)) result ≡ before_semicolon bytes.now }
 {
-    let end = bytes.iter().position(|b| *b == b';')?;
+    let end = semicolon(bytes)?;
     Some((&bytes[..end], &bytes[end + 1..]))
 }
 
