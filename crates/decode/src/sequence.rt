@@ -36,8 +36,10 @@ impl Code {
         Code { placed }
     }
 
+    /// The instructions in order: the first stands at 0, and each other one where the one before it ends.
     pub fn as_slice(&self) -> &[Placed]
-        ensures { result.now ≡ self.now }
+        ensures value { result.now ≡ self.now }
+        ensures rising { RisesFrom 0 self.now }
     {
         self.placed.as_slice()
     }
@@ -79,6 +81,7 @@ impl Code {
 
     /// Whether an instruction stands at a target.
     fn has_start(&self, target: i128) -> bool
+        requires { RisesFrom 0 self.now }
         ensures { IsTrue result ↔ Any (λ p. pos p.place ≡ target) self.now }
     {
         match usize::try_from(target) {
@@ -89,6 +92,7 @@ impl Code {
 
     /// The refusal of one instruction's target.
     fn refusal_of(&self, p: &Placed) -> Option<Refusal>
+        requires { RisesFrom 0 self.now }
         ensures { IsTargetRefusal self.now p.now result }
     {
         let target = p.instruction.target()?;
@@ -106,7 +110,7 @@ impl Code {
         ensures some { IfSome result (λ r. (r ≢ Refusal.NoMemory) × BranchStands self.now r) }
         ensures none { IfNone result ((r : Refusal) → BranchStands self.now r → ⊥) }
     {
-        for p in &self.placed {
+        for p in self.as_slice() {
             if let Some(refusal) = self.refusal_of(p) {
                 return Some(refusal);
             }
