@@ -1,0 +1,9 @@
+//! The arrays of one invocation.
+#![tactic(auto)]
+
+mod arena;
+mod placed;
+#[cfg(test)]
+mod tests;
+
+pub use arena::{Arena, WordsFull};

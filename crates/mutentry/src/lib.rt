@@ -1,0 +1,8 @@
+//! The entry of an invocation, and what the invocation does to it.
+#![tactic(auto)]
+
+mod state;
+#[cfg(test)]
+mod tests;
+
+pub use state::{EntryState, effect_leads_from_before_to_now};
