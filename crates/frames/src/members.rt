@@ -1,7 +1,6 @@
 //! The methods that a class's instructions may call.
 
-ghost use Rattle.std.specs.Prelude.{◌≡◌, IfOk};
-
+use crate::Signature;
 use crate::signatures::{class_type, is_private, is_static, method_signature, signature_of};
 use classfile::{ClassView, MethodView};
 use constpool::{MemberRef, names, same_bytes};
@@ -188,12 +187,15 @@ fn native_of(kind: Invoke, member: &MemberRef<'_>) -> Option<Native> {
     None
 }
 
-/// The parameters with the receiver before them.
+/// The parameters with the receiver, if there is one, before them.
 fn after_receiver(
     alloc: Global,
-    receiver: JType,
-    params: &Items<JType>,
+    receiver: Option<JType>,
+    params: Items<JType>,
 ) -> Result<Items<JType>, AllocError> {
+    let Some(receiver) = receiver else {
+        return Ok(params);
+    };
     let mut all = Vec::new(alloc);
     all.push(receiver)?;
     all.extend_from_slice(params.as_slice())?;
@@ -210,18 +212,20 @@ fn library_callee(
     let Some(s) = signature_of(alloc, own, member.descriptor)? else {
         return Ok(None);
     };
-    let params = if kind == Invoke::Static {
-        s.params
-    } else {
-        match class_type(own, member.class) {
-            None => return Ok(None),
-            Some(r) => after_receiver(alloc, JType::Ref(r), &s.params)?,
+    let Signature { params, result, .. } = s;
+    let receiver = match kind {
+        Invoke::Static => None,
+        Invoke::Virtual | Invoke::Special | Invoke::Interface => {
+            let Some(r) = class_type(own, member.class) else {
+                return Ok(None);
+            };
+            Some(JType::Ref(r))
         }
     };
     Ok(Some(Callee {
         reached: Reached::Library(native),
-        params,
-        result: s.result,
+        params: after_receiver(alloc, receiver, params)?,
+        result,
     }))
 }
 
@@ -268,10 +272,11 @@ fn own_callee(
     let Some(s) = method_signature(alloc, view, &method)? else {
         return Ok(None);
     };
+    let Signature { params, result, .. } = s;
     Ok(Some(Callee {
         reached: Reached::Own(k),
-        params: s.params,
-        result: s.result,
+        params,
+        result,
     }))
 }
 

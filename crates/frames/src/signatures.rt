@@ -1,7 +1,6 @@
 //! The types that a class's descriptors and constants name.
 
-ghost use Rattle.std.specs.Prelude.{◌≡◌, IfOk};
-ghost use Rattle.constpool.specs.Names.{object_name};
+ghost use Rattle.std.specs.Prelude.{◌≡◌, ◌<◌, IfOk};
 ghost use Rattle.frames.specs.Signatures.{by_text, known_classes, known_arrays, class_type, constant_type, field_type, field_types, result_type, signature_of, method_signature, with_receiver, is_public, is_private, is_static, is_native, is_abstract, has_flag};
 
 use classfile::{ClassView, MethodView};
@@ -156,7 +155,7 @@ pub fn signature_of(
 }
 
 /// Whether a flag is set (JVMS §4.1, §4.6).
-pub fn has_flag(flag: u16, flags: u16) -> bool
+fn has_flag(flag: u16, flags: u16) -> bool
     requires { 0 < flag }
     ensures { result ≡ has_flag flag flags }
 {
@@ -217,13 +216,20 @@ pub fn method_signature(
     alloc: Global,
     view: &ClassView<'_>,
     method: &MethodView<'_>,
-) -> Result<Option<Signature>, AllocError> {
+) -> Result<Option<Signature>, AllocError>
+    ensures { IfOk result (λ s. s ≡ method_signature view.now (record { flags = method.now.flags; name = method.now.name.now; descriptor = method.now.descriptor.now })) }
+{
     let Some(s) = signature_of(alloc, view.name(), method.descriptor)? else {
         return Ok(None);
     };
+    let Signature {
+        params,
+        result,
+        is_boolean,
+    } = s;
     Ok(Some(Signature {
-        params: with_receiver(alloc, method.flags, s.params)?,
-        result: s.result,
-        is_boolean: s.is_boolean,
+        params: with_receiver(alloc, method.flags, params)?,
+        result,
+        is_boolean,
     }))
 }
