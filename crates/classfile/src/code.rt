@@ -1,7 +1,9 @@
 //! The parts of a Code attribute, and attributes by their names.
 
-ghost use Rattle.std.specs.Prelude.{◌≡◌, IfOk, map};
+ghost use Rattle.std.specs.Prelude.{◌≡◌, IfOk, map, is_some};
+ghost use Rattle.std.specs.List.{list_all};
 ghost use Rattle.jtypes.specs.Layout.{Takes, first};
+ghost use Rattle.constpool.specs.Lookup.{utf8_at};
 ghost use Rattle.classfile.specs.Code.{plain_attribute, code_parts, parts_of_code, is_named, attributes_are_named, contents_named};
 
 use crate::rows::PlainAttributeReader;
@@ -70,17 +72,25 @@ pub fn is_named(pool: &Pool, name: &[u8], i: u16) -> bool
     }
 }
 
+fn has_name(pool: &Pool, attribute: &Attribute) -> bool
+    ensures { result ≡ is_some (utf8_at pool.now attribute.now.name) }
+{
+    pool.utf8(attribute.name).is_some()
+}
+
+fn have_names(pool: &Pool, attributes: &[Attribute]) -> bool
+    ensures { result ≡ list_all (λ a. is_some (utf8_at pool.now a.name)) attributes.now }
+{
+    attributes.iter().all(|attribute| has_name(pool, attribute))
+}
+
 /// Whether each attribute of a Code has a name.
 pub fn attributes_are_named(pool: &Pool, parts: &Option<CodeParts>) -> bool
     ensures { result ≡ attributes_are_named pool.now parts.now }
 {
     match parts {
         None => true,
-        Some(parts) => parts
-            .attributes
-            .as_slice()
-            .iter()
-            .all(|attribute| pool.utf8(attribute.name).is_some()),
+        Some(parts) => have_names(pool, parts.attributes.as_slice()),
     }
 }
 

@@ -13,6 +13,7 @@ use jtypes::{Cursor, Reader, Refusal};
 use std::alloc::Global;
 
 /// Reads attributes whose names are not judged.
+#[derive(Drop)]
 pub struct PlainAttributeReader;
 
 impl Reader for PlainAttributeReader {
@@ -26,6 +27,7 @@ impl Reader for PlainAttributeReader {
 }
 
 /// Reads attributes of a class or a field.
+#[derive(Drop)]
 pub struct AttributeReader<'a> {
     pub pool: &'a Pool,
 }
@@ -41,6 +43,7 @@ impl<'a> Reader for AttributeReader<'a> {
 }
 
 /// Reads attributes of a method.
+#[derive(Drop)]
 pub struct MethodAttributeReader<'a> {
     pub pool: &'a Pool,
 }
@@ -56,6 +59,7 @@ impl<'a> Reader for MethodAttributeReader<'a> {
 }
 
 /// Reads fields.
+#[derive(Drop)]
 pub struct FieldReader<'a> {
     pub pool: &'a Pool,
 }
@@ -71,6 +75,7 @@ impl<'a> Reader for FieldReader<'a> {
 }
 
 /// Reads methods.
+#[derive(Drop)]
 pub struct MethodReader<'a> {
     pub pool: &'a Pool,
 }
@@ -86,6 +91,7 @@ impl<'a> Reader for MethodReader<'a> {
 }
 
 /// Reads indexes of classes.
+#[derive(Drop)]
 pub struct ClassIndexReader<'a> {
     pub pool: &'a Pool,
 }

@@ -22,11 +22,11 @@ pub struct ClassView<'a> {
 }
 
 impl<'a> Model for ClassView<'a> {
-    ghost use Rattle.classfile.specs.View as view;
+    ghost use Rattle.classfile.specs.View.{ClassView, view_of};
 
-    ghost Value = { view.ClassView };
+    ghost Value = { ClassView };
 
-    ghost view = { λ v. view.view_of v.class.now.pool v.class.now.parts };
+    ghost view = { λ v. view_of v.class.now.pool v.class.now.parts };
 }
 
 impl<'a> ClassView<'a> {
