@@ -1,1 +1,3 @@
 pub mod Search
+pub mod Runs
+pub mod Targets
