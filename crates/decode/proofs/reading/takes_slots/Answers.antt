@@ -1,0 +1,1 @@
+use Rattle.decode.proofs.reading.takes_slots.Goals as goal
