@@ -1,8 +1,8 @@
 -- The table, row by row.
-use Rattle.std.proofs.Common.{◌≡◌, ℕ, zero, suc, ◌+◌, ◌<◌, ◌≤◌, Bool, true, false, ltb, List, [], ◌∷◌, get_or, length, Option, Some, None, refl, sym, ap, ◌∙◌, arith}
+use Rattle.std.proofs.Common.{◌≡◌, ℕ, zero, suc, ◌+◌, ◌<◌, ◌≤◌, Bool, true, false, ltb, if◌then◌else◌, List, [], ◌∷◌, get_or, length, Option, Some, None, refl, sym, ap, ◌∙◌, arith}
 use Rattle.std.proofs.lemmas.Bool.{ltb-true, ne_eqb, false≢true}
 use Rattle.decode.specs.declared.instruction.Form.{Form}
-use Rattle.decode.specs.Table.{Row, form_in}
+use Rattle.decode.specs.Table.{Row, table, form_in, form_at}
 
 -- what so many opcodes demand, from one on
 abbrev pub forms_of : List Row → ℕ → ℕ → List (Option Form)
@@ -31,3 +31,14 @@ none_past (r ∷ rows) n opcode h le = go (ltb r.opcode n) refl (λ k. none_past
         let rest : all_below n rows ≡ true = rw e at h in
         rw (ne_eqb r.opcode opcode (λ s. omega arith)) (later rest)
     go false e later = absurd (false≢true (rw e at h))
+
+-- what stands at an opcode in the list of what all of them demand
+pub in_table : (forms : List (Option Form)) (opcode : ℕ) (d : Option Form) → forms ≡ forms_of table 0 202 → opcode < 202 → get_or forms opcode d ≡ form_at opcode
+unfolding form_at
+in_table forms opcode d e lt =
+    let same : 0 + opcode ≡ opcode = omega arith in
+    ap (λ (fs : List (Option Form)). get_or fs opcode d) e ∙ form_there table 0 202 opcode d lt ∙ ap (λ (o : ℕ). form_in table o) same
+
+pub past_table : (opcode : ℕ) → 202 ≤ opcode → None ≡ form_at opcode
+unfolding form_at
+past_table opcode le = sym (none_past table 202 opcode refl le)

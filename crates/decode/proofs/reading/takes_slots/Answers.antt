@@ -1,1 +1,0 @@
-use Rattle.decode.proofs.reading.takes_slots.Goals as goal
