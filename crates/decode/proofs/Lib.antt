@@ -1,1 +1,4 @@
+pub mod Rows
 pub mod Search
+pub mod Runs
+pub mod Targets

@@ -218,9 +218,12 @@ static FORMS: [Option<Form>; 202] = [
 /// What an opcode demands, if it is in the table (JVMS SE 8 §6.5).
 ///
 /// The table has no floats, no fields, no monitors, no switches and no subroutines.
-#[tactic(auto, unfolding(crate::specs::Table::form_at))]
 pub fn form_of(opcode: u8) -> Option<Form>
     ensures { result ≡ form_at opcode }
 {
-    *FORMS.get(usize::from(opcode))?
+    if opcode < 0xCA {
+        FORMS[usize::from(opcode)]
+    } else {
+        None
+    }
 }

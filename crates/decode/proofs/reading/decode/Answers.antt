@@ -1,0 +1,19 @@
+use Rattle.std.proofs.Common.{List, ℕ, length, ◌+◌, ◌<◌, ◌^◌, arith, inl, inr, subst, refl, sym, ◌∙◌}
+use Rattle.decode.specs.declared.instruction.Placed.{Placed}
+use Rattle.decode.specs.Places.{BranchStands}
+use Rattle.decode.proofs.Runs.{sequence_once, sequence_rises}
+use Rattle.decode.proofs.reading.decode.Goals as goal
+
+pub new-code-requires : goal.new-code-requires
+new-code-requires c =
+    let small : 0 + length c.args.bytes.now < 2 ^ 64 = omega (arith, c.type_inv.bytes) in
+    sequence_rises c.args.pool.now 0 c.args.bytes.now c.in_ok-read_sequence.field-0.items small c.in_ok-read_sequence.ensures.0
+
+pub returns-in-None-clause-accepted : goal.returns-in-None-clause-accepted
+returns-in-None-clause-accepted c = λ r.
+    elim [
+      | inl s ↦ c.in_ok-read_sequence.ensures.1 r s
+      | inr (code, q, b) ↦
+          let same = sequence_once c.args.pool.now 0 c.args.bytes.now c.args.bytes.now code c.in_ok-read_sequence.field-0.items refl q c.in_ok-read_sequence.ensures.0 in
+          c.in-None.ensures.none r (subst (λ (ps : List Placed). BranchStands ps r) (same ∙ sym c.new-code.ensures) b)
+    ]

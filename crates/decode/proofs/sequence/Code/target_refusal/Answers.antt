@@ -1,0 +1,18 @@
+use Rattle.std.proofs.Common.{None, arith, subst, ap, sym, length, ◌∙◌, ◌≡◌, List, get_or}
+use Rattle.std.proofs.lemmas.List.Elements.{AllWithin-more, AllWithin-upto}
+use Rattle.std.proofs.lemmas.List.{get_or_default}
+use Rattle.decode.specs.declared.instruction.Placed.{Placed}
+use Rattle.decode.specs.Reading.{IsTargetRefusal}
+use Rattle.decode.proofs.Targets.{none_stands}
+use Rattle.decode.proofs.sequence.Code.target_refusal.Goals as goal
+
+pub loop-p-preserved : goal.loop-p-preserved
+loop-p-preserved c =
+    let items = c.as_slice-p-items.result.now in
+    AllWithin-more (λ (p : Placed). IsTargetRefusal c.args.self.now p None) c.args.self.now 0 c.loop-p.p-index c.loop-p.invariant (λ d.
+    let same = get_or_default items c.loop-p.p-index _ d c.loop-p-test.true ∙ ap (λ (l : List Placed). get_or l c.loop-p.p-index d) c.as_slice-p-items.ensures.value in
+    subst (λ (p : Placed). IsTargetRefusal c.args.self.now p None) same c.in_default.ensures)
+
+pub returns-clause-none : goal.returns-clause-none
+returns-clause-none c =
+    none_stands c.args.self.now (AllWithin-upto (λ (p : Placed). IsTargetRefusal c.args.self.now p None) c.args.self.now 0 c.loop-p.p-index _ (omega (arith, ap length c.as_slice-p-items.ensures.value)) c.loop-p.invariant)
