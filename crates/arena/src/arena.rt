@@ -1,6 +1,6 @@
 //! The arrays of one invocation, in memory that is taken once.
 
-ghost use Rattle.std.specs.Prelude.{◌≡◌, ◌+◌, ◌<◌, ◌∷◌, ◌++◌, [], ◌↔◌, length, IsErr, IfOk, OnOk, OnErr, IfSome, is_some, slice_get, if◌then◌else◌};
+ghost use Rattle.std.specs.Prelude.{◌≡◌, ◌+◌, ◌<◌, ◌∷◌, ◌++◌, [], ◌↔◌, length, IsErr, IsTrue, IfOk, OnOk, OnErr, IfSome, is_some, slice_get, if◌then◌else◌};
 ghost use Rattle.std.specs.Option.{ok_or};
 ghost use Rattle.jtypes.specs.declared.types.JavaFault.TheVariants.{ArrayIndexOutOfBounds};
 ghost use Rattle.jtypes.specs.Lists.{change};
@@ -76,6 +76,13 @@ impl Arena {
         self.elements.resize(start + n as usize, 0).unwrap();
         self.words_left -= n + 1;
         Ok(id as u32)
+    }
+
+    /// Whether an array has this number.
+    pub fn holds(&self, id: ArrayId) -> bool
+        ensures { IsTrue result ↔ (id < length self.now.arrays) }
+    {
+        (id as usize) < self.placed.len()
     }
 
     /// The element at an index (JVMS 6.5, iaload and laload).

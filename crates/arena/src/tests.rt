@@ -29,6 +29,9 @@ fn an_array_has_its_kind_and_length(rt: HostRuntime) -> Result<(), Fail> {
     assert_eq!(rt; arena.length(ints), 3);
     assert_eq!(rt; arena.kind(ints), ArrayKind::Int);
     let longs = arena.alloc(ArrayKind::Long, 2)?;
+    assert!(rt; arena.holds(longs));
+    assert!(rt; !arena.holds(2));
+    assert!(rt; !arena.holds(u32::MAX));
     assert_eq!(rt; arena.length(longs), 2);
     assert_eq!(rt; arena.kind(longs), ArrayKind::Long);
     Ok(())

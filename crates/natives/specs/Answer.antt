@@ -1,0 +1,18 @@
+-- What a library call answers and does.
+use Rattle.std.specs.Prelude.{◌≡◌, Option, Some, None, Result, Ok, Err}
+use Rattle.jtypes.specs.declared.types.JavaFault.{JavaFault}
+use Rattle.jtypes.specs.declared.types.Value.{Value}
+use Rattle.jtypes.specs.Entry.{Entry}
+use Rattle.jtypes.specs.Library.{Reply, Gives, Faults, Misses}
+use Rattle.mutentry.specs.Change.{Change, with_current}
+
+-- whether a call does what its reply says: it answers and leaves that entry, or it throws and changes nothing
+abbrev pub Answers : Reply → Result (Option Value) JavaFault → Change → Change → Type 0
+Answers (Gives answer entry) result old new = (result ≡ Ok answer) × (new ≡ with_current old entry)
+Answers (Faults fault) result old new = (result ≡ Err fault) × (new ≡ old)
+Answers Misses result old new = Unit {0}
+
+-- the reply of a call that leaves the entry as it is, where there is an answer
+abbrev pub given : Option Value → Entry → Reply
+given (Some v) now = Gives (Some v) now
+given None now = Misses

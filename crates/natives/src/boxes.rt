@@ -1,0 +1,29 @@
+//! The calls of boxes: `intValue` and `longValue`.
+
+ghost use Rattle.std.specs.Prelude.{◌≡◌};
+ghost use Rattle.jtypes.specs.Arithmetic.{low_int};
+ghost use Rattle.jtypes.specs.Entry.{Entry};
+ghost use Rattle.jtypes.specs.Library.{box_reply};
+ghost use Rattle.natives.specs.Answer.{given};
+
+use jtypes::{Native, RefValue, Value};
+
+/// What `intValue` and `longValue` answer (Java API, `Number`).
+pub fn box_call(native: Native, receiver: RefValue) -> Option<Value>
+    ensures { (now : Entry) → box_reply native now receiver ≡ given result now }
+{
+    match (native, receiver) {
+        (Native::IntValue, RefValue::Long(n)) => Some(Value::Int(low_int(n))),
+        (Native::IntValue, RefValue::Integer(n)) => Some(Value::Int(n)),
+        (Native::LongValue, RefValue::Long(n)) => Some(Value::Long(n)),
+        (Native::LongValue, RefValue::Integer(n)) => Some(Value::Long(i64::from(n))),
+        _ => None,
+    }
+}
+
+/// The low 32 bits of a long (JVMS 6.5, l2i).
+fn low_int(n: i64) -> i32
+    ensures { result ≡ low_int n }
+{
+    ((n.cast_unsigned() % (1 << 32)) as u32).cast_signed()
+}

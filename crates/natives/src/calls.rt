@@ -1,0 +1,63 @@
+//! The library calls.
+
+ghost use Rattle.std.specs.Prelude.{◌≡◌, ◌∷◌};
+ghost use Rattle.jtypes.specs.declared.types.Value.TheVariants.{Ref};
+ghost use Rattle.jtypes.specs.Library.{Misses, library, instance_reply};
+ghost use Rattle.natives.specs.Answer.{Answers};
+
+use crate::boxes::box_call;
+use crate::entry::entry_call;
+use crate::statics::static_call;
+use jtypes::{JavaFault, Native, RefValue, Value};
+use mutentry::EntryState;
+
+/// What a library call answers to its values in order, the receiver first, and what it does to
+/// the entry. A fault changes nothing.
+///
+/// The caller sees to it that the values are of the types that the call takes.
+pub fn call(
+    native: Native,
+    key: i64,
+    entry: &mut EntryState,
+    values: &[Value],
+) -> Result<Option<Value>, JavaFault>
+    requires { ¬ (library native key entry.old.current values.now ≡ Misses) }
+    ensures { Answers (library native key entry.old.current values.now) result entry.old entry.new }
+{
+    match native {
+        Native::LongValueOf
+        | Native::IntegerValueOf
+        | Native::MaxOfInts
+        | Native::MinOfInts
+        | Native::MaxOfLongs
+        | Native::MinOfLongs => Ok(Some(static_call(native, values).unwrap())),
+        _ => match values {
+            [Value::Ref(receiver), arguments @ ..] => {
+                instance_call(native, key, entry, *receiver, arguments)
+            }
+            _ => unreachable!(),
+        },
+    }
+}
+
+/// A call on a receiver: null throws (JVMS 6.5, invokevirtual and invokeinterface).
+fn instance_call(
+    native: Native,
+    key: i64,
+    entry: &mut EntryState,
+    receiver: RefValue,
+    arguments: &[Value],
+) -> Result<Option<Value>, JavaFault>
+    requires { ¬ (instance_reply native key entry.old.current (Ref receiver ∷ arguments.now) ≡ Misses) }
+    ensures { Answers (instance_reply native key entry.old.current (Ref receiver ∷ arguments.now)) result entry.old entry.new }
+{
+    match (native, receiver) {
+        (_, RefValue::Null) => Err(JavaFault::NullPointer),
+        (Native::IntValue | Native::LongValue, _) => {
+            Ok(Some(box_call(native, receiver).unwrap()))
+        }
+        (_, RefValue::Entry) => entry_call(native, key, entry, arguments),
+        // Another reference does not implement the interface (JVMS 6.5, invokeinterface).
+        _ => Err(JavaFault::IncompatibleClassChange),
+    }
+}

@@ -1,0 +1,45 @@
+//! The calls of the entry.
+
+ghost use Rattle.std.specs.Prelude.{◌≡◌};
+ghost use Rattle.jtypes.specs.declared.types.Value.TheVariants.{Ref};
+ghost use Rattle.jtypes.specs.Library.{Misses, entry_reply, value_of_entry};
+ghost use Rattle.natives.specs.Answer.{Answers};
+
+use jtypes::{JavaFault, Native, RefValue, Value};
+use mutentry::EntryState;
+
+/// What a call of the entry answers, and does to it (JSR 107, `MutableEntry` and `Cache.Entry`).
+pub fn entry_call(
+    native: Native,
+    key: i64,
+    entry: &mut EntryState,
+    arguments: &[Value],
+) -> Result<Option<Value>, JavaFault>
+    requires { ¬ (entry_reply native key entry.old.current arguments.now ≡ Misses) }
+    ensures { Answers (entry_reply native key entry.old.current arguments.now) result entry.old entry.new }
+{
+    match (native, arguments) {
+        (Native::GetKey, []) => Ok(Some(Value::Ref(RefValue::Long(key)))),
+        (Native::GetValue, []) => Ok(Some(Value::Ref(reference(entry.get_value())))),
+        (Native::SetValue, [Value::Ref(value)]) => {
+            entry.set_value(*value)?;
+            Ok(None)
+        }
+        (Native::Exists, []) => Ok(Some(Value::Int(i32::from(entry.exists())))),
+        (Native::Remove, []) => {
+            entry.remove();
+            Ok(None)
+        }
+        _ => unreachable!(),
+    }
+}
+
+/// A value of the entry as a reference: null stands for none.
+fn reference(value: Option<i64>) -> RefValue
+    ensures { Ref result ≡ value_of_entry value }
+{
+    match value {
+        Some(n) => RefValue::Long(n),
+        None => RefValue::Null,
+    }
+}

@@ -1,0 +1,13 @@
+//! The library calls of the profile, and the casts that pass.
+#![tactic(auto)]
+
+mod boxes;
+mod calls;
+mod casts;
+mod entry;
+mod statics;
+#[cfg(test)]
+mod tests;
+
+pub use calls::call;
+pub use casts::passes;

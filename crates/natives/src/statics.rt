@@ -1,0 +1,23 @@
+//! The static calls: `Long.valueOf`, `Integer.valueOf`, `Math.max` and `Math.min`.
+
+ghost use Rattle.std.specs.Prelude.{◌≡◌};
+ghost use Rattle.jtypes.specs.Entry.{Entry};
+ghost use Rattle.jtypes.specs.Library.{static_reply};
+ghost use Rattle.natives.specs.Answer.{given};
+
+use jtypes::{Native, RefValue, Value};
+
+/// What a static call answers to arguments of the taken types.
+pub fn static_call(native: Native, arguments: &[Value]) -> Option<Value>
+    ensures { (now : Entry) → static_reply native now arguments.now ≡ given result now }
+{
+    match (native, arguments) {
+        (Native::LongValueOf, [Value::Long(n)]) => Some(Value::Ref(RefValue::Long(*n))),
+        (Native::IntegerValueOf, [Value::Int(n)]) => Some(Value::Ref(RefValue::Integer(*n))),
+        (Native::MaxOfInts, [Value::Int(a), Value::Int(b)]) => Some(Value::Int((*a).max(*b))),
+        (Native::MinOfInts, [Value::Int(a), Value::Int(b)]) => Some(Value::Int((*a).min(*b))),
+        (Native::MaxOfLongs, [Value::Long(a), Value::Long(b)]) => Some(Value::Long((*a).max(*b))),
+        (Native::MinOfLongs, [Value::Long(a), Value::Long(b)]) => Some(Value::Long((*a).min(*b))),
+        _ => None,
+    }
+}
