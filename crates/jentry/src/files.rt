@@ -18,6 +18,7 @@ pub trait Files {
 }
 
 /// The files of the machine.
+#[derive(Drop)]
 pub struct RealFiles<'a, R> {
     rt: &'a R,
 }

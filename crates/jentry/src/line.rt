@@ -7,10 +7,12 @@ use jtypes::{Arg, Args};
 use std::alloc::{AllocError, Global};
 
 /// What is asked of the program.
-#[derive(Debug)]
+#[derive(Debug, Drop)]
 pub enum Request<'a> {
     /// Judge the class in this file.
-    Check { file: &'a str },
+    Check {
+        file: &'a str,
+    },
     /// Judge it, and run it on this key, with this entry before and these arguments.
     Run {
         file: &'a str,
@@ -21,9 +23,7 @@ pub enum Request<'a> {
 }
 
 fn value<'a>(alloc: Global, name: &'a str) -> Word<'a> {
-    Word::new(alloc, name)
-        .required(true)
-        .action(ArgAction::Set)
+    Word::new(alloc, name).required(true).action(ArgAction::Set)
 }
 
 /// The form of a line: `check FILE` and `run FILE KEY VALUE [ARGS..]`, with no other options.
@@ -31,7 +31,9 @@ fn form<'a>(alloc: Global) -> Result<Command<'a>, AllocError> {
     let check = Command::new(alloc, "check")
         .disable_help_flag(true)
         .arg(value(alloc, "FILE"))?;
-    let args = Word::new(alloc, "ARGS").num_args(0..).action(ArgAction::Append);
+    let args = Word::new(alloc, "ARGS")
+        .num_args(0..)
+        .action(ArgAction::Append);
     let run = Command::new(alloc, "run")
         .disable_help_flag(true)
         .arg(value(alloc, "FILE"))?

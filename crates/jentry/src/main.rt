@@ -1,12 +1,12 @@
 //! The program.
 #![tactic(auto)]
 
-mod command;
+mod program;
 mod files;
 mod line;
 mod output;
 
-use command::command;
+use program::command;
 use files::RealFiles;
 use std::env;
 use std::process::ExitCode;

@@ -59,6 +59,7 @@ impl<'a> Failure<'a> {
 }
 
 /// What is written to the output, and the program's status.
+#[derive(Drop)]
 pub struct Answer {
     pub text: String,
     pub status: u8,
@@ -73,7 +74,9 @@ pub fn accepted(alloc: Global, bounds: Bounds) -> Result<Answer, AllocError> {
         depth,
     } = bounds;
     Ok(Answer {
-        text: format!(in alloc; "accepted steps={steps} words={words} slots={slots} depth={depth}\n")?,
+        text: format!(in alloc;
+            "accepted steps={steps} words={words} slots={slots} depth={depth}\n"
+        )?,
         status: OK,
     })
 }
@@ -88,8 +91,8 @@ pub fn refused(alloc: Global, refusal: Refusal) -> Result<Answer, AllocError> {
 }
 
 /// A result: a number, a number followed by `i`, or `null`.
-fn result_text(alloc: Global, result: Arg) -> Result<String, AllocError> {
-    match result {
+fn result_text(alloc: Global, returned: Arg) -> Result<String, AllocError> {
+    match returned {
         Arg::Null => String::from_str(alloc, "null"),
         Arg::Long(n) => format!(in alloc; "{n}"),
         Arg::Integer(n) => format!(in alloc; "{n}i"),
@@ -115,8 +118,8 @@ fn entry_text(alloc: Global, entry: Option<i64>) -> Result<String, AllocError> {
 /// The first line of a run, and the status.
 fn outcome(alloc: Global, outcome: Ending) -> Result<Answer, AllocError> {
     match outcome {
-        Ending::Returned(result) => {
-            let text = result_text(alloc, result)?;
+        Ending::Returned(value) => {
+            let text = result_text(alloc, value)?;
             Ok(Answer {
                 text: format!(in alloc; "result {text}\n")?,
                 status: OK,

@@ -1,7 +1,5 @@
 //! How a run ends.
 
-ghost use Rattle.std.specs.Prelude.{◌≡◌};
-
 use jtypes::{Arg, Effect, JavaFault};
 
 /// A fault of the machine's own. No class that `verify` accepts is meant to meet one; that is not proved yet.

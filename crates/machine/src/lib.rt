@@ -4,6 +4,7 @@
 mod act;
 mod cells;
 mod done;
+mod taken;
 mod workspace;
 
 pub use done::{Done, Ending, Fault, Going};

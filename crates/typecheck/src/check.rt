@@ -58,6 +58,7 @@ fn copy_of(alloc: Global, frame: &Frame) -> Result<Frame, AllocError> {
 }
 
 /// What flows into a place: the frame, and the place that is named where it does not fit.
+#[derive(Drop)]
 struct Flow {
     frame: Option<Frame>,
     from: usize,

@@ -214,6 +214,7 @@ fn judge_names(class: &ClassFile) -> Result<(), Refusal> {
 }
 
 /// A class that has its shape: the parts of its methods' codes, in the methods' order, and the constructor's number.
+#[derive(Drop)]
 pub struct Shape {
     pub codes: Vec<CodeParts>,
     pub constructor: usize,

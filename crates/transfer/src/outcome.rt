@@ -108,24 +108,26 @@ fn unless_long(t: JType) -> JType
 /// A long in the local before this one loses its second half.
 fn break_long(locals: &mut Items<JType>, n: usize)
     requires { n < length locals.old }
-    ensures { locals.new ≡ change_before without_long locals.old n }
+    ensures changed { locals.new ≡ change_before without_long locals.old n }
+    ensures len { length locals.new ≡ length locals.old }
 {
     if 0 < n {
-        if let Some(t) = locals.get(n - 1) {
-            locals.set(n - 1, unless_long(t));
-        }
+        let t = locals.as_slice()[n - 1];
+        locals.set(n - 1, unless_long(t));
     }
 }
 
 /// Stores a type in a local.
-fn set_local(locals: &mut Items<JType>, n: usize, t: JType)
+fn set_local(locals: &mut Items<JType>, n: u16, t: JType)
     requires { n + slots_if (is_long t) ≤ length locals.old }
     ensures { locals.new ≡ store_type locals.old n t }
 {
+    let n = usize::from(n);
     break_long(locals, n);
     locals.set(n, t);
-    if t == JType::Long {
-        locals.set(n + 1, JType::Top);
+    match t {
+        JType::Long => locals.set(n + 1, JType::Top),
+        JType::Top | JType::Int | JType::Null | JType::Ref(_) => {}
     }
 }
 
@@ -133,12 +135,11 @@ fn set_local(locals: &mut Items<JType>, n: usize, t: JType)
 fn store(frame: &mut Frame, kind: Kind, n: u16) -> bool
     ensures { stored frame.old kind n frame.old.stack ≡ (if result then Some frame.new else None) }
 {
-    let n = usize::from(n);
     let Some(t) = frame.stack.pop() else {
         return false;
     };
     let count = frame.locals.as_slice().len();
-    if !assignable(t, type_of_kind(kind)) || n + usize::from(slots_of(t)) > count {
+    if !assignable(t, type_of_kind(kind)) || usize::from(n) + usize::from(slots_of(t)) > count {
         return false;
     }
     set_local(&mut frame.locals, n, t);
