@@ -1,13 +1,15 @@
 //! The program.
 #![tactic(auto)]
 
-mod program;
 mod files;
 mod line;
 mod output;
+mod program;
+#[cfg(test)]
+mod tests;
 
-use program::command;
 use files::RealFiles;
+use program::command;
 use std::env;
 use std::process::ExitCode;
 

@@ -1,0 +1,3 @@
+pub mod MeaningAndRanks
+pub mod Small
+pub mod Fit

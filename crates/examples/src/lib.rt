@@ -1,0 +1,8 @@
+//! Worked examples of the definitions.
+#![tactic(auto)]
+
+mod laws;
+mod rows;
+
+pub use laws::{ordered_ends, references_fit, runs_mean, two_instructions};
+pub use rows::{all_definitions, all_examples};

@@ -1,0 +1,27 @@
+//! The worked rows, and the definitions that no contract cites yet.
+
+ghost use Rattle.std.specs.Prelude.{◌≡◌, ℕ, List};
+ghost use Rattle.jtypes.specs.declared.refusal.Refusal.{Refusal};
+ghost use Rattle.typecheck.specs.Typing.{Class};
+ghost use Rattle.verify.specs.Verdict.{IsRefused, IsAccepted, IsClassOf};
+ghost use Rattle.verify.specs.Promise.{TypeSoundness, AcceptedIsChecked, AcceptedIsOrdered};
+ghost use Rattle.verify.specs.Sound.{SoundnessOfClasses};
+ghost use Rattle.examples.specs.Plain.{class_of};
+ghost use Rattle.examples.specs.Judge.{judge};
+ghost use Rattle.examples.specs.Rows.{checked};
+ghost use Rattle.examples.specs.Verdicts.{judged};
+
+/// Names the rows, so that a check computes them.
+pub fn all_examples()
+    ensures classes { (bytes : List ℕ) → class_of bytes ≡ class_of bytes }
+    ensures verdicts { (bytes : List ℕ) → judge bytes ≡ judge bytes }
+    ensures runs { checked ≡ checked }
+    ensures judged { judged ≡ judged }
+{}
+
+/// Names the verdict and the statement of soundness, so that a check elaborates them. It claims nothing of them.
+pub fn all_definitions()
+    ensures verdicts { (bytes : List ℕ) (r : Refusal) → IsRefused bytes r → IsRefused bytes r }
+    ensures classes { (bytes : List ℕ) (c : Class) → IsAccepted bytes → IsClassOf bytes c → IsClassOf bytes c }
+    ensures soundness { AcceptedIsChecked → AcceptedIsOrdered → SoundnessOfClasses → TypeSoundness → TypeSoundness }
+{}

@@ -1,0 +1,515 @@
+//! Commands, with their lines and statuses.
+
+use crate::files::{FileFault, Files};
+use crate::program::command;
+use rowclasses as rows;
+use std::alloc::{AllocError, Global};
+use std::io::{self, Read, Write};
+use std::process::Abort;
+use std::test::Fail;
+
+/// One file, named `C`; all others can't be read.
+#[derive(Drop)]
+struct OneFile {
+    bytes: Vec<u8>,
+}
+
+impl Files for OneFile {
+    fn read(&self, alloc: Global, name: &str) -> Result<Vec<u8>, FileFault> {
+        if name != "C" {
+            return Err(FileFault::CannotRead);
+        }
+        Vec::from_slice(alloc, &self.bytes).map_err(|_| FileFault::NoMemory)
+    }
+}
+
+#[derive(Drop)]
+struct NoInput;
+
+impl Read for NoInput {
+    fn read(&mut self, _buf: &mut [u8]) -> io::Result<usize> {
+        Ok(0)
+    }
+}
+
+/// What was written, by a writer that fails once it holds so many bytes.
+#[derive(Drop)]
+struct Sink {
+    bytes: Vec<u8>,
+    most: usize,
+}
+
+impl Write for Sink {
+    fn write(&mut self, buf: &[u8]) -> io::Result<usize> {
+        let room = self.most.saturating_sub(self.bytes.len());
+        let n = buf.len().min(room);
+        if n < buf.len() {
+            return Err(io::Error::from(io::ErrorKind::BrokenPipe));
+        }
+        self.bytes.extend_from_slice(buf)?;
+        Ok(n)
+    }
+
+    fn flush(&mut self) -> io::Result<()> {
+        Ok(())
+    }
+}
+
+/// What a command answered.
+#[derive(Drop)]
+struct Answered {
+    status: u8,
+    output: Vec<u8>,
+    errors: Vec<u8>,
+}
+
+fn words_of(alloc: Global, words: &[&str]) -> Result<Vec<String>, AllocError> {
+    let mut all = Vec::new(alloc);
+    for word in words {
+        all.push(String::from_str(alloc, word)?)?;
+    }
+    Ok(all)
+}
+
+fn told_to(
+    alloc: Global,
+    words: &[&str],
+    bytes: Vec<u8>,
+    most: usize,
+) -> Result<Answered, AllocError> {
+    let words = words_of(alloc, words)?;
+    let files = OneFile { bytes };
+    let mut output = Sink {
+        bytes: Vec::new(alloc),
+        most,
+    };
+    let mut errors = Sink {
+        bytes: Vec::new(alloc),
+        most: 1000,
+    };
+    let status = command(
+        alloc,
+        &words,
+        &files,
+        &mut NoInput,
+        &mut output,
+        &mut errors,
+    );
+    let Sink { bytes: output, .. } = output;
+    let Sink { bytes: errors, .. } = errors;
+    Ok(Answered {
+        status,
+        output,
+        errors,
+    })
+}
+
+fn told(alloc: Global, words: &[&str], bytes: Vec<u8>) -> Result<Answered, AllocError> {
+    told_to(alloc, words, bytes, 1000)
+}
+
+fn is_told(told: &Answered, status: u8, output: &str, errors: &str) -> bool {
+    told.status == status
+        && told.output.as_slice() == output.as_bytes()
+        && told.errors.as_slice() == errors.as_bytes()
+}
+
+/// A command over a class, and what it must tell.
+#[derive(Clone, Copy)]
+struct Row<'a> {
+    words: &'a [&'a str],
+    status: u8,
+    output: &'a str,
+}
+
+fn rows_hold(rt: &impl Abort, alloc: Global, class: &[u8], rows: &[Row<'_>]) -> Result<(), Fail> {
+    for row in rows {
+        let bytes = Vec::from_slice(alloc, class)?;
+        let answer = told(alloc, row.words, bytes)?;
+        assert!(rt;
+            is_told(&answer, row.status, row.output, ""),
+            "{:?}",
+            row.words
+        );
+    }
+    Ok(())
+}
+
+#[test]
+fn plus_adds_one(rt: HostRuntime) -> Result<(), Fail> {
+    let plus = rows::plus(rt.alloc())?;
+    rows_hold(
+        &rt,
+        rt.alloc(),
+        &plus,
+        &[
+            Row {
+                words: &["check", "C"],
+                status: 0,
+                output: "accepted steps=14 words=0 slots=9 depth=1\n",
+            },
+            Row {
+                words: &["run", "C", "7", "41"],
+                status: 0,
+                output: "result 42\nvalue 42\nsteps 14 words 0\n",
+            },
+            Row {
+                words: &["run", "C", "007", "041", "1", "2i", "null"],
+                status: 0,
+                output: "result 42\nvalue 42\nsteps 14 words 0\n",
+            },
+            Row {
+                words: &["run", "C", "7", "none"],
+                status: 4,
+                output: "threw 3 NullPointerException\nvalue none\nsteps 4 words 0\n",
+            },
+            Row {
+                words: &["run", "C", "9223372036854775807", "9223372036854775807"],
+                status: 0,
+                output: "result -9223372036854775808\nvalue -9223372036854775808\nsteps 14 words 0\n",
+            },
+        ],
+    )
+}
+
+#[test]
+fn straight_lines_run(rt: HostRuntime) -> Result<(), Fail> {
+    let alloc = rt.alloc();
+    rows_hold(
+        &rt,
+        rt.alloc(),
+        &rows::unbox(alloc)?,
+        &[
+            Row {
+                words: &["run", "C", "7", "none"],
+                status: 4,
+                output: "threw 3 NullPointerException\nvalue none\nsteps 4 words 0\n",
+            },
+            Row {
+                words: &["run", "C", "7", "5"],
+                status: 0,
+                output: "result 5\nvalue 5\nsteps 6 words 0\n",
+            },
+        ],
+    )?;
+    rows_hold(
+        &rt,
+        rt.alloc(),
+        &rows::give_entry(alloc)?,
+        &[Row {
+            words: &["run", "C", "7", "41"],
+            status: 4,
+            output: "threw 4 ClassCastException\nvalue 41\nsteps 2 words 0\n",
+        }],
+    )
+}
+
+#[test]
+fn classes_are_refused(rt: HostRuntime) -> Result<(), Fail> {
+    let alloc = rt.alloc();
+    for (class, output) in [
+        (rows::mixed(alloc)?, "refused 22 TypeMismatch at 1\n"),
+        (rows::falls(alloc)?, "refused 23 FallsOff\n"),
+        (
+            rows::shift64(alloc)?,
+            "refused 17 OutsideProfile opcode 16\n",
+        ),
+        (
+            rows::counter(alloc)?,
+            "refused 17 OutsideProfile opcode 153\n",
+        ),
+        (
+            rows::give_entry_with_stack(alloc, 8190)?,
+            "refused 29 FrameLimit\n",
+        ),
+        (Vec::new(alloc), "refused 2 Truncated\n"),
+        (vec![in alloc; 0; 65_537]?, "refused 1 TooLarge\n"),
+    ] {
+        rows_hold(
+            &rt,
+            alloc,
+            &class,
+            &[
+                Row {
+                    words: &["check", "C"],
+                    status: 2,
+                    output,
+                },
+                Row {
+                    words: &["run", "C", "7", "none"],
+                    status: 2,
+                    output,
+                },
+            ],
+        )?;
+    }
+    rows_hold(
+        &rt,
+        rt.alloc(),
+        &rows::give_entry_with_stack(alloc, 8189)?,
+        &[Row {
+            words: &["check", "C"],
+            status: 0,
+            output: "accepted steps=2 words=0 slots=8192 depth=1\n",
+        }],
+    )
+}
+
+/// One byte of Plus in the place of another, or several.
+fn changed(alloc: Global, at: usize, bytes: &[u8]) -> Result<Vec<u8>, AllocError> {
+    let mut class = rows::plus(alloc)?;
+    for (place, byte) in class.iter_mut().skip(at).zip(bytes) {
+        *place = *byte;
+    }
+    Ok(class)
+}
+
+fn is_refused(rt: &impl Abort, alloc: Global, class: Vec<u8>, output: &str) -> Result<(), Fail> {
+    let answer = told(alloc, &["check", "C"], class)?;
+    assert!(rt; is_told(&answer, 2, output, ""), "{output}");
+    Ok(())
+}
+
+#[test]
+fn layouts_and_shapes_are_refused(rt: HostRuntime) -> Result<(), Fail> {
+    let alloc = rt.alloc();
+    let size = rows::plus(alloc)?.len();
+    assert_eq!(rt; size, 727);
+    // Behind the header stand 14 bytes of it, the constructor of 31, `process` of 56 and a count.
+    let header = size - 2 - 56 - 31 - 14;
+    for (at, bytes, output) in [
+        (0, [0xCB, 0xFE].as_slice(), "refused 3 BadMagic\n"),
+        (6, &[0, 50], "refused 4 BadVersion\n"),
+        (4, &[0, 1], "refused 4 BadVersion\n"),
+        (8, &[0, 0], "refused 5 BadPool\n"),
+        (8, &[0xFF, 0xFF], "refused 5 BadPool\n"),
+        (header, &[0x02, 0x21], "refused 8 BadHeader\n"),
+        (header + 4, &[0, 6], "refused 8 BadHeader\n"),
+        (header + 8, &[0, 16], "refused 8 BadHeader\n"),
+    ] {
+        is_refused(&rt, alloc, changed(alloc, at, bytes)?, output)?;
+    }
+    let mut longer = rows::plus(alloc)?;
+    longer.push(0)?;
+    is_refused(&rt, alloc, longer, "refused 6 TrailingBytes\n")?;
+    for n in [1, 7, 8, 9, 100, 600, 726] {
+        let class = rows::plus(alloc)?;
+        let front = Vec::from_slice(alloc, class.get(..n).ok_or("a front")?)?;
+        is_refused(&rt, alloc, front, "refused 2 Truncated\n")?;
+    }
+    Ok(())
+}
+
+#[test]
+fn methods_are_refused(rt: HostRuntime) -> Result<(), Fail> {
+    let alloc = rt.alloc();
+    let give = [0x2B, 0xB0];
+    let process = rows::process(1, 3, &give);
+    let frames = Some(rows::Frames {
+        count: 0,
+        entries: &[],
+    });
+    for (methods, output) in [
+        (
+            [rows::Method {
+                flags: 0x0080,
+                ..process
+            }]
+            .as_slice(),
+            "refused 11 NoProcess\n",
+        ),
+        (
+            &[rows::Method {
+                flags: 0x0089,
+                ..process
+            }],
+            "refused 11 NoProcess\n",
+        ),
+        (
+            &[rows::Method {
+                flags: 0x0181,
+                ..process
+            }],
+            "refused 13 NoBody\n",
+        ),
+        (
+            &[rows::Method {
+                flags: 0x0481,
+                ..process
+            }],
+            "refused 13 NoBody\n",
+        ),
+        (&[process, process], "refused 12 DuplicateMethod\n"),
+        (
+            &[
+                process,
+                rows::Method {
+                    descriptor: 12,
+                    ..process
+                },
+            ],
+            "refused 7 BadDescriptor\n",
+        ),
+        (
+            &[process, rows::Method { name: 7, ..process }],
+            "refused 9 ConstructorForm\n",
+        ),
+        (
+            &[rows::Method {
+                code: &[],
+                ..process
+            }],
+            "refused 14 BadCode\n",
+        ),
+        (
+            &[rows::Method {
+                max_locals: 2,
+                ..process
+            }],
+            "refused 14 BadCode\n",
+        ),
+        (
+            &[rows::Method { frames, ..process }],
+            "refused 21 BadStackMap\n",
+        ),
+        (&[], "refused 11 NoProcess\n"),
+    ] {
+        is_refused(&rt, alloc, rows::class_of(alloc, methods)?, output)?;
+    }
+    Ok(())
+}
+
+#[test]
+fn instructions_are_refused(rt: HostRuntime) -> Result<(), Fail> {
+    let alloc = rt.alloc();
+    for (code, output) in [
+        ([0xCA].as_slice(), "refused 16 UnknownOpcode\n"),
+        (
+            &[0xBA, 0, 0, 0, 0],
+            "refused 17 OutsideProfile opcode 186\n",
+        ),
+        (&[0x2B, 0xC0, 0], "refused 18 BadOperand\n"),
+        (
+            &[0xA7, 0, 3, 0xB0],
+            "refused 17 OutsideProfile opcode 167\n",
+        ),
+        // A cut instruction behind one that is not accepted.
+        (&[0x03, 0xC0], "refused 17 OutsideProfile opcode 3\n"),
+        // A cast to the entry, and a call of an own method.
+        (&[0x2B, 0xC0, 0, 16, 0xB0], "refused 24 UnknownMember\n"),
+        (
+            &[0x0A, 0xB8, 0, 45, 0x2B, 0xB0],
+            "refused 24 UnknownMember\n",
+        ),
+        (
+            &[0x2B, 0xB9, 0, 22, 1, 0, 0x2B, 0xB0],
+            "refused 24 UnknownMember\n",
+        ),
+        // What follows a return has no frame.
+        (&[0x2B, 0xB0, 0x2B, 0xB0], "refused 21 BadStackMap\n"),
+        (&[0xB0], "refused 22 TypeMismatch at 0\n"),
+    ] {
+        let class = rows::class_of(alloc, &[rows::process(2, 3, code)])?;
+        is_refused(&rt, alloc, class, output)?;
+    }
+    Ok(())
+}
+
+#[test]
+fn lines_are_judged(rt: HostRuntime) -> Result<(), Fail> {
+    let alloc = rt.alloc();
+    let line = "error: bad command line\n";
+    let argument = "error: bad argument\n";
+    for (words, errors) in [
+        ([].as_slice(), line),
+        (&["check"], line),
+        (&["check", "C", "D"], line),
+        (&["check", "--help"], line),
+        (&["check", "-h"], line),
+        (&["--version"], line),
+        (&["help"], line),
+        (&["serve"], line),
+        (&["--", "check", "C"], line),
+        (&["run", "C", "7"], line),
+        (&["run", "C", "-7", "1"], line),
+        (&["check", "C", "--workers=1"], line),
+        (&["run", "C", "7", "nothing"], argument),
+        (&["run", "C", "", "1"], argument),
+        (&["run", "C", "+7", "1"], argument),
+        (&["run", "C", "-", "1"], argument),
+        (&["run", "C", "--", "-7", "1"], argument),
+        (&["run", "C", "9223372036854775808", "1"], argument),
+        (&["run", "C", "7", "9223372036854775808"], argument),
+        (&["run", "C", "7", "1", "2147483648i"], argument),
+        (&["run", "C", "7", "1", "none"], argument),
+        (
+            &[
+                "run", "C", "7", "1", "1", "2", "3", "4", "5", "6", "7", "8", "9",
+            ],
+            argument,
+        ),
+        // The form and the values are judged before the file is read.
+        (&["run", "D", "7", "x"], argument),
+    ] {
+        let answer = told(alloc, words, rows::plus(alloc)?)?;
+        assert!(rt; is_told(&answer, 1, "", errors), "{words:?}");
+    }
+    Ok(())
+}
+
+#[test]
+fn limits_of_words_pass(rt: HostRuntime) -> Result<(), Fail> {
+    let plus = rows::plus(rt.alloc())?;
+    rows_hold(
+        &rt,
+        rt.alloc(),
+        &plus,
+        &[
+            Row {
+                words: &[
+                    "run",
+                    "C",
+                    "0",
+                    "0",
+                    "2147483647i",
+                    "9223372036854775807",
+                    "null",
+                    "1",
+                    "2",
+                    "3",
+                    "4",
+                    "5",
+                ],
+                status: 0,
+                output: "result 1\nvalue 1\nsteps 14 words 0\n",
+            },
+            Row {
+                words: &["run", "--", "C", "7", "41"],
+                status: 0,
+                output: "result 42\nvalue 42\nsteps 14 words 0\n",
+            },
+            Row {
+                words: &["check", "C", "--"],
+                status: 0,
+                output: "accepted steps=14 words=0 slots=9 depth=1\n",
+            },
+        ],
+    )
+}
+
+#[test]
+fn files_and_outputs_fail(rt: HostRuntime) -> Result<(), Fail> {
+    let alloc = rt.alloc();
+    for (words, errors) in [
+        (["check", "D"], "error: cannot read D\n"),
+        (["check", "-"], "error: cannot read -\n"),
+        (["check", ""], "error: cannot read \n"),
+    ] {
+        let answer = told(alloc, &words, rows::plus(alloc)?)?;
+        assert!(rt; is_told(&answer, 3, "", errors), "{words:?}");
+    }
+    let answer = told_to(alloc, &["check", "C"], rows::plus(alloc)?, 10)?;
+    assert_eq!(rt; answer.status, 3);
+    assert!(rt; answer.errors.as_slice() == b"error: cannot write\n".as_slice());
+    Ok(())
+}

@@ -1,0 +1,160 @@
+//! The layout of the classes (JVMS §4.1).
+
+use crate::pool::{Constant, POOL};
+use std::alloc::{AllocError, Global};
+
+/// The entries of a StackMapTable, and their count (JVMS §4.7.4).
+#[derive(Clone, Copy, Debug)]
+pub struct Frames<'a> {
+    pub count: u16,
+    pub entries: &'a [u8],
+}
+
+/// A method with the one attribute Code, by the pool's indexes.
+#[derive(Clone, Copy, Debug)]
+pub struct Method<'a> {
+    pub flags: u16,
+    pub name: u16,
+    pub descriptor: u16,
+    pub max_stack: u16,
+    pub max_locals: u16,
+    pub code: &'a [u8],
+    pub frames: Option<Frames<'a>>,
+}
+
+/// The flags of `process`: ACC_PUBLIC and ACC_VARARGS.
+const PROCESS: u16 = 0x0081;
+
+/// `process` with the erased descriptor.
+pub fn process<'a>(max_stack: u16, max_locals: u16, code: &'a [u8]) -> Method<'a> {
+    Method {
+        flags: PROCESS,
+        name: 12,
+        descriptor: 13,
+        max_stack,
+        max_locals,
+        code,
+        frames: None,
+    }
+}
+
+/// aload_0, invokespecial java/lang/Object.<init>()V, return
+const CONSTRUCTOR: Method<'static> = Method {
+    flags: 0x0001,
+    name: 7,
+    descriptor: 8,
+    max_stack: 1,
+    max_locals: 1,
+    code: &[0x2A, 0xB7, 0, 10, 0xB1],
+    frames: None,
+};
+
+/// Bytes that are put together.
+#[derive(Drop)]
+struct Bytes {
+    bytes: Vec<u8>,
+}
+
+impl Bytes {
+    fn put(&mut self, part: &[u8]) -> Result<(), AllocError> {
+        self.bytes.extend_from_slice(part)
+    }
+
+    fn u16(&mut self, n: u16) -> Result<(), AllocError> {
+        self.put(&n.to_be_bytes())
+    }
+
+    fn u32(&mut self, n: u32) -> Result<(), AllocError> {
+        self.put(&n.to_be_bytes())
+    }
+
+    /// A length before its bytes.
+    fn length(&mut self, n: usize) -> Result<(), AllocError> {
+        self.u32(u32::try_from(n).unwrap_or(u32::MAX))
+    }
+
+    fn constant(&mut self, constant: Constant) -> Result<(), AllocError> {
+        match constant {
+            Constant::Utf8(text) => {
+                self.put(&[1])?;
+                self.u16(u16::try_from(text.len()).unwrap_or(u16::MAX))?;
+                self.put(text)
+            }
+            Constant::Integer(bits) => {
+                self.put(&[3])?;
+                self.u32(bits)
+            }
+            Constant::Long(bits) => {
+                self.put(&[5])?;
+                self.put(&bits.to_be_bytes())
+            }
+            Constant::Class(name) => self.indexes(7, &[name]),
+            Constant::Methodref(class, pair) => self.indexes(10, &[class, pair]),
+            Constant::InterfaceMethodref(class, pair) => self.indexes(11, &[class, pair]),
+            Constant::NameAndType(name, descriptor) => self.indexes(12, &[name, descriptor]),
+        }
+    }
+
+    fn indexes(&mut self, tag: u8, indexes: &[u16]) -> Result<(), AllocError> {
+        self.put(&[tag])?;
+        for i in indexes {
+            self.u16(*i)?;
+        }
+        Ok(())
+    }
+
+    fn frames(&mut self, frames: Frames<'_>) -> Result<(), AllocError> {
+        self.u16(14)?;
+        self.length(frames.entries.len().saturating_add(2))?;
+        self.u16(frames.count)?;
+        self.put(frames.entries)
+    }
+
+    fn method(&mut self, method: &Method<'_>) -> Result<(), AllocError> {
+        for n in [method.flags, method.name, method.descriptor, 1, 11] {
+            self.u16(n)?;
+        }
+        let inner = match method.frames {
+            Some(frames) => frames.entries.len().saturating_add(8),
+            None => 0,
+        };
+        self.length(method.code.len().saturating_add(inner).saturating_add(12))?;
+        self.u16(method.max_stack)?;
+        self.u16(method.max_locals)?;
+        self.length(method.code.len())?;
+        self.put(method.code)?;
+        self.u16(0)?;
+        match method.frames {
+            Some(frames) => {
+                self.u16(1)?;
+                self.frames(frames)
+            }
+            None => self.u16(0),
+        }
+    }
+}
+
+/// The class with the constructor and these methods.
+pub fn class_of(alloc: Global, methods: &[Method<'_>]) -> Result<Vec<u8>, AllocError> {
+    let mut class = Bytes {
+        bytes: Vec::new(alloc),
+    };
+    class.put(&[0xCA, 0xFE, 0xBA, 0xBE])?;
+    for n in [0, 52, 55] {
+        class.u16(n)?;
+    }
+    for constant in &POOL {
+        class.constant(*constant)?;
+    }
+    for n in [0x0021, 2, 4, 1, 6, 0] {
+        class.u16(n)?;
+    }
+    class.u16(u16::try_from(methods.len().saturating_add(1)).unwrap_or(u16::MAX))?;
+    class.method(&CONSTRUCTOR)?;
+    for method in methods {
+        class.method(method)?;
+    }
+    class.u16(0)?;
+    let Bytes { bytes } = class;
+    Ok(bytes)
+}
