@@ -13,10 +13,7 @@ use jtypes::{Cursor, Items, Refusal, row};
 use std::alloc::{AllocError, Global};
 
 #[tactic(auto, unfolding(crate::specs::Code::plain_attribute))]
-pub fn read_plain_attribute(
-    alloc: Global,
-    cursor: &mut Cursor<'_>,
-) -> Result<Attribute, Refusal>
+pub fn read_plain_attribute(alloc: Global, cursor: &mut Cursor<'_>) -> Result<Attribute, Refusal>
     ensures { Takes (λ x. x) result (first plain_attribute cursor.old) cursor.new }
 {
     let name = cursor.u16()?;

@@ -40,7 +40,10 @@ impl<'a> ClassView<'a> {
     pub fn name(&self) -> &'a [u8]
         ensures { result.now ≡ self.now.name }
     {
-        self.class.pool.class(self.class.parts.this_class).unwrap_or(&[])
+        self.class
+            .pool
+            .class(self.class.parts.this_class)
+            .unwrap_or(&[])
     }
 
     pub fn method_count(&self) -> usize

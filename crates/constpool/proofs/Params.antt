@@ -1,13 +1,13 @@
 -- Reading types one after the other, as a loop does.
-use Rattle.std.proofs.Common.{◌≡◌, ◌≢◌, ℕ, ◌+◌, ◌-◌, ◌≤◌, ◌<◌, zero, suc, Bool, true, false, cond, List, [], ◌∷◌, ◌++◌, length, take, drop, Option, Some, None, option_map, Result, Ok, Err, eqb, refl, sym, ap, subst, ◌∙◌, arith, append_assoc, length-append, inl, inr, ◌⊎◌, codes}
-use Rattle.std.proofs.lemmas.Bool.{eq-eqb, eqb-true, eqb-false}
+use Rattle.std.proofs.Common.{◌≡◌, ◌≢◌, ℕ, ◌+◌, ◌≤◌, ◌<◌, zero, suc, Bool, true, false, List, [], ◌∷◌, ◌++◌, length, Option, Some, None, option_map, Result, Ok, Err, eqb, refl, sym, ap, subst, ◌∙◌, arith, append_assoc, length-append, inl, inr, ◌⊎◌, codes}
+use Rattle.std.proofs.lemmas.Bool.{eqb-true, eqb-false}
 use Rattle.std.proofs.lemmas.List.{append-nil}
 use Rattle.std.proofs.lemmas.List.Elements.{All-nil, All-cons}
 use Rattle.std.specs.List.{All}
 use Rattle.jtypes.specs.declared.refusal.Refusal.{Refusal}
 use Rattle.jtypes.specs.declared.refusal.Refusal.TheVariants.{BadDescriptor}
 use Rattle.jtypes.specs.Layout.{and_then, Fails}
-use Rattle.jtypes.specs.Lists.{after_front, only_if, ◌>>=◌}
+use Rattle.jtypes.specs.Lists.{after_front, ◌>>=◌}
 use Rattle.jtypes.proofs.Many.{with_front, fails_along}
 use Rattle.constpool.specs.declared.descriptor.FieldType.{FieldType}
 use Rattle.constpool.specs.declared.descriptor.FieldType.TheVariants.{Int, Long, Boolean, IntArray, LongArray, ObjectArray, Class}
@@ -16,11 +16,11 @@ use Rattle.constpool.specs.Descriptor.{type_text, IsNamed, before_semicolon, nam
 use Rattle.constpool.specs.Parsing.{parsed}
 use Rattle.constpool.proofs.Fronts.{front_of}
 
-or_else_cases : {A : Type 0} (a b : Option A) (x : A) → or_else a b ≡ Some x → (a ≡ Some x) ⊎ (b ≡ Some x)
+pub or_else_cases : {A : Type 0} (a b : Option A) (x : A) → or_else a b ≡ Some x → (a ≡ Some x) ⊎ (b ≡ Some x)
 or_else_cases (Some y) b x e = inl e
 or_else_cases None b x e = inr e
 
-bound : {A B : Type 0} (o : Option A) (f : A → Option B) (y : B) → (o >>= f) ≡ Some y → (x : A) × (o ≡ Some x) × (f x ≡ Some y)
+pub bound : {A B : Type 0} (o : Option A) (f : A → Option B) (y : B) → (o >>= f) ≡ Some y → (x : A) × (o ≡ Some x) × (f x ≡ Some y)
 bound (Some x) f y e = (x, refl, e)
 bound None f y e = absurd cc
 
@@ -94,7 +94,7 @@ type_read bytes p e =
       ]
     ]
 
-text_length : (t : FieldType) → 0 < length (type_text t)
+pub text_length : (t : FieldType) → 0 < length (type_text t)
 text_length Int = omega arith
 text_length Long = omega arith
 text_length Boolean = omega arith

@@ -1,5 +1,8 @@
 //! The names that a class file of the profile may speak of, in their internal form (JVMS §4.2.1).
 
+ghost use Rattle.std.specs.Prelude.{◌≡◌};
+ghost use Rattle.constpool.specs.Names.{object_name, number_name, long_name, integer_name, math_name, mutable_entry_name, entry_processor_name, cache_entry_name, int_array_name, long_array_name, object_array_name, init_name, clinit_name, process_name, process_descriptor, code_name, stack_map_name};
+
 /// `java.lang.Object`
 pub const OBJECT: &[u8] = b"java/lang/Object";
 /// `java.lang.Number`
@@ -35,3 +38,24 @@ pub const PROCESS_DESCRIPTOR: &[u8] =
 pub const CODE: &[u8] = b"Code";
 /// The attribute of a code's frames (JVMS §4.7.4).
 pub const STACK_MAP_TABLE: &[u8] = b"StackMapTable";
+
+/// The names are those that the definitions speak of.
+pub fn are_spelled_so()
+    ensures of_object { OBJECT.now ≡ object_name }
+    ensures of_number { NUMBER.now ≡ number_name }
+    ensures of_long { LONG.now ≡ long_name }
+    ensures of_integer { INTEGER.now ≡ integer_name }
+    ensures of_math { MATH.now ≡ math_name }
+    ensures of_mutable_entry { MUTABLE_ENTRY.now ≡ mutable_entry_name }
+    ensures of_entry_processor { ENTRY_PROCESSOR.now ≡ entry_processor_name }
+    ensures of_cache_entry { CACHE_ENTRY.now ≡ cache_entry_name }
+    ensures of_int_array { INT_ARRAY.now ≡ int_array_name }
+    ensures of_long_array { LONG_ARRAY.now ≡ long_array_name }
+    ensures of_object_array { OBJECT_ARRAY.now ≡ object_array_name }
+    ensures of_init { INIT.now ≡ init_name }
+    ensures of_clinit { CLINIT.now ≡ clinit_name }
+    ensures of_process { PROCESS.now ≡ process_name }
+    ensures of_process_descriptor { PROCESS_DESCRIPTOR.now ≡ process_descriptor }
+    ensures of_code { CODE.now ≡ code_name }
+    ensures of_stack_map_table { STACK_MAP_TABLE.now ≡ stack_map_name }
+{}

@@ -89,10 +89,18 @@ fn read_result(alloc: Global, bytes: &[u8]) -> Result<Option<FieldType>, Refusal
     ensures { Gives (λ x. x) result (parsed (read_result bytes.now)) }
 {
     if let Some(rest) = after_front(b"V", bytes) {
-        return if rest.is_empty() { Ok(None) } else { Err(Refusal::BadDescriptor) };
+        return if rest.is_empty() {
+            Ok(None)
+        } else {
+            Err(Refusal::BadDescriptor)
+        };
     }
     let (found, rest) = read_type(alloc, bytes)?;
-    if rest.is_empty() { Ok(Some(found)) } else { Err(Refusal::BadDescriptor) }
+    if rest.is_empty() {
+        Ok(Some(found))
+    } else {
+        Err(Refusal::BadDescriptor)
+    }
 }
 
 #[tactic(auto, unfolding(crate::specs::Descriptor::sig_of))]
@@ -124,7 +132,10 @@ pub fn param_slots(sig: &Sig) -> usize
 {
     let mut slots = 0;
     for param in sig.params.as_slice() {
-        slots += if matches!(param, FieldType::Long) { 2 } else { 1 };
+        slots += match param {
+            FieldType::Long => 2,
+            _ => 1,
+        };
     }
     slots
 }

@@ -1,4 +1,4 @@
-use Rattle.std.proofs.Common.{ap, sym}
+use Rattle.std.proofs.Common.{sym}
 use Rattle.constpool.proofs.Fronts.{cut_none, cut_some}
 use Rattle.constpool.proofs.parsing.before_semicolon.Goals as goal
 

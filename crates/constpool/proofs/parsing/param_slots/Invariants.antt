@@ -6,5 +6,5 @@ use Rattle.constpool.proofs.parsing.param_slots.Given as goal
 abbrev pub invariant-loop-param : goal.invariant-loop-param
 invariant-loop-param l = record {
   counted : l.slots + slots_by is_long_type (drop l.param-index l.param-items) ≡ slots_by is_long_type l.sig.params;
-  few : l.slots ≤ 2 * l.param-index
+  few : l.slots ≤ 2 * l.param-index;
 }

@@ -1,4 +1,3 @@
-use Rattle.std.proofs.Common.{subst, length, ◌≤◌, ◌-◌, drop}
 use Rattle.std.proofs.lemmas.Result.{err_from_is_err_and}
 use Rattle.jtypes.proofs.Laws.{rest_is, gives_rest, found_from_gives, first_stands, stands_from_fails}
 use Rattle.constpool.specs.Pool.{pool}

@@ -1,0 +1,143 @@
+use super::*;
+use jtypes::Refusal;
+use std::test::Fail;
+
+/// A pool with a constant of each tag.
+const EACH_TAG: [u8; 84] = [
+    0, 17, //
+    1, 0, 1, b'A', // 1: "A"
+    7, 0, 1, // 2: the class A
+    3, 0, 0, 0, 7, // 3: the int 7
+    4, 0x3F, 0x80, 0, 0, // 4: the float 1
+    5, 255, 255, 255, 255, 255, 255, 255, 254, // 5, 6: the long -2
+    6, 0x3F, 0xF0, 0, 0, 0, 0, 0, 0, // 7, 8: the double 1
+    8, 0, 1, // 9: the string "A"
+    12, 0, 1, 0, 1, // 10: A of type A
+    9, 0, 2, 0, 10, // 11: a field
+    10, 0, 2, 0, 10, // 12: a method
+    11, 0, 2, 0, 10, // 13: a method of an interface
+    15, 6, 0, 12, // 14: a handle
+    16, 0, 1, // 15: a method's type
+    18, 0, 0, 0, 10, // 16: a dynamic call
+    9, 9, 9, 9, 9, 9, 9, 9, 9, 9, 9, 9, // what follows the pool
+];
+
+#[test]
+fn reads_each_tag(rt: HostRuntime) -> Result<(), Fail> {
+    let (pool, used) = read_pool(rt.alloc(), &EACH_TAG).ok().ok_or("a pool")?;
+    assert_eq!(rt; used, 72);
+    assert_eq!(rt; pool.utf8(1).ok_or("a text")?, b"A".as_slice());
+    assert_eq!(rt; pool.class(2).ok_or("a class")?, b"A".as_slice());
+    assert!(rt; pool.is_class(2) && !pool.is_class(1));
+    assert_eq!(rt; pool.int(3), Some(7));
+    assert_eq!(rt; pool.long(5), Some(-2));
+    for i in [0, 6, 8, 17, 65535] {
+        assert!(rt; pool.constant(i).is_none(), "at {i}");
+    }
+    for i in [1, 4, 7, 9, 10, 11, 14, 15, 16] {
+        assert!(rt; pool.constant(i).is_some(), "at {i}");
+    }
+    let method = pool.method(12).ok_or("a method")?;
+    assert!(rt; same_bytes(method.class, b"A") && same_bytes(method.name, b"A"));
+    assert!(rt; same_bytes(method.descriptor, b"A") && !same_bytes(method.name, b"AB"));
+    assert!(rt; pool.interface_method(13).is_some());
+    assert!(rt; pool.method(13).is_none() && pool.interface_method(12).is_none());
+    Ok(())
+}
+
+#[test]
+fn refuses_pools(rt: HostRuntime) {
+    let table = [
+        (b"".as_slice(), Refusal::Truncated, "empty"),
+        (&[0, 0], Refusal::BadPool, "count 0"),
+        (&[0, 2], Refusal::Truncated, "no tag"),
+        (&[0, 2, 1, 0, 2, b'A'], Refusal::Truncated, "a cut text"),
+        (
+            &[0, 2, 5, 0, 0, 0, 0, 0, 0, 0, 1],
+            Refusal::BadPool,
+            "a long at the last index",
+        ),
+        (
+            &[0, 2, 6, 0, 0, 0, 0, 0, 0, 0, 1],
+            Refusal::BadPool,
+            "a double there",
+        ),
+        (&[0, 2, 0], Refusal::BadPool, "tag 0"),
+        (&[0, 2, 2], Refusal::BadPool, "tag 2"),
+        (&[0, 2, 17, 0, 0, 0, 0], Refusal::BadPool, "tag 17"),
+        (&[0, 2, 1, 0, 1, 0], Refusal::BadPool, "byte 00"),
+        (&[0, 2, 1, 0, 1, 0xF0], Refusal::BadPool, "byte F0"),
+        (&[0, 2, 1, 0, 1, 0xFF], Refusal::BadPool, "byte FF"),
+        (&[0, 2, 7, 0, 0], Refusal::BadPool, "index 0"),
+        (&[0, 2, 7, 0, 1], Refusal::BadPool, "a class as a name"),
+        (&[0, 2, 7, 0, 2], Refusal::BadPool, "past the end"),
+        (
+            &[0, 3, 1, 0, 0, 10, 0, 1, 0, 1],
+            Refusal::BadPool,
+            "a text as a class",
+        ),
+        (
+            &[0, 3, 1, 0, 0, 15, 6, 0, 1],
+            Refusal::BadPool,
+            "a text as a member",
+        ),
+        (
+            &[0, 3, 1, 0, 0, 18, 0, 0, 0, 1],
+            Refusal::BadPool,
+            "a text as a pair",
+        ),
+    ];
+    for (bytes, want, what) in table {
+        match read_pool(rt.alloc(), bytes) {
+            Ok(_) => assert!(rt; false, "{what} was read"),
+            Err(refusal) => assert_eq!(rt; refusal, want, "{what}"),
+        }
+    }
+}
+
+#[test]
+fn reads_descriptors(rt: HostRuntime) -> Result<(), Fail> {
+    for (text, params, slots) in [
+        (b"()V".as_slice(), 0, 0),
+        (b"(JI[J)Z", 3, 4),
+        (b"(Lx;)V", 1, 1),
+    ] {
+        let sig = parse_method_descriptor(rt.alloc(), text)
+            .ok()
+            .ok_or("a descriptor")?;
+        assert_eq!(rt; sig.params.as_slice().len(), params);
+        assert_eq!(rt; param_slots(&sig), slots);
+    }
+    let sig = parse_method_descriptor(rt.alloc(), b"(IJZ[I[J[Ljava/lang/Object;LO;)LA;");
+    let sig = sig.ok().ok_or("a descriptor")?;
+    assert_eq!(rt; sig.params.as_slice().len(), 7);
+    assert_eq!(rt; param_slots(&sig), 8);
+    match sig.result {
+        Some(FieldType::Class(name)) => assert!(rt; same_bytes(name.as_slice(), b"A")),
+        _ => assert!(rt; false, "another result"),
+    }
+    Ok(())
+}
+
+#[test]
+fn refuses_descriptors(rt: HostRuntime) {
+    for text in [
+        b"".as_slice(),
+        b"(",
+        b"V",
+        b"()",
+        b"(D)V",
+        b"([B)V",
+        b"(L;)V",
+        b"(Lx)V",
+        b"(J",
+        b"()VV",
+        b"(V)V",
+        b"()J;",
+        b"([[I)V",
+        b"([Lx;)V",
+    ] {
+        let read = parse_method_descriptor(rt.alloc(), text);
+        assert!(rt; matches!(read, Err(Refusal::BadDescriptor)), "{text:?}");
+    }
+}
