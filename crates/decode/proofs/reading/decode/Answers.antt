@@ -6,7 +6,7 @@ use Rattle.decode.proofs.reading.decode.Goals as goal
 
 pub new-code-requires : goal.new-code-requires
 new-code-requires c =
-    let small : 0 + length c.args.bytes.now < 2 ^ 64 = omega (arith, c.type_inv.bytes) in
+    let small : 0 + length c.args.bytes.now < 2 ^ 64 = omega arith in
     sequence_rises c.args.pool.now 0 c.args.bytes.now c.in_ok-read_sequence.field-0.items small c.in_ok-read_sequence.ensures.0
 
 pub returns-in-None-clause-accepted : goal.returns-in-None-clause-accepted
