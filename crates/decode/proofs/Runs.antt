@@ -81,9 +81,9 @@ run_goes_on pool total bytes (p ∷ ps) r n (e, after, m, h, run) (q ∷ qs) at 
 same_head : (p q : Placed) (ps qs : List Placed) → p.place ≡ q.place → p.next ≡ q.next → p.instruction ≡ q.instruction → ps ≡ qs → p ∷ ps ≡ q ∷ qs
 same_head p q ps qs a b c d =
     let one : p ≡ q =
-          ap (λ (n : ℕ). let r : Placed = record { place = n; next = p.next; instruction = p.instruction } in r) a
-        ∙ ap (λ (n : ℕ). let r : Placed = record { place = q.place; next = n; instruction = p.instruction } in r) b
-        ∙ ap (λ (i : Instruction). let r : Placed = record { place = q.place; next = q.next; instruction = i } in r) c in
+    ap (λ (n : ℕ). let r : Placed = record { place = n; next = p.next; instruction = p.instruction } in r) a
+    ∙ ap (λ (n : ℕ). let r : Placed = record { place = q.place; next = n; instruction = p.instruction } in r) b
+    ∙ ap (λ (i : Instruction). let r : Placed = record { place = q.place; next = q.next; instruction = i } in r) c in
     cc
 
 -- one code begins at a place in one way

@@ -1,5 +1,5 @@
 -- Where the targets of a code lead.
-use Rattle.std.proofs.Common.{Bor, ◌≡◌, ℕ, ℤ, pos, ◌<◌, ◌^◌, List, [], ◌∷◌, length, None, Some, subst, sym, ap, ◌∙◌, refl, arith, get_or, Bool, true, false, eqb, zero, suc, negsuc, ◌≤ℤ◌, FitsSigned, to_z, of_z, rules}
+use Rattle.std.proofs.Common.{Bor, ◌≡◌, ℕ, ℤ, pos, ◌<◌, ◌^◌, List, [], ◌∷◌, length, None, Some, subst, ap, ◌∙◌, refl, arith, get_or, Bool, true, false, eqb, zero, suc, negsuc, ◌≤ℤ◌, FitsSigned, to_z, of_z, rules}
 use Rattle.std.proofs.lemmas.Bool.{eqb-true, eq-eqb, false≢true}
 use Rattle.std.proofs.lemmas.Int.{to_z-of_z}
 use Rattle.std.specs.Prelude.{Any, is_some, Option}

@@ -17,14 +17,14 @@ use jtypes::{ArrayKind, Cursor, Invoke, Pushed, Refusal};
 use std::alloc::{AllocError, Global};
 
 #[tactic(auto, unfolding(crate::specs::Code::signed_byte))]
-fn read_signed_byte(cursor: &mut Cursor<'_>) -> Result<i8, Refusal>
+fn signed_byte(cursor: &mut Cursor<'_>) -> Result<i8, Refusal>
     ensures { Takes (λ x. x) result (first signed_byte cursor.old) cursor.new }
 {
     Ok(cursor.u8_operand()?.cast_signed())
 }
 
 #[tactic(auto, unfolding(crate::specs::Code::signed_short))]
-fn read_signed_short(cursor: &mut Cursor<'_>) -> Result<i16, Refusal>
+fn signed_short(cursor: &mut Cursor<'_>) -> Result<i16, Refusal>
     ensures { Takes (λ x. x) result (first signed_short cursor.old) cursor.new }
 {
     Ok(cursor.u16_operand()?.cast_signed())
@@ -69,28 +69,28 @@ fn long_constant(pool: &Pool, opcode: u8, index: u16) -> Result<Instruction, Ref
 }
 
 /// A place that lies so far from a branch.
-fn target_from(place: usize, offset: i16) -> i128
+fn target(place: usize, offset: i16) -> i128
     ensures { result ≡ pos place +ℤ offset }
 {
     place as i128 + i128::from(offset)
 }
 
-/// That the index names a method of a class.
-fn check_method(pool: &Pool, index: u16) -> Result<(), Refusal>
-    ensures { result ≡ (if is_some (method_at pool.now index) then Ok tt else Err Refusal.BadOperand) }
+/// The index, where it names a method of a class.
+fn method_index(pool: &Pool, index: u16) -> Result<u16, Refusal>
+    ensures { result ≡ (if is_some (method_at pool.now index) then Ok index else Err Refusal.BadOperand) }
 {
     match pool.method(index) {
-        Some(_) => Ok(()),
+        Some(_) => Ok(index),
         None => Err(Refusal::BadOperand),
     }
 }
 
-/// That the index names a class.
-fn check_class(pool: &Pool, index: u16) -> Result<(), Refusal>
-    ensures { result ≡ (if is_some (class_at pool.now index) then Ok tt else Err Refusal.BadOperand) }
+/// The index, where it names a class.
+fn class_index(pool: &Pool, index: u16) -> Result<u16, Refusal>
+    ensures { result ≡ (if is_some (class_at pool.now index) then Ok index else Err Refusal.BadOperand) }
 {
     match pool.class(index) {
-        Some(_) => Ok(()),
+        Some(_) => Ok(index),
         None => Err(Refusal::BadOperand),
     }
 }
@@ -154,14 +154,8 @@ fn read_operands(
 {
     match form {
         Form::Alone(instruction) => Ok(instruction),
-        Form::PushByte => {
-            let value = i32::from(read_signed_byte(cursor)?);
-            Ok(Instruction::Push(Pushed::Int(value)))
-        },
-        Form::PushShort => {
-            let value = i32::from(read_signed_short(cursor)?);
-            Ok(Instruction::Push(Pushed::Int(value)))
-        },
+        Form::PushByte => Ok(Instruction::Push(Pushed::Int(i32::from(signed_byte(cursor)?)))),
+        Form::PushShort => Ok(Instruction::Push(Pushed::Int(i32::from(signed_short(cursor)?)))),
         Form::IntConstant => int_constant(pool, opcode, u16::from(cursor.u8_operand()?)),
         Form::WideIntConstant => int_constant(pool, opcode, cursor.u16_operand()?),
         Form::LongConstant => long_constant(pool, opcode, cursor.u16_operand()?),
@@ -169,34 +163,19 @@ fn read_operands(
         Form::Store(kind) => Ok(Instruction::Store(kind, u16::from(cursor.u8_operand()?))),
         Form::Increment => {
             let local = u16::from(cursor.u8_operand()?);
-            let value = i16::from(read_signed_byte(cursor)?);
+            let value = i16::from(signed_byte(cursor)?);
             Ok(Instruction::Increment(local, value))
         }
-        Form::Branch(test) => {
-            let offset = read_signed_short(cursor)?;
-            Ok(Instruction::Branch(test, target_from(place, offset)))
-        }
-        Form::Goto => {
-            let offset = read_signed_short(cursor)?;
-            Ok(Instruction::Goto(target_from(place, offset)))
-        }
-        Form::Invoke(kind) => {
-            let index = cursor.u16_operand()?;
-            check_method(pool, index)?;
-            Ok(Instruction::Invoke(kind, index))
-        }
+        Form::Branch(test) => Ok(Instruction::Branch(test, target(place, signed_short(cursor)?))),
+        Form::Goto => Ok(Instruction::Goto(target(place, signed_short(cursor)?))),
+        Form::Invoke(kind) => Ok(Instruction::Invoke(
+            kind,
+            method_index(pool, cursor.u16_operand()?)?,
+        )),
         Form::InvokeInterface => read_invoke_interface(alloc, pool, cursor),
         Form::NewArray => array_of_code(opcode, cursor.u8_operand()?),
-        Form::CheckCast => {
-            let index = cursor.u16_operand()?;
-            check_class(pool, index)?;
-            Ok(Instruction::CheckCast(index))
-        }
-        Form::InstanceOf => {
-            let index = cursor.u16_operand()?;
-            check_class(pool, index)?;
-            Ok(Instruction::InstanceOf(index))
-        }
+        Form::CheckCast => Ok(Instruction::CheckCast(class_index(pool, cursor.u16_operand()?)?)),
+        Form::InstanceOf => Ok(Instruction::InstanceOf(class_index(pool, cursor.u16_operand()?)?)),
     }
 }
 

@@ -1,7 +1,6 @@
-use Rattle.std.proofs.Common.{ℕ, List, length, arith, ◌-◌, ◌≡◌, ◌≢◌, ◌≤◌, ◌∙◌, sym, ap, refl, Ok}
+use Rattle.std.proofs.Common.{ℕ, List, length, arith, ◌-◌, ◌≡◌, ◌≢◌, ◌∙◌, sym, ap}
 use Rattle.std.proofs.lemmas.Result.{err_from_is_err_and}
 use Rattle.std.proofs.lemmas.Bool.{eqb-true, eqb-false}
-use Rattle.jtypes.specs.Layout.{first}
 use Rattle.jtypes.proofs.Laws.{stands_from_fails}
 use Rattle.decode.specs.Code.{one}
 use Rattle.decode.proofs.Runs.{run_push, run_stops, run_within, run_whole, reads_shorter}

@@ -1,4 +1,4 @@
-use Rattle.std.proofs.Common.{ℕ, None, refl, ap, arith, ◌∙◌, ◌≡◌, ◌<◌}
+use Rattle.std.proofs.Common.{ℕ, None, refl, ap, arith, ◌∙◌, ◌<◌}
 use Rattle.decode.specs.Table.{form_at}
 use Rattle.decode.proofs.Rows.{in_table, past_table}
 use Rattle.decode.proofs.table.form_of.Goals as goal

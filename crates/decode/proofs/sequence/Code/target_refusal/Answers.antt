@@ -1,4 +1,4 @@
-use Rattle.std.proofs.Common.{None, arith, subst, ap, sym, length, ◌∙◌, ◌≡◌, List, get_or}
+use Rattle.std.proofs.Common.{None, arith, subst, ap, length, ◌∙◌, List, get_or}
 use Rattle.std.proofs.lemmas.List.Elements.{AllWithin-more, AllWithin-upto}
 use Rattle.std.proofs.lemmas.List.{get_or_default}
 use Rattle.decode.specs.declared.instruction.Placed.{Placed}
