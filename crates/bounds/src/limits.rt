@@ -1,5 +1,8 @@
 //! The bounds of a class, and their limits.
 
+ghost use Rattle.std.specs.Prelude.{IfOk};
+ghost use Rattle.bounds.specs.Limits.{IsWithinLimits, Judges};
+
 use crate::costs::{Cost, greatest, has_length, is_ready};
 use decode::Instruction;
 use jtypes::Refusal;
@@ -80,7 +83,9 @@ fn costs_of(alloc: Global, methods: &[Typed]) -> Result<Vec<Option<Cost>>, Refus
 }
 
 /// The bounds, where they are within the limits.
-fn within_limits(cost: Cost) -> Result<Bounds, Refusal> {
+fn within_limits(cost: Cost) -> Result<Bounds, Refusal>
+    ensures { Judges cost result }
+{
     if cost.steps > STEP_LIMIT {
         Err(Refusal::StepLimit)
     } else if cost.words > WORD_LIMIT {
@@ -98,7 +103,9 @@ fn within_limits(cost: Cost) -> Result<Bounds, Refusal> {
 }
 
 /// The bounds of a class, from its methods but the constructor: the greatest over all paths of `process`.
-pub fn bound(alloc: Global, methods: &[Typed]) -> Result<Bounds, Refusal> {
+pub fn bound(alloc: Global, methods: &[Typed]) -> Result<Bounds, Refusal>
+    ensures { IfOk result IsWithinLimits }
+{
     if !methods.iter().all(has_lengths) {
         return Err(Refusal::LengthNotConstant);
     }

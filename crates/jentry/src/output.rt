@@ -1,5 +1,8 @@
 //! What the program writes, and its statuses.
 
+ghost use Rattle.std.specs.Prelude.{◌≡◌};
+ghost use Rattle.jtypes.specs.Entry.{after_effect};
+
 use crate::files::FileFault;
 use jtypes::{Arg, Effect, Refusal};
 use machine::{Done, Ending};
@@ -100,7 +103,9 @@ fn result_text(alloc: Global, returned: Arg) -> Result<String, AllocError> {
 }
 
 /// The entry after an effect on the entry before.
-fn entry_after(effect: Effect, before: Option<i64>) -> Option<i64> {
+fn entry_after(effect: Effect, before: Option<i64>) -> Option<i64>
+    ensures { result ≡ after_effect effect before }
+{
     match effect {
         Effect::Keep => before,
         Effect::Put(value) => Some(value),

@@ -1,5 +1,12 @@
 //! The verdict, level by level.
 
+ghost use Rattle.std.specs.Prelude.{◌≡◌, ◌≢◌, ◌⊎◌, length, IfOk, IfErr};
+ghost use Rattle.jtypes.specs.declared.refusal.Refusal.{Refusal};
+ghost use Rattle.jtypes.specs.Layout.{IsLaidOut, Stands};
+ghost use Rattle.classfile.specs.Class.{class_file};
+ghost use Rattle.classfile.specs.View.{view_of};
+ghost use Rattle.bounds.specs.Limits.{IsWithinLimits};
+
 use crate::instructions::judge_instructions;
 use crate::shape::{Shape, is_process, judge_shape};
 use bounds::{Bounds, bound};
@@ -9,6 +16,7 @@ use decode::Code;
 use frames::{Environment, method_signature};
 use jtypes::Refusal;
 use std::alloc::Global;
+use std::marker::Model;
 use typecheck::{Typed, check_method};
 
 /// A class that was accepted.
@@ -19,13 +27,25 @@ pub struct Verified {
     bounds: Bounds,
 }
 
+impl Model for Verified {
+    ghost use Rattle.verify.specs.Judged.{Judged};
+
+    ghost Value = { Judged };
+
+    ghost view = { λ v. record { pool = v.class.pool; parts = v.class.parts; bounds = v.bounds } };
+}
+
 impl Verified {
     /// What an invocation takes at most.
-    pub fn bounds(&self) -> Bounds {
+    pub fn bounds(&self) -> Bounds
+        ensures { result ≡ self.now.bounds }
+    {
         self.bounds
     }
 
-    pub fn view(&self) -> ClassView<'_> {
+    pub fn view(&self) -> ClassView<'_>
+        ensures { result ≡ view_of self.now.pool self.now.parts }
+    {
         self.class.view()
     }
 
@@ -94,7 +114,17 @@ fn judge_types(
 
 /// Judges the bytes of a class, level by level: its layout, its shape, its instructions, their types, and its bounds
 /// (JVMS §4, §4.10.1).
-pub fn verify(alloc: Global, bytes: &[u8]) -> Result<Verified, Refusal> {
+pub fn verify(alloc: Global, bytes: &[u8]) -> Result<Verified, Refusal>
+    // The bytes, all of them, are this class.
+    ensures found { IfOk result (λ v. IsLaidOut (class_file (length bytes.now)) bytes.now (v.pool, v.parts)) }
+
+    // Only a class whose layout nothing refuses is accepted, and its bounds are within the limits.
+    ensures laid_out { IfOk result (λ _. (r : Refusal) → Stands (class_file (length bytes.now)) bytes.now r → ⊥) }
+    ensures limits { IfOk result (λ v. IsWithinLimits v.bounds) }
+
+    // Where something refuses the layout, it is a refusal of the layout that is answered.
+    ensures layout { (q : Refusal) → Stands (class_file (length bytes.now)) bytes.now q → IfErr result (λ r. (r ≡ Refusal.NoMemory) ⊎ Stands (class_file (length bytes.now)) bytes.now r) }
+{
     let class = read_class(alloc, bytes)?;
     let Shape { codes, constructor } = judge_shape(alloc, &class)?;
     let instructions = judge_instructions(alloc, &class, &codes, constructor)?;
