@@ -18,7 +18,8 @@ pub struct WordsFull;
 
 /// The arrays of one invocation, which are given up together.
 ///
-/// An array of `n` elements takes `n + 1` words. All memory is taken by `new`.
+/// The words of an arena are a bound of this project's own: an array takes one for each element,
+/// and one for itself. All memory is taken by `new`, so that no other call can want for any.
 #[derive(Drop)]
 pub struct Arena {
     placed: Vec<Placed>,
@@ -54,7 +55,7 @@ impl Arena {
 
     /// Makes an array of zeros (JVMS 6.5, newarray), and answers its number.
     ///
-    /// It is refused exactly where its words do not fit.
+    /// It is refused exactly where its `n + 1` words do not fit.
     pub fn alloc(&mut self, kind: ArrayKind, n: u32) -> Result<ArrayId, WordsFull>
         ensures refused { IsErr result ↔ (self.old.words_left < words_of n) }
         ensures id { IfOk result (λ id. id ≡ length self.old.arrays) }
@@ -85,7 +86,7 @@ impl Arena {
         (id as usize) < self.placed.len()
     }
 
-    /// The element at an index (JVMS 6.5, iaload and laload).
+    /// The element at an index, or the fault of an index outside (JVMS 6.5, iaload and laload).
     pub fn get(&self, id: ArrayId, index: i32) -> Result<i64, JavaFault>
         requires { id < length self.now.arrays }
         ensures { IfSome (slice_get self.now.arrays id) (λ a. result ≡ ok_or (item_at a.items index) ArrayIndexOutOfBounds) }
@@ -96,7 +97,8 @@ impl Arena {
         }
     }
 
-    /// Changes the element at an index (JVMS 6.5, iastore and lastore).
+    /// Changes the element at an index, or answers the fault of an index outside (JVMS 6.5,
+    /// iastore and lastore).
     pub fn set(&mut self, id: ArrayId, index: i32, value: i64) -> Result<(), JavaFault>
         requires { id < length self.old.arrays }
         ensures answer { IfSome (slice_get self.old.arrays id) (λ a. result ≡ (if is_some (item_at a.items index) then Ok tt else Err ArrayIndexOutOfBounds)) }
@@ -129,7 +131,7 @@ impl Arena {
         self.placed[id as usize].kind
     }
 
-    /// Gives up all arrays, and keeps the memory.
+    /// Gives up all arrays and keeps the memory, so that all words are left again.
     pub fn reset(&mut self)
         ensures arrays { self.new.arrays ≡ [] }
         ensures words { self.new.words_left ≡ self.old.words_left + words_taken self.old.arrays }

@@ -10,7 +10,7 @@ use Rattle.mutentry.specs.Change.{Change, with_current}
 abbrev pub Answers : Reply → Result (Option Value) JavaFault → Change → Change → Type 0
 Answers (Gives answer entry) result old new = (result ≡ Ok answer) × (new ≡ with_current old entry)
 Answers (Faults fault) result old new = (result ≡ Err fault) × (new ≡ old)
-Answers Misses result old new = Unit {0}
+Answers Misses result old new = ⊥
 
 -- the reply of a call that leaves the entry as it is, where there is an answer
 abbrev pub given : Option Value → Entry → Reply
