@@ -1,11 +1,11 @@
 //! The reading of instructions.
 
-ghost use Rattle.std.specs.Prelude.{◌≡◌, ◌≢◌, ◌+ℤ◌, length, is_some, if◌then◌else◌, Ok, Err, IfOk, IfErr, pos, List, ℕ};
+ghost use Rattle.std.specs.Prelude.{◌≡◌, ◌≢◌, ◌+ℤ◌, is_some, if◌then◌else◌, Ok, Err, IfOk, IfErr, pos, List, ℕ};
 ghost use Rattle.jtypes.specs.declared.refusal.Refusal.{Refusal};
-ghost use Rattle.jtypes.specs.Layout.{Gives, Takes, first};
+ghost use Rattle.jtypes.specs.Layout.{Takes, first};
 ghost use Rattle.constpool.specs.Lookup.{constant_at, class_at, method_at, interface_method_at};
 ghost use Rattle.decode.specs.declared.instruction.Form.TheVariants as form;
-ghost use Rattle.decode.specs.Code.{signed_byte, signed_short, int_constant, long_constant, array_of_code, slots_of_member, is_count, operands, by_form, one, IsSequence};
+ghost use Rattle.decode.specs.Code.{signed_byte, signed_short, int_constant, long_constant, array_of_code, slots_of_member, is_count, operands, one, IsSequence};
 ghost use Rattle.decode.specs.Places.{CodeStands};
 ghost use Rattle.decode.specs.Reading.{Reads};
 
