@@ -1,5 +1,7 @@
 //! Type checking of one method (JVMS §4.10.1).
 
+ghost use Rattle.std.specs.Prelude.{◌≡◌, IfOk};
+
 use crate::assign::frame_assignable;
 use crate::{Called, Typed};
 use classfile::ClassView;
@@ -176,7 +178,11 @@ pub fn check_method(
     tables: &[&[u8]],
     code: Code,
     view: &ClassView<'_>,
-) -> Result<Typed, Refusal> {
+) -> Result<Typed, Refusal>
+    // What is answered is the method that was given.
+    ensures method { IfOk result (λ t. (t.number ≡ number) × (t.is_process ≡ is_process)) }
+    ensures body { IfOk result (λ t. (t.environment ≡ environment) × (t.code ≡ code)) }
+{
     let declared = read_frames(alloc, &environment, tables, &code, view)?;
     if lacks_frame(&code, &declared) {
         return Err(Refusal::BadStackMap);
