@@ -9,22 +9,33 @@ mod program;
 mod tests;
 
 use files::RealFiles;
-use program::command;
+use program::{command, no_memory};
+use std::alloc::AllocError;
 use std::env;
+use std::io::ErrorKind;
 use std::process::ExitCode;
+use std::rt::Env;
 
-fn main(rt: HostRuntime) -> ExitCode {
+/// The words of the command line; none where one is not UTF-8.
+fn words_of(rt: &(impl Env + AllocGlobal)) -> Result<Vec<String>, AllocError> {
     let mut words = Vec::new(rt.alloc());
-    match env::args(&rt) {
+    match env::args(rt) {
         Ok(args) => {
             for word in args.skip(1) {
-                if words.push(word).is_err() {
-                    return ExitCode::from(output::OTHER);
-                }
+                words.push(word)?;
             }
         }
+        Err(e) if e.kind() == ErrorKind::OutOfMemory => return Err(AllocError),
         Err(_) => {}
     }
+    Ok(words)
+}
+
+fn main(rt: HostRuntime) -> ExitCode {
+    let mut errors = rt.stderr();
+    let Ok(words) = words_of(&rt) else {
+        return ExitCode::from(no_memory(&mut errors));
+    };
     let files = RealFiles::new(&rt);
     ExitCode::from(command(
         rt.alloc(),
@@ -32,6 +43,6 @@ fn main(rt: HostRuntime) -> ExitCode {
         &files,
         &mut rt.stdin(),
         &mut rt.stdout(),
-        &mut rt.stderr(),
+        &mut errors,
     ))
 }

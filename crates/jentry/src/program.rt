@@ -81,14 +81,19 @@ fn perform<'a, W: Write>(
 
 /// Tells a failure; nothing is done where even that can't be written.
 fn tell<W: Write>(alloc: Global, errors: &mut W, failure: Failure<'_>) -> u8 {
-    if let Ok(text) = format!(in alloc; "{failure}\n") {
-        let _ = errors.write_all(text.as_bytes());
-        let _ = errors.flush();
-    } else {
-        let _ = errors.write_all(b"error: no memory\n");
-        let _ = errors.flush();
-    }
+    let Ok(text) = format!(in alloc; "{failure}\n") else {
+        return no_memory(errors);
+    };
+    let _ = errors.write_all(text.as_bytes());
+    let _ = errors.flush();
     failure.status()
+}
+
+/// Tells want of memory, and answers its status.
+pub fn no_memory<W: Write>(errors: &mut W) -> u8 {
+    let _ = errors.write_all(b"error: no memory\n");
+    let _ = errors.flush();
+    Failure::NoMemory.status()
 }
 
 /// The program: does the command of these words, over these files, and answers its status. Lines that begin with `error` go to
