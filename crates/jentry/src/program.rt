@@ -19,10 +19,7 @@ fn judge<'a>(
         Ok(bytes) => bytes,
         Err(fault) => return Err(Failure::of_file(fault, file)),
     };
-    match verify(alloc, &bytes) {
-        Err(Refusal::NoMemory) => Err(Failure::NoMemory),
-        judged => Ok(judged),
-    }
+    Ok(verify(alloc, &bytes))
 }
 
 /// Does what is asked, and answers what is to be written.

@@ -1,6 +1,6 @@
 //! Commands, with their lines and statuses.
 
-use crate::files::{FileFault, Files};
+use crate::files::{FileFault, Files, RealFiles};
 use crate::program::command;
 use rowclasses as rows;
 use std::alloc::{AllocError, Global};
@@ -300,83 +300,155 @@ fn layouts_and_shapes_are_refused(rt: HostRuntime) -> Result<(), Fail> {
     Ok(())
 }
 
+/// `aload_1`, `areturn`
+static GIVE: [u8; 2] = [0x2B, 0xB0];
+
+fn methods_refused(
+    rt: &impl Abort,
+    alloc: Global,
+    methods: &[rows::Method<'_>],
+    output: &str,
+) -> Result<(), Fail> {
+    is_refused(rt, alloc, rows::class_of(alloc, methods)?, output)
+}
+
 #[test]
-fn methods_are_refused(rt: HostRuntime) -> Result<(), Fail> {
-    let alloc = rt.alloc();
-    let give = [0x2B, 0xB0];
-    let process = rows::process(1, 3, &give);
-    let frames = Some(rows::Frames {
-        count: 0,
-        entries: &[],
-    });
-    for (methods, output) in [
-        (
-            [rows::Method {
-                flags: 0x0080,
-                ..process
-            }]
-            .as_slice(),
-            "refused 11 NoProcess\n",
-        ),
-        (
-            &[rows::Method {
-                flags: 0x0089,
-                ..process
-            }],
-            "refused 11 NoProcess\n",
-        ),
-        (
-            &[rows::Method {
-                flags: 0x0181,
-                ..process
-            }],
-            "refused 13 NoBody\n",
-        ),
-        (
-            &[rows::Method {
-                flags: 0x0481,
-                ..process
-            }],
-            "refused 13 NoBody\n",
-        ),
-        (&[process, process], "refused 12 DuplicateMethod\n"),
-        (
-            &[
-                process,
-                rows::Method {
-                    descriptor: 12,
-                    ..process
-                },
-            ],
-            "refused 7 BadDescriptor\n",
-        ),
-        (
-            &[process, rows::Method { name: 7, ..process }],
-            "refused 9 ConstructorForm\n",
-        ),
-        (
-            &[rows::Method {
-                code: &[],
-                ..process
-            }],
-            "refused 14 BadCode\n",
-        ),
-        (
-            &[rows::Method {
-                max_locals: 2,
-                ..process
-            }],
-            "refused 14 BadCode\n",
-        ),
-        (
-            &[rows::Method { frames, ..process }],
-            "refused 21 BadStackMap\n",
-        ),
-        (&[], "refused 11 NoProcess\n"),
+fn flags_and_codes_are_refused(rt: HostRuntime) -> Result<(), Fail> {
+    let process = rows::process(1, 3, &GIVE);
+    for (flags, output) in [
+        (0x0080, "refused 11 NoProcess\n"),
+        (0x0089, "refused 11 NoProcess\n"),
+        (0x0181, "refused 13 NoBody\n"),
+        (0x0481, "refused 13 NoBody\n"),
     ] {
-        is_refused(&rt, alloc, rows::class_of(alloc, methods)?, output)?;
+        let method = rows::Method { flags, ..process };
+        methods_refused(&rt, rt.alloc(), &[method], output)?;
+    }
+    let empty = rows::Method {
+        code: &[],
+        ..process
+    };
+    methods_refused(&rt, rt.alloc(), &[empty], "refused 14 BadCode\n")?;
+    let crowded = rows::process(1, 2, &GIVE);
+    methods_refused(&rt, rt.alloc(), &[crowded], "refused 14 BadCode\n")?;
+    let framed = rows::Method {
+        frames: Some(rows::Frames {
+            count: 0,
+            entries: &[],
+        }),
+        ..process
+    };
+    methods_refused(&rt, rt.alloc(), &[framed], "refused 21 BadStackMap\n")
+}
+
+#[test]
+fn names_and_descriptors_are_refused(rt: HostRuntime) -> Result<(), Fail> {
+    let alloc = rt.alloc();
+    let process = rows::process(1, 3, &GIVE);
+    methods_refused(&rt, alloc, &[], "refused 11 NoProcess\n")?;
+    methods_refused(
+        &rt,
+        alloc,
+        &[process, process],
+        "refused 12 DuplicateMethod\n",
+    )?;
+    let worse = rows::Method {
+        descriptor: 12,
+        ..process
+    };
+    methods_refused(&rt, alloc, &[process, worse], "refused 7 BadDescriptor\n")?;
+    let constructor = rows::Method { name: 7, ..process };
+    methods_refused(
+        &rt,
+        alloc,
+        &[process, constructor],
+        "refused 9 ConstructorForm\n",
+    )
+}
+
+/// A constant of each tag that Plus has not, the first at index 55.
+static FURTHER: [rows::Constant; 7] = [
+    rows::Constant::Float(0x7FC0_0000),
+    rows::Constant::Double(1),
+    rows::Constant::String(1),
+    rows::Constant::Fieldref(2, 9),
+    rows::Constant::MethodHandle(6, 10),
+    rows::Constant::MethodType(8),
+    rows::Constant::InvokeDynamic(0, 9),
+];
+
+#[test]
+fn every_tag_is_read(rt: HostRuntime) -> Result<(), Fail> {
+    let alloc = rt.alloc();
+    let accepted = "accepted steps=14 words=0 slots=9 depth=1\n";
+    let plus = rows::process(4, 5, &rows::PLUS);
+    let class = rows::Class {
+        further: &FURTHER,
+        constructor: rows::CONSTRUCTOR,
+        methods: &[plus],
+    };
+    let answer = told(alloc, &["check", "C"], rows::bytes_of(alloc, &class)?)?;
+    assert!(rt; is_told(&answer, 0, accepted, ""));
+    let handle = [rows::Constant::MethodHandle(6, 1)];
+    let class = rows::Class {
+        further: &handle,
+        ..class
+    };
+    is_refused(
+        &rt,
+        alloc,
+        rows::bytes_of(alloc, &class)?,
+        "refused 5 BadPool\n",
+    )?;
+    for (at, bytes) in [(6, [0, 51]), (6, [0, 52])] {
+        let answer = told(alloc, &["check", "C"], changed(alloc, at, &bytes)?)?;
+        assert!(rt; is_told(&answer, 0, accepted, ""));
     }
     Ok(())
+}
+
+#[test]
+fn special_methods_are_refused(rt: HostRuntime) -> Result<(), Fail> {
+    let alloc = rt.alloc();
+    let plus = rows::process(4, 5, &rows::PLUS);
+    let initialiser = rows::Method {
+        flags: 0x0008,
+        name: 55,
+        descriptor: 8,
+        code: &[0xB1],
+        ..plus
+    };
+    let class = rows::Class {
+        further: &[rows::Constant::Utf8(b"<clinit>")],
+        constructor: rows::CONSTRUCTOR,
+        methods: &[plus, initialiser],
+    };
+    is_refused(
+        &rt,
+        alloc,
+        rows::bytes_of(alloc, &class)?,
+        "refused 10 ClassInitialiser\n",
+    )?;
+    let constructor = rows::Method {
+        code: &[0x2A, 0xB7, 0, 10, 0x00, 0xB1],
+        ..rows::CONSTRUCTOR
+    };
+    let class = rows::Class {
+        further: &[],
+        constructor,
+        methods: &[plus],
+    };
+    is_refused(
+        &rt,
+        alloc,
+        rows::bytes_of(alloc, &class)?,
+        "refused 9 ConstructorForm\n",
+    )?;
+    let catching = rows::Method {
+        exceptions: &[0, 0, 0, 1, 0, 0, 0, 0],
+        ..plus
+    };
+    methods_refused(&rt, alloc, &[catching], "refused 15 ExceptionTable\n")
 }
 
 #[test]
@@ -512,4 +584,14 @@ fn files_and_outputs_fail(rt: HostRuntime) -> Result<(), Fail> {
     assert_eq!(rt; answer.status, 3);
     assert!(rt; answer.errors.as_slice() == b"error: cannot write\n".as_slice());
     Ok(())
+}
+
+#[test]
+fn real_files_are_read_or_not(rt: HostRuntime) {
+    let files = RealFiles::new(&rt);
+    for name in [".", "no such file", ""] {
+        assert!(rt; matches!(files.read(rt.alloc(), name), Err(FileFault::CannotRead)));
+    }
+    assert!(rt; matches!(files.read(rt.alloc(), "/dev/null"), Ok(bytes) if bytes.is_empty()));
+    assert!(rt; matches!(files.read(rt.alloc(), "/dev/zero"), Ok(bytes) if bytes.len() > 65_536));
 }

@@ -19,6 +19,8 @@ pub struct Method<'a> {
     pub max_stack: u16,
     pub max_locals: u16,
     pub code: &'a [u8],
+    /// The entries of the exception table, of 8 bytes each.
+    pub exceptions: &'a [u8],
     pub frames: Option<Frames<'a>>,
 }
 
@@ -34,18 +36,20 @@ pub fn process<'a>(max_stack: u16, max_locals: u16, code: &'a [u8]) -> Method<'a
         max_stack,
         max_locals,
         code,
+        exceptions: &[],
         frames: None,
     }
 }
 
 /// aload_0, invokespecial java/lang/Object.<init>()V, return
-const CONSTRUCTOR: Method<'static> = Method {
+pub const CONSTRUCTOR: Method<'static> = Method {
     flags: 0x0001,
     name: 7,
     descriptor: 8,
     max_stack: 1,
     max_locals: 1,
     code: &[0x2A, 0xB7, 0, 10, 0xB1],
+    exceptions: &[],
     frames: None,
 };
 
@@ -88,10 +92,34 @@ impl Bytes {
                 self.put(&[5])?;
                 self.put(&bits.to_be_bytes())
             }
+            Constant::Float(bits) => {
+                self.put(&[4])?;
+                self.u32(bits)
+            }
+            Constant::Double(bits) => {
+                self.put(&[6])?;
+                self.put(&bits.to_be_bytes())
+            }
+            Constant::MethodHandle(kind, member) => {
+                self.put(&[15, kind])?;
+                self.u16(member)
+            }
+            _ => self.reference(constant),
+        }
+    }
+
+    /// A constant that is one index, or two.
+    fn reference(&mut self, constant: Constant) -> Result<(), AllocError> {
+        match constant {
             Constant::Class(name) => self.indexes(7, &[name]),
+            Constant::String(text) => self.indexes(8, &[text]),
+            Constant::Fieldref(class, pair) => self.indexes(9, &[class, pair]),
             Constant::Methodref(class, pair) => self.indexes(10, &[class, pair]),
             Constant::InterfaceMethodref(class, pair) => self.indexes(11, &[class, pair]),
             Constant::NameAndType(name, descriptor) => self.indexes(12, &[name, descriptor]),
+            Constant::MethodType(descriptor) => self.indexes(16, &[descriptor]),
+            Constant::InvokeDynamic(bootstrap, pair) => self.indexes(18, &[bootstrap, pair]),
+            _ => Ok(()),
         }
     }
 
@@ -118,12 +146,15 @@ impl Bytes {
             Some(frames) => frames.entries.len().saturating_add(8),
             None => 0,
         };
-        self.length(method.code.len().saturating_add(inner).saturating_add(12))?;
+        let table = method.exceptions.len();
+        let outer = method.code.len().saturating_add(table).saturating_add(12);
+        self.length(outer.saturating_add(inner))?;
         self.u16(method.max_stack)?;
         self.u16(method.max_locals)?;
         self.length(method.code.len())?;
         self.put(method.code)?;
-        self.u16(0)?;
+        self.u16(u16::try_from(table / 8).unwrap_or(u16::MAX))?;
+        self.put(method.exceptions)?;
         match method.frames {
             Some(frames) => {
                 self.u16(1)?;
@@ -134,24 +165,49 @@ impl Bytes {
     }
 }
 
+/// A class: what its pool has behind the constants of all classes, and its methods.
+#[derive(Clone, Copy, Debug)]
+pub struct Class<'a> {
+    pub further: &'a [Constant],
+    pub constructor: Method<'a>,
+    pub methods: &'a [Method<'a>],
+}
+
 /// The class with the constructor and these methods.
 pub fn class_of(alloc: Global, methods: &[Method<'_>]) -> Result<Vec<u8>, AllocError> {
+    let class = Class {
+        further: &[],
+        constructor: CONSTRUCTOR,
+        methods,
+    };
+    bytes_of(alloc, &class)
+}
+
+/// The bytes of a class.
+pub fn bytes_of(alloc: Global, wanted: &Class<'_>) -> Result<Vec<u8>, AllocError> {
     let mut class = Bytes {
         bytes: Vec::new(alloc),
     };
     class.put(&[0xCA, 0xFE, 0xBA, 0xBE])?;
-    for n in [0, 52, 55] {
+    let mut count = 55u16;
+    for constant in wanted.further {
+        count = count.saturating_add(constant.indexes());
+    }
+    for n in [0, 52, count] {
         class.u16(n)?;
     }
     for constant in &POOL {
         class.constant(*constant)?;
     }
+    for constant in wanted.further {
+        class.constant(*constant)?;
+    }
     for n in [0x0021, 2, 4, 1, 6, 0] {
         class.u16(n)?;
     }
-    class.u16(u16::try_from(methods.len().saturating_add(1)).unwrap_or(u16::MAX))?;
-    class.method(&CONSTRUCTOR)?;
-    for method in methods {
+    class.u16(u16::try_from(wanted.methods.len().saturating_add(1)).unwrap_or(u16::MAX))?;
+    class.method(&wanted.constructor)?;
+    for method in wanted.methods {
         class.method(method)?;
     }
     class.u16(0)?;

@@ -7,5 +7,8 @@ mod pool;
 #[cfg(test)]
 mod tests;
 
-pub use classes::{counter, falls, give_entry, give_entry_with_stack, mixed, plus, shift64, unbox};
-pub use layout::{Frames, Method, class_of, process};
+pub use classes::{
+    PLUS, counter, falls, give_entry, give_entry_with_stack, mixed, plus, shift64, unbox,
+};
+pub use layout::{CONSTRUCTOR, Class, Frames, Method, bytes_of, class_of, process};
+pub use pool::Constant;

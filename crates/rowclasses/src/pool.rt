@@ -5,11 +5,28 @@
 pub enum Constant {
     Utf8(&'static [u8]),
     Integer(u32),
+    Float(u32),
     Long(u64),
+    Double(u64),
     Class(u16),
+    String(u16),
+    Fieldref(u16, u16),
     Methodref(u16, u16),
     InterfaceMethodref(u16, u16),
     NameAndType(u16, u16),
+    MethodHandle(u8, u16),
+    MethodType(u16),
+    InvokeDynamic(u16, u16),
+}
+
+impl Constant {
+    /// The indexes that it takes (JVMS §4.4.5).
+    pub fn indexes(self) -> u16 {
+        match self {
+            Constant::Long(_) | Constant::Double(_) => 2,
+            _ => 1,
+        }
+    }
 }
 
 /// The constants of the indexes from 1 on; the long takes two.

@@ -12,83 +12,101 @@ pub struct StackForm {
     pub picks: &'static [usize],
 }
 
+static POP: [StackForm; 1] = [StackForm {
+    longs: &[false],
+    picks: &[],
+}];
+
+static POP2: [StackForm; 2] = [
+    StackForm {
+        longs: &[false, false],
+        picks: &[],
+    },
+    StackForm {
+        longs: &[true],
+        picks: &[],
+    },
+];
+
+static DUP: [StackForm; 1] = [StackForm {
+    longs: &[false],
+    picks: &[0, 0],
+}];
+
+static DUP_X1: [StackForm; 1] = [StackForm {
+    longs: &[false, false],
+    picks: &[0, 1, 0],
+}];
+
+static DUP_X2: [StackForm; 2] = [
+    StackForm {
+        longs: &[false, false, false],
+        picks: &[0, 1, 2, 0],
+    },
+    StackForm {
+        longs: &[false, true],
+        picks: &[0, 1, 0],
+    },
+];
+
+static DUP2: [StackForm; 2] = [
+    StackForm {
+        longs: &[false, false],
+        picks: &[0, 1, 0, 1],
+    },
+    StackForm {
+        longs: &[true],
+        picks: &[0, 0],
+    },
+];
+
+static DUP2_X1: [StackForm; 2] = [
+    StackForm {
+        longs: &[false, false, false],
+        picks: &[0, 1, 2, 0, 1],
+    },
+    StackForm {
+        longs: &[true, false],
+        picks: &[0, 1, 0],
+    },
+];
+
+static DUP2_X2: [StackForm; 4] = [
+    StackForm {
+        longs: &[false, false, false, false],
+        picks: &[0, 1, 2, 3, 0, 1],
+    },
+    StackForm {
+        longs: &[true, false, false],
+        picks: &[0, 1, 2, 0],
+    },
+    StackForm {
+        longs: &[false, false, true],
+        picks: &[0, 1, 2, 0, 1],
+    },
+    StackForm {
+        longs: &[true, true],
+        picks: &[0, 1, 0],
+    },
+];
+
+static SWAP: [StackForm; 1] = [StackForm {
+    longs: &[false, false],
+    picks: &[1, 0],
+}];
+
 /// The forms of a stack instruction, in the order of JVMS §6.5. No operands have the sizes of two of them.
 pub fn forms_of(rearrangement: Rearrangement) -> &'static [StackForm] {
     match rearrangement {
-        Rearrangement::Pop => &[StackForm {
-            longs: &[false],
-            picks: &[],
-        }],
-        Rearrangement::Pop2 => &[
-            StackForm {
-                longs: &[false, false],
-                picks: &[],
-            },
-            StackForm {
-                longs: &[true],
-                picks: &[],
-            },
-        ],
-        Rearrangement::Dup => &[StackForm {
-            longs: &[false],
-            picks: &[0, 0],
-        }],
-        Rearrangement::DupX1 => &[StackForm {
-            longs: &[false, false],
-            picks: &[0, 1, 0],
-        }],
-        Rearrangement::DupX2 => &[
-            StackForm {
-                longs: &[false, false, false],
-                picks: &[0, 1, 2, 0],
-            },
-            StackForm {
-                longs: &[false, true],
-                picks: &[0, 1, 0],
-            },
-        ],
-        Rearrangement::Dup2 => &[
-            StackForm {
-                longs: &[false, false],
-                picks: &[0, 1, 0, 1],
-            },
-            StackForm {
-                longs: &[true],
-                picks: &[0, 0],
-            },
-        ],
-        Rearrangement::Dup2X1 => &[
-            StackForm {
-                longs: &[false, false, false],
-                picks: &[0, 1, 2, 0, 1],
-            },
-            StackForm {
-                longs: &[true, false],
-                picks: &[0, 1, 0],
-            },
-        ],
-        Rearrangement::Dup2X2 => &[
-            StackForm {
-                longs: &[false, false, false, false],
-                picks: &[0, 1, 2, 3, 0, 1],
-            },
-            StackForm {
-                longs: &[true, false, false],
-                picks: &[0, 1, 2, 0],
-            },
-            StackForm {
-                longs: &[false, false, true],
-                picks: &[0, 1, 2, 0, 1],
-            },
-            StackForm {
-                longs: &[true, true],
-                picks: &[0, 1, 0],
-            },
-        ],
-        Rearrangement::Swap => &[StackForm {
-            longs: &[false, false],
-            picks: &[1, 0],
-        }],
+        Rearrangement::Pop => &POP,
+        Rearrangement::Pop2 => &POP2,
+        Rearrangement::Dup => &DUP,
+        Rearrangement::DupX1 => &DUP_X1,
+        Rearrangement::DupX2 => &DUP_X2,
+        Rearrangement::Dup2 => &DUP2,
+        Rearrangement::Dup2X1 => &DUP2_X1,
+        Rearrangement::Dup2X2 => &DUP2_X2,
+        Rearrangement::Swap => &SWAP,
     }
 }
 
