@@ -121,7 +121,10 @@ fn request_of<'a>(matches: &ArgMatches<'a>) -> Result<Request<'a>, Failure<'a>> 
     if name == "check" {
         return Ok(Request::Check { file });
     }
-    run_of(found, file).ok_or(Failure::BadArgument)
+    match run_of(found, file) {
+        Some(request) => Ok(request),
+        None => Err(Failure::BadArgument),
+    }
 }
 
 /// The request of a line: its form is judged first, then its values.

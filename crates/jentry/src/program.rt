@@ -25,7 +25,7 @@ fn judge<'a>(
 /// Does what is asked, and answers what is to be written.
 fn answer<'a>(
     alloc: Global,
-    request: Request<'a>,
+    request: &Request<'a>,
     files: &impl Files,
 ) -> Result<Answer, Failure<'a>> {
     match request {
@@ -41,8 +41,8 @@ fn answer<'a>(
         } => match judge(alloc, files, file)? {
             Ok(class) => {
                 let mut workspace = Workspace::new(alloc)?;
-                let done = run(&class, key, before, &args, &mut workspace);
-                Ok(ran(alloc, done, before)?)
+                let done = run(&class, *key, *before, args, &mut workspace);
+                Ok(ran(alloc, done, *before)?)
             }
             Err(refusal) => Ok(refused(alloc, refusal)?),
         },
@@ -72,7 +72,7 @@ fn perform<'a, W: Write>(
     output: &mut W,
 ) -> Result<u8, Failure<'a>> {
     let request = parse(alloc, words)?;
-    let answer = answer(alloc, request, files)?;
+    let answer = answer(alloc, &request, files)?;
     write_answer(output, &answer)
 }
 
