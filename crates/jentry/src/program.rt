@@ -71,7 +71,10 @@ fn perform<'a, W: Write>(
     files: &impl Files,
     output: &mut W,
 ) -> Result<u8, Failure<'a>> {
-    let request = parse(alloc, words)?;
+    let request = match parse(alloc, words) {
+        Ok(request) => request,
+        Err(failure) => return Err(failure),
+    };
     let answer = answer(alloc, &request, files)?;
     write_answer(output, &answer)
 }

@@ -382,24 +382,12 @@ fn every_tag_is_read(rt: HostRuntime) -> Result<(), Fail> {
     let alloc = rt.alloc();
     let accepted = "accepted steps=14 words=0 slots=9 depth=1\n";
     let plus = rows::process(4, 5, &rows::PLUS);
-    let class = rows::Class {
-        further: &FURTHER,
-        constructor: rows::CONSTRUCTOR,
-        methods: &[plus],
-    };
-    let answer = told(alloc, &["check", "C"], rows::bytes_of(alloc, &class)?)?;
+    let class = rows::bytes_of(alloc, &FURTHER, &rows::CONSTRUCTOR, &[plus])?;
+    let answer = told(alloc, &["check", "C"], class)?;
     assert!(rt; is_told(&answer, 0, accepted, ""));
     let handle = [rows::Constant::MethodHandle(6, 1)];
-    let class = rows::Class {
-        further: &handle,
-        ..class
-    };
-    is_refused(
-        &rt,
-        alloc,
-        rows::bytes_of(alloc, &class)?,
-        "refused 5 BadPool\n",
-    )?;
+    let class = rows::bytes_of(alloc, &handle, &rows::CONSTRUCTOR, &[plus])?;
+    is_refused(&rt, alloc, class, "refused 5 BadPool\n")?;
     for (at, bytes) in [(6, [0, 51]), (6, [0, 52])] {
         let answer = told(alloc, &["check", "C"], changed(alloc, at, &bytes)?)?;
         assert!(rt; is_told(&answer, 0, accepted, ""));
@@ -418,32 +406,15 @@ fn special_methods_are_refused(rt: HostRuntime) -> Result<(), Fail> {
         code: &[0xB1],
         ..plus
     };
-    let class = rows::Class {
-        further: &[rows::Constant::Utf8(b"<clinit>")],
-        constructor: rows::CONSTRUCTOR,
-        methods: &[plus, initialiser],
-    };
-    is_refused(
-        &rt,
-        alloc,
-        rows::bytes_of(alloc, &class)?,
-        "refused 10 ClassInitialiser\n",
-    )?;
+    let name = [rows::Constant::Utf8(b"<clinit>")];
+    let class = rows::bytes_of(alloc, &name, &rows::CONSTRUCTOR, &[plus, initialiser])?;
+    is_refused(&rt, alloc, class, "refused 10 ClassInitialiser\n")?;
     let constructor = rows::Method {
         code: &[0x2A, 0xB7, 0, 10, 0x00, 0xB1],
         ..rows::CONSTRUCTOR
     };
-    let class = rows::Class {
-        further: &[],
-        constructor,
-        methods: &[plus],
-    };
-    is_refused(
-        &rt,
-        alloc,
-        rows::bytes_of(alloc, &class)?,
-        "refused 9 ConstructorForm\n",
-    )?;
+    let class = rows::bytes_of(alloc, &[], &constructor, &[plus])?;
+    is_refused(&rt, alloc, class, "refused 9 ConstructorForm\n")?;
     let catching = rows::Method {
         exceptions: &[0, 0, 0, 1, 0, 0, 0, 0],
         ..plus

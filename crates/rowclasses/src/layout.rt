@@ -165,32 +165,24 @@ impl Bytes {
     }
 }
 
-/// A class: what its pool has behind the constants of all classes, and its methods.
-#[derive(Clone, Copy, Debug)]
-pub struct Class<'a> {
-    pub further: &'a [Constant],
-    pub constructor: Method<'a>,
-    pub methods: &'a [Method<'a>],
-}
-
 /// The class with the constructor and these methods.
 pub fn class_of(alloc: Global, methods: &[Method<'_>]) -> Result<Vec<u8>, AllocError> {
-    let class = Class {
-        further: &[],
-        constructor: CONSTRUCTOR,
-        methods,
-    };
-    bytes_of(alloc, &class)
+    bytes_of(alloc, &[], &CONSTRUCTOR, methods)
 }
 
-/// The bytes of a class.
-pub fn bytes_of(alloc: Global, wanted: &Class<'_>) -> Result<Vec<u8>, AllocError> {
+/// The bytes of a class: its pool has these further constants behind those of all classes.
+pub fn bytes_of(
+    alloc: Global,
+    further: &[Constant],
+    constructor: &Method<'_>,
+    methods: &[Method<'_>],
+) -> Result<Vec<u8>, AllocError> {
     let mut class = Bytes {
         bytes: Vec::new(alloc),
     };
     class.put(&[0xCA, 0xFE, 0xBA, 0xBE])?;
     let mut count = 55u16;
-    for constant in wanted.further {
+    for constant in further {
         count = count.saturating_add(constant.indexes());
     }
     for n in [0, 52, count] {
@@ -199,15 +191,15 @@ pub fn bytes_of(alloc: Global, wanted: &Class<'_>) -> Result<Vec<u8>, AllocError
     for constant in &POOL {
         class.constant(*constant)?;
     }
-    for constant in wanted.further {
+    for constant in further {
         class.constant(*constant)?;
     }
     for n in [0x0021, 2, 4, 1, 6, 0] {
         class.u16(n)?;
     }
-    class.u16(u16::try_from(wanted.methods.len().saturating_add(1)).unwrap_or(u16::MAX))?;
-    class.method(&wanted.constructor)?;
-    for method in wanted.methods {
+    class.u16(u16::try_from(methods.len().saturating_add(1)).unwrap_or(u16::MAX))?;
+    class.method(constructor)?;
+    for method in methods {
         class.method(method)?;
     }
     class.u16(0)?;

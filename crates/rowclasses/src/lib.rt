@@ -10,5 +10,5 @@ mod tests;
 pub use classes::{
     PLUS, counter, falls, give_entry, give_entry_with_stack, mixed, plus, shift64, unbox,
 };
-pub use layout::{CONSTRUCTOR, Class, Frames, Method, bytes_of, class_of, process};
+pub use layout::{CONSTRUCTOR, Frames, Method, bytes_of, class_of, process};
 pub use pool::Constant;
