@@ -4,7 +4,7 @@ use jtypes::Refusal;
 use std::test::Fail;
 
 /// A class `A` with one method `A`, whose Code has one attribute.
-const CLASS: [u8; 99] = [
+static CLASS: [u8; 99] = [
     0xCA, 0xFE, 0xBA, 0xBE, 0, 0, 0, 52, // magic and version
     0, 6, // the pool's count
     1, 0, 1, b'A', // 1
@@ -49,7 +49,7 @@ fn reads_a_class(rt: HostRuntime) -> Result<(), Fail> {
     let parts = parts_of_code(rt.alloc(), contents[0])?.ok_or("the parts of a code")?;
     assert!(rt; parts.max_stack == 2 && parts.max_locals == 1 && parts.exceptions == 0);
     assert!(rt; same_bytes(parts.code.as_slice(), &[0xB1]));
-    assert!(rt; parts_of_code(rt.alloc(), &contents[0][1..])?.is_none());
+    assert!(rt; parts_of_code(rt.alloc(), b"\0")?.is_none());
     Ok(())
 }
 

@@ -1,9 +1,10 @@
 use super::*;
 use jtypes::Refusal;
+use std::alloc::Global;
 use std::test::Fail;
 
 /// A pool with a constant of each tag.
-const EACH_TAG: [u8; 84] = [
+static EACH_TAG: [u8; 84] = [
     0, 17, //
     1, 0, 1, b'A', // 1: "A"
     7, 0, 1, // 2: the class A
@@ -22,75 +23,100 @@ const EACH_TAG: [u8; 84] = [
     9, 9, 9, 9, 9, 9, 9, 9, 9, 9, 9, 9, // what follows the pool
 ];
 
+fn each_tag(alloc: Global) -> Option<Pool> {
+    match read_pool(alloc, &EACH_TAG) {
+        Ok((pool, 72)) => Some(pool),
+        _ => None,
+    }
+}
+
 #[test]
-fn reads_each_tag(rt: HostRuntime) -> Result<(), Fail> {
-    let (pool, used) = read_pool(rt.alloc(), &EACH_TAG).ok().ok_or("a pool")?;
-    assert_eq!(rt; used, 72);
-    assert_eq!(rt; pool.utf8(1).ok_or("a text")?, b"A".as_slice());
-    assert_eq!(rt; pool.class(2).ok_or("a class")?, b"A".as_slice());
+fn reads_texts_and_numbers(rt: HostRuntime) -> Result<(), Fail> {
+    let pool = each_tag(rt.alloc()).ok_or("a pool")?;
+    assert!(rt; matches!(pool.utf8(1), Some([b'A'])));
+    assert!(rt; matches!(pool.class(2), Some([b'A'])));
     assert!(rt; pool.is_class(2) && !pool.is_class(1));
-    assert_eq!(rt; pool.int(3), Some(7));
-    assert_eq!(rt; pool.long(5), Some(-2));
+    assert!(rt; pool.int(3) == Some(7) && pool.long(5) == Some(-2));
+    Ok(())
+}
+
+#[test]
+fn finds_constants(rt: HostRuntime) -> Result<(), Fail> {
+    let pool = each_tag(rt.alloc()).ok_or("a pool")?;
     for i in [0, 6, 8, 17, 65535] {
         assert!(rt; pool.constant(i).is_none(), "at {i}");
     }
     for i in [1, 4, 7, 9, 10, 11, 14, 15, 16] {
         assert!(rt; pool.constant(i).is_some(), "at {i}");
     }
-    let method = pool.method(12).ok_or("a method")?;
-    assert!(rt; same_bytes(method.class, b"A") && same_bytes(method.name, b"A"));
-    assert!(rt; same_bytes(method.descriptor, b"A") && !same_bytes(method.name, b"AB"));
-    assert!(rt; pool.interface_method(13).is_some());
-    assert!(rt; pool.method(13).is_none() && pool.interface_method(12).is_none());
     Ok(())
 }
 
+fn is_a(member: Option<MemberRef<'_>>) -> bool {
+    match member {
+        Some(m) => same_bytes(m.class, b"A")
+            && same_bytes(m.name, b"A")
+            && same_bytes(m.descriptor, b"A"),
+        None => false,
+    }
+}
+
+#[test]
+fn finds_members(rt: HostRuntime) -> Result<(), Fail> {
+    let pool = each_tag(rt.alloc()).ok_or("a pool")?;
+    assert!(rt; is_a(pool.method(12)) && is_a(pool.interface_method(13)));
+    assert!(rt; pool.method(13).is_none() && pool.interface_method(12).is_none());
+    assert!(rt; !same_bytes(b"A", b"AB") && !same_bytes(b"A", b"B"));
+    Ok(())
+}
+
+static REFUSED: [(&[u8], Refusal, &str); 18] = [
+    (b"", Refusal::Truncated, "empty"),
+    (&[0, 0], Refusal::BadPool, "count 0"),
+    (&[0, 2], Refusal::Truncated, "no tag"),
+    (&[0, 2, 1, 0, 2, b'A'], Refusal::Truncated, "a cut text"),
+    (
+        &[0, 2, 5, 0, 0, 0, 0, 0, 0, 0, 1],
+        Refusal::BadPool,
+        "a long at the last index",
+    ),
+    (
+        &[0, 2, 6, 0, 0, 0, 0, 0, 0, 0, 1],
+        Refusal::BadPool,
+        "a double there",
+    ),
+    (&[0, 2, 0], Refusal::BadPool, "tag 0"),
+    (&[0, 2, 2], Refusal::BadPool, "tag 2"),
+    (&[0, 2, 17, 0, 0, 0, 0], Refusal::BadPool, "tag 17"),
+    (&[0, 2, 1, 0, 1, 0], Refusal::BadPool, "byte 00"),
+    (&[0, 2, 1, 0, 1, 0xF0], Refusal::BadPool, "byte F0"),
+    (&[0, 2, 1, 0, 1, 0xFF], Refusal::BadPool, "byte FF"),
+    (&[0, 2, 7, 0, 0], Refusal::BadPool, "index 0"),
+    (&[0, 2, 7, 0, 1], Refusal::BadPool, "a class as a name"),
+    (&[0, 2, 7, 0, 2], Refusal::BadPool, "past the end"),
+    (
+        &[0, 3, 1, 0, 0, 10, 0, 1, 0, 1],
+        Refusal::BadPool,
+        "a text as a class",
+    ),
+    (
+        &[0, 3, 1, 0, 0, 15, 6, 0, 1],
+        Refusal::BadPool,
+        "a text as a member",
+    ),
+    (
+        &[0, 3, 1, 0, 0, 18, 0, 0, 0, 1],
+        Refusal::BadPool,
+        "a text as a pair",
+    ),
+];
+
 #[test]
 fn refuses_pools(rt: HostRuntime) {
-    let table = [
-        (b"".as_slice(), Refusal::Truncated, "empty"),
-        (&[0, 0], Refusal::BadPool, "count 0"),
-        (&[0, 2], Refusal::Truncated, "no tag"),
-        (&[0, 2, 1, 0, 2, b'A'], Refusal::Truncated, "a cut text"),
-        (
-            &[0, 2, 5, 0, 0, 0, 0, 0, 0, 0, 1],
-            Refusal::BadPool,
-            "a long at the last index",
-        ),
-        (
-            &[0, 2, 6, 0, 0, 0, 0, 0, 0, 0, 1],
-            Refusal::BadPool,
-            "a double there",
-        ),
-        (&[0, 2, 0], Refusal::BadPool, "tag 0"),
-        (&[0, 2, 2], Refusal::BadPool, "tag 2"),
-        (&[0, 2, 17, 0, 0, 0, 0], Refusal::BadPool, "tag 17"),
-        (&[0, 2, 1, 0, 1, 0], Refusal::BadPool, "byte 00"),
-        (&[0, 2, 1, 0, 1, 0xF0], Refusal::BadPool, "byte F0"),
-        (&[0, 2, 1, 0, 1, 0xFF], Refusal::BadPool, "byte FF"),
-        (&[0, 2, 7, 0, 0], Refusal::BadPool, "index 0"),
-        (&[0, 2, 7, 0, 1], Refusal::BadPool, "a class as a name"),
-        (&[0, 2, 7, 0, 2], Refusal::BadPool, "past the end"),
-        (
-            &[0, 3, 1, 0, 0, 10, 0, 1, 0, 1],
-            Refusal::BadPool,
-            "a text as a class",
-        ),
-        (
-            &[0, 3, 1, 0, 0, 15, 6, 0, 1],
-            Refusal::BadPool,
-            "a text as a member",
-        ),
-        (
-            &[0, 3, 1, 0, 0, 18, 0, 0, 0, 1],
-            Refusal::BadPool,
-            "a text as a pair",
-        ),
-    ];
-    for (bytes, want, what) in table {
+    for (bytes, want, what) in &REFUSED {
         match read_pool(rt.alloc(), bytes) {
             Ok(_) => assert!(rt; false, "{what} was read"),
-            Err(refusal) => assert_eq!(rt; refusal, want, "{what}"),
+            Err(refusal) => assert!(rt; refusal == *want, "{what}"),
         }
     }
 }
@@ -112,10 +138,9 @@ fn reads_descriptors(rt: HostRuntime) -> Result<(), Fail> {
     let sig = sig.ok().ok_or("a descriptor")?;
     assert_eq!(rt; sig.params.as_slice().len(), 7);
     assert_eq!(rt; param_slots(&sig), 8);
-    match sig.result {
-        Some(FieldType::Class(name)) => assert!(rt; same_bytes(name.as_slice(), b"A")),
-        _ => assert!(rt; false, "another result"),
-    }
+    assert!(rt;
+        matches!(&sig.result, Some(FieldType::Class(name)) if same_bytes(name.as_slice(), b"A"))
+    );
     Ok(())
 }
 
