@@ -1,0 +1,10 @@
+pub mod Fit
+pub mod Operations
+pub mod LibraryCalls
+pub mod Rearranged
+pub mod Locals
+pub mod Callees
+pub mod GoodStates
+pub mod PathsExist
+pub mod Steps
+pub mod SafeRuns

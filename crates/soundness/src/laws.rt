@@ -1,0 +1,24 @@
+//! The laws.
+
+ghost use Rattle.verify.specs.Sound.{SoundnessOfClasses};
+ghost use Rattle.soundness.specs.Counting.{EachCallStarts, EachStepCounts};
+
+/// Type soundness with bounds. In a class that is checked, with a method `process` and with bounds that none of the
+/// paths from its first instruction exceeds, and for each call of it: no state that the call reaches is stuck; each of them stays within
+/// the bounds, in steps, in words of arrays, in slots of locals and operands, and in depth of calls; and a final state
+/// is reached, within the same steps and words.
+///
+/// It speaks of the definitions alone. It says nothing of code that runs: that a running machine does what `step`
+/// says is for the machine's own contracts. And it is about classes that are checked, in the sense of `IsChecked`,
+/// their bytes forgotten: that each class whose bytes are accepted is checked isn't said here. Bounds are given: that
+/// some exist, and which are the least, isn't said either.
+pub fn type_soundness()
+    ensures { SoundnessOfClasses }
+{}
+
+/// What type soundness leaves open: for each call of a checked class there is a state to start from, so that the law
+/// isn't about no state at all; and each step that goes on adds one to the steps, so that they measure a run.
+pub fn starts_and_counts()
+    ensures starts { EachCallStarts }
+    ensures counts { EachStepCounts }
+{}

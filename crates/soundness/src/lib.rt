@@ -1,0 +1,6 @@
+//! Type soundness with bounds: a checked class never gets stuck, and stays within what none of its paths exceeds.
+#![tactic(auto)]
+
+mod laws;
+
+pub use laws::{starts_and_counts, type_soundness};
