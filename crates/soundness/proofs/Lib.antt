@@ -8,3 +8,6 @@ pub mod GoodStates
 pub mod PathsExist
 pub mod Steps
 pub mod SafeRuns
+pub mod AcceptedClasses
+pub mod DeclaredFrames
+pub mod ExampleClass

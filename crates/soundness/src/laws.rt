@@ -1,7 +1,12 @@
 //! The laws.
 
-ghost use Rattle.verify.specs.Sound.{SoundnessOfClasses};
+ghost use Rattle.typecheck.specs.Typing.{IsProcessOf};
+ghost use Rattle.bounds.specs.Paths.{AreBounds};
+ghost use Rattle.verify.specs.Checked.{IsChecked};
+ghost use Rattle.verify.specs.Sound.{IsSafe, SoundnessOfClasses};
+ghost use Rattle.soundness.specs.Accepting.{TypedIsChecked};
 ghost use Rattle.soundness.specs.Counting.{EachCallStarts, EachStepCounts};
+ghost use Rattle.soundness.specs.Example.{example, limits};
 
 /// Type soundness with bounds. In a class that is checked, with a method `process` and with bounds that none of the
 /// paths from its first instruction exceeds, and for each call of it: no state that the call reaches is stuck; each of them stays within
@@ -21,4 +26,18 @@ pub fn type_soundness()
 pub fn starts_and_counts()
     ensures starts { EachCallStarts }
     ensures counts { EachStepCounts }
+{}
+
+/// What is proved of accepted classes: a class whose bytes are accepted is checked, if its methods are well typed and its
+/// own calls go to methods of lower ranks. That each accepted class has these two isn't said here.
+pub fn typed_is_checked()
+    ensures { TypedIsChecked }
+{}
+
+/// The premises hold of a small class, whose `process` answers the entry that it is given; and so it is safe.
+pub fn example_is_checked()
+    ensures checked { IsChecked example }
+    ensures process { IsProcessOf example 0 }
+    ensures bounds { AreBounds example 0 limits }
+    ensures safe { IsSafe example limits }
 {}

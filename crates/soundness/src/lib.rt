@@ -3,4 +3,4 @@
 
 mod laws;
 
-pub use laws::{starts_and_counts, type_soundness};
+pub use laws::{example_is_checked, starts_and_counts, type_soundness, typed_is_checked};
