@@ -1,76 +1,43 @@
 -- What type soundness asks of a class's name, of `process` and of places holds of accepted classes.
-use Rattle.std.proofs.Common.{◌≡◌, ℕ, zero, suc, ◌+◌, ◌<◌, Bool, true, false, List, [], ◌∷◌, length, Option, Some, None, refl, sym, ap, ◌∙◌, subst, arith, ◌⊎◌, inl, inr}
-use Rattle.std.specs.Prelude.{slice_get}
-use Rattle.std.proofs.lemmas.Bool.{and_parts, false_from_ne_true, false≢true, cases_order}
+use Rattle.std.proofs.Common.{◌≡◌, ℕ, zero, suc, ◌+◌, ◌<◌, Bool, true, false, List, [], ◌∷◌, length, Option, Some, None, refl, sym, ap, ◌∙◌, subst, arith, ◌⊎◌, inl, inr, ◌≤◌}
+use Rattle.std.specs.Prelude.{slice_get, map, option_map, cond, ◌==◌, Any, IsFalse, ℤ, pos, ◌≤ℤ◌, T, negsuc, is_some, IsNone, Contains}
+use Rattle.std.proofs.lemmas.Bool.{and_parts, false_from_ne_true, false≢true, cases_order, eqb-true, cases_lt, le-leb, leb-true}
 use Rattle.std.proofs.Math.ListN.{length-append}
-use Rattle.std.proofs.lemmas.Option.{slice_get-get_or}
-use Rattle.jtypes.specs.declared.refusal.Refusal.TheVariants.{BadHeader, NoProcess, DuplicateMethod}
+use Rattle.std.proofs.lemmas.Option.{slice_get-get_or, slice_get-map, slice_get_within, get_or_from_slice_get}
+use Rattle.std.specs.List.{AllZip}
+use Rattle.jtypes.specs.declared.refusal.Refusal.TheVariants.{BadHeader, NoProcess, DuplicateMethod, BackwardBranch, LengthNotConstant, BadCode}
 use Rattle.jtypes.specs.Layout.{operand, IsLaidOut}
-use Rattle.jtypes.specs.Lists.{same_bytes, is_one_of}
+use Rattle.jtypes.specs.Lists.{same_bytes, is_one_of, result_list, ◌>>=◌}
+use Rattle.jtypes.specs.declared.types.RefType.{RefType}
+use Rattle.jtypes.specs.declared.types.JType.{JType}
+use Rattle.jtypes.specs.declared.types.JType.TheVariants.{Top, Ref, Int, Long}
+use Rattle.jtypes.specs.declared.operations.ArrayKind.{ArrayKind}
+use Rattle.jtypes.specs.Types.{is_long, slots_if, slots_by}
+use Rattle.jtypes.specs.declared.types.RefType.TheVariants as ref
 use Rattle.constpool.specs.Lookup.{Slot}
-use Rattle.constpool.specs.Names.{process_name, process_descriptor}
-use Rattle.classfile.specs.View.{ClassView, MethodView, class_name_at, view_of}
+use Rattle.constpool.specs.Names.{process_name, process_descriptor, init_name}
+use Rattle.constpool.specs.declared.descriptor.FieldType.{FieldType}
+use Rattle.constpool.specs.declared.descriptor.Sig.{Sig}
+use Rattle.constpool.specs.Descriptor.{sig_of, is_long_type, param_slots}
+use Rattle.constpool.specs.declared.descriptor.FieldType.TheVariants as field
+use Rattle.classfile.specs.View.{ClassView, MethodView, class_name_at, view_of, method_view, text_at, codes_of}
+use Rattle.classfile.specs.declared.class_file.Member.{Member}
+use Rattle.classfile.specs.declared.class_file.CodeParts.{CodeParts}
 use Rattle.decode.specs.declared.instruction.Instruction.{Instruction}
 use Rattle.decode.specs.declared.instruction.Placed.{Placed}
 use Rattle.decode.specs.Code.{one, IsSequence}
-use Rattle.frames.specs.Signatures.{is_static}
-use Rattle.typecheck.specs.Typing.{Class, IsProcessOf}
-use Rattle.verify.specs.Shape.{reserved_names, reserved, AreDoubles}
-use Rattle.verify.specs.Verdict.{by_shape, IsAccepted, IsClassOf}
-use Rattle.verify.specs.Checked.{AreConsecutive}
-use Rattle.soundness.proofs.Callees.{process_found, same_is}
-use Rattle.std.specs.Prelude.{map, option_map, cond}
-use Rattle.std.specs.List.{AllZip}
-use Rattle.std.proofs.lemmas.Option.{slice_get-map}
-use Rattle.jtypes.specs.declared.types.RefType.{RefType}
-use Rattle.jtypes.specs.declared.types.RefType.TheVariants as ref
-use Rattle.jtypes.specs.declared.types.JType.{JType}
-use Rattle.jtypes.specs.declared.types.JType.TheVariants.{Top, Ref}
-use Rattle.jtypes.specs.Lists.{result_list, ◌>>=◌}
-use Rattle.soundness.proofs.Fit.{then_some_parts}
-use Rattle.constpool.specs.declared.descriptor.FieldType.{FieldType}
-use Rattle.constpool.specs.declared.descriptor.FieldType.TheVariants as field
-use Rattle.constpool.specs.declared.descriptor.Sig.{Sig}
-use Rattle.constpool.specs.Descriptor.{sig_of}
-use Rattle.classfile.specs.View.{method_view}
-use Rattle.frames.specs.declared.signatures.Signature.{Signature}
-use Rattle.frames.specs.Signatures.{class_type, field_type, field_types, result_type, is_boolean, signature_of, as_method, method_signature}
-use Rattle.typecheck.specs.Typing.{Method}
-use Rattle.verify.specs.Verdict.{IsMethodOf}
-use Rattle.verify.specs.Checked.{NoTop}
-use Rattle.std.specs.Prelude.{◌==◌, Any, IsFalse, ℤ, pos, ◌≤ℤ◌}
-use Rattle.std.proofs.Common.{◌≤◌}
-use Rattle.std.proofs.lemmas.Bool.{eqb-true, cases_lt, le-leb}
-use Rattle.std.specs.Prelude.{T}
-use Rattle.std.proofs.lemmas.Option.{slice_get_within, get_or_from_slice_get}
-use Rattle.jtypes.specs.declared.refusal.Refusal.TheVariants.{BackwardBranch}
-use Rattle.constpool.specs.Names.{init_name}
-use Rattle.classfile.specs.declared.class_file.Member.{Member}
-use Rattle.classfile.specs.declared.class_file.CodeParts.{CodeParts}
-use Rattle.classfile.specs.View.{text_at}
-use Rattle.decode.specs.Places.{at_place, target_of, HasBackwardTarget}
-use Rattle.typecheck.specs.Typing.{instruction_at}
-use Rattle.verify.specs.Shape.{is_constructor, HasCode}
-use Rattle.verify.specs.Verdict.{HasShape, InstructionStands, InstructionsStand, by_instructions}
-use Rattle.verify.specs.Checked.{IsMember}
-use Rattle.std.specs.Prelude.{negsuc, is_some, IsNone}
-use Rattle.std.proofs.lemmas.Bool.{leb-true}
-use Rattle.jtypes.specs.declared.refusal.Refusal.TheVariants.{LengthNotConstant}
-use Rattle.jtypes.specs.declared.operations.ArrayKind.{ArrayKind}
+use Rattle.decode.specs.Places.{at_place, target_of, HasBackwardTarget, pushed_before}
 use Rattle.decode.specs.declared.instruction.Instruction.TheVariants.{NewArray}
-use Rattle.decode.specs.Places.{pushed_before}
+use Rattle.frames.specs.Signatures.{is_static, class_type, field_type, field_types, result_type, is_boolean, signature_of, as_method, method_signature}
+use Rattle.frames.specs.declared.signatures.Signature.{Signature}
 use Rattle.frames.specs.declared.frame.Environment.{Environment}
-use Rattle.typecheck.specs.Typing.{declared_at}
+use Rattle.typecheck.specs.Typing.{Class, IsProcessOf, Method, instruction_at, declared_at}
 use Rattle.typecheck.specs.Mismatch.{HasLength, HasFrame, LacksLength}
-use Rattle.verify.specs.Verdict.{HasInstructions, IsBody, BodyStands, TypesStand, by_types}
-use Rattle.std.specs.Prelude.{Contains}
-use Rattle.jtypes.specs.declared.types.JType.TheVariants.{Int, Long}
-use Rattle.jtypes.specs.Types.{is_long, slots_if, slots_by}
-use Rattle.jtypes.specs.declared.refusal.Refusal.TheVariants.{BadCode}
-use Rattle.constpool.specs.Descriptor.{is_long_type, param_slots}
-use Rattle.classfile.specs.View.{codes_of}
-use Rattle.verify.specs.Shape.{HasBadCode, crowded, slots_taken}
-use Rattle.verify.specs.Checked.{IsFormed}
+use Rattle.verify.specs.Shape.{reserved_names, reserved, AreDoubles, is_constructor, HasCode, HasBadCode, crowded, slots_taken}
+use Rattle.verify.specs.Verdict.{by_shape, IsAccepted, IsClassOf, IsMethodOf, HasShape, InstructionStands, InstructionsStand, by_instructions, HasInstructions, IsBody, BodyStands, TypesStand, by_types}
+use Rattle.verify.specs.Checked.{AreConsecutive, NoTop, IsMember, IsFormed}
+use Rattle.soundness.proofs.Callees.{process_found, same_is}
+use Rattle.soundness.proofs.Fit.{then_some_parts}
 use Rattle.soundness.specs.Accepting.{TypedIsChecked}
 use Rattle.soundness.proofs.DeclaredFrames.{declared_has_no_top}
 
@@ -215,7 +182,7 @@ no_top_signature own d s e =
     let r = then_some_parts (λ r. Some (record { params = p.0; result = r; is_boolean = is_boolean x.0.result })) (result_type own x.0.result) s p.2 in
     let new : Signature = record { params = p.0; result = r.0; is_boolean = is_boolean x.0.result } in
     let same : new ≡ s = cc r.2 in
-    subst (λ (y : Signature). NoTop y.params × NoTop (result_list y.result)) same (no_top_fields own x.0.params p.0 p.1, no_top_result own x.0.result r.0 r.1)
+    subst (λ (y : Signature). NoTop y.params × NoTop (result_list y.result)) {x = new} same (no_top_fields own x.0.params p.0 p.1, no_top_result own x.0.result r.0 r.1)
 
 pub signed_has_no_top : (v : ClassView) (w : MethodView) (s : Signature) → method_signature v w ≡ Some s → NoTop s.params × NoTop (result_list s.result)
 unfolding method_signature
@@ -368,7 +335,7 @@ signature_slots own d s e =
     let r = then_some_parts (λ r. Some (record { params = p.0; result = r; is_boolean = is_boolean x.0.result })) (result_type own x.0.result) s p.2 in
     let new : Signature = record { params = p.0; result = r.0; is_boolean = is_boolean x.0.result } in
     let same : new ≡ s = cc r.2 in
-    (x.0, x.1, subst (λ (y : Signature). slots_by is_long y.params ≡ param_slots x.0) same (fields_slots own x.0.params p.0 p.1))
+    (x.0, x.1, subst (λ (y : Signature). slots_by is_long y.params ≡ param_slots x.0) {x = new} same (fields_slots own x.0.params p.0 p.1))
 
 signed_slots : (v : ClassView) (w : MethodView) (s : Signature) → method_signature v w ≡ Some s → (x : Sig) × (sig_of w.descriptor ≡ Some x) × (slots_by is_long s.params ≡ slots_taken w.flags x)
 unfolding method_signature

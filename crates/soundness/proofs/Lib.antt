@@ -11,3 +11,7 @@ pub mod SafeRuns
 pub mod AcceptedClasses
 pub mod DeclaredFrames
 pub mod ExampleClass
+pub mod StraightCode
+pub mod StaticProcess
+pub mod ReservedName
+pub mod ScatteredPlaces

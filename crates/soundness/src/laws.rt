@@ -7,6 +7,7 @@ ghost use Rattle.verify.specs.Sound.{IsSafe, SoundnessOfClasses};
 ghost use Rattle.soundness.specs.Accepting.{TypedIsChecked};
 ghost use Rattle.soundness.specs.Counting.{EachCallStarts, EachStepCounts};
 ghost use Rattle.soundness.specs.Example.{example, limits};
+ghost use Rattle.soundness.specs.Premises.{IsCheckedButForInstance, IsCheckedButForName, IsCheckedButForPlaces, SoundnessOver};
 
 /// Type soundness with bounds. In a class that is checked, with a method `process` and with bounds that none of the
 /// paths from its first instruction exceeds, and for each call of it: no state that the call reaches is stuck; each of them stays within
@@ -40,4 +41,13 @@ pub fn example_is_checked()
     ensures process { IsProcessOf example 0 }
     ensures bounds { AreBounds example 0 limits }
     ensures safe { IsSafe example limits }
+{}
+
+/// Why three of the premises are made: without each of them the law is false. A class with a reserved name, a class whose
+/// `process` is static, and a class whose instructions don't stand one behind the other are not safe, though all else that is asked of them
+/// holds.
+pub fn premises_are_needed()
+    ensures name { SoundnessOver IsCheckedButForName → ⊥ }
+    ensures instance { SoundnessOver IsCheckedButForInstance → ⊥ }
+    ensures places { SoundnessOver IsCheckedButForPlaces → ⊥ }
 {}

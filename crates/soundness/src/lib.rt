@@ -3,4 +3,6 @@
 
 mod laws;
 
-pub use laws::{example_is_checked, starts_and_counts, type_soundness, typed_is_checked};
+pub use laws::{
+    example_is_checked, premises_are_needed, starts_and_counts, type_soundness, typed_is_checked,
+};
