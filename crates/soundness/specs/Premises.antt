@@ -1,4 +1,4 @@
--- What becomes of the law without three of the premises on a class.
+-- The law of classes of which less is asked.
 use Rattle.std.specs.Prelude.{◌≡◌, ℕ, ◌<◌, ◌≤◌, false, length, Some, slice_get, IsNone, pos}
 use Rattle.jtypes.specs.declared.operations.ArrayKind.{ArrayKind}
 use Rattle.jtypes.specs.Lists.{result_list, is_one_of}
@@ -28,16 +28,19 @@ pub record HasTypedMethods (c : Class) : Type 0 where
   pub typed : (j : ℕ) (v : MethodView) (m : Method) → IsMember c j v m → IsWellTyped c.view m
   pub ordered : (rank : ℕ → ℕ) × IsOrdered c rank
 
-abbrev pub IsNamed : Class → Type 0
-IsNamed c = is_one_of c.view.name reserved_names ≡ false
+-- its name is none of the reserved ones
+abbrev pub HasFreeName : Class → Type 0
+HasFreeName c = is_one_of c.view.name reserved_names ≡ false
 
+-- its `process` is not static
 abbrev pub HasInstanceProcess : Class → Type 0
 HasInstanceProcess c = (j : ℕ) (v : MethodView) → IsProcessOf c j → slice_get c.view.methods j ≡ Some v → is_static v.flags ≡ false
 
+-- each method but the constructor
 abbrev pub AllMembers : Class → (Method → Type 0) → Type 0
 AllMembers c P = (j : ℕ) (v : MethodView) (m : Method) → IsMember c j v m → P m
 
--- all but that the instructions stand one behind the other
+-- what is asked of a method beside its typing, but that its instructions stand one behind the other
 pub record IsFormedButForPlaces (m : Method) : Type 0 where
   pub params : NoTop m.environment.signature.params
   pub result : NoTop (result_list m.environment.signature.result)
@@ -46,12 +49,14 @@ pub record IsFormedButForPlaces (m : Method) : Type 0 where
   pub forward : (q r : ℕ) (p : Placed) → instruction_at m q ≡ Some p → target_of p.instruction ≡ Some (pos r) → q < r
   pub lengths : (q : ℕ) (p : Placed) (k : ArrayKind) → instruction_at m q ≡ Some p → p.instruction ≡ NewArray k → IsNone (declared_at m q) × HasLength m.code q
 
--- checked, but for one premise each
+-- all that is asked of a checked class, but that its name is none of the reserved ones
 abbrev pub IsCheckedButForName : Class → Type 0
 IsCheckedButForName c = HasTypedMethods c × HasInstanceProcess c × AllMembers c IsFormed
 
+-- but that its `process` is not static
 abbrev pub IsCheckedButForInstance : Class → Type 0
-IsCheckedButForInstance c = HasTypedMethods c × IsNamed c × AllMembers c IsFormed
+IsCheckedButForInstance c = HasTypedMethods c × HasFreeName c × AllMembers c IsFormed
 
+-- but that its instructions stand one behind the other
 abbrev pub IsCheckedButForPlaces : Class → Type 0
-IsCheckedButForPlaces c = HasTypedMethods c × IsNamed c × HasInstanceProcess c × AllMembers c IsFormedButForPlaces
+IsCheckedButForPlaces c = HasTypedMethods c × HasFreeName c × HasInstanceProcess c × AllMembers c IsFormedButForPlaces

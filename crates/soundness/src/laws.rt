@@ -9,33 +9,34 @@ ghost use Rattle.soundness.specs.Counting.{EachCallStarts, EachStepCounts};
 ghost use Rattle.soundness.specs.Example.{example, limits};
 ghost use Rattle.soundness.specs.Premises.{IsCheckedButForInstance, IsCheckedButForName, IsCheckedButForPlaces, SoundnessOver};
 
-/// Type soundness with bounds. In a class that is checked, with a method `process` and with bounds that none of the
-/// paths from its first instruction exceeds, and for each call of it: no state that the call reaches is stuck; each of them stays within
-/// the bounds, in steps, in words of arrays, in slots of locals and operands, and in depth of calls; and a final state
-/// is reached, within the same steps and words.
+/// Type soundness with bounds. Take a class that is checked, its method `process`, bounds that no path from the start of
+/// `process` exceeds, and any call. Then no state that is reached is stuck; each stays within the bounds in steps, in
+/// words of arrays, in slots of locals and operands, and in depth of calls; and a final state is reached, within the
+/// bounds on steps and words.
 ///
-/// It speaks of the definitions alone. It says nothing of code that runs: that a running machine does what `step`
-/// says is for the machine's own contracts. And it is about classes that are checked, in the sense of `IsChecked`,
-/// their bytes forgotten: that each class whose bytes are accepted is checked isn't said here. Bounds are given: that
-/// some exist, and which are the least, isn't said either.
+/// It speaks of the definitions alone, and says nothing of code that runs: that a running machine takes the steps of the
+/// definitions is for the machine's contracts. It is about classes that are checked in the sense of `IsChecked`, their
+/// bytes forgotten; that each class whose bytes are accepted is checked isn't proved here (`typed_is_checked` says how
+/// much of it is). The bounds are given: it doesn't say which bounds a class has, nor how to compute them.
 pub fn type_soundness()
     ensures { SoundnessOfClasses }
 {}
 
-/// What type soundness leaves open: for each call of a checked class there is a state to start from, so that the law
-/// isn't about no state at all; and each step that goes on adds one to the steps, so that they measure a run.
+/// Beside type soundness: for each call of a checked class there is a state to start from, so the law isn't empty for want
+/// of one; and each step that goes on adds one to the steps, so they measure a run.
 pub fn starts_and_counts()
     ensures starts { EachCallStarts }
     ensures counts { EachStepCounts }
 {}
 
-/// What is proved of accepted classes: a class whose bytes are accepted is checked, if its methods are well typed and its
-/// own calls go to methods of lower ranks. That each accepted class has these two isn't said here.
+/// A class whose bytes are accepted is checked, if its methods are well typed and its own calls go to methods of lower
+/// ranks. That each accepted class has these two isn't proved here.
 pub fn typed_is_checked()
     ensures { TypedIsChecked }
 {}
 
-/// The premises hold of a small class, whose `process` answers the entry that it is given; and so it is safe.
+/// The premises hold of a small class, whose `process` loads the entry and returns it: it is checked, the bounds are those of its only
+/// path, and so it is safe within them.
 pub fn example_is_checked()
     ensures checked { IsChecked example }
     ensures process { IsProcessOf example 0 }
@@ -43,9 +44,9 @@ pub fn example_is_checked()
     ensures safe { IsSafe example limits }
 {}
 
-/// Why three of the premises are made: without each of them the law is false. A class with a reserved name, a class whose
-/// `process` is static, and a class whose instructions don't stand one behind the other are not safe, though all else that is asked of them
-/// holds.
+/// Three of the premises are needed: without any one of them the law is false. A class with a reserved name gets stuck,
+/// and so does one whose `process` is static; one whose instructions don't stand one behind the other takes more words than its
+/// paths do. All else that is asked of a checked class holds of each.
 pub fn premises_are_needed()
     ensures name { SoundnessOver IsCheckedButForName → ⊥ }
     ensures instance { SoundnessOver IsCheckedButForInstance → ⊥ }
