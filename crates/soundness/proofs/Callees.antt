@@ -1,0 +1,349 @@
+-- The methods that calls reach, and the signature of `process`.
+use Rattle.std.proofs.Common.{◌≡◌, ℕ, zero, suc, ◌+◌, Bool, true, false, not, ◌&&◌, List, [], ◌∷◌, length, Option, Some, None, refl, sym, ap, ◌∙◌, subst, arith}
+use Rattle.std.specs.Prelude.{slice_get, option_map, ◌==◌, cond, codes}
+use Rattle.std.proofs.lemmas.Bool.{and_parts, eqb-true, eq-eqb, false_from_ne_true, false≢true}
+use Rattle.std.proofs.lemmas.Option.{some_pair_parts}
+use Rattle.jtypes.specs.declared.types.RefType.{RefType}
+use Rattle.jtypes.specs.declared.types.RefType.TheVariants as ref
+use Rattle.jtypes.specs.declared.types.JType.{JType}
+use Rattle.jtypes.specs.declared.types.JType.TheVariants.{Int, Long, Ref}
+use Rattle.jtypes.specs.declared.operations.Invoke.{Invoke}
+use Rattle.jtypes.specs.declared.operations.Invoke.TheVariants.{Virtual, Static, Interface}
+use Rattle.jtypes.specs.declared.operations.Native.TheVariants as native
+use Rattle.jtypes.specs.Lists.{same_bytes, is_one_of, only_if, result_list, ◌>>=◌}
+use Rattle.soundness.proofs.Fit.{NoneTop, only_if_some, then_some_parts}
+use Rattle.soundness.proofs.LibraryCalls as lemma
+use Rattle.soundness.proofs.LibraryCalls.{LibraryFits}
+use Rattle.constpool.specs.declared.descriptor.FieldType.{FieldType}
+use Rattle.constpool.specs.declared.descriptor.FieldType.TheVariants as field
+use Rattle.constpool.specs.declared.descriptor.Sig.{Sig}
+use Rattle.constpool.specs.Lookup.{MemberRef}
+use Rattle.constpool.specs.Descriptor.{sig_of, read_params, read_type}
+use Rattle.constpool.specs.Names.{object_name, number_name, long_name, integer_name, math_name, mutable_entry_name, cache_entry_name, init_name, process_name, process_descriptor}
+use Rattle.classfile.specs.View.{MethodView}
+use Rattle.frames.specs.declared.signatures.Signature.{Signature}
+use Rattle.frames.specs.Signatures.{known_classes, by_text, class_type, field_type, field_types, result_type, is_boolean, signature_of, as_method, method_signature}
+use Rattle.frames.specs.declared.members.Reached.{Reached}
+use Rattle.frames.specs.declared.members.Reached.TheVariants.{Library, Own}
+use Rattle.frames.specs.declared.members.Callee.{Callee}
+use Rattle.frames.specs.Members.{LibraryRow, library_rows, is_row_of, row_of, library_params, library_callee, is_method, numbered, pairs_with, callee_of, own_callee, member_at, found_callee, callee_at}
+use Rattle.typecheck.specs.Typing.{Method, Class, is_process, process_from, IsProcessOf}
+use Rattle.verify.specs.Shape.{reserved_names}
+use Rattle.verify.specs.Checked.{IsMember, IsChecked}
+
+-- ---- texts
+
+same_refl : (xs : List ℕ) → same_bytes xs xs ≡ true
+same_refl [] = refl
+same_refl (x ∷ xs) = ap (λ b. b && same_bytes xs xs) (eq-eqb x x refl) ∙ same_refl xs
+
+pub same_is : (xs ys : List ℕ) → same_bytes xs ys ≡ true → xs ≡ ys
+same_is [] [] h = refl
+same_is (x ∷ xs) (y ∷ ys) h =
+    let p = and_parts (x == y) (same_bytes xs ys) h in
+    let here : x ≡ y = eqb-true x y p.0 in
+    let rest : xs ≡ ys = same_is xs ys p.1 in
+    cc (here, rest)
+same_is [] (y ∷ ys) h = cc
+same_is (x ∷ xs) [] h = cc
+
+not_same : (xs ys : List ℕ) → same_bytes xs ys ≡ false → same_bytes ys xs ≡ false
+not_same xs ys h = false_from_ne_true (same_bytes ys xs) (λ e. let is = same_is ys xs e in false≢true (sym h ∙ ap (same_bytes xs) is ∙ same_refl xs))
+
+none_of : (x t : List ℕ) (ts : List (List ℕ)) → is_one_of x (t ∷ ts) ≡ false → (same_bytes t x ≡ false) × (is_one_of x ts ≡ false)
+none_of x t ts h = go (same_bytes x t) refl h
+  where
+    go : (b : Bool) → same_bytes x t ≡ b → cond b true (is_one_of x ts) ≡ false → (same_bytes t x ≡ false) × (is_one_of x ts ≡ false)
+    go true e f = cc
+    go false e f = (not_same x t e, f)
+
+abbrev EachOther : List ℕ → List (List ℕ) → Type 0
+EachOther x [] = Unit {0}
+EachOther x (t ∷ ts) = (same_bytes t x ≡ false) × EachOther x ts
+
+each_other : (x : List ℕ) (ts : List (List ℕ)) → is_one_of x ts ≡ false → EachOther x ts
+each_other x [] h = tt
+each_other x (t ∷ ts) h = let p = none_of x t ts h in (p.0, each_other x ts p.1)
+
+-- the class has none of the names of the library
+record IsForeign (own : List ℕ) : Type 0 where
+  object : same_bytes object_name own ≡ false
+  number : same_bytes number_name own ≡ false
+  long : same_bytes long_name own ≡ false
+  integer : same_bytes integer_name own ≡ false
+  mutable : same_bytes mutable_entry_name own ≡ false
+  entry : same_bytes cache_entry_name own ≡ false
+
+foreign : (own : List ℕ) → is_one_of own reserved_names ≡ false → IsForeign own
+foreign own h =
+    let e : EachOther own reserved_names = each_other own reserved_names h in
+    record { object = e.0; number = e.1.0; long = e.1.1.0; integer = e.1.1.1.0; mutable = e.1.1.1.1.0; entry = e.1.1.1.1.1.1.0 }
+
+class_is : (own name : List ℕ) (r : RefType) → same_bytes name own ≡ false → by_text known_classes name ≡ Some r → class_type own name ≡ Some r
+unfolding class_type
+class_is own name r e k = ap (λ b. cond b (Some ref.This) (by_text known_classes name)) e ∙ k
+
+-- ---- signatures
+
+signature_is : (own d : List ℕ) (s : Sig) (params : List JType) (result : Option JType) → sig_of d ≡ Some s → field_types own s.params ≡ Some params → result_type own s.result ≡ Some result → signature_of own d ≡ Some (record { params = params; result = result; is_boolean = is_boolean s.result })
+unfolding signature_of
+signature_is own d s params result e f g =
+    ap (λ o. o >>= λ s. field_types own s.params >>= λ ps. result_type own s.result >>= λ r. Some (record { params = ps; result = r; is_boolean = is_boolean s.result })) e
+    ∙ ap (λ o. o >>= λ ps. result_type own s.result >>= λ r. Some (record { params = ps; result = r; is_boolean = is_boolean s.result })) f
+    ∙ ap (λ o. o >>= λ r. Some (record { params = params; result = r; is_boolean = is_boolean s.result })) g
+
+-- what is known of a row of the library
+RowFits : List ℕ → LibraryRow → Type 0
+RowFits own r = (callee : Callee) → library_callee own r ≡ Some callee → (callee.reached ≡ Library r.native) × NoneTop callee.params × NoneTop (result_list callee.result) × LibraryFits r.native callee.params callee.result
+
+row_fits : (own : List ℕ) (r : LibraryRow) (sig : Signature) (params : List JType) → signature_of own r.descriptor ≡ Some sig → library_params r.kind (class_type own r.class) sig.params ≡ Some params → NoneTop params → NoneTop (result_list sig.result) → LibraryFits r.native params sig.result → RowFits own r
+unfolding RowFits
+row_fits own r sig params e f n o fits callee h =
+    let new : Callee = record { reached = Library r.native; params = params; result = sig.result } in
+    let is : library_callee own r ≡ Some new =
+    ap (λ o. o >>= λ s. library_params r.kind (class_type own r.class) s.params >>= λ ps. Some (record { reached = Library r.native; params = ps; result = s.result })) e
+    ∙ ap (λ o. o >>= λ ps. Some (record { reached = Library r.native; params = ps; result = sig.result })) f
+    in
+    let both : Some new ≡ Some callee = sym is ∙ h in
+    let same : new ≡ callee = cc both in
+    subst (λ (x : Callee). (x.reached ≡ Library r.native) × NoneTop x.params × NoneTop (result_list x.result) × LibraryFits r.native x.params x.result) same (refl, n, o, fits)
+
+abbrev EachRow : (LibraryRow → Type 0) → List LibraryRow → Type 0
+EachRow P [] = Unit {0}
+EachRow P (r ∷ rows) = P r × EachRow P rows
+
+found_row : (P : LibraryRow → Type 0) (rows : List LibraryRow) (kind : Invoke) (m : MemberRef) (r : LibraryRow) → EachRow P rows → row_of rows kind m ≡ Some r → P r
+found_row P [] kind m r h e = cc
+found_row P (x ∷ rows) kind m r h e = go (found_row P rows kind m r h.1) (is_row_of kind m x) e
+  where
+    go : (row_of rows kind m ≡ Some r → P r) → (b : Bool) → cond b (Some x) (row_of rows kind m) ≡ Some r → P r
+    go later true f = let same : x ≡ r = cc in subst P same h.0
+    go later false f = later f
+
+object_is : (own : List ℕ) → IsForeign own → class_type own object_name ≡ Some ref.Object
+object_is own f = class_is own object_name ref.Object f.object refl
+
+number_is : (own : List ℕ) → IsForeign own → class_type own number_name ≡ Some ref.Number
+number_is own f = class_is own number_name ref.Number f.number refl
+
+long_is : (own : List ℕ) → IsForeign own → class_type own long_name ≡ Some ref.Long
+long_is own f = class_is own long_name ref.Long f.long refl
+
+integer_is : (own : List ℕ) → IsForeign own → class_type own integer_name ≡ Some ref.Integer
+integer_is own f = class_is own integer_name ref.Integer f.integer refl
+
+mutable_is : (own : List ℕ) → IsForeign own → class_type own mutable_entry_name ≡ Some ref.MutableEntry
+mutable_is own f = class_is own mutable_entry_name ref.MutableEntry f.mutable refl
+
+entry_is : (own : List ℕ) → IsForeign own → class_type own cache_entry_name ≡ Some ref.CacheEntry
+entry_is own f = class_is own cache_entry_name ref.CacheEntry f.entry refl
+
+-- the type of a class among fields and results
+class_field : (own name : List ℕ) (r : RefType) → class_type own name ≡ Some r → field_type own (field.Class name) ≡ Some (Ref r)
+unfolding field_type
+class_field own name r e = ap (option_map (λ x. Ref x)) e
+
+class_result : (own name : List ℕ) (r : RefType) → class_type own name ≡ Some r → result_type own (Some (field.Class name)) ≡ Some (Some (Ref r))
+unfolding result_type
+class_result own name r e = ap (option_map (λ u. Some u)) (class_field own name r e)
+
+one_field : (own : List ℕ) (t : FieldType) (u : JType) → field_type own t ≡ Some u → field_types own (t ∷ []) ≡ Some (u ∷ [])
+unfolding field_types
+one_field own t u e = ap (λ o. o >>= λ v. option_map (λ us. v ∷ us) (field_types own [])) e
+
+signature_0 : (own : List ℕ) → IsForeign own → signature_of own (codes "(J)Ljava/lang/Long;") ≡ Some (record { params = Long ∷ []; result = Some (Ref ref.Long); is_boolean = false })
+unfolding sig_of read_params read_type field_type field_types result_type
+signature_0 own f =
+    signature_is own (codes "(J)Ljava/lang/Long;") (record { params = field.Long ∷ []; result = Some (field.Class long_name) }) (Long ∷ []) (Some (Ref ref.Long)) refl (refl) (class_result own long_name ref.Long (long_is own f))
+
+signature_1 : (own : List ℕ) → IsForeign own → signature_of own (codes "(I)Ljava/lang/Integer;") ≡ Some (record { params = Int ∷ []; result = Some (Ref ref.Integer); is_boolean = false })
+unfolding sig_of read_params read_type field_type field_types result_type
+signature_1 own f =
+    signature_is own (codes "(I)Ljava/lang/Integer;") (record { params = field.Int ∷ []; result = Some (field.Class integer_name) }) (Int ∷ []) (Some (Ref ref.Integer)) refl (refl) (class_result own integer_name ref.Integer (integer_is own f))
+
+signature_2 : (own : List ℕ) → IsForeign own → signature_of own (codes "(II)I") ≡ Some (record { params = Int ∷ Int ∷ []; result = Some Int; is_boolean = false })
+unfolding sig_of read_params read_type field_type field_types result_type
+signature_2 own f =
+    signature_is own (codes "(II)I") (record { params = field.Int ∷ field.Int ∷ []; result = Some field.Int }) (Int ∷ Int ∷ []) (Some Int) refl (refl) (refl)
+
+signature_3 : (own : List ℕ) → IsForeign own → signature_of own (codes "(JJ)J") ≡ Some (record { params = Long ∷ Long ∷ []; result = Some Long; is_boolean = false })
+unfolding sig_of read_params read_type field_type field_types result_type
+signature_3 own f =
+    signature_is own (codes "(JJ)J") (record { params = field.Long ∷ field.Long ∷ []; result = Some field.Long }) (Long ∷ Long ∷ []) (Some Long) refl (refl) (refl)
+
+signature_4 : (own : List ℕ) → IsForeign own → signature_of own (codes "()I") ≡ Some (record { params = []; result = Some Int; is_boolean = false })
+unfolding sig_of read_params read_type field_type field_types result_type
+signature_4 own f =
+    signature_is own (codes "()I") (record { params = []; result = Some field.Int }) ([]) (Some Int) refl (refl) (refl)
+
+signature_5 : (own : List ℕ) → IsForeign own → signature_of own (codes "()J") ≡ Some (record { params = []; result = Some Long; is_boolean = false })
+unfolding sig_of read_params read_type field_type field_types result_type
+signature_5 own f =
+    signature_is own (codes "()J") (record { params = []; result = Some field.Long }) ([]) (Some Long) refl (refl) (refl)
+
+signature_6 : (own : List ℕ) → IsForeign own → signature_of own (codes "()Ljava/lang/Object;") ≡ Some (record { params = []; result = Some (Ref ref.Object); is_boolean = false })
+unfolding sig_of read_params read_type field_type field_types result_type
+signature_6 own f =
+    signature_is own (codes "()Ljava/lang/Object;") (record { params = []; result = Some (field.Class object_name) }) ([]) (Some (Ref ref.Object)) refl (refl) (class_result own object_name ref.Object (object_is own f))
+
+signature_7 : (own : List ℕ) → IsForeign own → signature_of own (codes "(Ljava/lang/Object;)V") ≡ Some (record { params = Ref ref.Object ∷ []; result = None; is_boolean = false })
+unfolding sig_of read_params read_type field_type field_types result_type
+signature_7 own f =
+    signature_is own (codes "(Ljava/lang/Object;)V") (record { params = field.Class object_name ∷ []; result = None }) (Ref ref.Object ∷ []) (None) refl (one_field own (field.Class object_name) (Ref ref.Object) (class_field own object_name ref.Object (object_is own f))) (refl)
+
+signature_8 : (own : List ℕ) → IsForeign own → signature_of own (codes "()Z") ≡ Some (record { params = []; result = Some Int; is_boolean = true })
+unfolding sig_of read_params read_type field_type field_types result_type
+signature_8 own f =
+    signature_is own (codes "()Z") (record { params = []; result = Some field.Boolean }) ([]) (Some Int) refl (refl) (refl)
+
+signature_9 : (own : List ℕ) → IsForeign own → signature_of own (codes "()V") ≡ Some (record { params = []; result = None; is_boolean = false })
+unfolding sig_of read_params read_type field_type field_types result_type
+signature_9 own f =
+    signature_is own (codes "()V") (record { params = []; result = None }) ([]) (None) refl (refl) (refl)
+
+library_fits : (own : List ℕ) → IsForeign own → EachRow (RowFits own) library_rows
+unfolding library_rows
+library_fits own f =
+    let r0 = row_fits own (record { kind = Static; class = long_name; name = codes "valueOf"; descriptor = codes "(J)Ljava/lang/Long;"; native = native.LongValueOf }) (record { params = Long ∷ []; result = Some (Ref ref.Long); is_boolean = false }) (Long ∷ []) (signature_0 own f) (refl) (refl, tt) (refl, tt) lemma.long_value_of in
+    let r1 = row_fits own (record { kind = Static; class = integer_name; name = codes "valueOf"; descriptor = codes "(I)Ljava/lang/Integer;"; native = native.IntegerValueOf }) (record { params = Int ∷ []; result = Some (Ref ref.Integer); is_boolean = false }) (Int ∷ []) (signature_1 own f) (refl) (refl, tt) (refl, tt) lemma.integer_value_of in
+    let r2 = row_fits own (record { kind = Static; class = math_name; name = codes "max"; descriptor = codes "(II)I"; native = native.MaxOfInts }) (record { params = Int ∷ Int ∷ []; result = Some Int; is_boolean = false }) (Int ∷ Int ∷ []) (signature_2 own f) (refl) (refl, (refl, tt)) (refl, tt) lemma.max_of_ints in
+    let r3 = row_fits own (record { kind = Static; class = math_name; name = codes "min"; descriptor = codes "(II)I"; native = native.MinOfInts }) (record { params = Int ∷ Int ∷ []; result = Some Int; is_boolean = false }) (Int ∷ Int ∷ []) (signature_2 own f) (refl) (refl, (refl, tt)) (refl, tt) lemma.min_of_ints in
+    let r4 = row_fits own (record { kind = Static; class = math_name; name = codes "max"; descriptor = codes "(JJ)J"; native = native.MaxOfLongs }) (record { params = Long ∷ Long ∷ []; result = Some Long; is_boolean = false }) (Long ∷ Long ∷ []) (signature_3 own f) (refl) (refl, (refl, tt)) (refl, tt) lemma.max_of_longs in
+    let r5 = row_fits own (record { kind = Static; class = math_name; name = codes "min"; descriptor = codes "(JJ)J"; native = native.MinOfLongs }) (record { params = Long ∷ Long ∷ []; result = Some Long; is_boolean = false }) (Long ∷ Long ∷ []) (signature_3 own f) (refl) (refl, (refl, tt)) (refl, tt) lemma.min_of_longs in
+    let r6 = row_fits own (record { kind = Virtual; class = long_name; name = codes "intValue"; descriptor = codes "()I"; native = native.IntValue }) (record { params = []; result = Some Int; is_boolean = false }) (Ref ref.Long ∷ []) (signature_4 own f) (ap (λ o. library_params Virtual o ([])) (long_is own f)) (refl, tt) (refl, tt) (lemma.int_value ref.Long refl) in
+    let r7 = row_fits own (record { kind = Virtual; class = integer_name; name = codes "intValue"; descriptor = codes "()I"; native = native.IntValue }) (record { params = []; result = Some Int; is_boolean = false }) (Ref ref.Integer ∷ []) (signature_4 own f) (ap (λ o. library_params Virtual o ([])) (integer_is own f)) (refl, tt) (refl, tt) (lemma.int_value ref.Integer refl) in
+    let r8 = row_fits own (record { kind = Virtual; class = number_name; name = codes "intValue"; descriptor = codes "()I"; native = native.IntValue }) (record { params = []; result = Some Int; is_boolean = false }) (Ref ref.Number ∷ []) (signature_4 own f) (ap (λ o. library_params Virtual o ([])) (number_is own f)) (refl, tt) (refl, tt) (lemma.int_value ref.Number refl) in
+    let r9 = row_fits own (record { kind = Virtual; class = long_name; name = codes "longValue"; descriptor = codes "()J"; native = native.LongValue }) (record { params = []; result = Some Long; is_boolean = false }) (Ref ref.Long ∷ []) (signature_5 own f) (ap (λ o. library_params Virtual o ([])) (long_is own f)) (refl, tt) (refl, tt) (lemma.long_value ref.Long refl) in
+    let r10 = row_fits own (record { kind = Virtual; class = integer_name; name = codes "longValue"; descriptor = codes "()J"; native = native.LongValue }) (record { params = []; result = Some Long; is_boolean = false }) (Ref ref.Integer ∷ []) (signature_5 own f) (ap (λ o. library_params Virtual o ([])) (integer_is own f)) (refl, tt) (refl, tt) (lemma.long_value ref.Integer refl) in
+    let r11 = row_fits own (record { kind = Virtual; class = number_name; name = codes "longValue"; descriptor = codes "()J"; native = native.LongValue }) (record { params = []; result = Some Long; is_boolean = false }) (Ref ref.Number ∷ []) (signature_5 own f) (ap (λ o. library_params Virtual o ([])) (number_is own f)) (refl, tt) (refl, tt) (lemma.long_value ref.Number refl) in
+    let r12 = row_fits own (record { kind = Interface; class = mutable_entry_name; name = codes "getKey"; descriptor = codes "()Ljava/lang/Object;"; native = native.GetKey }) (record { params = []; result = Some (Ref ref.Object); is_boolean = false }) (Ref ref.MutableEntry ∷ []) (signature_6 own f) (ap (λ o. library_params Interface o ([])) (mutable_is own f)) (refl, tt) (refl, tt) (lemma.get_key ref.MutableEntry) in
+    let r13 = row_fits own (record { kind = Interface; class = cache_entry_name; name = codes "getKey"; descriptor = codes "()Ljava/lang/Object;"; native = native.GetKey }) (record { params = []; result = Some (Ref ref.Object); is_boolean = false }) (Ref ref.CacheEntry ∷ []) (signature_6 own f) (ap (λ o. library_params Interface o ([])) (entry_is own f)) (refl, tt) (refl, tt) (lemma.get_key ref.CacheEntry) in
+    let r14 = row_fits own (record { kind = Interface; class = mutable_entry_name; name = codes "getValue"; descriptor = codes "()Ljava/lang/Object;"; native = native.GetValue }) (record { params = []; result = Some (Ref ref.Object); is_boolean = false }) (Ref ref.MutableEntry ∷ []) (signature_6 own f) (ap (λ o. library_params Interface o ([])) (mutable_is own f)) (refl, tt) (refl, tt) (lemma.get_value ref.MutableEntry) in
+    let r15 = row_fits own (record { kind = Interface; class = cache_entry_name; name = codes "getValue"; descriptor = codes "()Ljava/lang/Object;"; native = native.GetValue }) (record { params = []; result = Some (Ref ref.Object); is_boolean = false }) (Ref ref.CacheEntry ∷ []) (signature_6 own f) (ap (λ o. library_params Interface o ([])) (entry_is own f)) (refl, tt) (refl, tt) (lemma.get_value ref.CacheEntry) in
+    let r16 = row_fits own (record { kind = Interface; class = mutable_entry_name; name = codes "setValue"; descriptor = codes "(Ljava/lang/Object;)V"; native = native.SetValue }) (record { params = Ref ref.Object ∷ []; result = None; is_boolean = false }) (Ref ref.MutableEntry ∷ Ref ref.Object ∷ []) (signature_7 own f) (ap (λ o. library_params Interface o (Ref ref.Object ∷ [])) (mutable_is own f)) (refl, (refl, tt)) tt (lemma.set_value ref.MutableEntry) in
+    let r17 = row_fits own (record { kind = Interface; class = mutable_entry_name; name = codes "exists"; descriptor = codes "()Z"; native = native.Exists }) (record { params = []; result = Some Int; is_boolean = true }) (Ref ref.MutableEntry ∷ []) (signature_8 own f) (ap (λ o. library_params Interface o ([])) (mutable_is own f)) (refl, tt) (refl, tt) (lemma.exists ref.MutableEntry) in
+    let r18 = row_fits own (record { kind = Interface; class = mutable_entry_name; name = codes "remove"; descriptor = codes "()V"; native = native.Remove }) (record { params = []; result = None; is_boolean = false }) (Ref ref.MutableEntry ∷ []) (signature_9 own f) (ap (λ o. library_params Interface o ([])) (mutable_is own f)) (refl, tt) tt (lemma.remove ref.MutableEntry) in
+    (r0, (r1, (r2, (r3, (r4, (r5, (r6, (r7, (r8, (r9, (r10, (r11, (r12, (r13, (r14, (r15, (r16, (r17, (r18, tt)))))))))))))))))))
+
+-- ---- the class's own methods
+
+not_init : (m : MemberRef) (v : MethodView) → not (same_bytes m.name init_name) ≡ true → same_bytes m.name v.name ≡ true → v.name ≡ init_name → ⊥
+not_init m v n s e =
+    let is : m.name ≡ init_name = same_is m.name v.name s ∙ e in
+    let yes : same_bytes m.name init_name ≡ true = ap (λ x. same_bytes x init_name) is ∙ same_refl init_name in
+    false≢true (sym (ap not yes) ∙ n)
+
+pub method_at_number : {A B : Type 0} (xs : List A) (ys : List B) (j : ℕ) (x : A) → length ys ≡ length xs → slice_get xs j ≡ Some x → (y : B) × (slice_get ys j ≡ Some y)
+method_at_number [] ys j x e h = cc
+method_at_number (a ∷ xs) [] j x e h = absurd (omega (arith, e))
+method_at_number (a ∷ xs) (b ∷ ys) zero x e h = (b, refl)
+method_at_number (a ∷ xs) (b ∷ ys) (suc j) x e h = method_at_number xs ys j x (omega (arith, e)) h
+
+number_found : (n : ℕ) (methods : List MethodView) (m : MemberRef) (k : ℕ) (w : MethodView) → numbered n methods m ≡ Some (k, w) → (i : ℕ) × (k ≡ n + i) × (slice_get methods i ≡ Some w) × (is_method m w ≡ true)
+number_found n [] m k w e = cc
+number_found n (v ∷ methods) m k w e = go (number_found (suc n) methods m k w) (is_method m v) refl e
+  where
+    go : (numbered (suc n) methods m ≡ Some (k, w) → (i : ℕ) × (k ≡ suc n + i) × (slice_get methods i ≡ Some w) × (is_method m w ≡ true)) → (b : Bool) → is_method m v ≡ b → cond b (Some (n, v)) (numbered (suc n) methods m) ≡ Some (k, w) → (i : ℕ) × (k ≡ n + i) × (slice_get (v ∷ methods) i ≡ Some w) × (is_method m w ≡ true)
+    go later true is f =
+        let p = some_pair_parts n k v w f in
+        (0, omega (arith, p.0), ap (λ x. Some x) p.1, subst (λ x. is_method m x ≡ true) p.1 is)
+    go later false is f =
+        let r = later f in
+        (suc r.0, omega (arith, r.1), r.2, r.3)
+
+-- method k of a class, to which a call leads
+pub record IsOwn (c : Class) (callee : Callee) (k : ℕ) : Type 0 where
+  pub view : MethodView
+  pub method : Method
+  pub member : IsMember c k view method
+  pub params : callee.params ≡ method.environment.signature.params
+  pub result : callee.result ≡ method.environment.signature.result
+
+-- what is known of a method that a call leads to
+abbrev pub CalleeFits : Class → Callee → Reached → Type 0
+CalleeFits c callee (Library n) = NoneTop callee.params × NoneTop (result_list callee.result) × LibraryFits n callee.params callee.result
+CalleeFits c callee (Own k) = IsOwn c callee k
+
+own_fits : (c : Class) → IsChecked c → (kind : Invoke) (m : MemberRef) (callee : Callee) → own_callee c.view kind m ≡ Some callee → CalleeFits c callee callee.reached
+own_fits c ok kind m callee e =
+    let p = only_if_some _ _ callee e in
+    let tests = and_parts (same_bytes m.class c.view.name) (not (same_bytes m.name init_name)) p.0 in
+    let found = then_some_parts (λ (found : ℕ × MethodView). only_if (pairs_with kind found.1.flags) (option_map (callee_of found.0) (method_signature c.view found.1))) (numbered 0 c.view.methods m) callee p.1 in
+    let k = found.0.0 in
+    let w = found.0.1 in
+    let n = number_found 0 c.view.methods m k w found.1 in
+    let view : slice_get c.view.methods k ≡ Some w = subst (λ x. slice_get c.view.methods x ≡ Some w) (let h = n.1 in omega (arith, h)) n.2 in
+    let method = method_at_number c.view.methods c.methods k w ok.count view in
+    let named = and_parts (same_bytes m.name w.name) _ n.3 in
+    let signed = ok.signed k w method.0 view method.1 in
+    let made = only_if_some (pairs_with kind w.flags) (option_map (callee_of k) (method_signature c.view w)) callee found.2 in
+    let both : option_map (callee_of k) (Some method.0.environment.signature) ≡ Some callee = sym (ap (option_map (callee_of k)) signed) ∙ made.1 in
+    let same : callee_of k method.0.environment.signature ≡ callee = cc both in
+    subst (λ (x : Callee). CalleeFits c x x.reached) same (record { view = w; method = method.0; member = record { view = view; method = method.1; other = not_init m w tests.1 named.0 }; params = refl; result = refl })
+
+pub callee_fits : (c : Class) → IsChecked c → (kind : Invoke) (i : ℕ) (callee : Callee) → callee_at c.view kind i ≡ Some callee → CalleeFits c callee callee.reached
+unfolding callee_at RowFits
+callee_fits c ok kind i callee e =
+    let p = then_some_parts (λ m. found_callee c.view kind m (row_of library_rows kind m)) (member_at c.view.pool kind i) callee e in
+    go p.0 (row_of library_rows kind p.0) refl p.2
+  where
+    go : (m : MemberRef) (o : Option LibraryRow) → row_of library_rows kind m ≡ o → found_callee c.view kind m o ≡ Some callee → CalleeFits c callee callee.reached
+    go m None h f = own_fits c ok kind m callee f
+    go m (Some r) h f =
+        let known = found_row (RowFits c.view.name) library_rows kind m r (library_fits c.view.name (foreign c.view.name ok.named)) h callee f in
+        subst (CalleeFits c callee) (sym known.0) (known.1, known.2, known.3)
+
+-- ---- process
+
+pub process_found : (n : ℕ) (methods : List MethodView) (k : ℕ) → process_from n methods ≡ Some k → (w : MethodView) × (i : ℕ) × (k ≡ n + i) × (slice_get methods i ≡ Some w) × (is_process w ≡ true)
+process_found n [] k e = cc
+process_found n (v ∷ methods) k e = go (process_found (suc n) methods k) (is_process v) refl e
+  where
+    go : (process_from (suc n) methods ≡ Some k → (w : MethodView) × (i : ℕ) × (k ≡ suc n + i) × (slice_get methods i ≡ Some w) × (is_process w ≡ true)) → (b : Bool) → is_process v ≡ b → cond b (Some n) (process_from (suc n) methods) ≡ Some k → (w : MethodView) × (i : ℕ) × (k ≡ n + i) × (slice_get (v ∷ methods) i ≡ Some w) × (is_process w ≡ true)
+    go later true is f = let same : n ≡ k = cc in (v, 0, omega (arith, same), refl, is)
+    go later false is f =
+        let r = later f in
+        (r.0, suc r.1, omega (arith, r.2), r.3, r.4)
+
+object_array_field : (own : List ℕ) → field_type own field.ObjectArray ≡ Some (Ref ref.ObjectArray)
+unfolding field_type
+object_array_field own = refl
+
+two_fields : (own : List ℕ) (s t : FieldType) (u v : JType) → field_type own s ≡ Some u → field_type own t ≡ Some v → field_types own (s ∷ t ∷ []) ≡ Some (u ∷ v ∷ [])
+unfolding field_types
+two_fields own s t u v e f =
+    ap (λ o. o >>= λ x. option_map (λ us. x ∷ us) (field_types own (t ∷ []))) e ∙ ap (option_map (λ us. u ∷ us)) (one_field own t v f)
+
+signature_of_process : (own : List ℕ) → IsForeign own → signature_of own process_descriptor ≡ Some (record { params = Ref ref.MutableEntry ∷ Ref ref.ObjectArray ∷ []; result = Some (Ref ref.Object); is_boolean = false })
+unfolding sig_of read_params read_type
+signature_of_process own f =
+    signature_is own process_descriptor (record { params = field.Class mutable_entry_name ∷ field.ObjectArray ∷ []; result = Some (field.Class object_name) }) (Ref ref.MutableEntry ∷ Ref ref.ObjectArray ∷ []) (Some (Ref ref.Object)) refl (two_fields own (field.Class mutable_entry_name) field.ObjectArray (Ref ref.MutableEntry) (Ref ref.ObjectArray) (class_field own mutable_entry_name ref.MutableEntry (mutable_is own f)) (object_array_field own)) (class_result own object_name ref.Object (object_is own f))
+
+-- `process` of a checked class
+pub record IsEntry (c : Class) (j : ℕ) (m : Method) : Type 0 where
+  pub view : MethodView
+  pub member : IsMember c j view m
+  pub params : m.environment.signature.params ≡ Ref ref.This ∷ Ref ref.MutableEntry ∷ Ref ref.ObjectArray ∷ []
+  pub result : m.environment.signature.result ≡ Some (Ref ref.Object)
+
+pub entry_of : (c : Class) → IsChecked c → (j : ℕ) (m : Method) → IsProcessOf c j → slice_get c.methods j ≡ Some m → IsEntry c j m
+unfolding method_signature
+entry_of c ok j m is known =
+    let p = process_found 0 c.view.methods j is in
+    let w = p.0 in
+    let view : slice_get c.view.methods j ≡ Some w = subst (λ x. slice_get c.view.methods x ≡ Some w) (let h = p.2 in omega (arith, h)) p.3 in
+    let parts = and_parts (same_bytes w.name process_name) (same_bytes w.descriptor process_descriptor) p.4 in
+    let name : w.name ≡ process_name = same_is w.name process_name parts.0 in
+    let descriptor : w.descriptor ≡ process_descriptor = same_is w.descriptor process_descriptor parts.1 in
+    let sig : Signature = record { params = Ref ref.MutableEntry ∷ Ref ref.ObjectArray ∷ []; result = Some (Ref ref.Object); is_boolean = false } in
+    let new : Signature = record { params = Ref ref.This ∷ Ref ref.MutableEntry ∷ Ref ref.ObjectArray ∷ []; result = Some (Ref ref.Object); is_boolean = false } in
+    let made : as_method w.flags sig ≡ new = ap (λ b. record { params = cond b (Ref ref.MutableEntry ∷ Ref ref.ObjectArray ∷ []) (Ref ref.This ∷ Ref ref.MutableEntry ∷ Ref ref.ObjectArray ∷ []); result = Some (Ref ref.Object); is_boolean = false }) (ok.instance j w is view) in
+    let signed : method_signature c.view w ≡ Some new = ap (option_map (as_method w.flags)) (ap (signature_of c.view.name) descriptor ∙ signature_of_process c.view.name (foreign c.view.name ok.named)) ∙ ap (λ x. Some x) made in
+    let both : Some new ≡ Some m.environment.signature = sym signed ∙ ok.signed j w m view known in
+    let same : new ≡ m.environment.signature = cc both in
+    record {
+      view = w;
+      member = record { view = view; method = known; other = λ init. false≢true (ap (λ x. same_bytes x init_name) (sym name ∙ init) ∙ same_refl init_name) };
+      params = sym (ap (λ (x : Signature). x.params) same);
+      result = sym (ap (λ (x : Signature). x.result) same);
+    }

@@ -1,0 +1,17 @@
+pub mod Fit
+pub mod Operations
+pub mod LibraryCalls
+pub mod Rearranged
+pub mod Locals
+pub mod Callees
+pub mod GoodStates
+pub mod PathsExist
+pub mod Steps
+pub mod SafeRuns
+pub mod AcceptedClasses
+pub mod DeclaredFrames
+pub mod ExampleClass
+pub mod StraightCode
+pub mod StaticProcess
+pub mod ReservedName
+pub mod ScatteredPlaces

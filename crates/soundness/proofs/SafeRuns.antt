@@ -1,0 +1,128 @@
+-- Type soundness with bounds.
+use Rattle.std.proofs.Common.{◌≡◌, ℕ, zero, suc, ◌+◌, ◌<◌, ◌≤◌, List, [], ◌∷◌, length, Option, Some, None, refl, sym, ap, ◌∙◌, subst, arith}
+use Rattle.std.specs.Prelude.{slice_get, option_map}
+use Rattle.jtypes.specs.declared.types.RefType.TheVariants as ref
+use Rattle.jtypes.specs.declared.types.JType.TheVariants.{Ref}
+use Rattle.jtypes.specs.declared.types.RefValue.TheVariants as reference
+use Rattle.jtypes.specs.declared.types.Value.{Value}
+use Rattle.jtypes.specs.declared.types.Value.TheVariants as value
+use Rattle.jtypes.specs.Lists.{◌>>=◌}
+use Rattle.soundness.proofs.Fit.{EachFit}
+use Rattle.frames.specs.Frames.{first_frame}
+use Rattle.typecheck.specs.Typing.{Method, Class, IsProcessOf}
+use Rattle.bounds.specs.Paths.{Cost, Path, Bounds, IsWithin}
+use Rattle.verify.specs.Checked.{IsChecked}
+use Rattle.verify.specs.Machine.{Invocation, State, Next, Goes, Ends, step, start_of, start, activation_of, Reaches, here, onward}
+use Rattle.verify.specs.Sound.{slots_of, StaysWithin, Finishes, SoundnessOfClasses}
+use Rattle.soundness.proofs.Locals.{first_locals}
+use Rattle.soundness.proofs.Callees.{entry_of, process_found, method_at_number}
+use Rattle.soundness.proofs.GoodStates.{IsAt, is_inside, IsGood, SafeNext, arrive, no_length_first, RestOf}
+use Rattle.soundness.proofs.PathsExist.{has_path, has_rest, path_slots, path_depth}
+use Rattle.soundness.proofs.Steps.{step_safe}
+
+reaches_trans : {c : Class} {s t u : State} → Reaches c s t → Reaches c t u → Reaches c s u
+reaches_trans r here = r
+reaches_trans r (onward q e) = onward (reaches_trans r q) e
+
+module _ (c : Class) (b : Bounds) (ok : IsChecked c) where
+  rest_of : (s : State) (h : IsGood c b s) → RestOf c (h.top ∷ h.below)
+  rest_of s h =
+      let k = has_path c ok h.top.method h.here.view h.m h.top.place h.here.member (is_inside h.here) in
+      (k.0, k.1, has_rest c ok s.arrays h.m.environment.signature.result h.below h.awaits)
+
+  stays_within : (s : State) → IsGood c b s → StaysWithin c s b
+  stays_within s h =
+      let r = rest_of s h in
+      let few = h.budget.steps_left r in
+      let few_words = h.budget.words_left r in
+      let few_slots = h.budget.slots_left r in
+      let low = h.budget.depth_left r in
+      let own = path_slots r.1 in
+      let one = path_depth r.1 in
+      let slots : slots_of c (h.top ∷ h.below) ≤ b.slots = omega (arith, few_slots, own) in
+      let depth : length (h.top ∷ h.below) ≤ b.depth = omega (arith, low, one) in
+      record {
+        steps = omega (arith, few);
+        words = omega (arith, few_words);
+        slots = subst (λ x. slots_of c x ≤ b.slots) (sym h.activations) slots;
+        depth = subst (λ x. length x ≤ b.depth) (sym h.activations) depth;
+      }
+
+  good_next : (s u : State) → IsGood c b s → step c s ≡ Some (Goes u) → IsGood c b u
+  good_next s u h e = (subst (SafeNext c b s.steps) e (step_safe c b ok s h)).0
+
+  good_reached : (s t : State) → IsGood c b s → Reaches c s t → IsGood c b t
+  good_reached s t h here = h
+  good_reached s t h (onward {t = x} r e) = good_next x t (good_reached s x h r) e
+
+  goes_or_ends : (s : State) → IsGood c b s → (n : Next) × (step c s ≡ Some n)
+  goes_or_ends s h = go (step c s) refl (step_safe c b ok s h)
+    where
+      go : (o : Option Next) → step c s ≡ o → SafeNext c b s.steps o → (n : Next) × (step c s ≡ Some n)
+      go None e f = absurd f
+      go (Some n) e f = (n, e)
+
+  finishes_from : (left : ℕ) (s : State) → IsGood c b s → b.steps < s.steps + left → Finishes c s b
+  finishes_from zero s h enough = let few = (stays_within s h).steps in absurd (omega (arith, few))
+  finishes_from (suc left) s h enough = go (step c s) refl (step_safe c b ok s h) (λ u g e. finishes_from left u g (omega (arith, e)))
+    where
+      go : (o : Option Next) → step c s ≡ o → SafeNext c b s.steps o → ((u : State) → IsGood c b u → u.steps ≡ suc s.steps → Finishes c u b) → Finishes c s b
+      go None e f later = absurd f
+      go (Some (Goes u)) e f later =
+          let l = later u f.0 f.1 in
+          record { last = l.last; final = l.final; reached = reaches_trans (onward here e) l.reached; ends = l.ends; few_steps = l.few_steps; few_words = l.few_words }
+      go (Some (Ends x)) e f later = record { last = s; final = x; reached = here; ends = e; few_steps = f.0; few_words = f.1 }
+
+  good_start : (j : ℕ) → IsProcessOf c j → ((k : Cost) → Path c j 0 k → IsWithin k b) → (m : Method) (call : Invocation) → slice_get c.methods j ≡ Some m → IsGood c b (start_of j m call)
+  good_start j is bounded m call known =
+      let entry = entry_of c ok j m is known in
+      let taken : List Value = value.Ref reference.Args ∷ value.Ref reference.Entry ∷ value.Ref reference.This ∷ [] in
+      let given : List Value = value.Ref reference.This ∷ value.Ref reference.Entry ∷ value.Ref reference.Args ∷ [] in
+      let a = activation_of j m taken in
+      let typed = ok.typed j entry.view m entry.member in
+      let formed = ok.formed j entry.view m entry.member in
+      let args : EachFit [] given (Ref ref.This ∷ Ref ref.MutableEntry ∷ Ref ref.ObjectArray ∷ []) = (refl, refl, (refl, refl, (refl, refl, tt))) in
+      let args' : EachFit [] given m.environment.signature.params = subst (EachFit [] given) (sym entry.params) args in
+      let at_start : IsAt c [] m a = arrive c [] m entry.view typed.0 a (first_frame m.environment) formed entry.member typed.1 typed.1.first (first_locals [] m.environment.max_locals given m.environment.signature.params args') tt (omega arith) (no_length_first m [] formed) in
+      record {
+        top = a;
+        below = [];
+        m = m;
+        activations = refl;
+        here = at_start;
+        awaits = (Ref ref.Object, entry.result);
+        budget = record {
+          steps_left = λ r. let w = (bounded r.0 r.1).steps in omega (arith, w);
+          words_left = λ r. let w = (bounded r.0 r.1).words in omega (arith, w);
+          slots_left = λ r. let w = (bounded r.0 r.1).slots in omega (arith, w);
+          depth_left = λ r. let w = (bounded r.0 r.1).depth in omega (arith, w);
+        };
+      }
+
+  -- the state in which an invocation starts is good
+  good_begin : (j : ℕ) → IsProcessOf c j → ((k : Cost) → Path c j 0 k → IsWithin k b) → (call : Invocation) (s : State) → start c call ≡ Some s → IsGood c b s
+  good_begin j is bounded call s e = go (slice_get c.methods j) refl (sym (ap (λ o. o >>= λ i. option_map (λ m. start_of i m call) (slice_get c.methods i)) is) ∙ e)
+    where
+      go : (o : Option Method) → slice_get c.methods j ≡ o → option_map (λ m. start_of j m call) o ≡ Some s → IsGood c b s
+      go None known f = cc
+      go (Some m) known f = let same : start_of j m call ≡ s = cc f in subst (IsGood c b) same (good_start j is bounded m call known)
+
+-- an invocation starts, whatever the call
+pub can_start : (c : Class) → IsChecked c → (j : ℕ) → IsProcessOf c j → (call : Invocation) → (s : State) × (start c call ≡ Some s)
+can_start c ok j is call =
+    let p = process_found 0 c.view.methods j is in
+    let view : slice_get c.view.methods j ≡ Some p.0 = subst (λ x. slice_get c.view.methods x ≡ Some p.0) (let h = p.2 in omega (arith, h)) p.3 in
+    let m = method_at_number c.view.methods c.methods j p.0 ok.count view in
+    (start_of j m.0 call, ap (λ o. o >>= λ i. option_map (λ x. start_of i x call) (slice_get c.methods i)) is ∙ ap (option_map (λ x. start_of j x call)) m.1)
+
+-- a step that does not end the invocation counts
+pub counts : (c : Class) (j : ℕ) (b : Bounds) → IsChecked c → IsProcessOf c j → ((k : Cost) → Path c j 0 k → IsWithin k b) → (call : Invocation) (s t u : State) → start c call ≡ Some s → Reaches c s t → step c t ≡ Some (Goes u) → u.steps ≡ suc t.steps
+counts c j b ok is bounded call s t u e r h =
+    (subst (SafeNext c b t.steps) h (step_safe c b ok t (good_reached c b ok s t (good_begin c b ok j is bounded call s e) r))).1
+
+pub type_soundness : SoundnessOfClasses
+type_soundness c j b ok is bounded = record {
+  never_stuck = λ call s t e r. goes_or_ends c b ok t (good_reached c b ok s t (good_begin c b ok j is bounded call s e) r);
+  stays = λ call s t e r. stays_within c b ok t (good_reached c b ok s t (good_begin c b ok j is bounded call s e) r);
+  finishes = λ call s e. finishes_from c b ok (suc b.steps) s (good_begin c b ok j is bounded call s e) (omega arith);
+}

@@ -1,0 +1,54 @@
+//! The laws.
+
+ghost use Rattle.typecheck.specs.Typing.{IsProcessOf};
+ghost use Rattle.bounds.specs.Paths.{AreBounds};
+ghost use Rattle.verify.specs.Checked.{IsChecked};
+ghost use Rattle.verify.specs.Sound.{IsSafe, SoundnessOfClasses};
+ghost use Rattle.soundness.specs.Accepting.{TypedIsChecked};
+ghost use Rattle.soundness.specs.Counting.{EachCallStarts, EachStepCounts};
+ghost use Rattle.soundness.specs.Example.{example, limits};
+ghost use Rattle.soundness.specs.Premises.{IsCheckedButForInstance, IsCheckedButForName, IsCheckedButForPlaces, SoundnessOver};
+
+/// Type soundness with bounds. Take a class that is checked, its method `process`, bounds that no path from the start of
+/// `process` exceeds, and any call. Then no state that is reached is stuck; each stays within the bounds in steps, in
+/// words of arrays, in slots of locals and operands, and in depth of calls; and a final state is reached, within the
+/// bounds on steps and words.
+///
+/// It speaks of the definitions alone, and says nothing of code that runs: that a running machine takes the steps of the
+/// definitions is for the machine's contracts. It is about classes that are checked in the sense of `IsChecked`, their
+/// bytes forgotten; that each class whose bytes are accepted is checked isn't proved here (`typed_is_checked` says how
+/// much of it is). The bounds are given: it doesn't say which bounds a class has, nor how to compute them.
+pub fn type_soundness()
+    ensures { SoundnessOfClasses }
+{}
+
+/// Beside type soundness: for each call of a checked class there is a state to start from, so the law isn't empty for want
+/// of one; and each step that goes on adds one to the steps, so they measure a run.
+pub fn starts_and_counts()
+    ensures starts { EachCallStarts }
+    ensures counts { EachStepCounts }
+{}
+
+/// A class whose bytes are accepted is checked, if its methods are well typed and its own calls go to methods of lower
+/// ranks. That each accepted class has these two isn't proved here.
+pub fn typed_is_checked()
+    ensures { TypedIsChecked }
+{}
+
+/// The premises hold of a small class, whose `process` loads the entry and returns it: it is checked, the bounds are those of its only
+/// path, and so it is safe within them.
+pub fn example_is_checked()
+    ensures checked { IsChecked example }
+    ensures process { IsProcessOf example 0 }
+    ensures bounds { AreBounds example 0 limits }
+    ensures safe { IsSafe example limits }
+{}
+
+/// Three of the premises are needed: without any one of them the law is false. A class with a reserved name gets stuck,
+/// and so does one whose `process` is static; one whose instructions don't stand one behind the other takes more words than its
+/// paths do. All else that is asked of a checked class holds of each.
+pub fn premises_are_needed()
+    ensures name { SoundnessOver IsCheckedButForName → ⊥ }
+    ensures instance { SoundnessOver IsCheckedButForInstance → ⊥ }
+    ensures places { SoundnessOver IsCheckedButForPlaces → ⊥ }
+{}

@@ -1,0 +1,8 @@
+//! Type soundness with bounds: a checked class never gets stuck, and stays within what none of its paths exceeds.
+#![tactic(auto)]
+
+mod laws;
+
+pub use laws::{
+    example_is_checked, premises_are_needed, starts_and_counts, type_soundness, typed_is_checked,
+};
