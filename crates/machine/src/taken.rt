@@ -19,10 +19,8 @@ pub fn are_taken(native: Native, values: &[Value]) -> bool
             Native::IntValue | Native::LongValue,
             [Value::Ref(RefValue::Null | RefValue::Long(_) | RefValue::Integer(_))],
         ) => true,
-        (
-            Native::GetKey | Native::GetValue | Native::Exists | Native::Remove,
-            [Value::Ref(_)],
-        ) => true,
+        (Native::GetKey | Native::GetValue | Native::Exists | Native::Remove, [Value::Ref(_)]) =>
+            true,
         (Native::SetValue, [Value::Ref(_), Value::Ref(_)]) => true,
         _ => false,
     }
