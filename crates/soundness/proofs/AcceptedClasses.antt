@@ -26,7 +26,7 @@ use Rattle.classfile.specs.declared.class_file.CodeParts.{CodeParts}
 use Rattle.decode.specs.declared.instruction.Instruction.{Instruction}
 use Rattle.decode.specs.declared.instruction.Placed.{Placed}
 use Rattle.decode.specs.Code.{one, IsSequence}
-use Rattle.decode.specs.Places.{at_place, target_of, HasBackwardTarget, pushed_before}
+use Rattle.decode.specs.Places.{at_place, target_of, HasBackwardTarget, pushed_before, AreConsecutive}
 use Rattle.decode.specs.declared.instruction.Instruction.TheVariants.{NewArray}
 use Rattle.frames.specs.Signatures.{is_static, class_type, field_type, field_types, result_type, is_boolean, signature_of, as_method, method_signature}
 use Rattle.frames.specs.declared.signatures.Signature.{Signature}
@@ -35,7 +35,7 @@ use Rattle.typecheck.specs.Typing.{Class, IsProcessOf, Method, instruction_at, d
 use Rattle.typecheck.specs.Mismatch.{HasLength, HasFrame, LacksLength}
 use Rattle.verify.specs.Shape.{reserved_names, reserved, AreDoubles, is_constructor, HasCode, HasBadCode, crowded, slots_taken}
 use Rattle.verify.specs.Verdict.{by_shape, IsAccepted, IsClassOf, IsMethodOf, HasShape, InstructionStands, InstructionsStand, by_instructions, HasInstructions, IsBody, BodyStands, TypesStand, by_types}
-use Rattle.verify.specs.Checked.{AreConsecutive, NoTop, IsMember, IsFormed}
+use Rattle.verify.specs.Checked.{NoTop, IsMember, IsFormed}
 use Rattle.soundness.proofs.Callees.{process_found, same_is}
 use Rattle.soundness.proofs.Fit.{then_some_parts}
 use Rattle.soundness.specs.Accepting.{TypedIsChecked}

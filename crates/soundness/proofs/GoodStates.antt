@@ -13,12 +13,12 @@ use Rattle.soundness.proofs.Fit.{not_top, NoneTop, EachFit, EachSlotFits, IsKept
 use Rattle.classfile.specs.View.{MethodView}
 use Rattle.decode.specs.declared.instruction.Instruction.TheVariants.{NewArray}
 use Rattle.decode.specs.declared.instruction.Placed.{Placed}
-use Rattle.decode.specs.Places.{at_place, before_place, pushed_by, pushed_before, int_of}
+use Rattle.decode.specs.Places.{at_place, before_place, pushed_by, pushed_before, int_of, AreConsecutive}
 use Rattle.frames.specs.declared.frame.Frame.{Frame}
 use Rattle.frames.specs.Frames.{FrameAssignable}
 use Rattle.typecheck.specs.Typing.{Method, Class, instruction_at, declared_at, frame_of, frame_at, Enters, IsTyping}
 use Rattle.bounds.specs.Paths.{Cost, Path, Bounds, own_slots, last_cost, after_one, after_call}
-use Rattle.verify.specs.Checked.{NoTop, AreConsecutive, IsFormed, IsMember}
+use Rattle.verify.specs.Checked.{NoTop, IsFormed, IsMember}
 use Rattle.verify.specs.Machine.{Activation, State, Next, Goes, Ends, goes_on}
 use Rattle.verify.specs.Sound.{slots_of_method, slots_of}
 

@@ -1,0 +1,2 @@
+pub mod Consecutive
+pub mod Passes
