@@ -38,7 +38,6 @@ use Rattle.verify.specs.Verdict.{by_shape, IsAccepted, IsClassOf, IsMethodOf, Ha
 use Rattle.verify.specs.Checked.{NoTop, IsMember, IsFormed}
 use Rattle.soundness.proofs.Callees.{process_found, same_is}
 use Rattle.soundness.proofs.Fit.{then_some_parts}
-use Rattle.soundness.specs.Accepting.{TypedIsChecked}
 use Rattle.soundness.proofs.DeclaredFrames.{declared_has_no_top}
 
 -- ---- places
@@ -201,7 +200,7 @@ signed_has_no_top v w s e = go (signature_of v.name w.descriptor) (no_top_signat
 
 -- ---- the methods but the constructor
 
-any_from : {A : Type 0} (P : A → Type 0) (xs : List A) (k : ℕ) (x : A) → slice_get xs k ≡ Some x → P x → Any P xs
+pub any_from : {A : Type 0} (P : A → Type 0) (xs : List A) (k : ℕ) (x : A) → slice_get xs k ≡ Some x → P x → Any P xs
 any_from P xs k x e h = (k, x, slice_get_within xs k x e, get_or_from_slice_get xs k x x e, h)
 
 placed_at : (code : List Placed) (q : ℕ) (p : Placed) → at_place code q ≡ Some p → (k : ℕ) × (slice_get code k ≡ Some p) × (p.place ≡ q)
@@ -215,14 +214,14 @@ placed_at (x ∷ code) q p e = go (placed_at code q p) (x.place == q) refl e
     go later false is f = let r = later f in (suc r.0, r.1, r.2)
 
 -- a member of the class in its file
-record InFile (bytes : List ℕ) (c : Class) (of : IsClassOf bytes c) (m : Method) : Type 0 where
-  number : ℕ
-  item : Member
-  there : slice_get of.parts.methods number ≡ Some item
-  is : IsMethodOf of.pool of.parts item m
-  other : is_constructor of.pool item ≡ false
+pub record InFile (bytes : List ℕ) (c : Class) (of : IsClassOf bytes c) (m : Method) : Type 0 where
+  pub number : ℕ
+  pub item : Member
+  pub there : slice_get of.parts.methods number ≡ Some item
+  pub is : IsMethodOf of.pool of.parts item m
+  pub other : is_constructor of.pool item ≡ false
 
-in_file : (bytes : List ℕ) (c : Class) (of : IsClassOf bytes c) (j : ℕ) (w : MethodView) (m : Method) → IsMember c j w m → InFile bytes c of m
+pub in_file : (bytes : List ℕ) (c : Class) (of : IsClassOf bytes c) (j : ℕ) (w : MethodView) (m : Method) → IsMember c j w m → InFile bytes c of m
 in_file bytes c of j w m member =
     let x = zip_at (IsMethodOf of.pool of.parts) of.parts.methods c.methods j m of.class.methods member.method in
     let viewed : slice_get (view_of of.pool of.parts).methods j ≡ Some (method_view of.pool x.0) = slice_get-map (method_view of.pool) of.parts.methods j ∙ ap (option_map (method_view of.pool)) x.1 in
@@ -352,7 +351,7 @@ signed_slots v w s e = go (signature_of v.name w.descriptor) (signature_slots v.
         let known = n y refl in
         (known.0, known.1, subst (λ (z : Signature). slots_by is_long z.params ≡ slots_taken w.flags known.0) same (received y known.0 known.2 (is_static w.flags)))
 
-one_contains : (xs : List (List ℕ)) (x : List ℕ) → xs ≡ x ∷ [] → Contains xs x
+pub one_contains : (xs : List (List ℕ)) (x : List ℕ) → xs ≡ x ∷ [] → Contains xs x
 one_contains xs x e = subst (λ ys. Contains ys x) (sym e) (0, omega arith, refl)
 
 pub accepted_room : (bytes : List ℕ) (c : Class) → IsAccepted bytes → (of : IsClassOf bytes c) (j : ℕ) (w : MethodView) (m : Method) → IsMember c j w m → slots_by is_long m.environment.signature.params ≤ m.environment.max_locals
@@ -388,14 +387,3 @@ accepted_is_formed bytes c ok of j w m member =
       consecutive = sequence_is_consecutive of.pool 0 file.is.body.parts.code m.code file.is.body.sequence;
       lengths = accepted_lengths bytes c ok of j w m member;
     }
-
-pub typed_is_checked : TypedIsChecked
-typed_is_checked bytes c rank ok of ordered typed = record {
-  named = accepted_is_named bytes c ok of;
-  instance = accepted_process_is_instance bytes c ok of;
-  count = accepted_count bytes c of;
-  signed = accepted_signed bytes c of;
-  typed = typed;
-  formed = accepted_is_formed bytes c ok of;
-  ordered = (rank, ordered);
-}

@@ -9,6 +9,7 @@ pub mod PathsExist
 pub mod Steps
 pub mod SafeRuns
 pub mod AcceptedClasses
+pub mod TypedMethods
 pub mod DeclaredFrames
 pub mod ExampleClass
 pub mod StraightCode

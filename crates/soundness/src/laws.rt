@@ -4,7 +4,7 @@ ghost use Rattle.typecheck.specs.Typing.{IsProcessOf};
 ghost use Rattle.bounds.specs.Paths.{AreBounds};
 ghost use Rattle.verify.specs.Checked.{IsChecked};
 ghost use Rattle.verify.specs.Sound.{IsSafe, SoundnessOfClasses};
-ghost use Rattle.soundness.specs.Accepting.{TypedIsChecked};
+ghost use Rattle.verify.specs.Promise.{AcceptedIsChecked};
 ghost use Rattle.soundness.specs.Counting.{EachCallStarts, EachStepCounts};
 ghost use Rattle.soundness.specs.Example.{example, limits};
 ghost use Rattle.soundness.specs.Premises.{IsCheckedButForInstance, IsCheckedButForName, IsCheckedButForPlaces, SoundnessOver};
@@ -29,10 +29,9 @@ pub fn starts_and_counts()
     ensures counts { EachStepCounts }
 {}
 
-/// A class whose bytes are accepted is checked, if its methods are well typed and its own calls go to methods of lower
-/// ranks. That each accepted class has these two isn't proved here.
-pub fn typed_is_checked()
-    ensures { TypedIsChecked }
+/// A class whose bytes are accepted is checked, if its own calls go to methods of lower ranks.
+pub fn accepted_is_checked()
+    ensures { AcceptedIsChecked }
 {}
 
 /// The premises hold of a small class, whose `process` loads the entry and returns it: it is checked, the bounds are those of its only
