@@ -1,0 +1,52 @@
+-- The greatest costs of all paths, by a table of each place's.
+use Rattle.std.specs.Prelude.{◌≡◌, ℕ, Bool, ◌<◌, max, true, Option, Some, None, IsSome, slice_get, ℤ, pos, negsuc}
+use Rattle.decode.specs.declared.instruction.Instruction.{Instruction}
+use Rattle.decode.specs.declared.instruction.Instruction.TheVariants.{Branch, Goto, Return, ReturnVoid}
+use Rattle.decode.specs.declared.instruction.Placed.{Placed}
+use Rattle.decode.specs.Places.{target_of, falls_through}
+use Rattle.typecheck.specs.Typing.{Method, Class, instruction_at, call_of}
+use Rattle.bounds.specs.Recursion.{IsOrdered}
+use Rattle.bounds.specs.Paths.{Cost, Bounds, StandsAt, last_cost, after_one, after_call, words_at, AreBounds}
+
+-- the costs by methods and places
+abbrev pub Costs : Type 0
+Costs = ℕ → ℕ → Cost
+
+-- the greater of each measure
+abbrev pub greater : Cost → Cost → Cost
+greater a b = record { steps = max a.steps b.steps; words = max a.words b.words; slots = max a.slots b.slots; depth = max a.depth b.depth }
+
+abbrev pub place_of : ℤ → ℕ
+place_of (pos q) = q
+place_of (negsuc n) = 0
+
+-- of an instruction that falls through, by what it calls of the class's own
+abbrev pub cost_through : Costs → Method → (j place : ℕ) → Placed → Option ℕ → Cost
+cost_through t m j place p None = after_one (words_at m place p.instruction) (t j p.next)
+cost_through t m j place p (Some k) = after_call m (t k 0) (t j p.next)
+
+-- a place's cost, by those of what follows
+abbrev pub cost_by : Class → Costs → Method → (j place : ℕ) → Placed → Instruction → Cost
+cost_by c t m j place p (Return k) = last_cost m
+cost_by c t m j place p ReturnVoid = last_cost m
+cost_by c t m j place p (Goto target) = after_one 0 (t j (place_of target))
+cost_by c t m j place p (Branch test target) = greater (after_one 0 (t j p.next)) (after_one 0 (t j (place_of target)))
+cost_by c t m j place p i = cost_through t m j place p (call_of c.view i)
+
+-- one equation for each instruction
+abbrev pub IsTable : Class → Costs → Type 0
+IsTable c t = (j place : ℕ) (m : Method) (p : Placed) → StandsAt c j place m p → t j place ≡ cost_by c t m j place p p.instruction
+
+-- In the methods of this set each instruction leads on: to the next one, to its target, to the start of the method of the set that it calls; and ranks fall at calls.
+pub record LeadsOn (c : Class) (set : ℕ → Bool) : Type 0 where
+  pub next : (j q : ℕ) (m : Method) (p : Placed) → set j ≡ true → StandsAt c j q m p → falls_through p.instruction ≡ true → (q < p.next) × IsSome (instruction_at m p.next)
+  pub target : (j q : ℕ) (m : Method) (p : Placed) (target : ℤ) → set j ≡ true → StandsAt c j q m p → target_of p.instruction ≡ Some target → (r : ℕ) × (target ≡ pos r) × (q < r) × IsSome (instruction_at m r)
+  pub callee : (j q k : ℕ) (m : Method) (p : Placed) → set j ≡ true → StandsAt c j q m p → call_of c.view p.instruction ≡ Some k → (set k ≡ true) × ((n : Method) × (slice_get c.methods k ≡ Some n) × IsSome (instruction_at n 0))
+  pub ranks : (rank : ℕ → ℕ) × IsOrdered c rank
+
+abbrev pub bounds_of : Cost → Bounds
+bounds_of k = record { steps = k.steps; words = k.words; slots = k.slots; depth = k.depth }
+
+-- the costs that a table has at the start of a method are the method's bounds
+abbrev pub TablesAreBounds : Type 0
+TablesAreBounds = (c : Class) (t : Costs) (set : ℕ → Bool) (j : ℕ) (m : Method) → IsTable c t → LeadsOn c set → set j ≡ true → slice_get c.methods j ≡ Some m → IsSome (instruction_at m 0) → AreBounds c j (bounds_of (t j 0))
