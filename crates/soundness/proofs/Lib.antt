@@ -15,3 +15,4 @@ pub mod StraightCode
 pub mod StaticProcess
 pub mod ReservedName
 pub mod ScatteredPlaces
+pub mod Ranks

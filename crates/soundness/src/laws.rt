@@ -4,9 +4,11 @@ ghost use Rattle.typecheck.specs.Typing.{IsProcessOf};
 ghost use Rattle.bounds.specs.Paths.{AreBounds};
 ghost use Rattle.verify.specs.Checked.{IsChecked};
 ghost use Rattle.verify.specs.Sound.{IsSafe, SoundnessOfClasses};
+ghost use Rattle.verify.specs.Promise.{AcceptedIsOrdered};
 ghost use Rattle.soundness.specs.Accepting.{TypedIsChecked};
 ghost use Rattle.soundness.specs.Counting.{EachCallStarts, EachStepCounts};
 ghost use Rattle.soundness.specs.Example.{example, limits};
+ghost use Rattle.soundness.specs.Ordering.{NotRecursiveHasRanks, RankedIsNotRecursive};
 ghost use Rattle.soundness.specs.Premises.{IsCheckedButForInstance, IsCheckedButForName, IsCheckedButForPlaces, SoundnessOver};
 
 /// Type soundness with bounds. Take a class that is checked, its method `process`, bounds that no path from the start of
@@ -51,4 +53,16 @@ pub fn premises_are_needed()
     ensures name { SoundnessOver IsCheckedButForName → ⊥ }
     ensures instance { SoundnessOver IsCheckedButForInstance → ⊥ }
     ensures places { SoundnessOver IsCheckedButForPlaces → ⊥ }
+{}
+
+/// A class that is not recursive has ranks: numbers of its methods, by which each own call goes to a lower one. And a class
+/// with ranks is not recursive.
+pub fn ranks_or_recursion()
+    ensures ranks { NotRecursiveHasRanks }
+    ensures lasting { RankedIsNotRecursive }
+{}
+
+/// A class whose bytes are accepted has ranks.
+pub fn accepted_is_ordered()
+    ensures { AcceptedIsOrdered }
 {}

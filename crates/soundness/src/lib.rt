@@ -4,5 +4,6 @@
 mod laws;
 
 pub use laws::{
-    example_is_checked, premises_are_needed, starts_and_counts, type_soundness, typed_is_checked,
+    accepted_is_ordered, example_is_checked, premises_are_needed, ranks_or_recursion,
+    starts_and_counts, type_soundness, typed_is_checked,
 };
