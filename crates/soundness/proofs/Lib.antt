@@ -16,3 +16,4 @@ pub mod StaticProcess
 pub mod ReservedName
 pub mod ScatteredPlaces
 pub mod Ranks
+pub mod OneTable

@@ -10,6 +10,7 @@ ghost use Rattle.soundness.specs.Counting.{EachCallStarts, EachStepCounts};
 ghost use Rattle.soundness.specs.Example.{example, limits};
 ghost use Rattle.soundness.specs.Ordering.{NotRecursiveHasRanks, RankedIsNotRecursive};
 ghost use Rattle.soundness.specs.Premises.{IsCheckedButForInstance, IsCheckedButForName, IsCheckedButForPlaces, SoundnessOver};
+ghost use Rattle.soundness.specs.Tables.{EachTableIsOne};
 
 /// Type soundness with bounds. Take a class that is checked, its method `process`, bounds that no path from the start of
 /// `process` exceeds, and any call. Then no state that is reached is stuck; each stays within the bounds in steps, in
@@ -65,4 +66,9 @@ pub fn ranks_or_recursion()
 /// A class whose bytes are accepted has ranks.
 pub fn accepted_is_ordered()
     ensures { AcceptedIsOrdered }
+{}
+
+/// The tables of frames of a method have one reading: the frames that they declare.
+pub fn one_table()
+    ensures { EachTableIsOne }
 {}
