@@ -9,6 +9,7 @@ ghost use Rattle.soundness.specs.Accepting.{TypedIsChecked};
 ghost use Rattle.soundness.specs.Counting.{EachCallStarts, EachStepCounts};
 ghost use Rattle.soundness.specs.Example.{example, limits};
 ghost use Rattle.soundness.specs.Ordering.{NotRecursiveHasRanks, RankedIsNotRecursive};
+ghost use Rattle.soundness.specs.OtherPremises.{IsCheckedButForCount, IsCheckedButForDirection, IsCheckedButForLengths, IsCheckedButForOperands, IsCheckedButForRanks, IsCheckedButForSignatures, IsCheckedButForTypes, SoundnessByAnyMethod, SoundnessWithoutBounds};
 ghost use Rattle.soundness.specs.Premises.{IsCheckedButForInstance, IsCheckedButForName, IsCheckedButForPlaces, SoundnessOver};
 ghost use Rattle.soundness.specs.Tables.{EachTableIsOne};
 
@@ -71,4 +72,27 @@ pub fn accepted_is_ordered()
 /// The tables of frames of a method have one reading: the frames that they declare.
 pub fn one_table()
     ensures { EachTableIsOne }
+{}
+
+/// Other premises are needed too: without any one of these the law is false. All else that is asked of a checked class holds
+/// of each class below.
+/// - types: a method that returns an operand that isn't there gets stuck.
+/// - signatures: `process` gets stuck where its signature has no result and its descriptor has one.
+/// - operands: a long where a frame declares Top has more slots than are counted, and the next push gets stuck.
+/// - lengths: an array as long as the arguments takes more words than its path says.
+/// - direction: a branch to itself has no path, so no bounds are exceeded, and it takes steps, slots and depth.
+/// - ranks: likewise a method that calls itself.
+/// - count: likewise a call of a method that the class lacks.
+/// - bounds: a class that is checked isn't safe within bounds that its path exceeds.
+/// - process: the paths of another method than `process` say nothing of it.
+pub fn other_premises_are_needed()
+    ensures types { SoundnessOver IsCheckedButForTypes → ⊥ }
+    ensures signatures { SoundnessOver IsCheckedButForSignatures → ⊥ }
+    ensures operands { SoundnessOver IsCheckedButForOperands → ⊥ }
+    ensures lengths { SoundnessOver IsCheckedButForLengths → ⊥ }
+    ensures direction { SoundnessOver IsCheckedButForDirection → ⊥ }
+    ensures ranks { SoundnessOver IsCheckedButForRanks → ⊥ }
+    ensures count { SoundnessOver IsCheckedButForCount → ⊥ }
+    ensures bounds { SoundnessWithoutBounds → ⊥ }
+    ensures process { SoundnessByAnyMethod → ⊥ }
 {}
