@@ -1,5 +1,5 @@
 -- A branch to itself never ends, and has no path that bounds it.
-use Rattle.std.proofs.Common.{◌≡◌, ℕ, ◌==◌, Bool, true, false, cond, List, [], ◌∷◌, Some, None, refl, sym, subst, arith}
+use Rattle.std.proofs.Common.{◌≡◌, ℕ, suc, ◌==◌, Bool, true, false, cond, List, [], ◌∷◌, Some, None, refl, sym, ap, ◌∙◌, subst, arith}
 use Rattle.std.specs.Prelude.{pos}
 use Rattle.classfile.specs.View.{ClassView}
 use Rattle.decode.specs.declared.instruction.Instruction.TheVariants as instruction
@@ -7,14 +7,15 @@ use Rattle.decode.specs.declared.instruction.Placed.{Placed}
 use Rattle.decode.specs.Places.{is_return}
 use Rattle.frames.specs.declared.frame.Frame.{Frame}
 use Rattle.typecheck.specs.Typing.{Method, Class, IsTyping, IsFlow, instruction_at}
-use Rattle.bounds.specs.Paths.{Cost, Path, ends, jumps, falls, calls}
+use Rattle.bounds.specs.Paths.{Bounds, Cost, Path, ends, jumps, falls, calls}
 use Rattle.verify.specs.Checked.{NoTop, AreConsecutive}
-use Rattle.verify.specs.Machine.{start_of}
+use Rattle.verify.specs.Machine.{State, Goes, Ends, step, step_top, start_of, Reaches, here, onward}
+use Rattle.verify.specs.Sound.{IsSafe}
 use Rattle.soundness.specs.Example.{process, signature}
 use Rattle.soundness.specs.Premises.{SoundnessOver}
 use Rattle.soundness.specs.OtherPremises.{IsCheckedButForDirection, HasPlainSignature, HasRoom, DeclaresNoTop, HasLengths}
 use Rattle.soundness.proofs.StraightCode.{placed, plain_call, each_at, one_at, EachOutcome, outcome_at, only_method, typed_methods, only_member, only_instance}
-use Rattle.soundness.proofs.SmallClasses.{view_with, method_with, signed, frame, plain_params, plain_result, fits_frame, nothing, takes_something}
+use Rattle.soundness.proofs.SmallClasses.{view_with, method_with, signed, frame, plain_params, plain_result, fits_frame, nothing}
 
 abbrev again : Placed
 again = placed 0 3 (instruction.Goto (pos 0))
@@ -74,7 +75,30 @@ no_path j place k (jumps {k = rest} m p q s to path) = no_path j q rest path
 no_path j place k (falls {k = rest} m p s on none path) = no_path j p.next rest path
 no_path j place k (calls {k = rest} m p callee s to inner path) = no_path j p.next rest path
 
+abbrev first : State
+first = start_of 0 method plain_call
+
+-- a step comes back to the branch
+abbrev after : State → State
+after s = record { call = s.call; activations = first.activations; arrays = s.arrays; now = s.now; steps = suc s.steps; words = s.words }
+
+goes_on : (s : State) → s.activations ≡ first.activations → step class s ≡ Some (Goes (after s))
+goes_on s e = subst (λ a. step_top class s a ≡ Some (Goes (after s))) (sym e) refl
+
+same_place : (s : State) → Reaches class first s → s.activations ≡ first.activations
+same_place s here = refl
+same_place s (onward {t = t} r e) =
+    let both : Some (Goes (after t)) ≡ Some (Goes s) = sym (goes_on t (same_place t r)) ∙ e in
+    let same : after t ≡ s = cc both in
+    ap (λ (x : State). x.activations) (sym same)
+
+never_ends : (b : Bounds) → IsSafe class b → ⊥
+never_ends b h =
+    let f = h.finishes plain_call first refl in
+    let no : Some (Goes (after f.last)) ≡ Some (Ends f.final) = sym (goes_on f.last (same_place f.last f.reached)) ∙ f.ends in
+    cc no
+
 pub direction_is_needed : SoundnessOver IsCheckedButForDirection → ⊥
 direction_is_needed law =
-    takes_something class (start_of 0 method plain_call) refl (omega arith)
+    never_ends nothing
     (law class 0 nothing (typed_methods view process method refl (signed []) frames typing (refl, tt), refl, (λ j w is. only_instance view process refl refl j w), only_member (λ m. HasPlainSignature m × HasRoom m × DeclaresNoTop m × HasLengths m × AreConsecutive 0 m.code) view method formed) refl (λ k p. absurd (no_path 0 0 k p)))

@@ -2,6 +2,8 @@
 use Rattle.std.proofs.Common.{◌≡◌, ℕ, zero, suc, ◌<◌, true, false, List, [], ◌∷◌, Some, None, refl, sym, ap, subst, arith}
 use Rattle.std.specs.Prelude.{codes, pos, slice_get}
 use Rattle.jtypes.specs.declared.types.JType.TheVariants as type
+use Rattle.jtypes.specs.declared.types.RefValue.TheVariants as reference
+use Rattle.jtypes.specs.declared.types.Value.TheVariants as value
 use Rattle.jtypes.specs.declared.operations.Kind.TheVariants as kind
 use Rattle.jtypes.specs.declared.operations.Invoke.TheVariants.{Static}
 use Rattle.jtypes.specs.declared.operations.Pushed.TheVariants as pushed
@@ -19,14 +21,15 @@ use Rattle.frames.specs.Members.{library_rows, callee_at}
 use Rattle.transfer.specs.Transfer.{called, transfer}
 use Rattle.typecheck.specs.Typing.{Method, Class, IsProcessOf, IsTyping, IsWellTyped, instruction_at, own_of, call_of}
 use Rattle.bounds.specs.Recursion.{IsOrdered}
-use Rattle.bounds.specs.Paths.{Cost, StandsAt, Path, ends, jumps, falls, calls}
+use Rattle.bounds.specs.Paths.{Bounds, Cost, StandsAt, Path, ends, jumps, falls, calls}
 use Rattle.verify.specs.Checked.{IsMember, IsFormed}
-use Rattle.verify.specs.Machine.{start_of}
+use Rattle.verify.specs.Machine.{State, step, invoke, with_place, activation_of, start_of, here}
+use Rattle.verify.specs.Sound.{IsSafe}
 use Rattle.soundness.specs.Example.{process, signature}
 use Rattle.soundness.specs.Premises.{SoundnessOver}
 use Rattle.soundness.specs.OtherPremises.{IsSigned, IsCheckedButForCount}
 use Rattle.soundness.proofs.StraightCode.{placed, plain_call, each_at, one_at, EachOutcome, outcome_at}
-use Rattle.soundness.proofs.SmallClasses.{method_with, frame, plain_params, plain_result, nothing, takes_something}
+use Rattle.soundness.proofs.SmallClasses.{method_with, frame, plain_params, plain_result, nothing}
 
 -- `help` of the class stands at index 1
 abbrev pool : List Slot
@@ -162,9 +165,18 @@ no_path j place k e (falls m p s on none rest) =
     absurd (cc (no, own_call))
 no_path j place k e (calls {e = inside} m p callee s to inner rest) = no_help callee 0 inside (called_at j place callee m p s.method s.instruction to) inner
 
+abbrev first : State
+first = start_of 0 method plain_call
+
+no_step : step class first ≡ None
+no_step = ap (invoke class first (with_place (activation_of 0 method (value.Ref reference.Args ∷ value.Ref reference.Entry ∷ value.Ref reference.This ∷ [])) 3) [] Static) reached
+
+stuck : (b : Bounds) → IsSafe class b → ⊥
+stuck b h = let n = h.never_stuck plain_call first first refl here in let e = n.1 in cc (e, no_step)
+
 pub count_is_needed : SoundnessOver IsCheckedButForCount → ⊥
 count_is_needed law =
-    takes_something class (start_of 0 method plain_call) refl (omega arith)
+    stuck nothing
     (law class 0 nothing (refl, is_instance, all_signed, only IsFormed formed, only (IsWellTyped view) (frames, typing), (rank, ordered)) refl (λ k p. absurd (no_path 0 0 k refl p)))
   where
     only : (P : Method → Type 0) → P method → (j : ℕ) (w : MethodView) (x : Method) → IsMember class j w x → P x

@@ -16,7 +16,8 @@ use Rattle.verify.specs.Machine.{State, start_of, here}
 use Rattle.verify.specs.Sound.{IsSafe}
 use Rattle.soundness.specs.Example.{process}
 use Rattle.soundness.specs.Premises.{SoundnessOver}
-use Rattle.soundness.specs.OtherPremises.{IsCheckedButForSignatures}
+use Rattle.soundness.specs.OtherPremises.{IsCheckedButForSignatures, SignedIsPlain}
+use Rattle.soundness.proofs.AcceptedClasses.{signed_has_no_top}
 use Rattle.soundness.proofs.StraightCode.{placed, plain_call, each_at, EachOutcome, outcome_at, only_method, without_calls, from_last, only_member, only_instance}
 use Rattle.soundness.proofs.SmallClasses.{view_with, method_with, frame, plain_params}
 
@@ -80,3 +81,8 @@ stuck h = let n = h.never_stuck plain_call first first refl here in cc n.1
 pub signatures_are_needed : SoundnessOver IsCheckedButForSignatures → ⊥
 signatures_are_needed law =
     stuck (law class 0 limits (refl, (λ j w is. only_instance view process refl refl j w), refl, only_member IsFormed view method formed, only_member (IsWellTyped view) view method (frames, typing), ((λ j. 0), without_calls view method (refl, tt))) refl (λ k p. within k (paths k p)))
+
+-- ---- what the descriptors give
+
+pub signed_is_plain : SignedIsPlain
+signed_is_plain c signed j w m member = signed_has_no_top c.view w m.environment.signature (signed j w m member.view member.method)

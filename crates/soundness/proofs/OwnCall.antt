@@ -1,8 +1,11 @@
 -- A method that calls itself has no path, and nothing bounds it.
-use Rattle.std.proofs.Common.{◌≡◌, ℕ, ◌<◌, true, List, [], ◌∷◌, Some, None, refl, sym, ap, subst, arith}
+use Rattle.std.proofs.Common.{◌≡◌, ℕ, zero, suc, ◌<◌, true, List, [], ◌∷◌, length, Option, Some, None, refl, sym, ap, subst, arith}
 use Rattle.std.specs.Prelude.{codes, pos}
 use Rattle.jtypes.specs.declared.types.RefType.TheVariants as ref
 use Rattle.jtypes.specs.declared.types.JType.TheVariants as type
+use Rattle.jtypes.specs.declared.types.RefValue.TheVariants as reference
+use Rattle.jtypes.specs.declared.types.Value.{Value}
+use Rattle.jtypes.specs.declared.types.Value.TheVariants as value
 use Rattle.jtypes.specs.declared.operations.Kind.TheVariants as kind
 use Rattle.jtypes.specs.declared.operations.Invoke.TheVariants.{Virtual}
 use Rattle.constpool.specs.declared.constant.Constant.TheVariants as constant
@@ -19,14 +22,15 @@ use Rattle.frames.specs.Signatures.{class_type, field_type, field_types, result_
 use Rattle.frames.specs.Members.{library_rows, callee_at}
 use Rattle.transfer.specs.Transfer.{called, transfer}
 use Rattle.typecheck.specs.Typing.{Method, Class, IsTyping, IsWellTyped, instruction_at, own_of, call_of}
-use Rattle.bounds.specs.Paths.{Cost, StandsAt, Path, ends, jumps, falls, calls}
+use Rattle.bounds.specs.Paths.{Bounds, Cost, StandsAt, Path, ends, jumps, falls, calls}
 use Rattle.verify.specs.Checked.{IsFormed}
-use Rattle.verify.specs.Machine.{start_of}
+use Rattle.verify.specs.Machine.{Activation, State, Goes, step, step_top, invoke, start_of, Reaches, here, onward}
+use Rattle.verify.specs.Sound.{IsSafe}
 use Rattle.soundness.specs.Example.{process, signature}
 use Rattle.soundness.specs.Premises.{SoundnessOver}
 use Rattle.soundness.specs.OtherPremises.{IsCheckedButForRanks}
 use Rattle.soundness.proofs.StraightCode.{placed, plain_call, each_at, at_its_place, one_at, EachOutcome, outcome_at, only_method, only_member, only_instance}
-use Rattle.soundness.proofs.SmallClasses.{view_with, method_with, only_signed, frame, plain_params, plain_result, nothing, takes_something}
+use Rattle.soundness.proofs.SmallClasses.{view_with, method_with, only_signed, frame, plain_params, plain_result, nothing}
 
 -- `process` of the class stands at index 1
 abbrev pool : List Slot
@@ -118,23 +122,73 @@ formed = record {
   lengths = λ q p k h e. absurd (each_at (λ p. p.instruction ≡ instruction.NewArray k → ⊥) method.code ((λ e. cc e), ((λ e. cc e), ((λ e. cc e), ((λ e. cc e), ((λ e. cc e), tt))))) q p h e);
 }
 
-here : (j place : ℕ) (m : Method) (p : Placed) → StandsAt class j place m p → instruction_at method place ≡ Some p
-here j place m p s = subst (λ x. instruction_at x place ≡ Some p) (sym (one_at method j m s.method)) s.instruction
+found_at : (j place : ℕ) (m : Method) (p : Placed) → StandsAt class j place m p → instruction_at method place ≡ Some p
+found_at j place m p s = subst (λ x. instruction_at x place ≡ Some p) (sym (one_at method j m s.method)) s.instruction
 
 -- a path from before the return comes to the call, and its callee's path is one from the start
 no_path : (j place : ℕ) (k : Cost) → Path class j place k → place < 6 → ⊥
 no_path j place k (ends m p s r) l =
-    let at : p.place ≡ place = at_its_place method.code place p (here j place m p s) in
-    let last : p.place ≡ 6 = each_at (λ p. is_return p.instruction ≡ true → p.place ≡ 6) method.code ((λ e. absurd cc), ((λ e. absurd cc), ((λ e. absurd cc), ((λ e. absurd cc), ((λ e. refl), tt))))) place p (here j place m p s) r in
+    let at : p.place ≡ place = at_its_place method.code place p (found_at j place m p s) in
+    let last : p.place ≡ 6 = each_at (λ p. is_return p.instruction ≡ true → p.place ≡ 6) method.code ((λ e. absurd cc), ((λ e. absurd cc), ((λ e. absurd cc), ((λ e. absurd cc), ((λ e. refl), tt))))) place p (found_at j place m p s) r in
     omega (arith, at, last, l)
 no_path j place k (jumps {k = rest} m p q s to path) l =
-    each_at (λ p. target_of p.instruction ≡ Some (pos q) → ⊥) method.code ((λ e. cc e), ((λ e. cc e), ((λ e. cc e), ((λ e. cc e), ((λ e. cc e), tt))))) place p (here j place m p s) to
+    each_at (λ p. target_of p.instruction ≡ Some (pos q) → ⊥) method.code ((λ e. cc e), ((λ e. cc e), ((λ e. cc e), ((λ e. cc e), ((λ e. cc e), tt))))) place p (found_at j place m p s) to
 no_path j place k (falls {k = rest} m p s on none path) l =
-    let before : p.next < 6 = each_at (λ p. falls_through p.instruction ≡ true → call_of view p.instruction ≡ None → p.next < 6) method.code ((λ e n. omega arith), ((λ e n. omega arith), ((λ e n. omega arith), ((λ e n. absurd (cc (n, own_call))), ((λ e n. absurd cc), tt))))) place p (here j place m p s) on none in
+    let before : p.next < 6 = each_at (λ p. falls_through p.instruction ≡ true → call_of view p.instruction ≡ None → p.next < 6) method.code ((λ e n. omega arith), ((λ e n. omega arith), ((λ e n. omega arith), ((λ e n. absurd (cc (n, own_call))), ((λ e n. absurd cc), tt))))) place p (found_at j place m p s) on none in
     no_path j p.next rest path before
 no_path j place k (calls {e = inside} m p callee s to inner path) l = no_path callee 0 inside inner (omega arith)
 
+-- ---- its calls
+
+abbrev locals : List (Option Value)
+locals = Some (value.Ref reference.This) ∷ Some (value.Ref reference.Entry) ∷ Some (value.Ref reference.Args) ∷ []
+
+-- the method at its start, and behind its call
+abbrev entered : Activation
+entered = record { method = 0; place = 0; locals = locals; operands = [] }
+
+abbrev waiting : Activation
+waiting = record { method = 0; place = 6; locals = locals; operands = [] }
+
+abbrev going : ℕ → List Value → Activation
+going place operands = record { method = 0; place = place; locals = locals; operands = operands }
+
+-- some steps later
+abbrev later : State → ℕ → List Activation → State
+later s n a = record { call = s.call; activations = a; arrays = s.arrays; now = s.now; steps = n; words = s.words }
+
+abbrev first : State
+first = start_of 0 method plain_call
+
+-- four steps lead one call deeper
+deeper : (s : State) (below : List Activation) → s.activations ≡ entered ∷ below → Reaches class first s → Reaches class first (later s (suc (suc (suc (suc s.steps)))) (entered ∷ waiting ∷ below))
+deeper s below e reach =
+    let one : State = later s (suc s.steps) (going 1 (value.Ref reference.This ∷ []) ∷ below) in
+    let two : State = later s (suc (suc s.steps)) (going 2 (value.Ref reference.Entry ∷ value.Ref reference.This ∷ []) ∷ below) in
+    let three : State = later s (suc (suc (suc s.steps))) (going 3 (value.Ref reference.Args ∷ value.Ref reference.Entry ∷ value.Ref reference.This ∷ []) ∷ below) in
+    let four : State = later s (suc (suc (suc (suc s.steps)))) (entered ∷ waiting ∷ below) in
+    let to_one : step class s ≡ Some (Goes one) = subst (λ a. step_top class s a ≡ Some (Goes one)) (sym e) refl in
+    let to_two : step class one ≡ Some (Goes two) = refl in
+    let to_three : step class two ≡ Some (Goes three) = refl in
+    let to_four : step class three ≡ Some (Goes four) = ap (invoke class three (going 6 (value.Ref reference.Args ∷ value.Ref reference.Entry ∷ value.Ref reference.This ∷ [])) below Virtual) reached in
+    onward (onward (onward (onward reach to_one) to_two) to_three) to_four
+
+-- as deep as one likes
+nested : (n : ℕ) → (s : State) × (below : List Activation) × (s.activations ≡ entered ∷ below) × (length below ≡ n) × Reaches class first s
+nested zero = (first, [], refl, refl, here)
+nested (suc n) =
+    let r = nested n in
+    (later r.0 (suc (suc (suc (suc r.0.steps)))) (entered ∷ waiting ∷ r.1), waiting ∷ r.1, refl, ap suc r.3, deeper r.0 r.1 r.2 r.4)
+
+too_deep : (b : Bounds) → IsSafe class b → ⊥
+too_deep b h =
+    let r = nested b.depth in
+    let depth = (h.stays plain_call first r.0 refl r.4).depth in
+    let more : length r.0.activations ≡ suc (length r.1) = ap length r.2 in
+    let n : length r.1 ≡ b.depth = r.3 in
+    omega (arith, depth, more, n)
+
 pub ranks_are_needed : SoundnessOver IsCheckedButForRanks → ⊥
 ranks_are_needed law =
-    takes_something class (start_of 0 method plain_call) refl (omega arith)
+    too_deep nothing
     (law class 0 nothing (refl, (λ j w is. only_instance view process refl refl j w), refl, only_signed pool method refl, only_member IsFormed view method formed, only_member (IsWellTyped view) view method (frames, typing)) refl (λ k p. absurd (no_path 0 0 k p (omega arith))))

@@ -43,6 +43,10 @@ GoesForward m = (q r : ℕ) (p : Placed) → instruction_at m q ≡ Some p → t
 abbrev pub HasLengths : Method → Type 0
 HasLengths m = (q : ℕ) (p : Placed) (k : ArrayKind) → instruction_at m q ≡ Some p → p.instruction ≡ NewArray k → IsNone (declared_at m q) × HasLength m.code q
 
+-- signatures that are those of the descriptors have no Top
+abbrev pub SignedIsPlain : Type 0
+SignedIsPlain = (c : Class) → IsSigned c → AllMembers c HasPlainSignature
+
 -- ---- all that is asked of a checked class, but one thing
 
 -- but that its methods are well typed

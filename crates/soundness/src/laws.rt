@@ -9,7 +9,7 @@ ghost use Rattle.soundness.specs.Accepting.{TypedIsChecked};
 ghost use Rattle.soundness.specs.Counting.{EachCallStarts, EachStepCounts};
 ghost use Rattle.soundness.specs.Example.{example, limits};
 ghost use Rattle.soundness.specs.Ordering.{NotRecursiveHasRanks, RankedIsNotRecursive};
-ghost use Rattle.soundness.specs.OtherPremises.{IsCheckedButForCount, IsCheckedButForDirection, IsCheckedButForLengths, IsCheckedButForOperands, IsCheckedButForRanks, IsCheckedButForSignatures, IsCheckedButForTypes, SoundnessByAnyMethod, SoundnessWithoutBounds};
+ghost use Rattle.soundness.specs.OtherPremises.{IsCheckedButForCount, IsCheckedButForDirection, IsCheckedButForLengths, IsCheckedButForOperands, IsCheckedButForRanks, IsCheckedButForSignatures, IsCheckedButForTypes, SignedIsPlain, SoundnessByAnyMethod, SoundnessWithoutBounds};
 ghost use Rattle.soundness.specs.Premises.{IsCheckedButForInstance, IsCheckedButForName, IsCheckedButForPlaces, SoundnessOver};
 ghost use Rattle.soundness.specs.Tables.{EachTableIsOne};
 
@@ -95,4 +95,9 @@ pub fn other_premises_are_needed()
     ensures count { SoundnessOver IsCheckedButForCount → ⊥ }
     ensures bounds { SoundnessWithoutBounds → ⊥ }
     ensures process { SoundnessByAnyMethod → ⊥ }
+{}
+
+/// That no parameter and no result is Top, which is asked of a checked class, follows from the descriptors.
+pub fn signatures_have_no_top()
+    ensures { SignedIsPlain }
 {}
