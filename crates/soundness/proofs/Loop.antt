@@ -13,7 +13,7 @@ use Rattle.verify.specs.Machine.{State, Goes, Ends, step, step_top, start_of, Re
 use Rattle.verify.specs.Sound.{IsSafe}
 use Rattle.soundness.specs.Example.{process, signature}
 use Rattle.soundness.specs.Premises.{SoundnessOver}
-use Rattle.soundness.specs.OtherPremises.{IsCheckedButForDirection, HasPlainSignature, HasRoom, DeclaresNoTop, HasLengths}
+use Rattle.soundness.specs.OtherPremises.{SomeIsNeverSafe, IsCheckedButForDirection, HasPlainSignature, HasRoom, DeclaresNoTop, HasLengths}
 use Rattle.soundness.proofs.StraightCode.{placed, plain_call, each_at, one_at, EachOutcome, outcome_at, only_method, typed_methods, only_member, only_instance}
 use Rattle.soundness.proofs.SmallClasses.{view_with, method_with, signed, frame, plain_params, plain_result, fits_frame, nothing}
 
@@ -98,7 +98,11 @@ never_ends b h =
     let no : Some (Goes (after f.last)) ≡ Some (Ends f.final) = sym (goes_on f.last (same_place f.last f.reached)) ∙ f.ends in
     cc no
 
+checked : IsCheckedButForDirection class
+checked = (typed_methods view process method refl (signed []) frames typing (refl, tt), refl, (λ j w is. only_instance view process refl refl j w), only_member (λ m. HasPlainSignature m × HasRoom m × DeclaresNoTop m × HasLengths m × AreConsecutive 0 m.code) view method formed)
+
 pub direction_is_needed : SoundnessOver IsCheckedButForDirection → ⊥
-direction_is_needed law =
-    never_ends nothing
-    (law class 0 nothing (typed_methods view process method refl (signed []) frames typing (refl, tt), refl, (λ j w is. only_instance view process refl refl j w), only_member (λ m. HasPlainSignature m × HasRoom m × DeclaresNoTop m × HasLengths m × AreConsecutive 0 m.code) view method formed) refl (λ k p. absurd (no_path 0 0 k p)))
+direction_is_needed law = never_ends nothing (law class 0 nothing checked refl (λ k p. absurd (no_path 0 0 k p)))
+
+pub never_safe : SomeIsNeverSafe IsCheckedButForDirection
+never_safe = (class, checked, never_ends)

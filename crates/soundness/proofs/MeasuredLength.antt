@@ -1,6 +1,7 @@
 -- A new array whose length is no constant takes more words than its path says.
-use Rattle.std.proofs.Common.{◌≡◌, ◌≤◌, List, [], ◌∷◌, Some, None, refl, sym, subst, arith}
-use Rattle.std.specs.Prelude.{pos}
+use Rattle.std.proofs.Common.{◌≡◌, ℕ, suc, List, [], ◌∷◌, length, Some, None, refl, sym, subst, arith}
+use Rattle.std.specs.Prelude.{pos, replicate}
+use Rattle.std.proofs.lemmas.List.{length-replicate}
 use Rattle.jtypes.specs.declared.types.RefType.TheVariants as ref
 use Rattle.jtypes.specs.declared.types.JType.TheVariants as type
 use Rattle.jtypes.specs.declared.types.Arg.TheVariants as arg
@@ -18,7 +19,7 @@ use Rattle.verify.specs.Machine.{Invocation, State, step, start_of, here, onward
 use Rattle.verify.specs.Sound.{IsSafe}
 use Rattle.soundness.specs.Example.{process, signature}
 use Rattle.soundness.specs.Premises.{SoundnessOver}
-use Rattle.soundness.specs.OtherPremises.{IsCheckedButForLengths, HasPlainSignature, HasRoom, DeclaresNoTop, GoesForward}
+use Rattle.soundness.specs.OtherPremises.{SomeIsNeverSafe, IsCheckedButForLengths, HasPlainSignature, HasRoom, DeclaresNoTop, GoesForward}
 use Rattle.soundness.proofs.StraightCode.{placed, gone_to, each_at, EachOutcome, outcome_at, only_method, from_last, from_before, typed_methods, only_member, only_instance}
 use Rattle.soundness.proofs.SmallClasses.{view_with, method_with, signed, frame, plain_params, plain_result}
 
@@ -94,28 +95,36 @@ paths k p =
 within : (k : Cost) → k ≡ cost → IsWithin k limits
 within k e = subst (λ x. IsWithin x limits) (sym e) (record { steps = omega arith; words = omega arith; slots = omega arith; depth = omega arith })
 
--- a call with an argument
-abbrev call : Invocation
-call = record { key = pos 0; args = arg.Null ∷ []; before = None }
+-- a call with so many arguments
+abbrev call_with : ℕ → Invocation
+call_with n = record { key = pos 0; args = replicate n arg.Null; before = None }
 
-abbrev first : State
-first = start_of 0 method call
+abbrev first : ℕ → State
+first n = start_of 0 method (call_with n)
 
-abbrev second : State
-second = gone_to first (step class first)
+abbrev second : ℕ → State
+second n = gone_to (first n) (step class (first n))
 
-abbrev third : State
-third = gone_to second (step class second)
+abbrev third : ℕ → State
+third n = gone_to (second n) (step class (second n))
 
-abbrev fourth : State
-fourth = gone_to third (step class third)
+abbrev fourth : ℕ → State
+fourth n = gone_to (third n) (step class (third n))
 
--- the array has an element
-too_many : IsSafe class limits → ⊥
-too_many h =
-    let words : 2 ≤ 1 = (h.stays call first fourth refl (onward (onward (onward here refl) refl) refl)).words in
-    absurd (omega (arith, words))
+-- the array has as many elements
+taken : (n : ℕ) → (fourth n).words ≡ suc n
+taken n = let k : length (replicate n arg.Null) ≡ n = length-replicate n arg.Null in omega (arith, k)
+
+too_many : (b : Bounds) → IsSafe class b → ⊥
+too_many b h =
+    let words = (h.stays (call_with b.words) (first b.words) (fourth b.words) refl (onward (onward (onward here refl) refl) refl)).words in
+    omega (arith, words, taken b.words)
+
+checked : IsCheckedButForLengths class
+checked = (typed_methods view process method refl (signed []) frames typing (refl, (refl, (refl, (refl, tt)))), refl, (λ j w is. only_instance view process refl refl j w), only_member (λ m. HasPlainSignature m × HasRoom m × DeclaresNoTop m × GoesForward m × AreConsecutive 0 m.code) view method formed)
 
 pub lengths_are_needed : SoundnessOver IsCheckedButForLengths → ⊥
-lengths_are_needed law =
-    too_many (law class 0 limits (typed_methods view process method refl (signed []) frames typing (refl, (refl, (refl, (refl, tt)))), refl, (λ j w is. only_instance view process refl refl j w), only_member (λ m. HasPlainSignature m × HasRoom m × DeclaresNoTop m × GoesForward m × AreConsecutive 0 m.code) view method formed) refl (λ k p. within k (paths k p)))
+lengths_are_needed law = too_many limits (law class 0 limits checked refl (λ k p. within k (paths k p)))
+
+pub never_safe : SomeIsNeverSafe IsCheckedButForLengths
+never_safe = (class, checked, too_many)

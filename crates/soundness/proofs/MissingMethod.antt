@@ -27,7 +27,7 @@ use Rattle.verify.specs.Machine.{State, step, invoke, with_place, activation_of,
 use Rattle.verify.specs.Sound.{IsSafe}
 use Rattle.soundness.specs.Example.{process, signature}
 use Rattle.soundness.specs.Premises.{SoundnessOver}
-use Rattle.soundness.specs.OtherPremises.{IsSigned, IsCheckedButForCount}
+use Rattle.soundness.specs.OtherPremises.{IsSigned, SomeIsNeverSafe, IsCheckedButForCount}
 use Rattle.soundness.proofs.StraightCode.{placed, plain_call, each_at, one_at, EachOutcome, outcome_at}
 use Rattle.soundness.proofs.SmallClasses.{method_with, frame, plain_params, plain_result, nothing}
 
@@ -174,10 +174,14 @@ no_step = ap (invoke class first (with_place (activation_of 0 method (value.Ref 
 stuck : (b : Bounds) → IsSafe class b → ⊥
 stuck b h = let n = h.never_stuck plain_call first first refl here in let e = n.1 in cc (e, no_step)
 
-pub count_is_needed : SoundnessOver IsCheckedButForCount → ⊥
-count_is_needed law =
-    stuck nothing
-    (law class 0 nothing (refl, is_instance, all_signed, only IsFormed formed, only (IsWellTyped view) (frames, typing), (rank, ordered)) refl (λ k p. absurd (no_path 0 0 k refl p)))
+checked : IsCheckedButForCount class
+checked = (refl, is_instance, all_signed, only IsFormed formed, only (IsWellTyped view) (frames, typing), (rank, ordered))
   where
     only : (P : Method → Type 0) → P method → (j : ℕ) (w : MethodView) (x : Method) → IsMember class j w x → P x
     only P h j w x is = subst P (one_at method j x is.method) h
+
+pub count_is_needed : SoundnessOver IsCheckedButForCount → ⊥
+count_is_needed law = stuck nothing (law class 0 nothing checked refl (λ k p. absurd (no_path 0 0 k refl p)))
+
+pub never_safe : SomeIsNeverSafe IsCheckedButForCount
+never_safe = (class, checked, stuck)

@@ -13,7 +13,7 @@ use Rattle.verify.specs.Machine.{State, start_of, here}
 use Rattle.verify.specs.Sound.{IsSafe}
 use Rattle.soundness.specs.Example.{process, signature}
 use Rattle.soundness.specs.Premises.{SoundnessOver}
-use Rattle.soundness.specs.OtherPremises.{IsCheckedButForTypes}
+use Rattle.soundness.specs.OtherPremises.{SomeIsNeverSafe, IsCheckedButForTypes}
 use Rattle.soundness.proofs.StraightCode.{placed, plain_call, each_at, only_method, without_calls, from_last, only_member, only_instance}
 use Rattle.soundness.proofs.SmallClasses.{view_with, method_with, only_signed, plain_params, plain_result}
 
@@ -52,9 +52,14 @@ within k e = subst (λ x. IsWithin x limits) (sym e) (record { steps = omega ari
 abbrev first : State
 first = start_of 0 method plain_call
 
-stuck : IsSafe class limits → ⊥
-stuck h = let n = h.never_stuck plain_call first first refl here in cc n.1
+stuck : (b : Bounds) → IsSafe class b → ⊥
+stuck b h = let n = h.never_stuck plain_call first first refl here in cc n.1
+
+checked : IsCheckedButForTypes class
+checked = (refl, (λ j w is. only_instance view process refl refl j w), refl, only_signed [] method refl, only_member IsFormed view method formed, ((λ j. 0), without_calls view method (refl, tt)))
 
 pub types_are_needed : SoundnessOver IsCheckedButForTypes → ⊥
-types_are_needed law =
-    stuck (law class 0 limits (refl, (λ j w is. only_instance view process refl refl j w), refl, only_signed [] method refl, only_member IsFormed view method formed, ((λ j. 0), without_calls view method (refl, tt))) refl (λ k p. within k (paths k p)))
+types_are_needed law = stuck limits (law class 0 limits checked refl (λ k p. within k (paths k p)))
+
+pub never_safe : SomeIsNeverSafe IsCheckedButForTypes
+never_safe = (class, checked, stuck)

@@ -16,7 +16,7 @@ use Rattle.verify.specs.Machine.{State, start_of, here}
 use Rattle.verify.specs.Sound.{IsSafe}
 use Rattle.soundness.specs.Example.{process}
 use Rattle.soundness.specs.Premises.{SoundnessOver}
-use Rattle.soundness.specs.OtherPremises.{IsCheckedButForSignatures, SignedIsPlain}
+use Rattle.soundness.specs.OtherPremises.{SomeIsNeverSafe, IsCheckedButForSignatures, SignedIsPlain}
 use Rattle.soundness.proofs.AcceptedClasses.{signed_has_no_top}
 use Rattle.soundness.proofs.StraightCode.{placed, plain_call, each_at, EachOutcome, outcome_at, only_method, without_calls, from_last, only_member, only_instance}
 use Rattle.soundness.proofs.SmallClasses.{view_with, method_with, frame, plain_params}
@@ -75,12 +75,17 @@ within k e = subst (λ x. IsWithin x limits) (sym e) (record { steps = omega ari
 abbrev first : State
 first = start_of 0 method plain_call
 
-stuck : IsSafe class limits → ⊥
-stuck h = let n = h.never_stuck plain_call first first refl here in cc n.1
+stuck : (b : Bounds) → IsSafe class b → ⊥
+stuck b h = let n = h.never_stuck plain_call first first refl here in cc n.1
+
+checked : IsCheckedButForSignatures class
+checked = (refl, (λ j w is. only_instance view process refl refl j w), refl, only_member IsFormed view method formed, only_member (IsWellTyped view) view method (frames, typing), ((λ j. 0), without_calls view method (refl, tt)))
 
 pub signatures_are_needed : SoundnessOver IsCheckedButForSignatures → ⊥
-signatures_are_needed law =
-    stuck (law class 0 limits (refl, (λ j w is. only_instance view process refl refl j w), refl, only_member IsFormed view method formed, only_member (IsWellTyped view) view method (frames, typing), ((λ j. 0), without_calls view method (refl, tt))) refl (λ k p. within k (paths k p)))
+signatures_are_needed law = stuck limits (law class 0 limits checked refl (λ k p. within k (paths k p)))
+
+pub never_safe : SomeIsNeverSafe IsCheckedButForSignatures
+never_safe = (class, checked, stuck)
 
 -- ---- what the descriptors give
 

@@ -28,7 +28,7 @@ use Rattle.verify.specs.Machine.{Activation, State, Goes, step, step_top, invoke
 use Rattle.verify.specs.Sound.{IsSafe}
 use Rattle.soundness.specs.Example.{process, signature}
 use Rattle.soundness.specs.Premises.{SoundnessOver}
-use Rattle.soundness.specs.OtherPremises.{IsCheckedButForRanks}
+use Rattle.soundness.specs.OtherPremises.{SomeIsNeverSafe, IsCheckedButForRanks}
 use Rattle.soundness.proofs.StraightCode.{placed, plain_call, each_at, at_its_place, one_at, EachOutcome, outcome_at, only_method, only_member, only_instance}
 use Rattle.soundness.proofs.SmallClasses.{view_with, method_with, only_signed, frame, plain_params, plain_result, nothing}
 
@@ -188,7 +188,11 @@ too_deep b h =
     let n : length r.1 ≡ b.depth = r.3 in
     omega (arith, depth, more, n)
 
+checked : IsCheckedButForRanks class
+checked = (refl, (λ j w is. only_instance view process refl refl j w), refl, only_signed pool method refl, only_member IsFormed view method formed, only_member (IsWellTyped view) view method (frames, typing))
+
 pub ranks_are_needed : SoundnessOver IsCheckedButForRanks → ⊥
-ranks_are_needed law =
-    too_deep nothing
-    (law class 0 nothing (refl, (λ j w is. only_instance view process refl refl j w), refl, only_signed pool method refl, only_member IsFormed view method formed, only_member (IsWellTyped view) view method (frames, typing)) refl (λ k p. absurd (no_path 0 0 k p (omega arith))))
+ranks_are_needed law = too_deep nothing (law class 0 nothing checked refl (λ k p. absurd (no_path 0 0 k p (omega arith))))
+
+pub never_safe : SomeIsNeverSafe IsCheckedButForRanks
+never_safe = (class, checked, too_deep)

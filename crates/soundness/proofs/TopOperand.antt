@@ -17,7 +17,7 @@ use Rattle.verify.specs.Machine.{State, step, start_of, here, onward}
 use Rattle.verify.specs.Sound.{IsSafe}
 use Rattle.soundness.specs.Example.{process, signature}
 use Rattle.soundness.specs.Premises.{SoundnessOver}
-use Rattle.soundness.specs.OtherPremises.{IsCheckedButForOperands, HasPlainSignature, HasRoom, GoesForward, HasLengths}
+use Rattle.soundness.specs.OtherPremises.{SomeIsNeverSafe, IsCheckedButForOperands, HasPlainSignature, HasRoom, GoesForward, HasLengths}
 use Rattle.soundness.proofs.StraightCode.{placed, plain_call, gone_to, each_at, EachOutcome, outcome_at, only_method, from_last, from_before, typed_methods, only_member, only_instance}
 use Rattle.soundness.proofs.SmallClasses.{view_with, method_with, signed, frame, plain_params, plain_result, fits_frame}
 
@@ -99,9 +99,14 @@ abbrev second : State
 second = gone_to first (step class first)
 
 -- the long and null take three slots
-stuck : IsSafe class limits → ⊥
-stuck h = let n = h.never_stuck plain_call first second refl (onward here refl) in cc n.1
+stuck : (b : Bounds) → IsSafe class b → ⊥
+stuck b h = let n = h.never_stuck plain_call first second refl (onward here refl) in cc n.1
+
+checked : IsCheckedButForOperands class
+checked = (typed_methods view process method refl (signed []) frames typing (refl, (refl, (refl, tt))), refl, (λ j w is. only_instance view process refl refl j w), only_member (λ m. HasPlainSignature m × HasRoom m × GoesForward m × HasLengths m × AreConsecutive 0 m.code) view method formed)
 
 pub operands_are_needed : SoundnessOver IsCheckedButForOperands → ⊥
-operands_are_needed law =
-    stuck (law class 0 limits (typed_methods view process method refl (signed []) frames typing (refl, (refl, (refl, tt))), refl, (λ j w is. only_instance view process refl refl j w), only_member (λ m. HasPlainSignature m × HasRoom m × GoesForward m × HasLengths m × AreConsecutive 0 m.code) view method formed) refl (λ k p. within k (paths k p)))
+operands_are_needed law = stuck limits (law class 0 limits checked refl (λ k p. within k (paths k p)))
+
+pub never_safe : SomeIsNeverSafe IsCheckedButForOperands
+never_safe = (class, checked, stuck)

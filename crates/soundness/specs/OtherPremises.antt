@@ -92,3 +92,9 @@ SoundnessWithoutBounds = (c : Class) (j : ℕ) (b : Bounds) → IsChecked c → 
 -- by the paths of any method
 abbrev pub SoundnessByAnyMethod : Type 0
 SoundnessByAnyMethod = (c : Class) (j : ℕ) (b : Bounds) → IsChecked c → ((k : Cost) → Path c j 0 k → IsWithin k b) → IsSafe c b
+
+-- ---- and what is more
+
+-- some class of which P holds isn't safe within any bounds
+abbrev pub SomeIsNeverSafe : (Class → Type 0) → Type 0
+SomeIsNeverSafe P = (c : Class) × P c × ((b : Bounds) → IsSafe c b → ⊥)

@@ -9,7 +9,7 @@ ghost use Rattle.soundness.specs.Accepting.{TypedIsChecked};
 ghost use Rattle.soundness.specs.Counting.{EachCallStarts, EachStepCounts};
 ghost use Rattle.soundness.specs.Example.{example, limits};
 ghost use Rattle.soundness.specs.Ordering.{NotRecursiveHasRanks, RankedIsNotRecursive};
-ghost use Rattle.soundness.specs.OtherPremises.{IsCheckedButForCount, IsCheckedButForDirection, IsCheckedButForLengths, IsCheckedButForOperands, IsCheckedButForRanks, IsCheckedButForSignatures, IsCheckedButForTypes, SignedIsPlain, SoundnessByAnyMethod, SoundnessWithoutBounds};
+ghost use Rattle.soundness.specs.OtherPremises.{IsCheckedButForCount, IsCheckedButForDirection, IsCheckedButForLengths, IsCheckedButForOperands, IsCheckedButForRanks, IsCheckedButForSignatures, IsCheckedButForTypes, SignedIsPlain, SomeIsNeverSafe, SoundnessByAnyMethod, SoundnessWithoutBounds};
 ghost use Rattle.soundness.specs.Premises.{IsCheckedButForInstance, IsCheckedButForName, IsCheckedButForPlaces, SoundnessOver};
 ghost use Rattle.soundness.specs.Tables.{EachTableIsOne};
 
@@ -100,4 +100,16 @@ pub fn other_premises_are_needed()
 /// That no parameter and no result is Top, which is asked of a checked class, follows from the descriptors.
 pub fn signatures_have_no_top()
     ensures { SignedIsPlain }
+{}
+
+/// Without any one of these premises no bounds help: some class, of which all else that is asked holds, isn't safe within
+/// whatever bounds.
+pub fn some_are_never_safe()
+    ensures types { SomeIsNeverSafe IsCheckedButForTypes }
+    ensures signatures { SomeIsNeverSafe IsCheckedButForSignatures }
+    ensures operands { SomeIsNeverSafe IsCheckedButForOperands }
+    ensures lengths { SomeIsNeverSafe IsCheckedButForLengths }
+    ensures direction { SomeIsNeverSafe IsCheckedButForDirection }
+    ensures ranks { SomeIsNeverSafe IsCheckedButForRanks }
+    ensures count { SomeIsNeverSafe IsCheckedButForCount }
 {}
