@@ -16,3 +16,14 @@ pub mod StraightCode
 pub mod StaticProcess
 pub mod ReservedName
 pub mod ScatteredPlaces
+pub mod Ranks
+pub mod OneTable
+pub mod SmallClasses
+pub mod NotTyped
+pub mod OtherSignature
+pub mod Loop
+pub mod OwnCall
+pub mod MissingMethod
+pub mod MeasuredLength
+pub mod TopOperand
+pub mod OtherBounds

@@ -21,7 +21,9 @@ use Rattle.typecheck.proofs.Passes.{fails_at_mismatch, passes_typed}
 use Rattle.verify.specs.Shape.{is_constructor, empty}
 use Rattle.verify.specs.Verdict.{IsAccepted, IsClassOf, HasShape, HasInstructions, IsBody, BodyStands, TypesStand, by_shape, by_instructions, by_types}
 use Rattle.verify.specs.Checked.{IsMember}
-use Rattle.verify.specs.Promise.{AcceptedIsChecked}
+use Rattle.verify.specs.Promise.{TypeSoundness, AcceptedIsChecked}
+use Rattle.soundness.proofs.SafeRuns.{type_soundness}
+use Rattle.soundness.proofs.Ranks.{accepted_has_ranks}
 use Rattle.soundness.proofs.AcceptedClasses.{accepted_is_named, accepted_process_is_instance, accepted_count, accepted_signed, accepted_is_formed, sequence_is_consecutive, any_from, InFile, in_file, one_contains}
 
 -- a declared frame stands at an instruction
@@ -100,3 +102,8 @@ accepted_is_checked bytes c rank ok of ordered = record {
   formed = accepted_is_formed bytes c ok of;
   ordered = (rank, ordered);
 }
+
+pub accepted_is_safe : TypeSoundness
+accepted_is_safe bytes c j b ok of is bounds =
+    let ranks = accepted_has_ranks bytes c ok of in
+    type_soundness c j b (accepted_is_checked bytes c ranks.0 ok of ranks.1) is bounds.none_exceeds

@@ -4,22 +4,28 @@ ghost use Rattle.typecheck.specs.Typing.{IsProcessOf};
 ghost use Rattle.bounds.specs.Paths.{AreBounds};
 ghost use Rattle.verify.specs.Checked.{IsChecked};
 ghost use Rattle.verify.specs.Sound.{IsSafe, SoundnessOfClasses};
-ghost use Rattle.verify.specs.Promise.{AcceptedIsChecked};
+ghost use Rattle.verify.specs.Promise.{AcceptedIsChecked, AcceptedIsOrdered, TypeSoundness};
 ghost use Rattle.soundness.specs.Counting.{EachCallStarts, EachStepCounts};
 ghost use Rattle.soundness.specs.Example.{example, limits};
+ghost use Rattle.soundness.specs.Ordering.{NotRecursiveHasRanks, RankedIsNotRecursive};
+ghost use Rattle.soundness.specs.OtherPremises.{IsCheckedButForCount, IsCheckedButForDirection, IsCheckedButForLengths, IsCheckedButForOperands, IsCheckedButForRanks, IsCheckedButForSignatures, IsCheckedButForTypes, SignedIsPlain, SomeIsNeverSafe, SoundnessByAnyMethod, SoundnessWithoutBounds};
 ghost use Rattle.soundness.specs.Premises.{IsCheckedButForInstance, IsCheckedButForName, IsCheckedButForPlaces, SoundnessOver};
+ghost use Rattle.soundness.specs.Tables.{EachTableIsOne};
 
-/// Type soundness with bounds. Take a class that is checked, its method `process`, bounds that no path from the start of
-/// `process` exceeds, and any call. Then no state that is reached is stuck; each stays within the bounds in steps, in
-/// words of arrays, in slots of locals and operands, and in depth of calls; and a final state is reached, within the
-/// bounds on steps and words.
+/// Type soundness with bounds. Take the bytes of a class that nothing refuses, its method `process` with the bounds of its
+/// paths, and any call: any key, an entry or none, any arguments. Then no state that is reached is stuck, that is, no
+/// instruction meets a missing or wrongly typed operand, a bad local, or a place where no instruction stands; each state
+/// stays within the bounds in steps, in words of arrays, in slots of locals and operands, and in depth of calls; and a
+/// final state is reached, a return or a named Java exception, within the bounds on steps and words. The same holds of
+/// each class that is checked in the sense of `IsChecked`, its bytes forgotten, within any bounds that no path from the
+/// start of `process` exceeds.
 ///
-/// It speaks of the definitions alone, and says nothing of code that runs: that a running machine takes the steps of the
-/// definitions is for the machine's contracts. It is about classes that are checked in the sense of `IsChecked`, their
-/// bytes forgotten; that each class whose bytes are accepted is checked isn't proved here (`typed_is_checked` says how
-/// much of it is). The bounds are given: it doesn't say which bounds a class has, nor how to compute them.
+/// It speaks of the definitions alone, and says nothing of code that runs: which classes `verify` accepts, and that a
+/// running machine takes the steps of the definitions, is for their contracts. The bounds are given: it doesn't say how
+/// to compute them.
 pub fn type_soundness()
-    ensures { SoundnessOfClasses }
+    ensures bytes { TypeSoundness }
+    ensures classes { SoundnessOfClasses }
 {}
 
 /// Beside type soundness: for each call of a checked class there is a state to start from, so the law isn't empty for want
@@ -50,4 +56,61 @@ pub fn premises_are_needed()
     ensures name { SoundnessOver IsCheckedButForName → ⊥ }
     ensures instance { SoundnessOver IsCheckedButForInstance → ⊥ }
     ensures places { SoundnessOver IsCheckedButForPlaces → ⊥ }
+{}
+
+/// A class that is not recursive has ranks: numbers of its methods, by which each own call goes to a lower one. And a class
+/// with ranks is not recursive.
+pub fn ranks_or_recursion()
+    ensures ranks { NotRecursiveHasRanks }
+    ensures lasting { RankedIsNotRecursive }
+{}
+
+/// A class whose bytes are accepted has ranks.
+pub fn accepted_is_ordered()
+    ensures { AcceptedIsOrdered }
+{}
+
+/// The tables of frames of a method have one reading: the frames that they declare.
+pub fn one_table()
+    ensures { EachTableIsOne }
+{}
+
+/// Other premises are needed too: without any one of these the law is false. All else that is asked of a checked class holds
+/// of each class below.
+/// - types: a method that returns an operand that isn't there gets stuck.
+/// - signatures: `process` gets stuck where its signature has no result and its descriptor has one.
+/// - operands: a long where a frame declares Top has more slots than are counted, and the next push gets stuck.
+/// - lengths: an array as long as the arguments takes more words than its path says.
+/// - direction: a branch to itself has no path, so no bounds are exceeded, and it takes steps, slots and depth.
+/// - ranks: likewise a method that calls itself.
+/// - count: likewise a call of a method that the class lacks.
+/// - bounds: a class that is checked isn't safe within bounds that its path exceeds.
+/// - process: the paths of another method than `process` say nothing of it.
+pub fn other_premises_are_needed()
+    ensures types { SoundnessOver IsCheckedButForTypes → ⊥ }
+    ensures signatures { SoundnessOver IsCheckedButForSignatures → ⊥ }
+    ensures operands { SoundnessOver IsCheckedButForOperands → ⊥ }
+    ensures lengths { SoundnessOver IsCheckedButForLengths → ⊥ }
+    ensures direction { SoundnessOver IsCheckedButForDirection → ⊥ }
+    ensures ranks { SoundnessOver IsCheckedButForRanks → ⊥ }
+    ensures count { SoundnessOver IsCheckedButForCount → ⊥ }
+    ensures bounds { SoundnessWithoutBounds → ⊥ }
+    ensures process { SoundnessByAnyMethod → ⊥ }
+{}
+
+/// That no parameter and no result is Top, which is asked of a checked class, follows from the descriptors.
+pub fn signatures_have_no_top()
+    ensures { SignedIsPlain }
+{}
+
+/// Without any one of these premises no bounds help: some class, of which all else that is asked holds, isn't safe within
+/// whatever bounds.
+pub fn some_are_never_safe()
+    ensures types { SomeIsNeverSafe IsCheckedButForTypes }
+    ensures signatures { SomeIsNeverSafe IsCheckedButForSignatures }
+    ensures operands { SomeIsNeverSafe IsCheckedButForOperands }
+    ensures lengths { SomeIsNeverSafe IsCheckedButForLengths }
+    ensures direction { SomeIsNeverSafe IsCheckedButForDirection }
+    ensures ranks { SomeIsNeverSafe IsCheckedButForRanks }
+    ensures count { SomeIsNeverSafe IsCheckedButForCount }
 {}

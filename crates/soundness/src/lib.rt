@@ -4,5 +4,7 @@
 mod laws;
 
 pub use laws::{
-    accepted_is_checked, example_is_checked, premises_are_needed, starts_and_counts, type_soundness,
+    accepted_is_checked, accepted_is_ordered, example_is_checked, one_table,
+    other_premises_are_needed, premises_are_needed, ranks_or_recursion, signatures_have_no_top,
+    some_are_never_safe, starts_and_counts, type_soundness,
 };

@@ -1,0 +1,103 @@
+-- The law without one of the premises that are not in Premises.
+use Rattle.std.specs.Prelude.{◌≡◌, ℕ, ◌<◌, ◌≤◌, length, Some, slice_get, IsNone, pos}
+use Rattle.jtypes.specs.declared.operations.ArrayKind.{ArrayKind}
+use Rattle.jtypes.specs.Lists.{result_list}
+use Rattle.jtypes.specs.Types.{is_long, slots_by}
+use Rattle.classfile.specs.View.{MethodView}
+use Rattle.decode.specs.declared.instruction.Instruction.TheVariants.{NewArray}
+use Rattle.decode.specs.declared.instruction.Placed.{Placed}
+use Rattle.decode.specs.Places.{target_of, AreConsecutive}
+use Rattle.frames.specs.Signatures.{method_signature}
+use Rattle.frames.specs.declared.frame.Frame.{Frame}
+use Rattle.typecheck.specs.Typing.{Method, Class, IsWellTyped, IsProcessOf, instruction_at, declared_at}
+use Rattle.typecheck.specs.Mismatch.{HasLength}
+use Rattle.bounds.specs.Paths.{Bounds, Cost, Path, IsWithin}
+use Rattle.verify.specs.Checked.{NoTop, IsFormed, IsChecked}
+use Rattle.verify.specs.Sound.{IsSafe}
+use Rattle.soundness.specs.Ordering.{HasRanks}
+use Rattle.soundness.specs.Premises.{HasTypedMethods, HasFreeName, HasInstanceProcess, AllMembers}
+
+-- ---- what is asked of a class, part by part
+
+abbrev pub IsCounted : Class → Type 0
+IsCounted c = length c.methods ≡ length c.view.methods
+
+abbrev pub IsSigned : Class → Type 0
+IsSigned c = (j : ℕ) (v : MethodView) (m : Method) → slice_get c.view.methods j ≡ Some v → slice_get c.methods j ≡ Some m → method_signature c.view v ≡ Some m.environment.signature
+
+-- each method but the constructor is well typed
+abbrev pub AllWellTyped : Class → Type 0
+AllWellTyped c = AllMembers c (IsWellTyped c.view)
+
+-- ---- what is asked of a method beside its typing, part by part
+
+abbrev pub HasPlainSignature : Method → Type 0
+HasPlainSignature m = NoTop m.environment.signature.params × NoTop (result_list m.environment.signature.result)
+
+abbrev pub HasRoom : Method → Type 0
+HasRoom m = slots_by is_long m.environment.signature.params ≤ m.environment.max_locals
+
+abbrev pub DeclaresNoTop : Method → Type 0
+DeclaresNoTop m = (p : ℕ) (d : Frame) → declared_at m p ≡ Some d → NoTop d.stack
+
+abbrev pub GoesForward : Method → Type 0
+GoesForward m = (q r : ℕ) (p : Placed) → instruction_at m q ≡ Some p → target_of p.instruction ≡ Some (pos r) → q < r
+
+abbrev pub HasLengths : Method → Type 0
+HasLengths m = (q : ℕ) (p : Placed) (k : ArrayKind) → instruction_at m q ≡ Some p → p.instruction ≡ NewArray k → IsNone (declared_at m q) × HasLength m.code q
+
+-- signatures that are those of the descriptors have no Top
+abbrev pub SignedIsPlain : Type 0
+SignedIsPlain = (c : Class) → IsSigned c → AllMembers c HasPlainSignature
+
+-- ---- all that is asked of a checked class, but one thing
+
+-- but that its methods are well typed
+abbrev pub IsCheckedButForTypes : Class → Type 0
+IsCheckedButForTypes c = HasFreeName c × HasInstanceProcess c × IsCounted c × IsSigned c × AllMembers c IsFormed × HasRanks c
+
+-- but that its calls have ranks
+abbrev pub IsCheckedButForRanks : Class → Type 0
+IsCheckedButForRanks c = HasFreeName c × HasInstanceProcess c × IsCounted c × IsSigned c × AllMembers c IsFormed × AllWellTyped c
+
+-- but that it has as many methods as its view
+abbrev pub IsCheckedButForCount : Class → Type 0
+IsCheckedButForCount c = HasFreeName c × HasInstanceProcess c × IsSigned c × AllMembers c IsFormed × AllWellTyped c × HasRanks c
+
+-- but that the signatures of its methods are those of their descriptors
+abbrev pub IsCheckedButForSignatures : Class → Type 0
+IsCheckedButForSignatures c = HasFreeName c × HasInstanceProcess c × IsCounted c × AllMembers c IsFormed × AllWellTyped c × HasRanks c
+
+-- but that its branches go forward
+abbrev pub IsCheckedButForDirection : Class → Type 0
+IsCheckedButForDirection c =
+    HasTypedMethods c × HasFreeName c × HasInstanceProcess c
+    × AllMembers c (λ m. HasPlainSignature m × HasRoom m × DeclaresNoTop m × HasLengths m × AreConsecutive 0 m.code)
+
+-- but that the lengths of its new arrays are constants
+abbrev pub IsCheckedButForLengths : Class → Type 0
+IsCheckedButForLengths c =
+    HasTypedMethods c × HasFreeName c × HasInstanceProcess c
+    × AllMembers c (λ m. HasPlainSignature m × HasRoom m × DeclaresNoTop m × GoesForward m × AreConsecutive 0 m.code)
+
+-- but that no declared frame has Top among its operands
+abbrev pub IsCheckedButForOperands : Class → Type 0
+IsCheckedButForOperands c =
+    HasTypedMethods c × HasFreeName c × HasInstanceProcess c
+    × AllMembers c (λ m. HasPlainSignature m × HasRoom m × GoesForward m × HasLengths m × AreConsecutive 0 m.code)
+
+-- ---- the law without its other premises
+
+-- whatever the bounds
+abbrev pub SoundnessWithoutBounds : Type 0
+SoundnessWithoutBounds = (c : Class) (j : ℕ) (b : Bounds) → IsChecked c → IsProcessOf c j → IsSafe c b
+
+-- by the paths of any method
+abbrev pub SoundnessByAnyMethod : Type 0
+SoundnessByAnyMethod = (c : Class) (j : ℕ) (b : Bounds) → IsChecked c → ((k : Cost) → Path c j 0 k → IsWithin k b) → IsSafe c b
+
+-- ---- and what is more
+
+-- some class of which P holds isn't safe within any bounds
+abbrev pub SomeIsNeverSafe : (Class → Type 0) → Type 0
+SomeIsNeverSafe P = (c : Class) × P c × ((b : Bounds) → IsSafe c b → ⊥)
