@@ -54,7 +54,7 @@ same_within : (k : Cost) → IsBelow k k
 same_within k = record { steps = omega arith; words = omega arith; slots = omega arith; depth = omega arith }
 
 -- an instruction that falls through and doesn't branch costs what the next one does and its own
-through : (c : Class) (t : Costs) (m : Method) (j q : ℕ) (p : Placed) (i : Instruction) → falls_through i ≡ true → target_of i ≡ None → cost_by c t m j q p i ≡ cost_through t m j q p (call_of c.view i)
+pub through : (c : Class) (t : Costs) (m : Method) (j q : ℕ) (p : Placed) (i : Instruction) → falls_through i ≡ true → target_of i ≡ None → cost_by c t m j q p i ≡ cost_through t m j q p (call_of c.view i)
 through c t m j q p (instruction.Goto z) e n = cc
 through c t m j q p (instruction.Branch a z) e n = cc
 through c t m j q p (instruction.Return k) e n = cc
@@ -76,43 +76,43 @@ through c t m j q p (instruction.CheckCast x) e n = refl
 through c t m j q p (instruction.InstanceOf x) e n = refl
 
 -- what an instruction is, by where it leads
-data Leads (c : Class) (t : Costs) (m : Method) (j q : ℕ) (p : Placed) (i : Instruction) : Type 0 where
-  returns : is_return i ≡ true → falls_through i ≡ false → target_of i ≡ None → call_of c.view i ≡ None → cost_by c t m j q p i ≡ last_cost m → Leads c t m j q p i
-  goes : (z : ℤ) → is_return i ≡ false → falls_through i ≡ false → target_of i ≡ Some z → call_of c.view i ≡ None → cost_by c t m j q p i ≡ after_one 0 (t j (place_of z)) → Leads c t m j q p i
-  branches : (z : ℤ) → is_return i ≡ false → falls_through i ≡ true → target_of i ≡ Some z → call_of c.view i ≡ None → words_at m q i ≡ 0 → cost_by c t m j q p i ≡ greater (after_one 0 (t j p.next)) (after_one 0 (t j (place_of z))) → Leads c t m j q p i
-  follows : is_return i ≡ false → falls_through i ≡ true → target_of i ≡ None → Leads c t m j q p i
+pub data Leads (c : Class) (m : Method) (j q : ℕ) (p : Placed) (i : Instruction) : Type 0 where
+  returns : is_return i ≡ true → falls_through i ≡ false → target_of i ≡ None → call_of c.view i ≡ None → ((t : Costs) → cost_by c t m j q p i ≡ last_cost m) → Leads c m j q p i
+  goes : (z : ℤ) → is_return i ≡ false → falls_through i ≡ false → target_of i ≡ Some z → call_of c.view i ≡ None → ((t : Costs) → cost_by c t m j q p i ≡ after_one 0 (t j (place_of z))) → Leads c m j q p i
+  branches : (z : ℤ) → is_return i ≡ false → falls_through i ≡ true → target_of i ≡ Some z → call_of c.view i ≡ None → words_at m q i ≡ 0 → ((t : Costs) → cost_by c t m j q p i ≡ greater (after_one 0 (t j p.next)) (after_one 0 (t j (place_of z)))) → Leads c m j q p i
+  follows : is_return i ≡ false → falls_through i ≡ true → target_of i ≡ None → Leads c m j q p i
 
-leads : (c : Class) (t : Costs) (m : Method) (j q : ℕ) (p : Placed) (i : Instruction) → Leads c t m j q p i
-leads c t m j q p (instruction.Goto z) = goes z refl refl refl refl refl
-leads c t m j q p (instruction.Branch a z) = branches z refl refl refl refl refl refl
-leads c t m j q p (instruction.Return k) = returns refl refl refl refl refl
-leads c t m j q p instruction.ReturnVoid = returns refl refl refl refl refl
-leads c t m j q p instruction.Nop = follows refl refl refl
-leads c t m j q p (instruction.Push x) = follows refl refl refl
-leads c t m j q p (instruction.Load k x) = follows refl refl refl
-leads c t m j q p (instruction.Store k x) = follows refl refl refl
-leads c t m j q p (instruction.Increment x by) = follows refl refl refl
-leads c t m j q p (instruction.Operate o) = follows refl refl refl
-leads c t m j q p (instruction.Rearrange r) = follows refl refl refl
-leads c t m j q p (instruction.Invoke k x) = follows refl refl refl
-leads c t m j q p (instruction.NewArray k) = follows refl refl refl
-leads c t m j q p (instruction.ArrayLoad k) = follows refl refl refl
-leads c t m j q p (instruction.ArrayStore k) = follows refl refl refl
-leads c t m j q p instruction.ReferenceLoad = follows refl refl refl
-leads c t m j q p instruction.ArrayLength = follows refl refl refl
-leads c t m j q p (instruction.CheckCast x) = follows refl refl refl
-leads c t m j q p (instruction.InstanceOf x) = follows refl refl refl
+pub leads : (c : Class) (m : Method) (j q : ℕ) (p : Placed) (i : Instruction) → Leads c m j q p i
+leads c m j q p (instruction.Goto z) = goes z refl refl refl refl (λ t. refl)
+leads c m j q p (instruction.Branch a z) = branches z refl refl refl refl refl (λ t. refl)
+leads c m j q p (instruction.Return k) = returns refl refl refl refl (λ t. refl)
+leads c m j q p instruction.ReturnVoid = returns refl refl refl refl (λ t. refl)
+leads c m j q p instruction.Nop = follows refl refl refl
+leads c m j q p (instruction.Push x) = follows refl refl refl
+leads c m j q p (instruction.Load k x) = follows refl refl refl
+leads c m j q p (instruction.Store k x) = follows refl refl refl
+leads c m j q p (instruction.Increment x by) = follows refl refl refl
+leads c m j q p (instruction.Operate o) = follows refl refl refl
+leads c m j q p (instruction.Rearrange r) = follows refl refl refl
+leads c m j q p (instruction.Invoke k x) = follows refl refl refl
+leads c m j q p (instruction.NewArray k) = follows refl refl refl
+leads c m j q p (instruction.ArrayLoad k) = follows refl refl refl
+leads c m j q p (instruction.ArrayStore k) = follows refl refl refl
+leads c m j q p instruction.ReferenceLoad = follows refl refl refl
+leads c m j q p instruction.ArrayLength = follows refl refl refl
+leads c m j q p (instruction.CheckCast x) = follows refl refl refl
+leads c m j q p (instruction.InstanceOf x) = follows refl refl refl
 
-module _ (c : Class) (t : Costs) (table : IsTable c t) where
+module _ (c : Class) (set : ℕ → Bool) (on : LeadsOn c set) (t : Costs) (table : IsTable c set t) where
   within_of : (k a b : Cost) → a ≡ b → IsBelow k b → IsBelow k a
   within_of k a b e h = subst (IsBelow k) (sym e) h
 
   -- the ways on from an instruction take at most what its row says
   return_row : (m : Method) (j q : ℕ) (p : Placed) (i : Instruction) → is_return i ≡ true → IsBelow (last_cost m) (cost_by c t m j q p i)
-  return_row m j q p i e = go (leads c t m j q p i)
+  return_row m j q p i e = go (leads c m j q p i)
     where
-      go : Leads c t m j q p i → IsBelow (last_cost m) (cost_by c t m j q p i)
-      go (returns a b d f g) = within_of _ _ _ g (same_within (last_cost m))
+      go : Leads c m j q p i → IsBelow (last_cost m) (cost_by c t m j q p i)
+      go (returns a b d f g) = within_of _ _ _ (g t) (same_within (last_cost m))
       go (goes z a b d f g) = cc (a, e)
       go (branches z a b d f w g) = cc (a, e)
       go (follows a b d) = cc (a, e)
@@ -124,37 +124,37 @@ module _ (c : Class) (t : Costs) (table : IsTable c t) where
       subst (λ x. IsBelow (after_one 0 k) (after_one 0 (t j (place_of x)))) (sym same) (one_within 0 k (t j r) h)
 
   jump_row : (m : Method) (j q r : ℕ) (p : Placed) (i : Instruction) (k : Cost) → target_of i ≡ Some (pos r) → IsBelow k (t j r) → IsBelow (after_one 0 k) (cost_by c t m j q p i)
-  jump_row m j q r p i k e h = go (leads c t m j q p i)
+  jump_row m j q r p i k e h = go (leads c m j q p i)
     where
-      go : Leads c t m j q p i → IsBelow (after_one 0 k) (cost_by c t m j q p i)
+      go : Leads c m j q p i → IsBelow (after_one 0 k) (cost_by c t m j q p i)
       go (returns a b d f g) = cc (d, e)
-      go (goes z a b d f g) = within_of _ _ _ g (at_target j r z k i d e h)
-      go (branches z a b d f w g) = within_of _ _ _ g (right_within _ _ _ (at_target j r z k i d e h))
+      go (goes z a b d f g) = within_of _ _ _ (g t) (at_target j r z k i d e h)
+      go (branches z a b d f w g) = within_of _ _ _ (g t) (right_within _ _ _ (at_target j r z k i d e h))
       go (follows a b d) = cc (d, e)
 
   fall_row : (m : Method) (j q : ℕ) (p : Placed) (k : Cost) → falls_through p.instruction ≡ true → call_of c.view p.instruction ≡ None → IsBelow k (t j p.next) → IsBelow (after_one (words_at m q p.instruction) k) (cost_by c t m j q p p.instruction)
-  fall_row m j q p k e f h = go (leads c t m j q p p.instruction)
+  fall_row m j q p k e f h = go (leads c m j q p p.instruction)
     where
-      go : Leads c t m j q p p.instruction → IsBelow (after_one (words_at m q p.instruction) k) (cost_by c t m j q p p.instruction)
+      go : Leads c m j q p p.instruction → IsBelow (after_one (words_at m q p.instruction) k) (cost_by c t m j q p p.instruction)
       go (returns a b d n g) = cc (b, e)
       go (goes z a b d n g) = cc (b, e)
-      go (branches z a b d n w g) = within_of _ _ _ g (left_within _ _ _ (subst (λ x. IsBelow (after_one x k) (after_one 0 (t j p.next))) (sym w) (one_within 0 k (t j p.next) h)))
+      go (branches z a b d n w g) = within_of _ _ _ (g t) (left_within _ _ _ (subst (λ x. IsBelow (after_one x k) (after_one 0 (t j p.next))) (sym w) (one_within 0 k (t j p.next) h)))
       go (follows a b d) = within_of _ _ _ (through c t m j q p p.instruction b d ∙ ap (cost_through t m j q p) f) (one_within (words_at m q p.instruction) k (t j p.next) h)
 
   call_row : (m : Method) (j q n : ℕ) (p : Placed) (e k : Cost) → call_of c.view p.instruction ≡ Some n → IsBelow e (t n 0) → IsBelow k (t j p.next) → IsBelow (after_call m e k) (cost_by c t m j q p p.instruction)
-  call_row m j q n p e k f h g = go (leads c t m j q p p.instruction)
+  call_row m j q n p e k f h g = go (leads c m j q p p.instruction)
     where
-      go : Leads c t m j q p p.instruction → IsBelow (after_call m e k) (cost_by c t m j q p p.instruction)
+      go : Leads c m j q p p.instruction → IsBelow (after_call m e k) (cost_by c t m j q p p.instruction)
       go (returns a b d x y) = cc (x, f)
       go (goes z a b d x y) = cc (x, f)
       go (branches z a b d x w y) = cc (x, f)
       go (follows a b d) = within_of _ _ _ (through c t m j q p p.instruction b d ∙ ap (cost_through t m j q p) f) (call_within m e k (t n 0) (t j p.next) h g)
 
-  pub none_exceeds : (j q : ℕ) (k : Cost) → Path c j q k → IsBelow k (t j q)
-  none_exceeds j q k (ends m p s is) = within_of _ _ _ (table j q m p s) (return_row m j q p p.instruction is)
-  none_exceeds j q k (jumps {k = n} m p r s to x) = within_of _ _ _ (table j q m p s) (jump_row m j q r p p.instruction n to (none_exceeds j r n x))
-  none_exceeds j q k (falls {k = n} m p s f g x) = within_of _ _ _ (table j q m p s) (fall_row m j q p n f g (none_exceeds j p.next n x))
-  none_exceeds j q k (calls {e = a} {k = n} m p callee s f x y) = within_of _ _ _ (table j q m p s) (call_row m j q callee p a n f (none_exceeds callee 0 a x) (none_exceeds j p.next n y))
+  pub none_exceeds : (j q : ℕ) (k : Cost) → set j ≡ true → Path c j q k → IsBelow k (t j q)
+  none_exceeds j q k in_set (ends m p s is) = within_of _ _ _ (table j q m p in_set s) (return_row m j q p p.instruction is)
+  none_exceeds j q k in_set (jumps {k = n} m p r s to x) = within_of _ _ _ (table j q m p in_set s) (jump_row m j q r p p.instruction n to (none_exceeds j r n in_set x))
+  none_exceeds j q k in_set (falls {k = n} m p s f g x) = within_of _ _ _ (table j q m p in_set s) (fall_row m j q p n f g (none_exceeds j p.next n in_set x))
+  none_exceeds j q k in_set (calls {e = a} {k = n} m p callee s f x y) = within_of _ _ _ (table j q m p in_set s) (call_row m j q callee p a n f (none_exceeds callee 0 a (on.callee j q callee m p in_set s f).0 x) (none_exceeds j p.next n in_set y))
 
 -- ---- some path reaches each
 
@@ -184,11 +184,11 @@ by_depth : IsMeasure (λ k. k.depth)
 by_depth = record { one = λ w a b e. e; call = λ m e a k b x y. omega (arith, x, y); most = λ a b. max_is a.depth b.depth }
 
 -- a place behind all instructions
-abbrev top_of : List Placed → ℕ
+abbrev pub top_of : List Placed → ℕ
 top_of [] = 0
 top_of (x ∷ code) = max (suc x.place) (top_of code)
 
-below_top : (code : List Placed) (q : ℕ) (p : Placed) → at_place code q ≡ Some p → q < top_of code
+pub below_top : (code : List Placed) (q : ℕ) (p : Placed) → at_place code q ≡ Some p → q < top_of code
 below_top [] q p e = cc
 below_top (x ∷ code) q p e = go (below_top code q p) (x.place == q) refl e
   where
@@ -196,11 +196,11 @@ below_top (x ∷ code) q p e = go (below_top code q p) (x.place == q) refl e
     go later true is f = let here : x.place ≡ q = eqb-true x.place q is in omega (arith, here)
     go later false is f = let r = later f in omega (arith, r)
 
-some_is : {A : Type 0} (o : Option A) → IsSome o → (x : A) × (o ≡ Some x)
+pub some_is : {A : Type 0} (o : Option A) → IsSome o → (x : A) × (o ≡ Some x)
 some_is None h = cc
 some_is (Some x) h = (x, refl)
 
-module _ (part : Cost → ℕ) (measure : IsMeasure part) (c : Class) (t : Costs) (table : IsTable c t) where
+module _ (part : Cost → ℕ) (measure : IsMeasure part) (c : Class) (set : ℕ → Bool) (on : LeadsOn c set) (t : Costs) (table : IsTable c set t) where
   abbrev Attains : ℕ → ℕ → Type 0
   Attains j q = (k : Cost) × Path c j q k × (part k ≡ part (t j q))
 
@@ -209,7 +209,7 @@ module _ (part : Cost → ℕ) (measure : IsMeasure part) (c : Class) (t : Costs
 
   -- where what follows is attained, an instruction's row is
   attains_at : (j q : ℕ) (m : Method) (p : Placed) → StandsAt c j q m p → (falls_through p.instruction ≡ true → Attains j p.next) → ((z : ℤ) → target_of p.instruction ≡ Some z → (r : ℕ) × (z ≡ pos r) × Attains j r) → ((k : ℕ) → call_of c.view p.instruction ≡ Some k → Attains k 0) → AttainsRow j q (cost_by c t m j q p p.instruction)
-  attains_at j q m p s next target call = go (leads c t m j q p p.instruction)
+  attains_at j q m p s next target call = go (leads c m j q p p.instruction)
     where
       row : Cost
       row = cost_by c t m j q p p.instruction
@@ -235,44 +235,43 @@ module _ (part : Cost → ℕ) (measure : IsMeasure part) (c : Class) (t : Costs
       of : (other : Cost) → cost_by c t m j q p p.instruction ≡ other → AttainsRow j q other → AttainsRow j q (cost_by c t m j q p p.instruction)
       of other e r = (r.0, r.1, r.2 ∙ ap part (sym e))
 
-      go : Leads c t m j q p p.instruction → AttainsRow j q (cost_by c t m j q p p.instruction)
-      go (returns a b d f g) = of _ g (last_cost m, ends m p s a, refl)
-      go (goes z a b d f g) = of _ g (to_target z d)
-      go (branches z a b d f w g) = of _ g (either z b d f w (measure.most (after_one 0 (t j p.next)) (after_one 0 (t j (place_of z)))))
+      go : Leads c m j q p p.instruction → AttainsRow j q (cost_by c t m j q p p.instruction)
+      go (returns a b d f g) = of _ (g t) (last_cost m, ends m p s a, refl)
+      go (goes z a b d f g) = of _ (g t) (to_target z d)
+      go (branches z a b d f w g) = of _ (g t) (either z b d f w (measure.most (after_one 0 (t j p.next)) (after_one 0 (t j (place_of z)))))
       go (follows a b d) = of _ (through c t m j q p p.instruction b d) (by_call b d (call_of c.view p.instruction) refl)
 
-  module _ (set : ℕ → Bool) (on : LeadsOn c set) where
-    -- within a method, whose callees are attained
-    attains_in : (j : ℕ) (m : Method) → set j ≡ true → slice_get c.methods j ≡ Some m → ((q k : ℕ) (p : Placed) → instruction_at m q ≡ Some p → call_of c.view p.instruction ≡ Some k → Attains k 0) → (left q : ℕ) → top_of m.code ≤ q + left → IsSome (instruction_at m q) → Attains j q
-    attains_in j m member known callees zero q long inside = let x = some_is (instruction_at m q) inside in let low = below_top m.code q x.0 x.1 in absurd (omega (arith, low, long))
-    attains_in j m member known callees (suc left) q long inside =
-        let x = some_is (instruction_at m q) inside in
-        let p = x.0 in
-        let s : StandsAt c j q m p = record { method = known; instruction = x.1 } in
-        let r = attains_at j q m p s
-              (λ e. let n = on.next j q m p member s e in let far = n.0 in attains_in j m member known callees left p.next (omega (arith, far, long)) n.1)
-              (λ z e. let n = on.target j q m p z member s e in let far = n.2 in (n.0, n.1, attains_in j m member known callees left n.0 (omega (arith, far, long)) n.3))
-              (λ k e. callees q k p x.1 e)
-        in
-        (r.0, r.1, r.2 ∙ ap part (sym (table j q m p s)))
+  -- within a method, whose callees are attained
+  attains_in : (j : ℕ) (m : Method) → set j ≡ true → slice_get c.methods j ≡ Some m → ((q k : ℕ) (p : Placed) → instruction_at m q ≡ Some p → call_of c.view p.instruction ≡ Some k → Attains k 0) → (left q : ℕ) → top_of m.code ≤ q + left → IsSome (instruction_at m q) → Attains j q
+  attains_in j m member known callees zero q long inside = let x = some_is (instruction_at m q) inside in let low = below_top m.code q x.0 x.1 in absurd (omega (arith, low, long))
+  attains_in j m member known callees (suc left) q long inside =
+      let x = some_is (instruction_at m q) inside in
+      let p = x.0 in
+      let s : StandsAt c j q m p = record { method = known; instruction = x.1 } in
+      let r = attains_at j q m p s
+            (λ e. let n = on.next j q m p member s e in let far = n.0 in attains_in j m member known callees left p.next (omega (arith, far, long)) n.1)
+            (λ z e. let n = on.target j q m p z member s e in let far = n.2 in (n.0, n.1, attains_in j m member known callees left n.0 (omega (arith, far, long)) n.3))
+            (λ k e. callees q k p x.1 e)
+      in
+      (r.0, r.1, r.2 ∙ ap part (sym (table j q m p member s)))
 
-    attains_below : (limit j : ℕ) (m : Method) → set j ≡ true → slice_get c.methods j ≡ Some m → IsSome (instruction_at m 0) → on.ranks.0 j < limit → Attains j 0
-    attains_below zero j m member known inside low = absurd (omega (arith, low))
-    attains_below (suc limit) j m member known inside low =
-        attains_in j m member known (λ q k p code e.
-            let s : StandsAt c j q m p = record { method = known; instruction = code } in
-            let lower : on.ranks.0 k < on.ranks.0 j = on.ranks.1 j k (m, q, p, known, code, e) in
-            let to = on.callee j q k m p member s e in
-            attains_below limit k to.1.0 to.0 to.1.1 to.1.2 (omega (arith, lower, low))) (top_of m.code) 0 (omega arith) inside
+  attains_below : (limit j : ℕ) (m : Method) → set j ≡ true → slice_get c.methods j ≡ Some m → IsSome (instruction_at m 0) → on.ranks.0 j < limit → Attains j 0
+  attains_below zero j m member known inside low = absurd (omega (arith, low))
+  attains_below (suc limit) j m member known inside low =
+      attains_in j m member known (λ q k p code e.
+          let s : StandsAt c j q m p = record { method = known; instruction = code } in
+          let lower : on.ranks.0 k < on.ranks.0 j = on.ranks.1 j k (m, q, p, known, code, e) in
+          let to = on.callee j q k m p member s e in
+          attains_below limit k to.1.0 to.0 to.1.1 to.1.2 (omega (arith, lower, low))) (top_of m.code) 0 (omega arith) inside
 
-    attains : (j : ℕ) (m : Method) → set j ≡ true → slice_get c.methods j ≡ Some m → IsSome (instruction_at m 0) → SomePathTakes c j part (part (t j 0))
-    attains j m member known inside = attains_below (suc (on.ranks.0 j)) j m member known inside (omega arith)
+  attains : (j : ℕ) (m : Method) → set j ≡ true → slice_get c.methods j ≡ Some m → IsSome (instruction_at m 0) → SomePathTakes c j part (part (t j 0))
+  attains j m member known inside = attains_below (suc (on.ranks.0 j)) j m member known inside (omega arith)
 
 pub tables_are_bounds : TablesAreBounds
-tables_are_bounds c t set j m table on member known inside = record {
-  none_exceeds = λ k p. let w = none_exceeds c t table j 0 k p in record { steps = w.steps; words = w.words; slots = w.slots; depth = w.depth };
-  steps = attains (λ k. k.steps) by_steps c t table set on j m member known inside;
-  words = attains (λ k. k.words) by_words c t table set on j m member known inside;
-  slots = attains (λ k. k.slots) by_slots c t table set on j m member known inside;
-  depth = attains (λ k. k.depth) by_depth c t table set on j m member known inside;
+tables_are_bounds c set t j m on table member known inside = record {
+  none_exceeds = λ k p. let w = none_exceeds c set on t table j 0 k member p in record { steps = w.steps; words = w.words; slots = w.slots; depth = w.depth };
+  steps = attains (λ k. k.steps) by_steps c set on t table j m member known inside;
+  words = attains (λ k. k.words) by_words c set on t table j m member known inside;
+  slots = attains (λ k. k.slots) by_slots c set on t table j m member known inside;
+  depth = attains (λ k. k.depth) by_depth c set on t table j m member known inside;
 }

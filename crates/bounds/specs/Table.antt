@@ -33,9 +33,9 @@ cost_by c t m j place p (Goto target) = after_one 0 (t j (place_of target))
 cost_by c t m j place p (Branch test target) = greater (after_one 0 (t j p.next)) (after_one 0 (t j (place_of target)))
 cost_by c t m j place p i = cost_through t m j place p (call_of c.view i)
 
--- one equation for each instruction
-abbrev pub IsTable : Class → Costs → Type 0
-IsTable c t = (j place : ℕ) (m : Method) (p : Placed) → StandsAt c j place m p → t j place ≡ cost_by c t m j place p p.instruction
+-- one equation for each instruction of the methods of this set
+abbrev pub IsTable : Class → (ℕ → Bool) → Costs → Type 0
+IsTable c set t = (j place : ℕ) (m : Method) (p : Placed) → set j ≡ true → StandsAt c j place m p → t j place ≡ cost_by c t m j place p p.instruction
 
 -- In the methods of this set each instruction leads on: to the next one, to its target, to the start of the method of the set that it calls; and ranks fall at calls.
 pub record LeadsOn (c : Class) (set : ℕ → Bool) : Type 0 where
@@ -47,6 +47,10 @@ pub record LeadsOn (c : Class) (set : ℕ → Bool) : Type 0 where
 abbrev pub bounds_of : Cost → Bounds
 bounds_of k = record { steps = k.steps; words = k.words; slots = k.slots; depth = k.depth }
 
+-- where each instruction leads on there is a table
+abbrev pub EachHasTable : Type 0
+EachHasTable = (c : Class) (set : ℕ → Bool) → LeadsOn c set → (t : Costs) × IsTable c set t
+
 -- the costs that a table has at the start of a method are the method's bounds
 abbrev pub TablesAreBounds : Type 0
-TablesAreBounds = (c : Class) (t : Costs) (set : ℕ → Bool) (j : ℕ) (m : Method) → IsTable c t → LeadsOn c set → set j ≡ true → slice_get c.methods j ≡ Some m → IsSome (instruction_at m 0) → AreBounds c j (bounds_of (t j 0))
+TablesAreBounds = (c : Class) (set : ℕ → Bool) (t : Costs) (j : ℕ) (m : Method) → LeadsOn c set → IsTable c set t → set j ≡ true → slice_get c.methods j ≡ Some m → IsSome (instruction_at m 0) → AreBounds c j (bounds_of (t j 0))
