@@ -1,5 +1,9 @@
 use Rattle.bounds.proofs.Greatest.{tables_are_bounds}
+use Rattle.bounds.proofs.FilledTables.{each_has_table}
 use Rattle.bounds.proofs.laws.tables_are_bounds.Goals as goal
 
-pub returns : goal.returns
-returns c = tables_are_bounds
+pub returns-clause-bounds : goal.returns-clause-bounds
+returns-clause-bounds c = tables_are_bounds
+
+pub returns-clause-table : goal.returns-clause-table
+returns-clause-table c = each_has_table
