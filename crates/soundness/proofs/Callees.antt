@@ -33,7 +33,7 @@ use Rattle.verify.specs.Checked.{IsMember, IsChecked}
 
 -- ---- texts
 
-same_refl : (xs : List ℕ) → same_bytes xs xs ≡ true
+pub same_refl : (xs : List ℕ) → same_bytes xs xs ≡ true
 same_refl [] = refl
 same_refl (x ∷ xs) = ap (λ b. b && same_bytes xs xs) (eq-eqb x x refl) ∙ same_refl xs
 

@@ -27,3 +27,4 @@ pub mod MissingMethod
 pub mod MeasuredLength
 pub mod TopOperand
 pub mod OtherBounds
+pub mod BoundsExist

@@ -5,6 +5,7 @@ ghost use Rattle.bounds.specs.Paths.{AreBounds};
 ghost use Rattle.verify.specs.Checked.{IsChecked};
 ghost use Rattle.verify.specs.Sound.{IsSafe, SoundnessOfClasses};
 ghost use Rattle.verify.specs.Promise.{AcceptedIsChecked, AcceptedIsOrdered, TypeSoundness};
+ghost use Rattle.soundness.specs.Bounded.{AcceptedHasBounds, CheckedLeadsOn};
 ghost use Rattle.soundness.specs.Counting.{EachCallStarts, EachStepCounts};
 ghost use Rattle.soundness.specs.Example.{example, limits};
 ghost use Rattle.soundness.specs.Ordering.{NotRecursiveHasRanks, RankedIsNotRecursive};
@@ -33,6 +34,13 @@ pub fn type_soundness()
 pub fn starts_and_counts()
     ensures starts { EachCallStarts }
     ensures counts { EachStepCounts }
+{}
+
+/// A class whose bytes are accepted has its `process`, and bounds: for each of the four measures the most that a path takes.
+/// Its methods but the constructor lead on from each instruction, so a table of costs has these bounds.
+pub fn accepted_has_bounds()
+    ensures bounds { AcceptedHasBounds }
+    ensures leads { CheckedLeadsOn }
 {}
 
 /// A class whose bytes are accepted is checked, if its own calls go to methods of lower ranks.
