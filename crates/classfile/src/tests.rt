@@ -122,3 +122,21 @@ fn refuses_other_lengths(rt: HostRuntime) -> Result<(), Fail> {
     );
     Ok(())
 }
+
+/// Whichever allocation is refused (`rt try --test --fail-alloc N`), the answer is that or the one with ample memory.
+#[test]
+fn answers_or_lacks_memory(rt: HostRuntime) {
+    match read_class(rt.alloc(), &CLASS[..98]) {
+        Ok(class) => {
+            assert_eq!(rt; class.parts.methods.as_slice().len(), 1);
+            assert_eq!(rt; class.parts.attributes.as_slice().len(), 1);
+        }
+        Err(refusal) => assert_eq!(rt; refusal, Refusal::NoMemory),
+    }
+    let cut = read_class(rt.alloc(), &CLASS[..97]);
+    assert!(rt; matches!(cut, Err(Refusal::Truncated | Refusal::NoMemory)));
+    let unnamed = read_class(rt.alloc(), &changed(81, 2));
+    assert!(rt; matches!(unnamed, Err(Refusal::BadPool | Refusal::NoMemory)));
+    let parts = parts_of_code(rt.alloc(), &CLASS[67..87]);
+    assert!(rt; matches!(parts, Ok(Some(_)) | Err(_)));
+}

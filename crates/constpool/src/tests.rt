@@ -166,3 +166,24 @@ fn refuses_descriptors(rt: HostRuntime) {
         assert!(rt; matches!(read, Err(Refusal::BadDescriptor)), "{text:?}");
     }
 }
+
+/// Whichever allocation is refused (`rt try --test --fail-alloc N`), the answer is that or the one with ample memory.
+#[test]
+fn answers_or_lacks_memory(rt: HostRuntime) {
+    match read_pool(rt.alloc(), &EACH_TAG) {
+        Ok((pool, used)) => assert!(rt; used == 72 && is_a(pool.method(12))),
+        Err(refusal) => assert_eq!(rt; refusal, Refusal::NoMemory),
+    }
+    for (bytes, want, what) in &REFUSED {
+        match read_pool(rt.alloc(), bytes) {
+            Ok(_) => assert!(rt; false, "{what} was read"),
+            Err(refusal) => assert!(rt; refusal == *want || refusal == Refusal::NoMemory, "{what}"),
+        }
+    }
+    match parse_method_descriptor(rt.alloc(), b"(IJ[JLO;)LA;") {
+        Ok(sig) => assert_eq!(rt; param_slots(&sig), 5),
+        Err(refusal) => assert_eq!(rt; refusal, Refusal::NoMemory),
+    }
+    let read = parse_method_descriptor(rt.alloc(), b"(LO;LO;)");
+    assert!(rt; matches!(read, Err(Refusal::BadDescriptor | Refusal::NoMemory)));
+}

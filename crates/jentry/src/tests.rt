@@ -79,12 +79,13 @@ fn told_to(
 ) -> Result<Answered, AllocError> {
     let words = words_of(alloc, words)?;
     let files = OneFile { bytes };
+    // The sinks have their room beforehand, so that only the command can lack memory.
     let mut output = Sink {
-        bytes: Vec::new(alloc),
+        bytes: Vec::with_capacity(alloc, most)?,
         most,
     };
     let mut errors = Sink {
-        bytes: Vec::new(alloc),
+        bytes: Vec::with_capacity(alloc, 1000)?,
         most: 1000,
     };
     let status = command(
@@ -291,11 +292,58 @@ fn layouts_and_shapes_are_refused(rt: HostRuntime) -> Result<(), Fail> {
     }
     let mut longer = rows::plus(alloc)?;
     longer.push(0)?;
-    is_refused(&rt, alloc, longer, "refused 6 TrailingBytes\n")?;
-    for n in [1, 7, 8, 9, 100, 600, 726] {
-        let class = rows::plus(alloc)?;
-        let front = Vec::from_slice(alloc, class.get(..n).ok_or("a front")?)?;
-        is_refused(&rt, alloc, front, "refused 2 Truncated\n")?;
+    is_refused(&rt, alloc, longer, "refused 6 TrailingBytes\n")
+}
+
+#[test]
+fn each_front_is_refused(rt: HostRuntime) -> Result<(), Fail> {
+    let plus = rows::plus(rt.alloc())?;
+    assert_eq!(rt; plus.len(), 727);
+    for end in 0..plus.len() {
+        let front = Vec::from_slice(rt.alloc(), &plus[..end])?;
+        is_refused(&rt, rt.alloc(), front, "refused 2 Truncated\n")?;
+    }
+    Ok(())
+}
+
+/// What Plus is told with another byte at the place of its magic or its version.
+fn told_of_header(at: usize, byte: u8) -> (u8, &'static str) {
+    match (at, byte) {
+        (0..=3, _) => (2, "refused 3 BadMagic\n"),
+        (7, 51) => (0, "accepted steps=14 words=0 slots=9 depth=1\n"),
+        _ => (2, "refused 4 BadVersion\n"),
+    }
+}
+
+#[test]
+fn each_byte_of_the_header_is_judged(rt: HostRuntime) -> Result<(), Fail> {
+    let alloc = rt.alloc();
+    for (at, own) in [0xCA, 0xFE, 0xBA, 0xBE, 0, 0, 0, 52]
+        .into_iter()
+        .enumerate()
+    {
+        for byte in 0..=255 {
+            if byte == own {
+                continue;
+            }
+            let (status, output) = told_of_header(at, byte);
+            let answer = told(alloc, &["check", "C"], changed(alloc, at, &[byte])?)?;
+            assert!(rt; is_told(&answer, status, output, ""), "{byte} at {at}");
+        }
+    }
+    Ok(())
+}
+
+#[test]
+fn long_lengths_are_refused(rt: HostRuntime) -> Result<(), Fail> {
+    let alloc = rt.alloc();
+    // Of the method `process`: the length of its Code attribute, and of the code in it.
+    let process = 727 - 2 - 56;
+    for (at, output) in [
+        (process + 10, "refused 2 Truncated\n"),
+        (process + 18, "refused 14 BadCode\n"),
+    ] {
+        is_refused(&rt, alloc, changed(alloc, at, &[0xFF; 4])?, output)?;
     }
     Ok(())
 }
@@ -555,6 +603,51 @@ fn files_and_outputs_fail(rt: HostRuntime) -> Result<(), Fail> {
     assert_eq!(rt; answer.status, 3);
     assert!(rt; answer.errors.as_slice() == b"error: cannot write\n".as_slice());
     Ok(())
+}
+
+/// Whether a command told this, or of want of memory alone.
+fn is_told_or_lacks_memory(told: &Answered, status: u8, output: &str) -> bool {
+    is_told(told, status, output, "")
+        || is_told(told, 2, "refused 30 NoMemory\n", "")
+        || is_told(told, 3, "", "error: no memory\n")
+}
+
+/// Whichever allocation is refused (`rt try --test --fail-alloc N`), a command tells that or what it tells with ample memory.
+#[test]
+fn commands_answer_or_lack_memory(rt: HostRuntime) {
+    let alloc = rt.alloc();
+    for (words, at, status, output) in [
+        (
+            ["check", "C"].as_slice(),
+            727,
+            0,
+            "accepted steps=14 words=0 slots=9 depth=1\n",
+        ),
+        (
+            &["run", "C", "7", "41", "1", "2i"],
+            727,
+            0,
+            "result 42\nvalue 42\nsteps 14 words 0\n",
+        ),
+        (
+            &["run", "C", "7", "none"],
+            727,
+            4,
+            "threw 3 NullPointerException\nvalue none\nsteps 4 words 0\n",
+        ),
+        (&["check", "C"], 0, 2, "refused 3 BadMagic\n"),
+        (&["check", "C"], 725, 2, "refused 2 Truncated\n"),
+    ] {
+        let Ok(class) = changed(alloc, at, &[1]) else {
+            continue;
+        };
+        if let Ok(answer) = told(alloc, words, class) {
+            assert!(rt;
+                is_told_or_lacks_memory(&answer, status, output),
+                "{words:?}"
+            );
+        }
+    }
 }
 
 #[test]

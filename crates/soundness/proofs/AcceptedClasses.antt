@@ -37,7 +37,7 @@ use Rattle.verify.specs.Shape.{reserved_names, reserved, AreDoubles, is_construc
 use Rattle.verify.specs.Verdict.{by_shape, IsAccepted, IsClassOf, IsMethodOf, HasShape, InstructionStands, InstructionsStand, by_instructions, HasInstructions, IsBody, BodyStands, TypesStand, by_types}
 use Rattle.verify.specs.Checked.{NoTop, IsMember, IsFormed}
 use Rattle.soundness.proofs.Callees.{process_found, same_is}
-use Rattle.soundness.proofs.Fit.{then_some_parts}
+use Rattle.jtypes.proofs.Fit.{then_some_parts}
 use Rattle.soundness.proofs.DeclaredFrames.{declared_has_no_top}
 
 -- ---- places

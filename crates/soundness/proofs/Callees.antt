@@ -11,9 +11,9 @@ use Rattle.jtypes.specs.declared.operations.Invoke.{Invoke}
 use Rattle.jtypes.specs.declared.operations.Invoke.TheVariants.{Virtual, Static, Interface}
 use Rattle.jtypes.specs.declared.operations.Native.TheVariants as native
 use Rattle.jtypes.specs.Lists.{same_bytes, is_one_of, only_if, result_list, ◌>>=◌}
-use Rattle.soundness.proofs.Fit.{NoneTop, only_if_some, then_some_parts}
-use Rattle.soundness.proofs.LibraryCalls as lemma
-use Rattle.soundness.proofs.LibraryCalls.{LibraryFits}
+use Rattle.jtypes.proofs.Fit.{NoneTop, only_if_some, then_some_parts}
+use Rattle.jtypes.proofs.LibraryCalls as lemma
+use Rattle.jtypes.proofs.LibraryCalls.{LibraryFits}
 use Rattle.constpool.specs.declared.descriptor.FieldType.{FieldType}
 use Rattle.constpool.specs.declared.descriptor.FieldType.TheVariants as field
 use Rattle.constpool.specs.declared.descriptor.Sig.{Sig}

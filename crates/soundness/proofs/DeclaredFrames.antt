@@ -7,7 +7,7 @@ use Rattle.jtypes.specs.declared.types.JType.{JType}
 use Rattle.jtypes.specs.declared.types.JType.TheVariants.{Top, Int, Long, Null, Ref}
 use Rattle.jtypes.specs.Layout.{Layout, known, stopped, chosen, many, IsLaidOut}
 use Rattle.jtypes.specs.declared.refusal.Refusal.TheVariants.{BadStackMap}
-use Rattle.soundness.proofs.Fit.{only_if_some}
+use Rattle.jtypes.proofs.Fit.{only_if_some}
 use Rattle.classfile.specs.View.{ClassView}
 use Rattle.decode.specs.declared.instruction.Placed.{Placed}
 use Rattle.frames.specs.Signatures.{constant_type}

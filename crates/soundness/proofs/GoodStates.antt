@@ -9,7 +9,7 @@ use Rattle.jtypes.specs.declared.operations.ArrayKind.{ArrayKind}
 use Rattle.jtypes.specs.Types.{slots_by}
 use Rattle.jtypes.specs.Values.{Arrays, is_long_value}
 use Rattle.jtypes.specs.Lists.{only_if, result_list, ◌>>=◌}
-use Rattle.soundness.proofs.Fit.{not_top, NoneTop, EachFit, EachSlotFits, IsKept, kept_trans, fit_assignable, slots_assignable, only_if_true}
+use Rattle.jtypes.proofs.Fit.{not_top, NoneTop, EachFit, EachSlotFits, IsKept, kept_trans, fit_assignable, slots_assignable, only_if_true}
 use Rattle.classfile.specs.View.{MethodView}
 use Rattle.decode.specs.declared.instruction.Instruction.TheVariants.{NewArray}
 use Rattle.decode.specs.declared.instruction.Placed.{Placed}

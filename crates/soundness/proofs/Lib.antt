@@ -1,7 +1,3 @@
-pub mod Fit
-pub mod Operations
-pub mod LibraryCalls
-pub mod Rearranged
 pub mod Locals
 pub mod Callees
 pub mod GoodStates

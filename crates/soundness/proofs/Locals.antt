@@ -10,8 +10,8 @@ use Rattle.jtypes.specs.declared.types.Value.TheVariants.{Int as IntValue, Long 
 use Rattle.jtypes.specs.Types.{is_long, as_locals}
 use Rattle.jtypes.specs.Values.{Arrays, is_long_value, fits, all_fit}
 use Rattle.jtypes.specs.Lists.{change, change_before, padded}
-use Rattle.soundness.proofs.Fit.{is_top, EachFit, SlotFits, EachSlotFits, fits_long, long_fits, only_if_some, only_if_true}
-use Rattle.soundness.proofs.Operations.{Took}
+use Rattle.jtypes.proofs.Fit.{is_top, EachFit, SlotFits, EachSlotFits, fits_long, long_fits, only_if_some, only_if_true}
+use Rattle.jtypes.proofs.OperationsFit.{Took}
 use Rattle.transfer.specs.Transfer.{without_long, store_type}
 use Rattle.verify.specs.Machine.{without_long_value, store_value, split}
 

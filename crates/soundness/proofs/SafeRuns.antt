@@ -7,7 +7,7 @@ use Rattle.jtypes.specs.declared.types.RefValue.TheVariants as reference
 use Rattle.jtypes.specs.declared.types.Value.{Value}
 use Rattle.jtypes.specs.declared.types.Value.TheVariants as value
 use Rattle.jtypes.specs.Lists.{◌>>=◌}
-use Rattle.soundness.proofs.Fit.{EachFit}
+use Rattle.jtypes.proofs.Fit.{EachFit}
 use Rattle.frames.specs.Frames.{first_frame}
 use Rattle.typecheck.specs.Typing.{Method, Class, IsProcessOf}
 use Rattle.bounds.specs.Paths.{Cost, Path, Bounds, IsWithin}

@@ -35,9 +35,9 @@ use Rattle.jtypes.specs.Values.{Array, Arrays, new_array, words_of, is_long_valu
 use Rattle.jtypes.specs.Arithmetic.{Answer, Leaves, Throws, Lacks, operate, takes_of, puts_of, tested, takes_of_test}
 use Rattle.jtypes.specs.Entry.{Entry}
 use Rattle.jtypes.specs.Library.{Reply, Gives, Faults, Misses, library, flag}
-use Rattle.soundness.proofs.Fit.{is_top, NoneTop, EachFit, EachSlotFits, SlotFits, IsKept, same_kept, one_more_kept, last_is, change_kept, fit_kept, slots_kept, slots_fit, long_fits, append_fit, fit_reverse, fit_from_all, no_top_reverse, only_if_true, only_if_some, then_some_parts, fits_int, fits_long, fits_null, fits_ref, fits_assignable, array_is, passes_fits}
-use Rattle.soundness.proofs.Operations.{AnswerFits, one_int, operation_fits, test_fits}
-use Rattle.soundness.proofs.LibraryCalls.{ReplyFits}
+use Rattle.jtypes.proofs.Fit.{is_top, NoneTop, EachFit, EachSlotFits, SlotFits, IsKept, same_kept, one_more_kept, last_is, change_kept, fit_kept, slots_kept, slots_fit, long_fits, append_fit, fit_reverse, fit_from_all, no_top_reverse, only_if_true, only_if_some, then_some_parts, fits_int, fits_long, fits_null, fits_ref, fits_assignable, array_is, passes_fits}
+use Rattle.jtypes.proofs.OperationsFit.{AnswerFits, one_int, operation_fits, test_fits}
+use Rattle.jtypes.proofs.LibraryCalls.{ReplyFits}
 use Rattle.decode.specs.declared.instruction.Instruction.{Instruction}
 use Rattle.decode.specs.declared.instruction.Instruction.TheVariants as instruction
 use Rattle.decode.specs.declared.instruction.Placed.{Placed}
@@ -52,7 +52,7 @@ use Rattle.frames.specs.declared.frame.Environment.{Environment}
 use Rattle.frames.specs.Frames.{first_frame}
 use Rattle.transfer.specs.Forms.{forms_of, rearranged}
 use Rattle.transfer.specs.Transfer.{transfer, take_types, with_stack, take_put, type_of_pushed, loaded, store_type, stored, incremented, returned, returned_void, called, element_of, reference_loaded, has_length, measured, cast as cast_frame, asked}
-use Rattle.soundness.proofs.Rearranged.{took, by_forms_fit}
+use Rattle.transfer.proofs.Rearranged.{took, by_forms_fit}
 use Rattle.typecheck.specs.Typing.{Method, Class, instruction_at, IsFlow, own_number, own_of, call_of}
 use Rattle.bounds.specs.Paths.{Cost, Path, Bounds, StandsAt, length_of, words_at, last_cost, after_one, jumps, falls, calls, ends as ends_path}
 use Rattle.verify.specs.Checked.{IsFormed, IsChecked}
