@@ -1,6 +1,6 @@
 //! The reading of instructions.
 
-ghost use Rattle.std.specs.Prelude.{◌≡◌, ◌≢◌, ◌+ℤ◌, is_some, if◌then◌else◌, Ok, Err, IfOk, IfErr, pos, List, ℕ};
+ghost use Rattle.std.specs.Prelude.{◌≡◌, ◌≢◌, ◌+ℤ◌, ◌-◌, ◌≤◌, length, is_some, if◌then◌else◌, Ok, Err, IfOk, IfErr, pos, List, ℕ};
 ghost use Rattle.jtypes.specs.declared.refusal.Refusal.{Refusal};
 ghost use Rattle.jtypes.specs.Layout.{Takes, first};
 ghost use Rattle.constpool.specs.Lookup.{constant_at, class_at, method_at, interface_method_at};
@@ -197,6 +197,28 @@ pub fn read_instruction(
     }
 }
 
+/// The instruction at the front of what is left of a code of so many bytes, with its place.
+#[tactic(auto, using(crate::proofs::Runs::reads_shorter))]
+fn read_placed(
+    alloc: Global,
+    pool: &Pool,
+    total: usize,
+    cursor: &mut Cursor<'_>,
+) -> Result<Placed, Refusal>
+    requires { length cursor.old ≤ total }
+    ensures read { Takes (λ p. p.instruction) result (first (one pool.now (total - length cursor.old)) cursor.old) cursor.new }
+    ensures placed { IfOk result (λ p. (p.place ≡ total - length cursor.old) × (p.next ≡ total - length cursor.new)) }
+{
+    let place = total - cursor.rest().len();
+    let instruction = read_instruction(alloc, pool, place, cursor)?;
+    let next = total - cursor.rest().len();
+    Ok(Placed {
+        place,
+        next,
+        instruction,
+    })
+}
+
 /// The instructions of a code, up to its end.
 fn read_sequence(alloc: Global, pool: &Pool, bytes: &[u8]) -> Result<Vec<Placed>, Refusal>
     ensures { Reads pool.now bytes.now result }
@@ -204,14 +226,7 @@ fn read_sequence(alloc: Global, pool: &Pool, bytes: &[u8]) -> Result<Vec<Placed>
     let mut placed = Vec::new(alloc);
     let mut cursor = Cursor::new(bytes);
     while !cursor.is_empty() {
-        let place = bytes.len() - cursor.rest().len();
-        let instruction = read_instruction(alloc, pool, place, &mut cursor)?;
-        let next = bytes.len() - cursor.rest().len();
-        placed.push(Placed {
-            place,
-            next,
-            instruction,
-        })?;
+        placed.push(read_placed(alloc, pool, bytes.len(), &mut cursor)?)?;
     }
     Ok(placed)
 }

@@ -1,10 +1,14 @@
 //! The methods that a class's instructions may call.
 
+ghost use Rattle.std.specs.Prelude.{◌≡◌, IfOk, option_map, map};
+ghost use Rattle.frames.specs.Members.{library_rows, is_row_of, row_of, library_params, library_callee, is_method, numbered, pairs_with, own_callee, member_at, callee_at};
+ghost use Rattle.frames.specs.Seen.{member_seen, method_seen, row_seen};
+
 use crate::Signature;
 use crate::signatures::{class_type, is_private, is_static, method_signature, signature_of};
 use classfile::{ClassView, MethodView};
-use constpool::{MemberRef, names, same_bytes};
-use jtypes::{Invoke, Items, JType, Native};
+use constpool::{MemberRef, Pool, names, same_bytes};
+use jtypes::{Invoke, Items, JType, Native, RefType};
 use std::alloc::{AllocError, Global};
 
 /// What a call reaches.
@@ -33,8 +37,10 @@ struct LibraryRow {
 }
 
 impl LibraryRow {
-    fn is_of(&self, kind: Invoke, member: &MemberRef<'_>) -> bool {
-        self.kind == kind
+    fn is_of(&self, kind: Invoke, member: &MemberRef<'_>) -> bool
+        ensures { result ≡ is_row_of kind (member_seen member.now) (row_seen self.now) }
+    {
+        kind == self.kind
             && same_bytes(member.class, self.class)
             && same_bytes(member.name, self.name)
             && same_bytes(member.descriptor, self.descriptor)
@@ -177,61 +183,74 @@ static LIBRARY: [LibraryRow; 19] = [
     },
 ];
 
-/// The library call that a member names.
-fn native_of(kind: Invoke, member: &MemberRef<'_>) -> Option<Native> {
-    for row in &LIBRARY {
+/// The first of these rows that a member names.
+fn row_in<'a>(
+    rows: &'a [LibraryRow],
+    kind: Invoke,
+    member: &MemberRef<'_>,
+) -> Option<&'a LibraryRow>
+    ensures { option_map (λ r. row_seen r.now) result ≡ row_of (map row_seen rows.now) kind (member_seen member.now) }
+{
+    for row in rows {
         if row.is_of(kind, member) {
-            return Some(row.native);
+            return Some(row);
         }
     }
     None
 }
 
-/// The parameters with the receiver, if there is one, before them.
-fn after_receiver(
-    alloc: Global,
-    receiver: Option<JType>,
-    params: Items<JType>,
-) -> Result<Items<JType>, AllocError> {
-    let Some(receiver) = receiver else {
-        return Ok(params);
-    };
-    let mut all = Vec::new(alloc);
-    all.push(receiver)?;
-    all.extend_from_slice(params.as_slice())?;
-    Ok(Items::new(all))
+/// The library call that a member names.
+#[tactic(auto, unfolding(crate::specs::Members::library_rows))]
+fn row_of(kind: Invoke, member: &MemberRef<'_>) -> Option<&'static LibraryRow>
+    ensures { option_map (λ r. row_seen r.now) result ≡ row_of library_rows kind (member_seen member.now) }
+{
+    row_in(&LIBRARY, kind, member)
 }
 
-fn library_callee(
+/// The parameters of a library call, the receiver before them where there is one.
+fn library_params(
     alloc: Global,
-    own: &[u8],
     kind: Invoke,
-    member: &MemberRef<'_>,
-    native: Native,
-) -> Result<Option<Callee>, AllocError> {
-    let Some(s) = signature_of(alloc, own, member.descriptor)? else {
+    receiver: Option<RefType>,
+    params: Items<JType>,
+) -> Result<Option<Items<JType>>, AllocError>
+    ensures { IfOk result (λ all. all ≡ library_params kind receiver params) }
+{
+    if kind == Invoke::Static {
+        return Ok(Some(params));
+    }
+    let Some(receiver) = receiver else {
+        return Ok(None);
+    };
+    let mut all = Vec::new(alloc);
+    all.push(JType::Ref(receiver))?;
+    all.extend_from_slice(params.as_slice())?;
+    Ok(Some(Items::new(all)))
+}
+
+fn library_callee(alloc: Global, own: &[u8], row: &LibraryRow) -> Result<Option<Callee>, AllocError>
+    ensures { IfOk result (λ c. c ≡ library_callee own.now (row_seen row.now)) }
+{
+    let Some(s) = signature_of(alloc, own, row.descriptor)? else {
         return Ok(None);
     };
     let Signature { params, result, .. } = s;
-    let receiver = match kind {
-        Invoke::Static => None,
-        Invoke::Virtual | Invoke::Special | Invoke::Interface => {
-            let Some(r) = class_type(own, member.class) else {
-                return Ok(None);
-            };
-            Some(JType::Ref(r))
-        }
+    let receiver = class_type(own, row.class);
+    let Some(params) = library_params(alloc, row.kind, receiver, params)? else {
+        return Ok(None);
     };
     Ok(Some(Callee {
-        reached: Reached::Library(native),
-        params: after_receiver(alloc, receiver, params)?,
+        reached: Reached::Library(row.native),
+        params,
         result,
     }))
 }
 
 /// Whether a call of this kind may reach a method with these flags: `invokestatic` a static one, `invokevirtual` an
 /// instance method that is not private, `invokespecial` a private one.
-fn pairs_with(kind: Invoke, flags: u16) -> bool {
+fn pairs_with(kind: Invoke, flags: u16) -> bool
+    ensures { result ≡ pairs_with kind flags }
+{
     match kind {
         Invoke::Static => is_static(flags),
         Invoke::Virtual => !is_static(flags) && !is_private(flags),
@@ -240,13 +259,20 @@ fn pairs_with(kind: Invoke, flags: u16) -> bool {
     }
 }
 
+/// Whether a member names this method.
+fn is_method(member: &MemberRef<'_>, method: &MethodView<'_>) -> bool
+    ensures { result ≡ is_method (member_seen member.now) (method_seen method.now) }
+{
+    same_bytes(member.name, method.name) && same_bytes(member.descriptor, method.descriptor)
+}
+
 /// A method of the class by its name and descriptor, with its number.
-fn numbered<'a>(view: &ClassView<'a>, member: &MemberRef<'_>) -> Option<(usize, MethodView<'a>)> {
+fn numbered<'a>(view: &ClassView<'a>, member: &MemberRef<'_>) -> Option<(usize, MethodView<'a>)>
+    ensures { option_map (λ found. (found.0, method_seen found.1)) result ≡ numbered 0 view.now.methods (member_seen member.now) }
+{
     for k in 0..view.method_count() {
         if let Some(method) = view.method(k) {
-            if same_bytes(member.name, method.name)
-                && same_bytes(member.descriptor, method.descriptor)
-            {
+            if is_method(member, &method) {
                 return Some((k, method));
             }
         }
@@ -259,7 +285,9 @@ fn own_callee(
     view: &ClassView<'_>,
     kind: Invoke,
     member: &MemberRef<'_>,
-) -> Result<Option<Callee>, AllocError> {
+) -> Result<Option<Callee>, AllocError>
+    ensures { IfOk result (λ c. c ≡ own_callee view.now kind (member_seen member.now)) }
+{
     if !same_bytes(member.class, view.name()) || same_bytes(member.name, names::INIT) {
         return Ok(None);
     }
@@ -280,23 +308,32 @@ fn own_callee(
     }))
 }
 
+/// The member that a call of this kind names.
+fn member_at(pool: &Pool, kind: Invoke, i: u16) -> Option<MemberRef<'_>>
+    ensures { option_map member_seen result ≡ member_at pool.now kind i }
+{
+    match kind {
+        Invoke::Interface => pool.interface_method(i),
+        Invoke::Virtual | Invoke::Special | Invoke::Static => pool.method(i),
+    }
+}
+
 /// The method that a call of this kind and index reaches: a library call of the profile, or a method of the class
 /// (JVMS §5.4.3.3, §6.5). None where it is not known.
+#[tactic(auto, unfolding(crate::specs::Members::callee_at))]
 pub fn callee_at(
     alloc: Global,
     view: &ClassView<'_>,
     kind: Invoke,
     i: u16,
-) -> Result<Option<Callee>, AllocError> {
-    let found = match kind {
-        Invoke::Interface => view.pool().interface_method(i),
-        Invoke::Virtual | Invoke::Special | Invoke::Static => view.pool().method(i),
-    };
-    let Some(member) = found else {
+) -> Result<Option<Callee>, AllocError>
+    ensures { IfOk result (λ c. c ≡ callee_at view.now kind i) }
+{
+    let Some(member) = member_at(view.pool(), kind, i) else {
         return Ok(None);
     };
-    match native_of(kind, &member) {
-        Some(native) => library_callee(alloc, view.name(), kind, &member, native),
+    match row_of(kind, &member) {
+        Some(row) => library_callee(alloc, view.name(), row),
         None => own_callee(alloc, view, kind, &member),
     }
 }

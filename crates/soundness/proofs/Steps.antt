@@ -52,7 +52,7 @@ use Rattle.frames.specs.declared.frame.Environment.{Environment}
 use Rattle.frames.specs.Frames.{first_frame}
 use Rattle.transfer.specs.Forms.{forms_of, rearranged}
 use Rattle.transfer.specs.Transfer.{transfer, take_types, with_stack, take_put, type_of_pushed, loaded, store_type, stored, incremented, returned, returned_void, called, element_of, reference_loaded, has_length, measured, cast as cast_frame, asked}
-use Rattle.transfer.proofs.Rearranged.{took, by_forms_fit}
+use Rattle.transfer.proofs.RearrangedFit.{took, by_forms_fit}
 use Rattle.typecheck.specs.Typing.{Method, Class, instruction_at, IsFlow, own_number, own_of, call_of}
 use Rattle.bounds.specs.Paths.{Cost, Path, Bounds, StandsAt, length_of, words_at, last_cost, after_one, jumps, falls, calls, ends as ends_path}
 use Rattle.verify.specs.Checked.{IsFormed, IsChecked}

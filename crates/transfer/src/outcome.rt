@@ -3,7 +3,10 @@
 ghost use Rattle.std.specs.Prelude.{◌≡◌, ◌<◌, ◌≤◌, ◌+◌, ◌&&◌, List, [], ◌∷◌, ◌++◌, length, IfOk, nat_le, if◌then◌else◌, slice_get, option_and_then, Some, None, reverse};
 ghost use Rattle.jtypes.specs.Lists.{change_before, result_list, only_if};
 ghost use Rattle.jtypes.specs.Types.{slots_by, slots_if, is_long, type_of_kind};
-ghost use Rattle.transfer.specs.Transfer.{take_types, with_stack, take_put, loaded, stored, store_type, without_long, incremented, returned, returned_void, reference_loaded, measured};
+ghost use Rattle.transfer.specs.Transfer.{take_types, with_stack, take_put, loaded, stored, store_type, without_long, incremented, returned, returned_void, reference_loaded, has_length, measured, called, cast, asked, transfer};
+ghost use Rattle.frames.specs.Signatures.{constant_type};
+ghost use Rattle.frames.specs.Members.{callee_at};
+ghost use Rattle.transfer.specs.Forms.{rearranged};
 
 use crate::rearrange::rearrange;
 use crate::types::{
@@ -12,7 +15,7 @@ use crate::types::{
 use classfile::ClassView;
 use decode::Instruction;
 use frames::{Environment, Frame, TypeStack, assignable, callee_at, constant_type, slots_of};
-use jtypes::{Invoke, Items, JType, Kind, RefType};
+use jtypes::{Invoke, Items, JType, Kind, Rearrangement, RefType};
 use std::alloc::{AllocError, Global};
 
 /// Takes an operand of this type.
@@ -188,15 +191,23 @@ fn load_reference(environment: &Environment, frame: &mut Frame) -> Result<bool, 
 }
 
 /// Whether values of this type have a length: an array, or null.
-fn has_length(t: JType) -> bool {
-    matches!(
-        t,
-        JType::Null | JType::Ref(RefType::IntArray | RefType::LongArray | RefType::ObjectArray)
-    )
+fn has_length(t: JType) -> bool
+    ensures { result ≡ has_length t }
+{
+    match t {
+        JType::Null => true,
+        JType::Ref(r) => matches!(
+            r,
+            RefType::IntArray | RefType::LongArray | RefType::ObjectArray
+        ),
+        JType::Top | JType::Int | JType::Long => false,
+    }
 }
 
 /// Takes an array and puts its length.
-fn measure(environment: &Environment, frame: &mut Frame) -> Result<bool, AllocError> {
+fn measure(environment: &Environment, frame: &mut Frame) -> Result<bool, AllocError>
+    ensures { IfOk result (λ yes. measured environment.now frame.old frame.old.stack ≡ (if yes then Some frame.new else None)) }
+{
     let Some(array) = frame.stack.pop() else {
         return Ok(false);
     };
@@ -204,6 +215,18 @@ fn measure(environment: &Environment, frame: &mut Frame) -> Result<bool, AllocEr
         return Ok(false);
     }
     frame.stack.push(JType::Int, environment.max_stack)
+}
+
+/// Rearranges the operands, where they have room.
+#[tactic(auto, using(crate::proofs::Steps::frame_with_room))]
+fn rearrange_operands(
+    environment: &Environment,
+    frame: &mut Frame,
+    rearrangement: Rearrangement,
+) -> Result<bool, AllocError>
+    ensures { IfOk result (λ yes. option_and_then (with_stack environment.now frame.old) (rearranged is_long rearrangement frame.old.stack) ≡ (if yes then Some frame.new else None)) }
+{
+    rearrange(&mut frame.stack, rearrangement, environment.max_stack)
 }
 
 /// Takes a call's arguments and puts its result.
@@ -214,7 +237,9 @@ fn call(
     frame: &mut Frame,
     kind: Invoke,
     i: u16,
-) -> Result<bool, AllocError> {
+) -> Result<bool, AllocError>
+    ensures { IfOk result (λ yes. called environment.now frame.old (callee_at view.now kind i) ≡ (if yes then Some frame.new else None)) }
+{
     let Some(callee) = callee_at(alloc, view, kind, i)? else {
         return Ok(false);
     };
@@ -224,24 +249,36 @@ fn call(
     put(&mut frame.stack, environment.max_stack, callee.result)
 }
 
-/// Takes a reference and puts another operand, where a Class constant names a known type.
-fn cast(
+/// Takes a reference and puts one of the type that a Class constant names.
+fn check_cast(
     environment: &Environment,
     view: &ClassView<'_>,
     frame: &mut Frame,
     i: u16,
-    asked: bool,
-) -> Result<bool, AllocError> {
+) -> Result<bool, AllocError>
+    ensures { IfOk result (λ yes. cast environment.now frame.old (constant_type view.now i) ≡ (if yes then Some frame.new else None)) }
+{
     let Some(r) = constant_type(view, i) else {
         return Ok(false);
     };
-    let operand = if asked { JType::Int } else { JType::Ref(r) };
-    take_put(
-        environment,
-        frame,
-        &[JType::Ref(RefType::Object)],
-        Some(operand),
-    )
+    let object = JType::Ref(RefType::Object);
+    take_put(environment, frame, &[object], Some(JType::Ref(r)))
+}
+
+/// Takes a reference and puts an int, where a Class constant names a known type.
+fn instance_of(
+    environment: &Environment,
+    view: &ClassView<'_>,
+    frame: &mut Frame,
+    i: u16,
+) -> Result<bool, AllocError>
+    ensures { IfOk result (λ yes. asked environment.now frame.old (constant_type view.now i) ≡ (if yes then Some frame.new else None)) }
+{
+    let object = JType::Ref(RefType::Object);
+    match constant_type(view, i) {
+        Some(_) => take_put(environment, frame, &[object], Some(JType::Int)),
+        None => Ok(false),
+    }
 }
 
 /// Makes the frame an instruction's outcome in a method (JVMS §4.10.1.9). False where there is none: the frame then
@@ -252,7 +289,9 @@ pub fn apply(
     environment: &Environment,
     view: &ClassView<'_>,
     frame: &mut Frame,
-) -> Result<bool, AllocError> {
+) -> Result<bool, AllocError>
+    ensures { IfOk result (λ yes. transfer view.now environment.now instruction.now frame.old ≡ (if yes then Some frame.new else None)) }
+{
     match *instruction {
         Instruction::Nop | Instruction::Goto(_) => Ok(true),
         Instruction::Push(p) => take_put(environment, frame, &[], Some(type_of_pushed(p))),
@@ -260,7 +299,7 @@ pub fn apply(
         Instruction::Store(kind, n) => Ok(store(frame, kind, n)),
         Instruction::Increment(n, _) => Ok(holds_int(frame, n)),
         Instruction::Operate(o) => take_put(environment, frame, takes_of(o), Some(puts_of(o))),
-        Instruction::Rearrange(r) => rearrange(&mut frame.stack, r, environment.max_stack),
+        Instruction::Rearrange(r) => rearrange_operands(environment, frame, r),
         Instruction::Branch(test, _) => take_put(environment, frame, takes_of_test(test), None),
         Instruction::Return(kind) => Ok(may_return(frame, kind, environment.signature.result)),
         Instruction::ReturnVoid => Ok(environment.signature.result.is_none()),
@@ -279,7 +318,7 @@ pub fn apply(
         }
         Instruction::ReferenceLoad => load_reference(environment, frame),
         Instruction::ArrayLength => measure(environment, frame),
-        Instruction::CheckCast(i) => cast(environment, view, frame, i, false),
-        Instruction::InstanceOf(i) => cast(environment, view, frame, i, true),
+        Instruction::CheckCast(i) => check_cast(environment, view, frame, i),
+        Instruction::InstanceOf(i) => instance_of(environment, view, frame, i),
     }
 }

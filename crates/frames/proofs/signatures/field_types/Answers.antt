@@ -1,4 +1,4 @@
-use Rattle.std.proofs.Common.{sym, ◌∙◌, ap, Some}
+use Rattle.std.proofs.Common.{sym}
 use Rattle.frames.proofs.Rows.{found_more, found_none, found_all}
 use Rattle.frames.proofs.signatures.field_types.Goals as goal
 
