@@ -1,6 +1,6 @@
 //! The types of operands.
 
-ghost use Rattle.std.specs.Prelude.{◌≡◌, nat_le, [], ◌∷◌, IfOk, OnErr, if◌then◌else◌, MatchOption, slice_get};
+ghost use Rattle.std.specs.Prelude.{◌≡◌, ◌==◌, length, nat_le, [], ◌∷◌, IfOk, OnErr, if◌then◌else◌, MatchOption, slice_get};
 ghost use Rattle.jtypes.specs.Types.{slots_by, is_long};
 
 use jtypes::JType;
@@ -45,6 +45,19 @@ impl TypeStack {
             types: Vec::new(alloc),
             slots: 0,
         }
+    }
+
+    /// How many operands there are; a long is one.
+    pub fn len(&self) -> usize
+        ensures { result ≡ length self.now }
+    {
+        self.types.len()
+    }
+
+    pub fn is_empty(&self) -> bool
+        ensures { result ≡ (length self.now == 0) }
+    {
+        self.types.is_empty()
     }
 
     /// The slots that the operands take.
