@@ -1,5 +1,9 @@
 //! The frames that a StackMapTable declares.
 
+ghost use Rattle.std.specs.Prelude.{◌≡◌, ◌⊎◌, map, IfOk, IfErr};
+ghost use Rattle.frames.specs.StackMap.{IsDeclared};
+ghost use Rattle.frames.specs.Seen.{AreInOrder, declared_seen};
+
 use crate::{Environment, Frame};
 use classfile::ClassView;
 use decode::Code;
@@ -16,11 +20,15 @@ pub struct Declared {
 /// The frames that a method's StackMapTable attributes declare. No table is read yet: where there is one, it is refused.
 pub fn read_frames(
     alloc: Global,
-    _environment: &Environment,
+    environment: &Environment,
     tables: &[&[u8]],
-    _code: &Code,
-    _view: &ClassView<'_>,
-) -> Result<Vec<Declared>, Refusal> {
+    code: &Code,
+    view: &ClassView<'_>,
+) -> Result<Vec<Declared>, Refusal>
+    // The declared frames, by rising places.
+    ensures declared { IfOk result (λ ds. IsDeclared view.now environment.now code.now (map (λ t. t.now) tables.now) (declared_seen ds.items)) }
+    ensures order { IfOk result (λ ds. AreInOrder ds.items) }
+{
     if tables.is_empty() {
         Ok(Vec::new(alloc))
     } else {

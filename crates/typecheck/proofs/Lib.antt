@@ -1,3 +1,5 @@
 pub mod Compared
 pub mod Consecutive
+pub mod DeclaredPlaces
+pub mod LackingFrames
 pub mod Passes

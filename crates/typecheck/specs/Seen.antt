@@ -1,15 +1,91 @@
--- The code's rows as the definitions see them, and a step of a comparison.
-use Rattle.std.specs.Prelude.{ℕ, Bool, false, List, map, Option, Some}
+-- What the parts of the check answer: the pass by its results.
+use Rattle.std.specs.Prelude.{ℕ, min, Bool, true, false, not, ◌&&◌, ◌||◌, List, [], ◌∷◌, Option, Some, None, is_some, Result, Ok, Err, ℤ, pos, negsuc, if◌then◌else◌}
+use Rattle.jtypes.specs.declared.refusal.Refusal.{Refusal}
+use Rattle.jtypes.specs.declared.refusal.Refusal.TheVariants.{BadStackMap, TypeMismatch, FallsOff}
 use Rattle.jtypes.specs.declared.types.JType.{JType}
 use Rattle.jtypes.specs.Types.{assignable}
+use Rattle.classfile.specs.View.{ClassView}
+use Rattle.decode.specs.declared.instruction.Placed.{Placed}
+use Rattle.decode.specs.Places.{at_place, target_of, falls_through}
+use Rattle.frames.specs.declared.frame.Environment.{Environment}
 use Rattle.frames.specs.declared.frame.Frame.{Frame}
+use Rattle.frames.specs.Frames.{frame_in}
+use Rattle.transfer.specs.Transfer.{transfer}
 use Rattle.frames.specs.declared.table.Declared.{Declared}
+use Rattle.frames.specs.Seen.{declared_seen}
+use Rattle.typecheck.specs.Typing.{Method}
+use Rattle.typecheck.specs.Pass.{frame_fits}
 
--- declared frames by their places
-abbrev pub declared_seen : List Declared → List (ℕ × Frame)
-declared_seen ds = map (λ d. (d.place, d.frame)) ds
+-- a method by the rows of the code
+abbrev pub method_seen : Environment → List Placed → List Declared → Method
+method_seen e code ds = record { environment = e; code = code; declared = declared_seen ds }
 
 -- there is a type in both, and the one may stand where the other is
 abbrev pub item_fits : Option JType → Option JType → Bool
 item_fits (Some t) (Some d) = assignable t d
 item_fits _ _ = false
+
+-- the frame declared at a branch's target
+abbrev pub target_frame : List (ℕ × Frame) → ℤ → Option Frame
+target_frame ds (pos q) = frame_in ds q
+target_frame ds (negsuc n) = None
+
+-- ---- lacking frames
+
+abbrev pub lacks_target : List (ℕ × Frame) → Option ℤ → Bool
+lacks_target ds None = false
+lacks_target ds (Some z) = not (is_some (target_frame ds z))
+
+-- no frame is declared at an instruction's target, or behind it where it doesn't fall through
+abbrev pub lacks_at : List Placed → List (ℕ × Frame) → Placed → Bool
+lacks_at code ds p = lacks_target ds (target_of p.instruction) || (not (falls_through p.instruction) && (is_some (at_place code p.next) && not (is_some (frame_in ds p.next))))
+
+-- ---- one instruction of the pass
+
+abbrev pub mismatch_at : ℕ → Refusal
+mismatch_at place = TypeMismatch (min place 4294967295)
+
+-- the frame with which an instruction is checked, from what flows there from a place and what is declared
+abbrev pub entered : ℕ → Option Frame → Option Frame → Result Frame Refusal
+entered from None None = Err BadStackMap
+entered from None (Some d) = Ok d
+entered from (Some f) None = Ok f
+entered from (Some f) (Some d) = if frame_fits f d then Ok d else Err (mismatch_at from)
+
+abbrev pub flows : Placed → Frame → Option Frame
+flows p g = if falls_through p.instruction then Some g else None
+
+-- the outcome meets what is declared at the target
+abbrev pub met : Placed → Frame → Option Frame → Result (Option Frame) Refusal
+met p g None = Err BadStackMap
+met p g (Some d) = if frame_fits g d then Ok (flows p g) else Err (mismatch_at p.place)
+
+abbrev pub branched : List (ℕ × Frame) → Placed → Frame → Option ℤ → Result (Option Frame) Refusal
+branched ds p g None = Ok (flows p g)
+branched ds p g (Some z) = met p g (target_frame ds z)
+
+abbrev pub left : List (ℕ × Frame) → Placed → Option Frame → Result (Option Frame) Refusal
+left ds p None = Err (mismatch_at p.place)
+left ds p (Some g) = branched ds p g (target_of p.instruction)
+
+abbrev pub after : ClassView → Environment → List (ℕ × Frame) → Placed → Result Frame Refusal → Result (Option Frame) Refusal
+after v e ds p (Err r) = Err r
+after v e ds p (Ok f) = left ds p (transfer v e p.instruction f)
+
+-- what flows on after one instruction
+abbrev pub advanced : ClassView → Environment → List (ℕ × Frame) → Placed → ℕ → Option Frame → Result (Option Frame) Refusal
+advanced v e ds p from flow = after v e ds p (entered from flow (frame_in ds p.place))
+
+-- ---- the whole pass
+
+abbrev pub ended : Option Frame → Result (Unit {0}) Refusal
+ended None = Ok tt
+ended (Some f) = Err FallsOff
+
+abbrev pub then_passed : Result (Option Frame) Refusal → (Option Frame → Result (Unit {0}) Refusal) → Result (Unit {0}) Refusal
+then_passed (Err r) rest = Err r
+then_passed (Ok flow) rest = rest flow
+
+abbrev pub passed : ClassView → Environment → List (ℕ × Frame) → ℕ → Option Frame → List Placed → Result (Unit {0}) Refusal
+passed v e ds from flow [] = ended flow
+passed v e ds from flow (p ∷ code) = then_passed (advanced v e ds p from flow) (λ next. passed v e ds p.place next code)

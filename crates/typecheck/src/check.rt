@@ -1,6 +1,13 @@
 //! Type checking of one method (JVMS §4.10.1).
 
-ghost use Rattle.std.specs.Prelude.{◌≡◌, IfOk};
+ghost use Rattle.std.specs.Prelude.{◌≡◌, ◌≢◌, is_some, option_copied, Some, Ok, Err, IfOk, IfErr, IsTrue, IsFalse};
+ghost use Rattle.jtypes.specs.declared.refusal.Refusal.{Refusal};
+ghost use Rattle.decode.specs.Places.{target_of};
+ghost use Rattle.frames.specs.Frames.{frame_in, first_frame};
+ghost use Rattle.frames.specs.Seen.{AreInOrder, declared_seen};
+ghost use Rattle.frames.specs.declared.frame.Environment.{Environment};
+ghost use Rattle.typecheck.specs.Mismatch.{LacksFrame};
+ghost use Rattle.typecheck.specs.Seen.{advanced, branched, entered, lacks_at, method_seen, mismatch_at, passed, target_frame};
 
 use crate::assign::frame_assignable;
 use crate::{Called, Typed};
@@ -11,65 +18,93 @@ use jtypes::Refusal;
 use std::alloc::{AllocError, Global};
 use transfer::apply;
 
-/// The frame that is declared at a place.
-fn declared_at(declared: &[Declared], place: usize) -> Option<&Frame> {
-    match declared.binary_search_by_key(&place, |d| d.place) {
-        Ok(i) => match declared.get(i) {
-            Some(d) => Some(&d.frame),
-            None => None,
-        },
-        Err(_) => None,
+/// The frame that is declared at a place. The search halves the row each time.
+fn declared_at(declared: &[Declared], place: usize) -> Option<&Frame>
+    requires { AreInOrder declared.now }
+    ensures { option_copied result ≡ frame_in (declared_seen declared.now) place }
+{
+    let i = declared.partition_point(|d| d.place < place);
+    match declared.get(i) {
+        Some(d) if d.place == place => Some(&d.frame),
+        _ => None,
     }
 }
 
-fn is_declared(declared: &[Declared], place: usize) -> bool {
+fn is_declared(declared: &[Declared], place: usize) -> bool
+    requires { AreInOrder declared.now }
+    ensures { result ≡ is_some (frame_in (declared_seen declared.now) place) }
+{
     declared_at(declared, place).is_some()
 }
 
 /// The frame declared at the target of an instruction that has one.
-fn declared_at_target<'a>(declared: &'a [Declared], target: i128) -> Option<&'a Frame> {
+fn declared_at_target(declared: &[Declared], target: i128) -> Option<&Frame>
+    requires { AreInOrder declared.now }
+    ensures { option_copied result ≡ target_frame (declared_seen declared.now) target }
+{
     match usize::try_from(target) {
         Ok(place) => declared_at(declared, place),
         Err(_) => None,
     }
 }
 
-/// Whether a branch target, or what follows a goto or a return, has no declared frame (JVMS §4.10.1).
-fn lacks_frame(code: &Code, declared: &[Declared]) -> bool {
-    for p in code.as_slice() {
-        if let Some(target) = p.instruction.target() {
-            if declared_at_target(declared, target).is_none() {
-                return true;
-            }
-        }
-        if !p.instruction.falls_through()
+/// Whether the branch target of an instruction, or what follows a goto or a return, has no declared frame (JVMS §4.10.1).
+fn lacks_at(code: &Code, declared: &[Declared], p: &Placed) -> bool
+    requires { AreInOrder declared.now }
+    ensures { result ≡ lacks_at code.now (declared_seen declared.now) p.now }
+{
+    let lacks_target = match p.instruction.target() {
+        Some(target) => declared_at_target(declared, target).is_none(),
+        None => false,
+    };
+    lacks_target
+        || (!p.instruction.falls_through()
             && code.at(p.next).is_some()
-            && !is_declared(declared, p.next)
-        {
+            && !is_declared(declared, p.next))
+}
+
+/// Whether an instruction of a method lacks a declared frame.
+fn lacks_frame(code: &Code, declared: &[Declared]) -> bool
+    requires { AreInOrder declared.now }
+    ensures some { IsTrue result → (e : Environment) → LacksFrame (method_seen e code.now declared.now) }
+    ensures none { IsFalse result → (e : Environment) → LacksFrame (method_seen e code.now declared.now) → ⊥ }
+{
+    for p in code.as_slice() {
+        if lacks_at(code, declared, p) {
             return true;
         }
     }
     false
 }
 
-fn copy_of(alloc: Global, frame: &Frame) -> Result<Frame, AllocError> {
+fn copy_of(alloc: Global, frame: &Frame) -> Result<Frame, AllocError>
+    ensures { IfOk result (λ f. f ≡ frame.now) }
+{
     Ok(Frame {
         locals: jtypes::Items::from_slice(alloc, frame.locals.as_slice())?,
         stack: frame.stack.copy(alloc)?,
     })
 }
 
-/// What flows into a place: the frame, and the place that is named where it does not fit.
-#[derive(Drop)]
-struct Flow {
-    frame: Option<Frame>,
-    from: usize,
+/// The refusal of the instruction at a place.
+fn mismatch(place: usize) -> Refusal
+    ensures { result ≡ mismatch_at place }
+{
+    Refusal::TypeMismatch(u32::try_from(place).unwrap_or(u32::MAX))
 }
 
-/// The frame with which an instruction is checked: the declared one, which what flows in has to fit.
-fn enter(alloc: Global, flow: Flow, declared: Option<&Frame>) -> Result<Frame, Refusal> {
-    let Flow { frame, from } = flow;
-    match (frame, declared) {
+/// The frame with which an instruction is checked: the declared one, which what flows in has to fit. Where it doesn't, the
+/// place that it comes from is named.
+fn enter(
+    alloc: Global,
+    from: usize,
+    flow: Option<Frame>,
+    declared: Option<&Frame>,
+) -> Result<Frame, Refusal>
+    ensures ok { IfOk result (λ f. entered from flow (option_copied declared.entry) ≡ Ok f) }
+    ensures err { IfErr result (λ r. r ≢ Refusal.NoMemory → entered from flow (option_copied declared.entry) ≡ Err r) }
+{
+    match (flow, declared) {
         (Some(frame), None) => Ok(frame),
         (None, Some(d)) => Ok(copy_of(alloc, d)?),
         (Some(frame), Some(d)) => {
@@ -83,43 +118,48 @@ fn enter(alloc: Global, flow: Flow, declared: Option<&Frame>) -> Result<Frame, R
     }
 }
 
-/// The refusal of the instruction at a place.
-fn mismatch(place: usize) -> Refusal {
-    Refusal::TypeMismatch(u32::try_from(place).unwrap_or(u32::MAX))
+/// What flows on from an instruction with this outcome, which has to fit what is declared at its target.
+fn leave(declared: &[Declared], p: &Placed, outcome: Frame) -> Result<Option<Frame>, Refusal>
+    requires { AreInOrder declared.now }
+    ensures { result ≡ branched (declared_seen declared.now) p.now outcome (target_of p.now.instruction) }
+{
+    if let Some(target) = p.instruction.target() {
+        match declared_at_target(declared, target) {
+            None => return Err(Refusal::BadStackMap),
+            Some(d) => {
+                if !frame_assignable(&outcome, d) {
+                    return Err(mismatch(p.place));
+                }
+            }
+        }
+    }
+    if p.instruction.falls_through() {
+        Ok(Some(outcome))
+    } else {
+        Ok(None)
+    }
 }
 
-/// What flows on after one instruction.
+/// What flows on after one instruction, from what flows in from a place.
 fn advance(
     alloc: Global,
     environment: &Environment,
     view: &ClassView<'_>,
     declared: &[Declared],
     p: &Placed,
-    flow: Flow,
-) -> Result<Flow, Refusal> {
-    let mut frame = enter(alloc, flow, declared_at(declared, p.place))?;
-    if !apply(alloc, &p.instruction, environment, view, &mut frame)? {
-        return Err(mismatch(p.place));
-    }
-    if let Some(target) = p.instruction.target() {
-        match declared_at_target(declared, target) {
-            None => return Err(Refusal::BadStackMap),
-            Some(d) => {
-                if !frame_assignable(&frame, d) {
-                    return Err(mismatch(p.place));
-                }
-            }
-        }
-    }
-    let frame = if p.instruction.falls_through() {
-        Some(frame)
+    from: usize,
+    flow: Option<Frame>,
+) -> Result<Option<Frame>, Refusal>
+    requires { AreInOrder declared.now }
+    ensures ok { IfOk result (λ next. advanced view.now environment.now (declared_seen declared.now) p.now from flow ≡ Ok next) }
+    ensures err { IfErr result (λ r. r ≢ Refusal.NoMemory → advanced view.now environment.now (declared_seen declared.now) p.now from flow ≡ Err r) }
+{
+    let mut frame = enter(alloc, from, flow, declared_at(declared, p.place))?;
+    if apply(alloc, &p.instruction, environment, view, &mut frame)? {
+        leave(declared, p, frame)
     } else {
-        None
-    };
-    Ok(Flow {
-        frame,
-        from: p.place,
-    })
+        Err(mismatch(p.place))
+    }
 }
 
 /// One pass over the instructions, in order.
@@ -129,15 +169,18 @@ fn pass(
     view: &ClassView<'_>,
     code: &Code,
     declared: &[Declared],
-) -> Result<(), Refusal> {
-    let mut flow = Flow {
-        frame: Some(environment.first_frame(alloc)?),
-        from: 0,
-    };
+) -> Result<(), Refusal>
+    requires { AreInOrder declared.now }
+    ensures ok { IfOk result (λ _. passed view.now environment.now (declared_seen declared.now) 0 (Some (first_frame environment.now)) code.now ≡ Ok tt) }
+    ensures err { IfErr result (λ r. r ≢ Refusal.NoMemory → passed view.now environment.now (declared_seen declared.now) 0 (Some (first_frame environment.now)) code.now ≡ Err r) }
+{
+    let mut from = 0;
+    let mut flow = Some(environment.first_frame(alloc)?);
     for p in code.as_slice() {
-        flow = advance(alloc, environment, view, declared, p, flow)?;
+        flow = advance(alloc, environment, view, declared, p, from, flow)?;
+        from = p.place;
     }
-    match flow.frame {
+    match flow {
         None => Ok(()),
         Some(_) => Err(Refusal::FallsOff),
     }
