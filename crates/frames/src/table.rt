@@ -1,6 +1,7 @@
 //! The frames that a StackMapTable declares.
 
 ghost use Rattle.std.specs.Prelude.{◌≡◌, ◌⊎◌, map, IfOk, IfErr};
+ghost use Rattle.jtypes.specs.declared.refusal.Refusal.{Refusal};
 ghost use Rattle.frames.specs.StackMap.{IsDeclared};
 ghost use Rattle.frames.specs.Seen.{AreInOrder, declared_seen};
 
@@ -28,6 +29,7 @@ pub fn read_frames(
     // The declared frames, by rising places.
     ensures declared { IfOk result (λ ds. IsDeclared view.now environment.now code.now (map (λ t. t.now) tables.now) (declared_seen ds.items)) }
     ensures order { IfOk result (λ ds. AreInOrder ds.items) }
+    ensures refusal { IfErr result (λ r. (r ≡ Refusal.NoMemory) ⊎ (r ≡ Refusal.BadStackMap)) }
 {
     if tables.is_empty() {
         Ok(Vec::new(alloc))

@@ -12,11 +12,10 @@ use Rattle.decode.specs.Code.{IsSequence}
 use Rattle.decode.specs.Places.{at_place, falls_through}
 use Rattle.frames.specs.declared.frame.Environment.{Environment}
 use Rattle.frames.specs.declared.frame.Frame.{Frame}
-use Rattle.frames.specs.Frames.{frame_in}
-use Rattle.frames.specs.StackMap.{Listed, IsRoomy, declared_of, IsDeclared, without, with_table}
 use Rattle.typecheck.specs.Typing.{Method, Class, IsWellTyped, instruction_at, declared_at}
 use Rattle.typecheck.specs.Mismatch.{LacksFrame, HasBadStackMap, FallsOffEnd, IsMismatch}
 use Rattle.typecheck.specs.Pass.{failure_of, IsReady}
+use Rattle.typecheck.proofs.DeclaredPlaces.{declared_stands}
 use Rattle.typecheck.proofs.Passes.{fails_at_mismatch, passes_typed}
 use Rattle.verify.specs.Shape.{is_constructor, empty}
 use Rattle.verify.specs.Verdict.{IsAccepted, IsClassOf, HasShape, HasInstructions, IsBody, BodyStands, TypesStand, by_shape, by_instructions, by_types}
@@ -25,22 +24,6 @@ use Rattle.verify.specs.Promise.{TypeSoundness, AcceptedIsChecked}
 use Rattle.soundness.proofs.SafeRuns.{type_soundness}
 use Rattle.soundness.proofs.Ranks.{accepted_has_ranks}
 use Rattle.soundness.proofs.AcceptedClasses.{accepted_is_named, accepted_process_is_instance, accepted_count, accepted_signed, accepted_is_formed, sequence_is_consecutive, any_from, InFile, in_file, one_contains}
-
--- a declared frame stands at an instruction
-roomy_stands : (e : Environment) (code : List Placed) (xs : List Listed) → All (IsRoomy e code) xs → (q : ℕ) (d : Frame) → frame_in (map (declared_of e) xs) q ≡ Some d → IsSome (at_place code q)
-roomy_stands e code [] h q d f = cc
-roomy_stands e code (x ∷ xs) h q d f = go (roomy_stands e code xs (λ k y l. h (suc k) y (omega (arith, l))) q d) (x.place == q) refl f
-  where
-    first : IsRoomy e code x
-    first = h 0 x (omega arith)
-
-    go : (frame_in (map (declared_of e) xs) q ≡ Some d → IsSome (at_place code q)) → (b : Bool) → (x.place == q) ≡ b → cond b (Some (declared_of e x).1) (frame_in (map (declared_of e) xs) q) ≡ Some d → IsSome (at_place code q)
-    go later true is k = subst (λ p. IsSome (at_place code p)) (eqb-true x.place q is) first.stands
-    go later false is k = later k
-
-declared_stands : (v : ClassView) (e : Environment) (code : List Placed) (tables : List (List ℕ)) (ds : List (ℕ × Frame)) → IsDeclared v e code tables ds → (q : ℕ) (d : Frame) → frame_in ds q ≡ Some d → IsSome (at_place code q)
-declared_stands v e code tables ds without q d h = cc
-declared_stands v e code tables ds (with_table content entries frames laid made roomy) q d h = roomy_stands e code frames roomy q d h
 
 -- a code with a byte has a last instruction
 last_of_some : (x : Placed) (xs : List Placed) → IsSome (last (x ∷ xs))

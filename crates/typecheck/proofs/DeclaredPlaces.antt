@@ -1,14 +1,19 @@
--- Looking for the frame that is declared at a place.
+-- Where frames are declared, and looking for one.
 use Rattle.std.proofs.Common.{rules, FitsSigned, to_z, of_z, ◌≡◌, ◌≢◌, ℕ, zero, suc, ◌+◌, ◌^◌, ◌<◌, ◌≤◌, Bool, true, false, cond, ltb, eqb, List, [], ◌∷◌, length, get_or, Option, Some, None, refl, sym, ap, ◌∙◌, subst, arith, inl, inr}
-use Rattle.std.specs.Prelude.{option_map, ◌⊎◌, ℤ, pos, negsuc}
+use Rattle.std.specs.Prelude.{map, All, IsSome, ◌==◌, option_map, ◌⊎◌, ℤ, pos, negsuc}
 use Rattle.std.specs.List.Sorted.{IsPartitionPoint}
 use Rattle.std.specs.Int.{w64, w128, FitsUnsigned}
-use Rattle.std.proofs.lemmas.Bool.{ne_eqb, cases_lt}
+use Rattle.std.proofs.lemmas.Bool.{eqb-true, ne_eqb, cases_lt}
 use Rattle.std.proofs.lemmas.Int.{to_z-of_z}
+use Rattle.classfile.specs.View.{ClassView}
+use Rattle.decode.specs.declared.instruction.Placed.{Placed}
+use Rattle.decode.specs.Places.{at_place}
 use Rattle.decode.proofs.Search.{first_by, found, missing}
 use Rattle.frames.specs.declared.frame.Frame.{Frame}
 use Rattle.frames.specs.declared.table.Declared.{Declared}
+use Rattle.frames.specs.declared.frame.Environment.{Environment}
 use Rattle.frames.specs.Frames.{frame_in}
+use Rattle.frames.specs.StackMap.{Listed, IsRoomy, declared_of, IsDeclared, without, with_table}
 use Rattle.frames.specs.Seen.{AreInOrder, declared_seen}
 use Rattle.typecheck.specs.Seen.{target_frame}
 
@@ -45,3 +50,19 @@ far_target ds order (pos q) fits unfit = go (cases_lt q (2 ^ 64))
     go : (q < 2 ^ 64) ⊎ (2 ^ 64 ≤ q) → None ≡ frame_in (declared_seen ds) q
     go (inr l) = sym (far ds order q l)
     go (inl less) = let same = to_z-of_z w128 (pos q) fits in absurd (unfit (rw same (search (rules, less))))
+
+-- a declared frame stands at an instruction
+roomy_stands : (e : Environment) (code : List Placed) (xs : List Listed) → All (IsRoomy e code) xs → (q : ℕ) (d : Frame) → frame_in (map (declared_of e) xs) q ≡ Some d → IsSome (at_place code q)
+roomy_stands e code [] h q d f = cc
+roomy_stands e code (x ∷ xs) h q d f = go (roomy_stands e code xs (λ k y l. h (suc k) y (omega (arith, l))) q d) (x.place == q) refl f
+  where
+    first : IsRoomy e code x
+    first = h 0 x (omega arith)
+
+    go : (frame_in (map (declared_of e) xs) q ≡ Some d → IsSome (at_place code q)) → (b : Bool) → (x.place == q) ≡ b → cond b (Some (declared_of e x).1) (frame_in (map (declared_of e) xs) q) ≡ Some d → IsSome (at_place code q)
+    go later true is k = subst (λ p. IsSome (at_place code p)) (eqb-true x.place q is) first.stands
+    go later false is k = later k
+
+pub declared_stands : (v : ClassView) (e : Environment) (code : List Placed) (tables : List (List ℕ)) (ds : List (ℕ × Frame)) → IsDeclared v e code tables ds → (q : ℕ) (d : Frame) → frame_in ds q ≡ Some d → IsSome (at_place code q)
+declared_stands v e code tables ds without q d h = cc
+declared_stands v e code tables ds (with_table content entries frames laid made roomy) q d h = roomy_stands e code frames roomy q d h

@@ -1,12 +1,15 @@
 //! Type checking of one method (JVMS §4.10.1).
 
-ghost use Rattle.std.specs.Prelude.{◌≡◌, ◌≢◌, is_some, option_copied, Some, Ok, Err, IfOk, IfErr, IsTrue, IsFalse};
+ghost use Rattle.std.specs.Prelude.{◌≡◌, ◌≢◌, ◌⊎◌, ℕ, List, [], map, min, is_some, option_copied, Some, Ok, Err, IfOk, IfErr, IsTrue, IsFalse};
 ghost use Rattle.jtypes.specs.declared.refusal.Refusal.{Refusal};
 ghost use Rattle.decode.specs.Places.{target_of};
 ghost use Rattle.frames.specs.Frames.{frame_in, first_frame};
 ghost use Rattle.frames.specs.Seen.{AreInOrder, declared_seen};
 ghost use Rattle.frames.specs.declared.frame.Environment.{Environment};
-ghost use Rattle.typecheck.specs.Mismatch.{LacksFrame};
+ghost use Rattle.frames.specs.declared.frame.Frame.{Frame};
+ghost use Rattle.frames.specs.StackMap.{IsDeclared};
+ghost use Rattle.typecheck.specs.Typing.{IsWellTyped};
+ghost use Rattle.typecheck.specs.Mismatch.{FallsOffEnd, IsMismatch, LacksFrame};
 ghost use Rattle.typecheck.specs.Seen.{advanced, branched, entered, lacks_at, method_seen, mismatch_at, passed, target_frame};
 
 use crate::assign::frame_assignable;
@@ -187,7 +190,9 @@ fn pass(
 }
 
 /// The calls of a code, with what they reach.
-fn calls_of(alloc: Global, view: &ClassView<'_>, code: &Code) -> Result<Vec<Called>, Refusal> {
+fn calls_of(alloc: Global, view: &ClassView<'_>, code: &Code) -> Result<Vec<Called>, Refusal>
+    ensures { IfErr result (λ r. (r ≡ Refusal.NoMemory) ⊎ (r ≡ Refusal.UnknownMember)) }
+{
     let mut calls = Vec::new(alloc);
     for p in code.as_slice() {
         if let Instruction::Invoke(kind, i) = p.instruction {
@@ -225,6 +230,12 @@ pub fn check_method(
     // What is answered is the method that was given.
     ensures method { IfOk result (λ t. (t.number ≡ number) × (t.is_process ≡ is_process)) }
     ensures body { IfOk result (λ t. (t.environment ≡ environment) × (t.code ≡ code)) }
+
+    // The method with the frames that its tables declare is well typed; a mismatch that is answered is the first place
+    // that fails; and a method that is said to fall off its end does, or has no instruction.
+    ensures typed { IfOk result (λ _. (ds : List (ℕ × Frame)) × IsDeclared view.now environment code (map (λ t. t.now) tables.now) ds × IsWellTyped view.now (record { environment = environment; code = code; declared = ds })) }
+    ensures mismatch { (place : ℕ) → result ≡ Err (Refusal.TypeMismatch place) → (ds : List (ℕ × Frame)) × IsDeclared view.now environment code (map (λ t. t.now) tables.now) ds × ((q : ℕ) × IsMismatch view.now (record { environment = environment; code = code; declared = ds }) q × (place ≡ min q 4294967295)) }
+    ensures falls { result ≡ Err Refusal.FallsOff → FallsOffEnd code ⊎ (code ≡ []) }
 {
     let declared = read_frames(alloc, &environment, tables, &code, view)?;
     if lacks_frame(&code, &declared) {

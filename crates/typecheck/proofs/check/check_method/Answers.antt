@@ -1,0 +1,53 @@
+use Rattle.std.proofs.Common.{rules, ◌≡◌, List, map, Some, Ok, Err, subst, sym, ◌∙◌, ap, refl}
+use Rattle.std.specs.Prelude.{Result}
+use Rattle.jtypes.specs.declared.refusal.Refusal.{Refusal}
+use Rattle.jtypes.specs.declared.refusal.Refusal.TheVariants.{TypeMismatch, FallsOff}
+use Rattle.decode.specs.Reading.{RisesFrom}
+use Rattle.frames.specs.declared.table.Declared.{Declared}
+use Rattle.frames.specs.Frames.{first_frame}
+use Rattle.frames.specs.Seen.{declared_seen}
+use Rattle.typecheck.specs.Mismatch.{LacksFrame}
+use Rattle.typecheck.specs.Seen.{method_seen, passed}
+use Rattle.typecheck.proofs.PassAnswers.{ready_of, well_typed, mismatch, falls_off_end}
+use Rattle.typecheck.proofs.check.check_method.Goals as goal
+
+pub returns-clause-typed : goal.returns-clause-typed
+returns-clause-typed c =
+    let v = c.args.view.now in
+    let e = c.args.environment in
+    let code = c.args.code in
+    let found = c.in_ok-declared in
+    let items = found.declared.items in
+    let rises = subst (RisesFrom 0) c.code.view_is c.code.invariant in
+    let whole = subst (λ (ds : List Declared). LacksFrame (method_seen e code ds) → ⊥) c.deref.ensures.value (c.lacks_frame.ensures.none c.if-lacks_frame.false e) in
+    let ready = ready_of v e code (map (λ t. t.now) c.args.tables.now) items rises found.ensures.declared whole in
+    let passes = subst (λ (ds : List Declared). passed v e (declared_seen ds) 0 (Some (first_frame e)) code ≡ Ok tt) c.deref-2.ensures.value c.in_ok-pass.ensures.ok in
+    (declared_seen items, found.ensures.declared, well_typed v (method_seen e code items) ready passes)
+
+pub returns-in_err-pass-clause-mismatch : goal.returns-in_err-pass-clause-mismatch
+returns-in_err-pass-clause-mismatch c = λ place f.
+    let v = c.args.view.now in
+    let e = c.args.environment in
+    let code = c.args.code in
+    let found = c.in_ok-declared in
+    let items = found.declared.items in
+    let rises = subst (RisesFrom 0) c.code.view_is c.code.invariant in
+    let whole = subst (λ (ds : List Declared). LacksFrame (method_seen e code ds) → ⊥) c.deref.ensures.value (c.lacks_frame.ensures.none c.if-lacks_frame.false e) in
+    let ready = ready_of v e code (map (λ t. t.now) c.args.tables.now) items rises found.ensures.declared whole in
+    let answer : c.in_err-pass.field-0.0 ≡ TypeMismatch place = search rules in
+    let passes = subst (λ (ds : List Declared). passed v e (declared_seen ds) 0 (Some (first_frame e)) code ≡ Err (TypeMismatch place)) c.deref-2.ensures.value (c.in_err-pass.ensures.err (λ n. cc (answer, n)) ∙ ap Err answer) in
+    (declared_seen items, found.ensures.declared, mismatch v (method_seen e code items) ready place passes)
+
+pub returns-in_err-pass-clause-falls : goal.returns-in_err-pass-clause-falls
+returns-in_err-pass-clause-falls c = λ f.
+    let v = c.args.view.now in
+    let e = c.args.environment in
+    let code = c.args.code in
+    let found = c.in_ok-declared in
+    let items = found.declared.items in
+    let rises = subst (RisesFrom 0) c.code.view_is c.code.invariant in
+    let whole = subst (λ (ds : List Declared). LacksFrame (method_seen e code ds) → ⊥) c.deref.ensures.value (c.lacks_frame.ensures.none c.if-lacks_frame.false e) in
+    let ready = ready_of v e code (map (λ t. t.now) c.args.tables.now) items rises found.ensures.declared whole in
+    let answer : c.in_err-pass.field-0.0 ≡ FallsOff = search rules in
+    let passes = subst (λ (ds : List Declared). passed v e (declared_seen ds) 0 (Some (first_frame e)) code ≡ Err FallsOff) c.deref-2.ensures.value (c.in_err-pass.ensures.err (λ n. cc (answer, n)) ∙ ap Err answer) in
+    falls_off_end v (method_seen e code items) ready passes
