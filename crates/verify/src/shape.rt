@@ -1,61 +1,130 @@
 //! The shape of a class: its header, its constructor, its methods and their codes.
 
-use classfile::{ClassFile, CodeParts, Member, contents_named, parts_of_code};
+ghost use Rattle.std.specs.Prelude.{◌≡◌, ◌⊎◌, not, ◌&&◌, ◌||◌, ◌<◌, [], ◌∷◌, length, map, nat_eq, Any, Some, option_and_then, IfOk, MatchResult};
+ghost use Rattle.std.specs.List.{list_any};
+ghost use Rattle.jtypes.specs.declared.refusal.Refusal.{Refusal};
+ghost use Rattle.jtypes.specs.Lists.{same_bytes, is_one_of, only};
+ghost use Rattle.constpool.specs.declared.descriptor.Sig.{Sig};
+ghost use Rattle.constpool.specs.Descriptor.{sig_of};
+ghost use Rattle.constpool.specs.Lookup.{class_at};
+ghost use Rattle.constpool.specs.Names.{entry_processor_name, cache_entry_name, int_array_name, long_array_name, object_array_name, math_name};
+ghost use Rattle.classfile.specs.Code.{is_text, parts_of_code};
+ghost use Rattle.classfile.specs.View.{method_view, text_at, view_of};
+ghost use Rattle.frames.specs.Signatures.{has_flag, is_abstract, is_native};
+ghost use Rattle.verify.specs.Shape.{HasBadHeader, has_other_kind, is_constructor, reserved_names, slots_taken};
+ghost use Rattle.verify.specs.Shaping.{Judges, has_header, is_named_process, HasSlots, DescriptorStands, ArePartsGood, PartsStand, HasGoodCode, MethodCodeStands};
+
+use classfile::{ClassFile, CodeParts, Member, MethodView, contents_named, parts_of_code};
 use constpool::{names, param_slots, parse_method_descriptor, same_bytes};
 use frames::{is_abstract, is_native, is_public, is_static, method_signature};
 use jtypes::Refusal;
-use std::alloc::Global;
+use std::alloc::{AllocError, Global};
 
-/// ACC_INTERFACE, ACC_ABSTRACT, ACC_ANNOTATION, ACC_ENUM (JVMS §4.1).
-const OTHER_KINDS: u16 = 0x0200 | 0x0400 | 0x2000 | 0x4000;
-
-/// The names that the class may not have.
-static RESERVED: [&[u8]; 11] = [
-    names::OBJECT,
-    names::NUMBER,
-    names::LONG,
-    names::INTEGER,
-    names::MUTABLE_ENTRY,
-    names::ENTRY_PROCESSOR,
-    names::CACHE_ENTRY,
-    names::INT_ARRAY,
-    names::LONG_ARRAY,
-    names::OBJECT_ARRAY,
-    names::MATH,
-];
-
-pub fn is_constructor(class: &ClassFile, method: &Member) -> bool {
+pub fn is_constructor(class: &ClassFile, method: &Member) -> bool
+    ensures { result ≡ is_constructor class.now.pool method.now }
+{
     same_bytes(class.method_name(method), names::INIT)
 }
 
 /// Whether a method has the name and the erased descriptor of `EntryProcessor.process`.
-pub fn is_process(class: &ClassFile, method: &Member) -> bool {
+pub fn is_process(class: &ClassFile, method: &Member) -> bool
+    ensures { result ≡ is_named_process class.now.pool method.now }
+{
     same_bytes(class.method_name(method), names::PROCESS)
         && same_bytes(class.method_descriptor(method), names::PROCESS_DESCRIPTOR)
 }
 
 /// Whether a Class constant has this name.
-fn names_class(class: &ClassFile, i: u16, name: &[u8]) -> bool {
+fn names_class(class: &ClassFile, i: u16, name: &[u8]) -> bool
+    ensures { result ≡ is_text name.now (class_at class.now.pool i) }
+{
     match class.pool.class(i) {
         Some(found) => same_bytes(found, name),
         None => false,
     }
 }
 
-fn judge_header(class: &ClassFile) -> Result<(), Refusal> {
-    let parts = &class.parts;
-    let own = class.view().name();
-    let processes = parts
+/// Whether a flag is set (JVMS §4.1).
+fn has_flag(flag: u16, flags: u16) -> bool
+    requires { 0 < flag }
+    ensures { result ≡ has_flag flag flags }
+{
+    flags / flag % 2 == 1
+}
+
+/// ACC_INTERFACE, ACC_ABSTRACT, ACC_ANNOTATION or ACC_ENUM (JVMS §4.1).
+fn has_other_kind(flags: u16) -> bool
+    ensures { result ≡ has_other_kind flags }
+{
+    has_flag(0x0200, flags)
+        || has_flag(0x0400, flags)
+        || has_flag(0x2000, flags)
+        || has_flag(0x4000, flags)
+}
+
+/// Whether this is the name of an entry, of an array type or of `Math`.
+fn is_reserved_too(name: &[u8]) -> bool
+    ensures { result ≡ is_one_of name.now (cache_entry_name ∷ int_array_name ∷ long_array_name ∷ object_array_name ∷ math_name ∷ []) }
+{
+    if same_bytes(name, names::CACHE_ENTRY) {
+        true
+    } else if same_bytes(name, names::INT_ARRAY) {
+        true
+    } else if same_bytes(name, names::LONG_ARRAY) {
+        true
+    } else if same_bytes(name, names::OBJECT_ARRAY) {
+        true
+    } else {
+        same_bytes(name, names::MATH)
+    }
+}
+
+/// Whether the class may not have this name.
+fn is_reserved(name: &[u8]) -> bool
+    ensures { result ≡ is_one_of name.now reserved_names }
+{
+    if same_bytes(name, names::OBJECT) {
+        true
+    } else if same_bytes(name, names::NUMBER) {
+        true
+    } else if same_bytes(name, names::LONG) {
+        true
+    } else if same_bytes(name, names::INTEGER) {
+        true
+    } else if same_bytes(name, names::MUTABLE_ENTRY) {
+        true
+    } else if same_bytes(name, names::ENTRY_PROCESSOR) {
+        true
+    } else {
+        is_reserved_too(name)
+    }
+}
+
+fn is_processor(class: &ClassFile) -> bool
+    ensures { result ≡ list_any (λ i. is_text entry_processor_name (class_at class.now.pool i)) class.now.parts.interfaces }
+{
+    class
+        .parts
         .interfaces
         .as_slice()
         .iter()
-        .any(|i| names_class(class, *i, names::ENTRY_PROCESSOR));
-    let reserved = RESERVED.iter().any(|name| same_bytes(own, name));
-    if parts.flags & OTHER_KINDS == 0
-        && names_class(class, parts.super_class, names::OBJECT)
-        && processes
-        && !reserved
-    {
+        .any(|i| names_class(class, *i, names::ENTRY_PROCESSOR))
+}
+
+fn has_header(class: &ClassFile) -> bool
+    ensures { result ≡ has_header class.now.pool class.now.parts }
+{
+    !has_other_kind(class.parts.flags)
+        && names_class(class, class.parts.super_class, names::OBJECT)
+        && is_processor(class)
+        && !is_reserved(class.view().name())
+}
+
+#[tactic(auto, using(crate::proofs::Header::good_header, crate::proofs::Header::bad_header))]
+fn judge_header(class: &ClassFile) -> Result<(), Refusal>
+    ensures { MatchResult result (λ _. HasBadHeader class.now.pool class.now.parts → ⊥) (λ r. (r ≡ Refusal.BadHeader) × HasBadHeader class.now.pool class.now.parts) }
+{
+    if has_header(class) {
         Ok(())
     } else {
         Err(Refusal::BadHeader)
@@ -64,15 +133,19 @@ fn judge_header(class: &ClassFile) -> Result<(), Refusal> {
 
 /// The slots of a method's parameters, with the receiver; `BadDescriptor` where they are more than 255, or the
 /// descriptor isn't of the profile (JVMS §4.3.3).
-fn judge_descriptor(alloc: Global, class: &ClassFile, number: usize) -> Result<usize, Refusal> {
-    let view = class.view();
-    let Some(method) = view.method(number) else {
+fn judge_descriptor(alloc: Global, class: &ClassFile, method: &Member) -> Result<usize, Refusal>
+    ensures { Judges (HasSlots (view_of class.now.pool class.now.parts) (method_view class.now.pool method.now)) (DescriptorStands (view_of class.now.pool class.now.parts) (method_view class.now.pool method.now)) result }
+{
+    let descriptor = class.method_descriptor(method);
+    let sig = parse_method_descriptor(alloc, descriptor)?;
+    let seen = MethodView {
+        flags: method.flags,
+        name: class.method_name(method),
+        descriptor,
+    };
+    let Some(_) = method_signature(alloc, &class.view(), &seen)? else {
         return Err(Refusal::BadDescriptor);
     };
-    let sig = parse_method_descriptor(alloc, method.descriptor)?;
-    if method_signature(alloc, &view, &method)?.is_none() {
-        return Err(Refusal::BadDescriptor);
-    }
     let receiver = if is_static(method.flags) { 0 } else { 1 };
     let slots = param_slots(&sig);
     if slots > 255 - receiver {
@@ -81,28 +154,27 @@ fn judge_descriptor(alloc: Global, class: &ClassFile, number: usize) -> Result<u
     Ok(slots + receiver)
 }
 
-/// The only Code of a method, whose parameters take so many slots (JVMS §4.7.3).
-fn judge_code(
-    alloc: Global,
-    class: &ClassFile,
-    method: &Member,
-    slots: usize,
-) -> Result<CodeParts, Refusal> {
-    let codes = contents_named(
-        alloc,
-        &class.pool,
-        names::CODE,
-        method.attributes.as_slice(),
-    )?;
-    if is_abstract(method.flags) || is_native(method.flags) || codes.is_empty() {
-        return Err(Refusal::NoBody);
+/// Whether a method has no instructions: it is abstract or native, or has no Code.
+fn has_no_body(method: &Member, codes: &[&[u8]]) -> bool
+    ensures { result ≡ (is_abstract method.now.flags || is_native method.now.flags || nat_eq (length codes.now) 0) }
+{
+    is_abstract(method.flags) || is_native(method.flags) || codes.is_empty()
+}
+
+/// The parts of a Code that is the only one, where they fill it.
+fn only_code(alloc: Global, codes: &[&[u8]]) -> Result<Option<CodeParts>, AllocError>
+    ensures { IfOk result (λ found. found ≡ option_and_then parts_of_code (only (map (λ content. content.now) codes.now))) }
+{
+    match codes {
+        [content] => parts_of_code(alloc, content),
+        _ => Ok(None),
     }
-    let [content] = codes.as_slice() else {
-        return Err(Refusal::BadCode);
-    };
-    let Some(parts) = parts_of_code(alloc, content)? else {
-        return Err(Refusal::BadCode);
-    };
+}
+
+/// Judges the parts of a Code whose method's parameters take so many slots (JVMS §4.7.3).
+fn judge_parts(parts: &CodeParts, slots: usize) -> Result<(), Refusal>
+    ensures { Judges (λ _. ArePartsGood slots parts.now) (PartsStand slots parts.now) result }
+{
     let length = parts.code.as_slice().len();
     if length == 0 || length > 65_535 || usize::from(parts.max_locals) < slots {
         return Err(Refusal::BadCode);
@@ -110,6 +182,32 @@ fn judge_code(
     if parts.exceptions > 0 {
         return Err(Refusal::ExceptionTable);
     }
+    Ok(())
+}
+
+/// The only Code of a method, whose parameters take so many slots (JVMS §4.7.3).
+fn judge_code(
+    alloc: Global,
+    class: &ClassFile,
+    method: &Member,
+    slots: usize,
+) -> Result<CodeParts, Refusal>
+    requires { (s : Sig) × (sig_of (text_at class.now.pool method.now.descriptor) ≡ Some s) × (slots ≡ slots_taken method.now.flags s) }
+    ensures { Judges (HasGoodCode class.now.pool method.now) (MethodCodeStands class.now.pool method.now) result }
+{
+    let codes = contents_named(
+        alloc,
+        &class.pool,
+        names::CODE,
+        method.attributes.as_slice(),
+    )?;
+    if has_no_body(method, &codes) {
+        return Err(Refusal::NoBody);
+    }
+    let Some(parts) = only_code(alloc, &codes)? else {
+        return Err(Refusal::BadCode);
+    };
+    judge_parts(&parts, slots)?;
     Ok(parts)
 }
 
@@ -224,8 +322,8 @@ pub struct Shape {
 pub fn judge_shape(alloc: Global, class: &ClassFile) -> Result<Shape, Refusal> {
     judge_header(class)?;
     let mut codes = Vec::new(alloc);
-    for (number, method) in class.parts.methods.as_slice().iter().enumerate() {
-        let slots = judge_descriptor(alloc, class, number)?;
+    for method in class.parts.methods.as_slice() {
+        let slots = judge_descriptor(alloc, class, method)?;
         codes.push(judge_code(alloc, class, method, slots)?)?;
     }
     let constructor = judge_constructors(alloc, class, &codes)?;
