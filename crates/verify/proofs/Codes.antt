@@ -43,13 +43,13 @@ only_one : {A : Type 0} (x y : A) → Contains (x ∷ []) y → y ≡ x
 only_one x y (zero, lt, is) = sym is
 only_one x y (suc k, lt, is) = absurd (omega arith)
 
-some_is_only : (pool : List Slot) (m : Member) (c d : CodeParts) → HasCode pool m c → HasSomeCode pool m d → d ≡ c
+pub some_is_only : (pool : List Slot) (m : Member) (c d : CodeParts) → HasCode pool m c → HasSomeCode pool m d → d ≡ c
 some_is_only pool m c d h k =
     let same : k.0 ≡ h.0 = only_one h.0 k.0 (subst (λ (cs : List (List ℕ)). Contains cs k.0) h.1 k.1) in
     let one = laid_out_once code_parts h.0 [] h.0 [] d c (subst (λ (t : List ℕ). IsLaidOut code_parts t d) same k.2) h.2 refl in
     one.2
 
-has_some : (pool : List Slot) (m : Member) (c : CodeParts) → HasCode pool m c → HasSomeCode pool m c
+pub has_some : (pool : List Slot) (m : Member) (c : CodeParts) → HasCode pool m c → HasSomeCode pool m c
 has_some pool m c h = (h.0, subst (λ (cs : List (List ℕ)). Contains cs h.0) (sym h.1) (first_of h.0 []), h.2)
 
 -- ---- a method with a body, and one without

@@ -3,3 +3,8 @@ pub mod Header
 pub mod Descriptors
 pub mod Readable
 pub mod Codes
+pub mod Methods
+pub mod OnlyOne
+pub mod Constructor
+pub mod Names
+pub mod Shapes

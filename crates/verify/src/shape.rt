@@ -1,18 +1,18 @@
 //! The shape of a class: its header, its constructor, its methods and their codes.
 
 ghost use Rattle.std.specs.Prelude.{◌≡◌, ◌⊎◌, not, ◌&&◌, ◌||◌, ◌<◌, [], ◌∷◌, length, map, nat_eq, Any, Some, option_and_then, IfOk, MatchResult};
-ghost use Rattle.std.specs.List.{list_any};
+ghost use Rattle.std.specs.List.{AllZip, list_any};
 ghost use Rattle.jtypes.specs.declared.refusal.Refusal.{Refusal};
 ghost use Rattle.jtypes.specs.Lists.{same_bytes, is_one_of, only};
 ghost use Rattle.constpool.specs.declared.descriptor.Sig.{Sig};
 ghost use Rattle.constpool.specs.Descriptor.{sig_of};
-ghost use Rattle.constpool.specs.Lookup.{class_at};
+ghost use Rattle.constpool.specs.Lookup.{class_at, method_at};
 ghost use Rattle.constpool.specs.Names.{entry_processor_name, cache_entry_name, int_array_name, long_array_name, object_array_name, math_name};
 ghost use Rattle.classfile.specs.Code.{is_text, parts_of_code};
 ghost use Rattle.classfile.specs.View.{method_view, text_at, view_of};
 ghost use Rattle.frames.specs.Signatures.{has_flag, is_abstract, is_native};
-ghost use Rattle.verify.specs.Shape.{HasBadHeader, has_other_kind, is_constructor, reserved_names, slots_taken};
-ghost use Rattle.verify.specs.Shaping.{Judges, has_header, is_named_process, HasSlots, DescriptorStands, ArePartsGood, PartsStand, HasGoodCode, MethodCodeStands};
+ghost use Rattle.verify.specs.Shape.{HasBadHeader, HasCode, HasConstructor, ShapeStands, has_other_kind, is_constructor, reserved_names, slots_taken};
+ghost use Rattle.verify.specs.Shaping.{Judges, has_header, is_named_process, HasSlots, DescriptorStands, ArePartsGood, PartsStand, HasGoodCode, MethodCodeStands, HasGoodMethod, MethodStands, is_object_init, calls_object_init, has_constructor_code, has_constructor_type, FindsOnly, IsTheConstructor, are_doubles, has_doubles, is_initialiser, is_good_process, AreNamesGood, NamesStand, HasGoodShape};
 
 use classfile::{ClassFile, CodeParts, Member, MethodView, contents_named, parts_of_code};
 use constpool::{names, param_slots, parse_method_descriptor, same_bytes};
@@ -211,8 +211,33 @@ fn judge_code(
     Ok(parts)
 }
 
+fn judge_method(alloc: Global, class: &ClassFile, method: &Member) -> Result<CodeParts, Refusal>
+    ensures { Judges (HasGoodMethod class.now.pool class.now.parts method.now) (MethodStands class.now.pool class.now.parts method.now) result }
+{
+    let slots = judge_descriptor(alloc, class, method)?;
+    judge_code(alloc, class, method, slots)
+}
+
+/// The codes of methods, in their order.
+fn judge_methods(
+    alloc: Global,
+    class: &ClassFile,
+    methods: &[Member],
+) -> Result<Vec<CodeParts>, Refusal>
+    ensures { Judges (λ codes. AllZip (HasGoodMethod class.now.pool class.now.parts) methods.now codes.items) (λ r. Any (λ m. MethodStands class.now.pool class.now.parts m r) methods.now) result }
+{
+    let mut codes = Vec::new(alloc);
+    for method in methods {
+        let parts = judge_method(alloc, class, method)?;
+        codes.push(parts)?;
+    }
+    Ok(codes)
+}
+
 /// Whether this is Object's constructor.
-fn is_object_init(class: &ClassFile, i: u16) -> bool {
+fn is_object_init(class: &ClassFile, i: u16) -> bool
+    ensures { result ≡ is_object_init (method_at class.now.pool i) }
+{
     match class.pool.method(i) {
         Some(member) => {
             same_bytes(member.class, names::OBJECT)
@@ -224,88 +249,155 @@ fn is_object_init(class: &ClassFile, i: u16) -> bool {
 }
 
 /// Whether a code is aload_0, invokespecial java/lang/Object.<init>()V, return.
-fn calls_object_init(class: &ClassFile, code: &[u8]) -> bool {
+fn calls_object_init(class: &ClassFile, code: &[u8]) -> bool
+    ensures { result ≡ calls_object_init class.now.pool code.now }
+{
     match code {
-        [0x2A, 0xB7, high, low, 0xB1] => {
-            is_object_init(class, u16::from_be_bytes([*high, *low]))
+        [load, call, high, low, back] => {
+            *load == 0x2A
+                && *call == 0xB7
+                && *back == 0xB1
+                && is_object_init(class, u16::from(*high) * 256 + u16::from(*low))
         }
         _ => false,
     }
 }
 
-/// The constructor's form: an instance method `<init>()V` that calls Object's constructor and returns.
-fn judge_constructor(
+/// Whether a constructor's code has its form: it calls Object's constructor and returns.
+fn has_constructor_code(
     alloc: Global,
     class: &ClassFile,
-    method: &Member,
     parts: &CodeParts,
-) -> Result<(), Refusal> {
+) -> Result<bool, AllocError>
+    ensures { IfOk result (λ b. b ≡ has_constructor_code class.now.pool parts.now) }
+{
     let tables = contents_named(
         alloc,
         &class.pool,
         names::STACK_MAP_TABLE,
         parts.attributes.as_slice(),
     )?;
-    if !is_static(method.flags)
-        && same_bytes(class.method_descriptor(method), b"()V")
-        && calls_object_init(class, parts.code.as_slice())
+    Ok(calls_object_init(class, parts.code.as_slice())
         && parts.max_stack >= 1
         && parts.max_locals >= 1
-        && tables.is_empty()
-    {
-        Ok(())
-    } else {
-        Err(Refusal::ConstructorForm)
-    }
+        && tables.is_empty())
 }
 
-/// One method whose name says that it is the constructor, and its number.
+/// Whether a constructor is an instance method `()V`.
+fn has_constructor_type(class: &ClassFile, method: &Member) -> bool
+    ensures { result ≡ has_constructor_type class.now.pool method.now }
+{
+    !is_static(method.flags) && same_bytes(class.method_descriptor(method), b"()V")
+}
+
+/// The number of the method whose name says that it is the constructor; none where not one alone is.
+fn only_constructor(class: &ClassFile, methods: &[Member]) -> Option<usize>
+    ensures { FindsOnly (is_constructor class.now.pool) methods.now result }
+{
+    let mut found = None;
+    for number in 0..methods.len() {
+        if is_constructor(class, &methods[number]) {
+            if found.is_some() {
+                return None;
+            }
+            found = Some(number);
+        }
+    }
+    found
+}
+
+/// The constructor's number, where its form is an instance method `<init>()V` that calls Object's constructor and
+/// returns.
 fn judge_constructors(
     alloc: Global,
     class: &ClassFile,
     codes: &[CodeParts],
-) -> Result<usize, Refusal> {
-    let mut found = None;
-    let methods = class.parts.methods.as_slice().iter().zip(codes);
-    for (number, (method, parts)) in methods.enumerate() {
-        if is_constructor(class, method) {
-            if found.is_some() {
-                return Err(Refusal::ConstructorForm);
-            }
-            judge_constructor(alloc, class, method, parts)?;
-            found = Some(number);
-        }
+) -> Result<usize, Refusal>
+    requires { AllZip (HasCode class.now.pool) class.now.parts.methods codes.now }
+    ensures { Judges (IsTheConstructor class.now.pool class.now.parts) (λ r. (r ≡ Refusal.ConstructorForm) × (HasConstructor class.now.pool class.now.parts → ⊥)) result }
+{
+    let methods = class.parts.methods.as_slice();
+    let Some(number) = only_constructor(class, methods) else {
+        return Err(Refusal::ConstructorForm);
+    };
+    let Some(method) = methods.get(number) else {
+        return Err(Refusal::ConstructorForm);
+    };
+    let Some(parts) = codes.get(number) else {
+        return Err(Refusal::ConstructorForm);
+    };
+    if !has_constructor_type(class, method) {
+        return Err(Refusal::ConstructorForm);
     }
-    found.ok_or(Refusal::ConstructorForm)
+    if !has_constructor_code(alloc, class, parts)? {
+        return Err(Refusal::ConstructorForm);
+    }
+    Ok(number)
 }
 
 /// Whether two methods have one name and one descriptor (JVMS §4.6).
-fn are_doubles(class: &ClassFile, m: &Member, n: &Member) -> bool {
-    same_bytes(class.method_descriptor(m), class.method_descriptor(n))
-        && same_bytes(class.method_name(m), class.method_name(n))
+fn are_doubles(class: &ClassFile, m: &Member, n: &Member) -> bool
+    ensures { result ≡ are_doubles class.now.pool m.now n.now }
+{
+    same_bytes(class.method_name(m), class.method_name(n))
+        && same_bytes(class.method_descriptor(m), class.method_descriptor(n))
 }
 
-fn has_doubles(class: &ClassFile) -> bool {
-    let methods = class.parts.methods.as_slice();
-    methods.iter().enumerate().any(|(i, m)| methods
-        .iter()
-        .take(i)
-        .any(|n| are_doubles(class, m, n)))
+fn is_double(class: &ClassFile, m: &Member, others: &[Member]) -> bool
+    ensures { result ≡ list_any (are_doubles class.now.pool m.now) others.now }
+{
+    others.iter().any(|n| are_doubles(class, m, n))
+}
+
+fn has_doubles(class: &ClassFile, methods: &[Member]) -> bool
+    ensures { result ≡ has_doubles class.now.pool methods.now }
+{
+    let mut rest = methods;
+    while let Some((m, others)) = rest.split_first() {
+        if is_double(class, m, others) {
+            return true;
+        }
+        rest = others;
+    }
+    false
+}
+
+fn is_initialiser(class: &ClassFile, method: &Member) -> bool
+    ensures { result ≡ is_initialiser class.now.pool method.now }
+{
+    same_bytes(class.method_name(method), names::CLINIT)
+}
+
+fn has_initialiser(class: &ClassFile, methods: &[Member]) -> bool
+    ensures { result ≡ list_any (is_initialiser class.now.pool) methods.now }
+{
+    methods.iter().any(|m| is_initialiser(class, m))
+}
+
+/// Whether this is `process`, public and of an instance.
+fn is_good_process(class: &ClassFile, method: &Member) -> bool
+    ensures { result ≡ is_good_process class.now.pool method.now }
+{
+    is_process(class, method) && is_public(method.flags) && !is_static(method.flags)
+}
+
+fn has_process(class: &ClassFile, methods: &[Member]) -> bool
+    ensures { result ≡ list_any (is_good_process class.now.pool) methods.now }
+{
+    methods.iter().any(|m| is_good_process(class, m))
 }
 
 /// The methods by their names: no class initialiser, `process` public and of an instance, no doubles.
-fn judge_names(class: &ClassFile) -> Result<(), Refusal> {
-    let methods = class.parts.methods.as_slice();
-    if methods
-        .iter()
-        .any(|m| same_bytes(class.method_name(m), names::CLINIT))
-    {
+fn judge_names(class: &ClassFile, methods: &[Member]) -> Result<(), Refusal>
+    ensures { Judges (λ _. AreNamesGood class.now.pool methods.now) (NamesStand class.now.pool methods.now) result }
+{
+    if has_initialiser(class, methods) {
         return Err(Refusal::ClassInitialiser);
     }
-    if !methods.iter().any(|m| is_process(class, m) && is_public(m.flags) && !is_static(m.flags)) {
+    if !has_process(class, methods) {
         return Err(Refusal::NoProcess);
     }
-    if has_doubles(class) {
+    if has_doubles(class, methods) {
         return Err(Refusal::DuplicateMethod);
     }
     Ok(())
@@ -319,14 +411,13 @@ pub struct Shape {
 }
 
 /// Judges the shape of a class.
-pub fn judge_shape(alloc: Global, class: &ClassFile) -> Result<Shape, Refusal> {
+pub fn judge_shape(alloc: Global, class: &ClassFile) -> Result<Shape, Refusal>
+    ensures { Judges (λ shape. HasGoodShape class.now.pool class.now.parts shape.codes.items shape.constructor) (ShapeStands class.now.pool class.now.parts) result }
+{
     judge_header(class)?;
-    let mut codes = Vec::new(alloc);
-    for method in class.parts.methods.as_slice() {
-        let slots = judge_descriptor(alloc, class, method)?;
-        codes.push(judge_code(alloc, class, method, slots)?)?;
-    }
+    let methods = class.parts.methods.as_slice();
+    let codes = judge_methods(alloc, class, methods)?;
     let constructor = judge_constructors(alloc, class, &codes)?;
-    judge_names(class)?;
+    judge_names(class, methods)?;
     Ok(Shape { codes, constructor })
 }
