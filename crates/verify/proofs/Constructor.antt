@@ -103,7 +103,7 @@ is_code : (pool : List Slot) (c : CodeParts) → IsConstructorCode pool c → ha
 is_code pool c h =
     let called : calls_object_init pool c.code ≡ true = ap (calls_object_init pool) h.bytes ∙ ap is_object_init h.calls in
     all_four (calls_object_init pool c.code) (nat_le 1 c.max_stack) (nat_le 1 c.max_locals) (nat_eq (length (tables_of pool c)) 0)
-      called (le-leb 1 c.max_stack h.stack) (le-leb 1 c.max_locals h.locals) (eq-eqb (length (tables_of pool c)) 0 (ap length h.no_table))
+    called (le-leb 1 c.max_stack h.stack) (le-leb 1 c.max_locals h.locals) (eq-eqb (length (tables_of pool c)) 0 (ap length h.no_table))
 
 -- ---- the constructor
 

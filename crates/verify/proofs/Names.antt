@@ -54,7 +54,7 @@ process_seen pool m h =
 seen_process : (pool : List Slot) (m : Member) → IsProcess (method_view pool m) → is_good_process pool m ≡ true
 seen_process pool m p =
     hold_four (same_bytes (text_at pool m.name) process_name) (same_bytes (text_at pool m.descriptor) process_descriptor) (is_public m.flags) (is_static m.flags)
-      (is_same (text_at pool m.name) process_name p.name) (is_same (text_at pool m.descriptor) process_descriptor p.descriptor) p.public p.instance
+    (is_same (text_at pool m.name) process_name p.name) (is_same (text_at pool m.descriptor) process_descriptor p.descriptor) p.public p.instance
 
 pub process_is : (pool : List Slot) (ms : List Member) → list_any (is_good_process pool) ms ≡ true → Any IsProcess (map (method_view pool) ms)
 process_is pool ms h =
@@ -122,14 +122,19 @@ from_pair pool (x ∷ ms) (suc i) (suc j) m n lt a b h = go (cases_Bool (list_an
 pub doubles_are : (pool : List Slot) (p : Parts) → has_doubles pool p.methods ≡ true → (i j : ℕ) × (m : MethodView) × (n : MethodView) × AreDoubles (view_of pool p) i j m n
 doubles_are pool p h =
     let a = pair_from pool p.methods h in
-    let same = and_parts (same_bytes (text_at pool a.m.name) (text_at pool a.n.name)) (same_bytes (text_at pool a.m.descriptor) (text_at pool a.n.descriptor)) a.alike in
-    (a.i, a.j, method_view pool a.m, method_view pool a.n, record {
-      order = a.order;
-      first = slice_get-map (method_view pool) p.methods a.i ∙ ap (option_map (method_view pool)) a.first;
-      second = slice_get-map (method_view pool) p.methods a.j ∙ ap (option_map (method_view pool)) a.second;
-      name = same_is (text_at pool a.m.name) (text_at pool a.n.name) same.0;
-      descriptor = same_is (text_at pool a.m.descriptor) (text_at pool a.n.descriptor) same.1;
-    })
+    let same = and_parts (same_bytes (text_at pool a.m.name) (text_at pool a.n.name)) (same_bytes (text_at pool a.m.descriptor) (text_at pool a.n.descriptor)) a.alike in (
+      a.i,
+      a.j,
+      method_view pool a.m,
+      method_view pool a.n,
+      record {
+        order = a.order;
+        first = slice_get-map (method_view pool) p.methods a.i ∙ ap (option_map (method_view pool)) a.first;
+        second = slice_get-map (method_view pool) p.methods a.j ∙ ap (option_map (method_view pool)) a.second;
+        name = same_is (text_at pool a.m.name) (text_at pool a.n.name) same.0;
+        descriptor = same_is (text_at pool a.m.descriptor) (text_at pool a.n.descriptor) same.1;
+      },
+    )
 
 pub no_doubles : (pool : List Slot) (p : Parts) (i j : ℕ) (m n : MethodView) → has_doubles pool p.methods ≡ false → AreDoubles (view_of pool p) i j m n → ⊥
 no_doubles pool p i j m n h d =

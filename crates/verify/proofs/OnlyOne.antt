@@ -41,6 +41,7 @@ none_found {X = X} test xs i x found lt is h so_far = go found so_far
         let more : filter test (take (i + 1) xs) ≡ filter test (take i xs) ++ cond (test x) (x ∷ []) [] = filter_more test xs i x lt ∙ ap (λ (z : X). filter test (take i xs) ++ cond (test z) (z ∷ []) []) (sym is) in
         let passes : filter test (take i xs) ++ cond (test x) (x ∷ []) [] ≡ filter test (take i xs) = rw h (append-nil (filter test (take i xs))) in
         more ∙ passes
+
     go : (o : Option ℕ) → FoundSoFar test (take i xs) xs o → FoundSoFar test (take (i + 1) xs) xs o
     go None f = same ∙ f
     go (Some n) f = (f.0, f.1, same ∙ f.2)

@@ -277,10 +277,12 @@ fn has_constructor_code(
         names::STACK_MAP_TABLE,
         parts.attributes.as_slice(),
     )?;
-    Ok(calls_object_init(class, parts.code.as_slice())
-        && parts.max_stack >= 1
-        && parts.max_locals >= 1
-        && tables.is_empty())
+    Ok(
+        calls_object_init(class, parts.code.as_slice())
+            && parts.max_stack >= 1
+            && parts.max_locals >= 1
+            && tables.is_empty(),
+    )
 }
 
 /// Whether a constructor is an instance method `()V`.
