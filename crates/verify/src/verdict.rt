@@ -1,14 +1,18 @@
 //! The verdict, level by level.
 
-ghost use Rattle.std.specs.Prelude.{◌≡◌, ◌≢◌, ◌⊎◌, length, IfOk, IfErr};
+ghost use Rattle.std.specs.Prelude.{◌≡◌, ◌≢◌, ◌⊎◌, List, length, IfOk, IfErr};
 ghost use Rattle.jtypes.specs.declared.refusal.Refusal.{Refusal};
 ghost use Rattle.jtypes.specs.Layout.{IsLaidOut, Stands};
+ghost use Rattle.constpool.specs.Lookup.{Slot};
+ghost use Rattle.classfile.specs.declared.class_file.Parts.{Parts};
 ghost use Rattle.classfile.specs.Class.{class_file};
 ghost use Rattle.classfile.specs.View.{view_of};
 ghost use Rattle.bounds.specs.Limits.{IsWithinLimits};
+ghost use Rattle.verify.specs.Shape.{ShapeStands};
+ghost use Rattle.verify.specs.Verdict.{IsClassFile};
 
 use crate::instructions::judge_instructions;
-use crate::shape::{Shape, is_process, judge_shape};
+use crate::shape::{is_process, judge_shape};
 use bounds::{Bounds, bound};
 use classfile::{ClassFile, ClassView, CodeParts, contents_named, read_class};
 use constpool::names;
@@ -118,17 +122,21 @@ pub fn verify(alloc: Global, bytes: &[u8]) -> Result<Verified, Refusal>
     // The bytes, all of them, are this class.
     ensures found { IfOk result (λ v. IsLaidOut (class_file (length bytes.now)) bytes.now (v.pool, v.parts)) }
 
-    // Only a class whose layout nothing refuses is accepted, and its bounds are within the limits.
+    // Only a class whose layout and whose shape nothing refuses is accepted, and its bounds are within the limits.
     ensures laid_out { IfOk result (λ _. (r : Refusal) → Stands (class_file (length bytes.now)) bytes.now r → ⊥) }
+    ensures shaped { IfOk result (λ v. (r : Refusal) → ShapeStands v.pool v.parts r → ⊥) }
     ensures limits { IfOk result (λ v. IsWithinLimits v.bounds) }
 
     // Where something refuses the layout, it is a refusal of the layout that is answered.
     ensures layout { (q : Refusal) → Stands (class_file (length bytes.now)) bytes.now q → IfErr result (λ r. (r ≡ Refusal.NoMemory) ⊎ Stands (class_file (length bytes.now)) bytes.now r) }
+
+    // Where nothing refuses the layout, and something the shape, it is a refusal of the shape that is answered.
+    ensures shape { (pool : List Slot) (p : Parts) (q : Refusal) → IsClassFile bytes.now pool p → ShapeStands pool p q → IfErr result (λ r. (r ≡ Refusal.NoMemory) ⊎ ShapeStands pool p r) }
 {
     let class = read_class(alloc, bytes)?;
-    let Shape { codes, constructor } = judge_shape(alloc, &class)?;
-    let instructions = judge_instructions(alloc, &class, &codes, constructor)?;
-    let methods = judge_types(alloc, &class, &codes, instructions)?;
+    let shape = judge_shape(alloc, &class)?;
+    let instructions = judge_instructions(alloc, &class, &shape.codes, shape.constructor)?;
+    let methods = judge_types(alloc, &class, &shape.codes, instructions)?;
     let bounds = bound(alloc, &methods)?;
     Ok(Verified {
         class,

@@ -1,0 +1,10 @@
+pub mod Texts
+pub mod Header
+pub mod Descriptors
+pub mod Readable
+pub mod Codes
+pub mod Methods
+pub mod OnlyOne
+pub mod Constructor
+pub mod Names
+pub mod Shapes
