@@ -3,3 +3,4 @@ pub mod Consecutive
 pub mod DeclaredPlaces
 pub mod LackingFrames
 pub mod Passes
+pub mod CallsFound
