@@ -1,6 +1,6 @@
 -- A table of costs, filled in rounds: where ranks fall at calls and places rise within methods, so many rounds fill it.
-use Rattle.std.proofs.Common.{◌≡◌, ℕ, zero, suc, ◌+◌, ◌-◌, ◌*◌, ◌<◌, ◌≤◌, max, Bool, true, false, List, [], ◌∷◌, length, Option, Some, None, refl, sym, ap, ◌∙◌, subst, arith, ◌⊎◌, inl, inr}
-use Rattle.std.specs.Prelude.{slice_get, ℤ, pos, IsSome}
+use Rattle.std.proofs.Common.{◌≡◌, ℕ, zero, suc, ◌+◌, ◌-◌, ◌*◌, ◌<◌, ◌≤◌, max, Bool, true, List, [], ◌∷◌, length, Option, Some, None, refl, sym, ap, ◌∙◌, subst, arith, ◌⊎◌, inl, inr}
+use Rattle.std.specs.Prelude.{slice_get, ℤ}
 use Rattle.std.proofs.lemmas.Bool.{cases_lt}
 use Rattle.std.proofs.lemmas.Option.{slice_get_within}
 use Rattle.decode.specs.declared.instruction.Placed.{Placed}
@@ -101,21 +101,21 @@ module _ (c : Class) (set : ℕ → Bool) (on : LeadsOn c set) where
       row_is c (filled c n) j q m p s
       ∙ same_row c (filled c n) (filled c (suc n)) j q m p
       (λ e.
-          let to = on.next j q m p member s e in
-          let x = some_is (instruction_at m p.next) to.1 in
-          let there : StandsAt c j p.next m x.0 = record { method = s.method; instruction = x.1 } in
-          stable n j p.next m x.0 member there (on_in_method (weight j) top q p.next n low to.0 (inside j p.next m x.0 there)))
+      let to = on.next j q m p member s e in
+      let x = some_is (instruction_at m p.next) to.1 in
+      let there : StandsAt c j p.next m x.0 = record { method = s.method; instruction = x.1 } in
+      stable n j p.next m x.0 member there (on_in_method (weight j) top q p.next n low to.0 (inside j p.next m x.0 there)))
       (λ z e.
-          let to = on.target j q m p z member s e in
-          let x = some_is (instruction_at m to.0) to.3 in
-          let there : StandsAt c j to.0 m x.0 = record { method = s.method; instruction = x.1 } in
-          let goes : filled c n j to.0 ≡ filled c (suc n) j to.0 = stable n j to.0 m x.0 member there (on_in_method (weight j) top q to.0 n low to.2 (inside j to.0 m x.0 there)) in
-          subst (λ y. filled c n j (place_of y) ≡ filled c (suc n) j (place_of y)) (sym to.1) goes)
+      let to = on.target j q m p z member s e in
+      let x = some_is (instruction_at m to.0) to.3 in
+      let there : StandsAt c j to.0 m x.0 = record { method = s.method; instruction = x.1 } in
+      let goes : filled c n j to.0 ≡ filled c (suc n) j to.0 = stable n j to.0 m x.0 member there (on_in_method (weight j) top q to.0 n low to.2 (inside j to.0 m x.0 there)) in
+      subst (λ y. filled c n j (place_of y) ≡ filled c (suc n) j (place_of y)) (sym to.1) goes)
       (λ k e.
-          let to = on.callee j q k m p member s e in
-          let x = some_is (instruction_at to.1.0 0) to.1.2 in
-          let lower : on.ranks.0 k < on.ranks.0 j = on.ranks.1 j k (m, q, p, s.method, s.instruction, e) in
-          stable n k 0 to.1.0 x.0 to.0 (record { method = to.1.1; instruction = x.1 }) (on_to_callee (weight k) (weight j) top q n (product_rises (on.ranks.0 k) (on.ranks.0 j) top lower) (inside j q m p s) low))
+      let to = on.callee j q k m p member s e in
+      let x = some_is (instruction_at to.1.0 0) to.1.2 in
+      let lower : on.ranks.0 k < on.ranks.0 j = on.ranks.1 j k (m, q, p, s.method, s.instruction, e) in
+      stable n k 0 to.1.0 x.0 to.0 (record { method = to.1.1; instruction = x.1 }) (on_to_callee (weight k) (weight j) top q n (product_rises (on.ranks.0 k) (on.ranks.0 j) top lower) (inside j q m p s) low))
       ∙ sym (row_is c (filled c (suc n)) j q m p s)
 
   abbrev rounds : ℕ

@@ -1,13 +1,13 @@
 -- A table's costs are the greatest of all paths.
-use Rattle.std.proofs.Common.{◌≡◌, ℕ, zero, suc, ◌+◌, ◌-◌, ◌<◌, ◌≤◌, max, Bool, true, false, List, [], ◌∷◌, Option, Some, None, refl, sym, ap, ◌∙◌, subst, arith, ◌⊎◌, inl, inr}
-use Rattle.std.specs.Prelude.{slice_get, ℤ, pos, negsuc, ◌==◌, cond, IsSome, is_some}
+use Rattle.std.proofs.Common.{◌≡◌, ℕ, zero, suc, ◌+◌, ◌<◌, ◌≤◌, max, Bool, true, false, List, [], ◌∷◌, Option, Some, None, refl, sym, ap, ◌∙◌, subst, arith, ◌⊎◌, inl, inr}
+use Rattle.std.specs.Prelude.{slice_get, ℤ, pos, ◌==◌, cond, IsSome}
 use Rattle.std.proofs.lemmas.Bool.{eqb-true, cases_lt}
 use Rattle.decode.specs.declared.instruction.Instruction.{Instruction}
 use Rattle.decode.specs.declared.instruction.Instruction.TheVariants as instruction
 use Rattle.decode.specs.declared.instruction.Placed.{Placed}
 use Rattle.decode.specs.Places.{at_place, target_of, falls_through, is_return}
 use Rattle.typecheck.specs.Typing.{Method, Class, instruction_at, call_of}
-use Rattle.bounds.specs.Paths.{Cost, Path, StandsAt, IsWithin, SomePathTakes, own_slots, words_at, last_cost, after_one, after_call, ends, jumps, falls, calls}
+use Rattle.bounds.specs.Paths.{Cost, Path, StandsAt, IsWithin, SomePathTakes, words_at, last_cost, after_one, after_call, ends, jumps, falls, calls}
 use Rattle.bounds.specs.Table.{Costs, bounds_of, greater, place_of, cost_through, cost_by, IsTable, LeadsOn, TablesAreBounds}
 
 -- ---- no path exceeds
@@ -249,9 +249,9 @@ module _ (part : Cost → ℕ) (measure : IsMeasure part) (c : Class) (set : ℕ
       let p = x.0 in
       let s : StandsAt c j q m p = record { method = known; instruction = x.1 } in
       let r = attains_at j q m p s
-            (λ e. let n = on.next j q m p member s e in let far = n.0 in attains_in j m member known callees left p.next (omega (arith, far, long)) n.1)
-            (λ z e. let n = on.target j q m p z member s e in let far = n.2 in (n.0, n.1, attains_in j m member known callees left n.0 (omega (arith, far, long)) n.3))
-            (λ k e. callees q k p x.1 e)
+      (λ e. let n = on.next j q m p member s e in let far = n.0 in attains_in j m member known callees left p.next (omega (arith, far, long)) n.1)
+      (λ z e. let n = on.target j q m p z member s e in let far = n.2 in (n.0, n.1, attains_in j m member known callees left n.0 (omega (arith, far, long)) n.3))
+      (λ k e. callees q k p x.1 e)
       in
       (r.0, r.1, r.2 ∙ ap part (sym (table j q m p member s)))
 
@@ -259,10 +259,10 @@ module _ (part : Cost → ℕ) (measure : IsMeasure part) (c : Class) (set : ℕ
   attains_below zero j m member known inside low = absurd (omega (arith, low))
   attains_below (suc limit) j m member known inside low =
       attains_in j m member known (λ q k p code e.
-          let s : StandsAt c j q m p = record { method = known; instruction = code } in
-          let lower : on.ranks.0 k < on.ranks.0 j = on.ranks.1 j k (m, q, p, known, code, e) in
-          let to = on.callee j q k m p member s e in
-          attains_below limit k to.1.0 to.0 to.1.1 to.1.2 (omega (arith, lower, low))) (top_of m.code) 0 (omega arith) inside
+      let s : StandsAt c j q m p = record { method = known; instruction = code } in
+      let lower : on.ranks.0 k < on.ranks.0 j = on.ranks.1 j k (m, q, p, known, code, e) in
+      let to = on.callee j q k m p member s e in
+      attains_below limit k to.1.0 to.0 to.1.1 to.1.2 (omega (arith, lower, low))) (top_of m.code) 0 (omega arith) inside
 
   attains : (j : ℕ) (m : Method) → set j ≡ true → slice_get c.methods j ≡ Some m → IsSome (instruction_at m 0) → SomePathTakes c j part (part (t j 0))
   attains j m member known inside = attains_below (suc (on.ranks.0 j)) j m member known inside (omega arith)

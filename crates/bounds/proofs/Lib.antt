@@ -1,2 +1,5 @@
 pub mod Greatest
 pub mod FilledTables
+pub mod CellsFilled
+pub mod CellsOfTables
+pub mod KnownCosts

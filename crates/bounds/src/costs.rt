@@ -1,6 +1,13 @@
 //! What the paths of one method take at most.
 
-use decode::{Instruction, Placed};
+ghost use Rattle.std.specs.Prelude.{◌≡◌, ◌+◌, min, max, ◌-◌, length, slice_get, slice_set, IfOk};
+ghost use Rattle.decode.specs.Places.{pushed_before};
+ghost use Rattle.typecheck.specs.Typing.{own_number};
+ghost use Rattle.typecheck.specs.Calls.{AreRising};
+ghost use Rattle.bounds.specs.Cells.{either, one_before, call_before, slots_of, words_by, cell_at, cell_at_target, known_at, callee_cell, cell_by, size_by};
+ghost use Rattle.bounds.specs.Rows.{is_known, are_known, IsCostOf};
+
+use decode::{Code, Instruction, Placed};
 use frames::Reached;
 use std::alloc::{AllocError, Global};
 use typecheck::Typed;
@@ -24,7 +31,9 @@ impl Cost {
     };
 
     /// The greater of each.
-    fn or(self, other: Cost) -> Cost {
+    fn or(self, other: Cost) -> Cost
+        ensures { result ≡ either self other }
+    {
         Cost {
             steps: self.steps.max(other.steps),
             words: self.words.max(other.words),
@@ -34,7 +43,9 @@ impl Cost {
     }
 
     /// One instruction before, and so many words.
-    fn after_one(self, words: u32) -> Cost {
+    fn after_one(self, words: u32) -> Cost
+        ensures { result ≡ one_before words self }
+    {
         Cost {
             steps: self.steps.saturating_add(1),
             words: self.words.saturating_add(words),
@@ -44,7 +55,9 @@ impl Cost {
     }
 
     /// A call and its callee before, in an activation of so many slots.
-    fn after_call(self, own_slots: u32, callee: Cost) -> Cost {
+    fn after_call(self, own_slots: u32, callee: Cost) -> Cost
+        ensures { result ≡ call_before own_slots callee self }
+    {
         Cost {
             steps: self.steps.saturating_add(callee.steps).saturating_add(1),
             words: self.words.saturating_add(callee.words),
@@ -55,12 +68,16 @@ impl Cost {
 }
 
 /// The slots of one activation.
-fn own_slots(method: &Typed) -> u32 {
+fn own_slots(method: &Typed) -> u32
+    ensures { result ≡ slots_of method.now }
+{
     u32::from(method.environment.max_locals) + u32::from(method.environment.max_stack)
 }
 
 /// The words of a new array whose length is the constant before; other instructions take none.
-fn words_at(method: &Typed, p: &Placed) -> u32 {
+fn words_at(method: &Typed, p: &Placed) -> u32
+    ensures { result ≡ words_by method.now p.now.place p.now.instruction }
+{
     match p.instruction {
         Instruction::NewArray(_) => match pushed_before(method, p.place) {
             Some(n) => u32::try_from(n).unwrap_or(0).saturating_add(1),
@@ -71,7 +88,9 @@ fn words_at(method: &Typed, p: &Placed) -> u32 {
 }
 
 /// The int constant pushed directly before a place.
-fn pushed_before(method: &Typed, place: usize) -> Option<i32> {
+fn pushed_before(method: &Typed, place: usize) -> Option<i32>
+    ensures { result ≡ pushed_before method.now.code place }
+{
     method.code.before(place)?.instruction.pushed_int()
 }
 
@@ -85,22 +104,38 @@ pub fn has_length(method: &Typed, p: &Placed) -> bool {
 }
 
 /// The cost from a place on, in the row of the costs by places.
-fn cost_at(costs: &[Cost], place: usize) -> Cost {
+fn cost_at(costs: &[Cost], place: usize) -> Cost
+    ensures { result ≡ cell_at costs.now place }
+{
     costs.get(place).copied().unwrap_or(Cost::NONE)
 }
 
-fn cost_at_target(costs: &[Cost], target: i128) -> Cost {
+fn cost_at_target(costs: &[Cost], target: i128) -> Cost
+    ensures { result ≡ cell_at_target costs.now target }
+{
     match usize::try_from(target) {
         Ok(place) => cost_at(costs, place),
         Err(_) => Cost::NONE,
     }
 }
 
+/// The cost of the method with a number, if it is known.
+pub fn known_at(known: &[Option<Cost>], number: usize) -> Option<Cost>
+    ensures { result ≡ known_at known.now number }
+{
+    match known.get(number) {
+        Some(cost) => *cost,
+        None => None,
+    }
+}
+
 /// The cost of the method that an own call reaches, if it is known; of other calls none is asked.
-fn callee_cost(method: &Typed, place: usize, known: &[Option<Cost>]) -> Option<Cost> {
+fn callee_cost(method: &Typed, place: usize, known: &[Option<Cost>]) -> Option<Cost>
+    ensures { AreRising method.now.calls.items → result ≡ callee_cell method.now place known.now }
+{
     match method.callee(place) {
         Some(callee) => match callee.reached {
-            Reached::Own(k) => known.get(k).copied().flatten(),
+            Reached::Own(k) => known_at(known, k),
             Reached::Library(_) => None,
         },
         None => None,
@@ -108,7 +143,9 @@ fn callee_cost(method: &Typed, place: usize, known: &[Option<Cost>]) -> Option<C
 }
 
 /// The cost from one instruction on, from the costs behind it.
-fn cost_of(method: &Typed, p: &Placed, costs: &[Cost], known: &[Option<Cost>]) -> Cost {
+fn cost_of(method: &Typed, p: &Placed, costs: &[Cost], known: &[Option<Cost>]) -> Cost
+    ensures { AreRising method.now.calls.items → result ≡ cell_by method.now p.now costs.now known.now p.now.instruction }
+{
     let slots = own_slots(method);
     let next = cost_at(costs, p.next);
     match p.instruction {
@@ -128,28 +165,60 @@ fn cost_of(method: &Typed, p: &Placed, costs: &[Cost], known: &[Option<Cost>]) -
     }
 }
 
-/// Whether each own call of a method reaches one whose cost is known.
-pub fn is_ready(method: &Typed, known: &[Option<Cost>]) -> bool {
-    method.calls.iter().all(|called| match called.callee.reached {
-        Reached::Own(k) => known.get(k).copied().flatten().is_some(),
+/// Whether what a call reaches is of the library, or its cost is known.
+fn is_known(known: &[Option<Cost>], reached: Reached) -> bool
+    ensures { result ≡ is_known known.now (own_number reached) }
+{
+    match reached {
+        Reached::Own(k) => known_at(known, k).is_some(),
         Reached::Library(_) => true,
-    })
+    }
+}
+
+/// Whether each own call of a method reaches one whose cost is known.
+pub fn is_ready(method: &Typed, known: &[Option<Cost>]) -> bool
+    ensures { result ≡ are_known known.now method.now.calls.items }
+{
+    for called in &method.calls {
+        if !is_known(known, called.callee.reached) {
+            return false;
+        }
+    }
+    true
+}
+
+/// One more than the place of the last instruction.
+fn size_of(code: &Code) -> usize
+    ensures { result ≡ size_by (slice_get code.now (length code.now - 1)) }
+{
+    match code.as_slice().last() {
+        Some(p) => p.place.saturating_add(1),
+        None => 0,
+    }
+}
+
+/// Writes the cost of an instruction.
+fn put(costs: &mut [Cost], place: usize, cost: Cost)
+    ensures { costs.new ≡ slice_set costs.old place cost }
+{
+    if place < costs.len() {
+        costs[place] = cost;
+    }
 }
 
 /// What the paths of a method take at most, from what those of the methods that it calls do: one pass from its end to its start,
 /// since every branch goes forward.
-pub fn greatest(alloc: Global, method: &Typed, known: &[Option<Cost>]) -> Result<Cost, AllocError> {
+pub fn greatest(alloc: Global, method: &Typed, known: &[Option<Cost>]) -> Result<Cost, AllocError>
+    ensures { IfOk result (λ cost. IsCostOf method.now known.now cost) }
+{
     let code = method.code.as_slice();
-    let size = match code.last() {
-        Some(p) => p.place.saturating_add(1),
-        None => 0,
-    };
-    let mut costs = vec![in alloc; Cost::NONE; size]?;
-    for p in code.iter().rev() {
+    let mut costs = vec![in alloc; Cost::NONE; size_of(&method.code)]?;
+    let mut left = code.len();
+    while left > 0 {
+        left -= 1;
+        let p = &code[left];
         let cost = cost_of(method, p, &costs, known);
-        if let Some(row) = costs.get_mut(p.place) {
-            *row = cost;
-        }
+        put(&mut costs, p.place, cost);
     }
     Ok(cost_at(&costs, 0))
 }

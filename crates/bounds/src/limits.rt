@@ -1,9 +1,13 @@
 //! The bounds of a class, and their limits.
 
-ghost use Rattle.std.specs.Prelude.{IfOk};
+ghost use Rattle.std.specs.Prelude.{◌≡◌, ◌≢◌, ℕ, Bool, IfOk, IfErr};
+ghost use Rattle.jtypes.specs.declared.refusal.Refusal.{Refusal};
+ghost use Rattle.typecheck.specs.Typing.{Class, IsProcessOf};
 ghost use Rattle.bounds.specs.Limits.{IsWithinLimits, Judges};
+ghost use Rattle.bounds.specs.Table.{Costs, IsTable, LeadsOn};
+ghost use Rattle.bounds.specs.Rows.{AreRowsOf, AreKnown, StaysKnown, IsAnswerFor};
 
-use crate::costs::{Cost, greatest, has_length, is_ready};
+use crate::costs::{Cost, greatest, has_length, is_ready, known_at};
 use decode::Instruction;
 use jtypes::Refusal;
 use std::alloc::Global;
@@ -39,17 +43,32 @@ fn has_lengths(method: &Typed) -> bool {
     })
 }
 
+/// One method whose callees are known becomes known. Answers whether it wasn't known before.
+fn learn_one(alloc: Global, method: &Typed, known: &mut [Option<Cost>]) -> Result<bool, Refusal>
+    ensures table { StaysKnown method.now known.old known.new }
+    ensures err { IfErr result (λ r. r ≡ Refusal.NoMemory) }
+{
+    if known_at(known, method.number).is_some() || !is_ready(method, known) {
+        return Ok(false);
+    }
+    let cost = greatest(alloc, method, known)?;
+    if method.number < known.len() {
+        known[method.number] = Some(cost);
+        Ok(true)
+    } else {
+        Ok(false)
+    }
+}
+
 /// One more round over the methods: those whose callees are known become known. Answers whether there was one.
-fn learn(alloc: Global, methods: &[Typed], known: &mut [Option<Cost>]) -> Result<bool, Refusal> {
+fn learn(alloc: Global, methods: &[Typed], known: &mut [Option<Cost>]) -> Result<bool, Refusal>
+    ensures table { (c : Class) (set : ℕ → Bool) (t : Costs) → LeadsOn c set → IsTable c set t → AreRowsOf c set methods.now → AreKnown t known.old → AreKnown t known.new }
+    ensures err { IfErr result (λ r. r ≡ Refusal.NoMemory) }
+{
     let mut learnt = false;
     for method in methods {
-        let is_known = known.get(method.number).copied().flatten().is_some();
-        if !is_known && is_ready(method, known) {
-            let cost = greatest(alloc, method, known)?;
-            if let Some(row) = known.get_mut(method.number) {
-                *row = Some(cost);
-                learnt = true;
-            }
+        if learn_one(alloc, method, known)? {
+            learnt = true;
         }
     }
     Ok(learnt)
@@ -64,18 +83,28 @@ fn count_of(methods: &[Typed]) -> usize {
     count
 }
 
+/// Whether the cost of each method is known.
+fn are_all_known(methods: &[Typed], known: &[Option<Cost>]) -> bool {
+    for method in methods {
+        if known_at(known, method.number).is_none() {
+            return false;
+        }
+    }
+    true
+}
+
 /// The costs of the methods, by their numbers; `Recursive` where own calls make a circle.
-fn costs_of(alloc: Global, methods: &[Typed]) -> Result<Vec<Option<Cost>>, Refusal> {
+fn costs_of(alloc: Global, methods: &[Typed]) -> Result<Vec<Option<Cost>>, Refusal>
+    ensures table { IfOk result (λ known. (c : Class) (set : ℕ → Bool) (t : Costs) → LeadsOn c set → IsTable c set t → AreRowsOf c set methods.now → AreKnown t known.items) }
+    ensures err { IfErr result (λ r. r ≢ Refusal.NoMemory → r ≡ Refusal.Recursive) }
+{
     let mut known = vec![in alloc; None; count_of(methods)]?;
     for _ in 0..methods.len() {
         if !learn(alloc, methods, &mut known)? {
             break;
         }
     }
-    let whole = methods
-        .iter()
-        .all(|m| known.get(m.number).copied().flatten().is_some());
-    if whole {
+    if are_all_known(methods, &known) {
         Ok(known)
     } else {
         Err(Refusal::Recursive)
@@ -104,7 +133,9 @@ fn within_limits(cost: Cost) -> Result<Bounds, Refusal>
 
 /// The bounds of a class, from its methods but the constructor: the greatest over all paths of `process`.
 pub fn bound(alloc: Global, methods: &[Typed]) -> Result<Bounds, Refusal>
-    ensures { IfOk result IsWithinLimits }
+    ensures limits { IfOk result IsWithinLimits }
+    // Where these are the rows of a class's methods: the bounds are the class's, and a limit is exceeded by some path.
+    ensures answer { (c : Class) (set : ℕ → Bool) → LeadsOn c set → AreRowsOf c set methods.now → IsAnswerFor c result }
 {
     if !methods.iter().all(has_lengths) {
         return Err(Refusal::LengthNotConstant);
@@ -112,7 +143,7 @@ pub fn bound(alloc: Global, methods: &[Typed]) -> Result<Bounds, Refusal>
     let known = costs_of(alloc, methods)?;
     for method in methods {
         if method.is_process {
-            if let Some(cost) = known.get(method.number).copied().flatten() {
+            if let Some(cost) = known_at(&known, method.number) {
                 return within_limits(cost);
             }
         }

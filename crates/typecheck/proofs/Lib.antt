@@ -4,3 +4,4 @@ pub mod DeclaredPlaces
 pub mod LackingFrames
 pub mod PassAnswers
 pub mod Passes
+pub mod CallsFound
