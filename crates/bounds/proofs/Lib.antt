@@ -3,3 +3,4 @@ pub mod FilledTables
 pub mod CellsFilled
 pub mod CellsOfTables
 pub mod KnownCosts
+pub mod Circles

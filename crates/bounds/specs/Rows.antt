@@ -1,5 +1,5 @@
 -- The rows of methods that the check of types answers, as those of a class; and what is known of their costs.
-use Rattle.std.specs.Prelude.{◌≡◌, ℕ, ◌<◌, Bool, true, ◌&&◌, List, [], ◌∷◌, length, get_or, slice_get, Option, Some, None, IsSome, is_some, Result, Ok, Err, ◌⊎◌}
+use Rattle.std.specs.Prelude.{◌≡◌, ℕ, suc, ◌<◌, Bool, true, false, ◌&&◌, List, [], ◌∷◌, length, get_or, slice_get, Option, Some, None, IsSome, is_some, Result, Ok, Err, ◌⊎◌}
 use Rattle.jtypes.specs.declared.refusal.Refusal.{Refusal}
 use Rattle.jtypes.specs.declared.refusal.Refusal.TheVariants.{StepLimit, WordLimit, FrameLimit}
 use Rattle.decode.specs.declared.instruction.Placed.{Placed}
@@ -9,6 +9,7 @@ use Rattle.typecheck.specs.Calls.{AreRising, callee_in}
 use Rattle.typecheck.specs.declared.typed.Called.{Called}
 use Rattle.typecheck.specs.declared.typed.Typed.{Typed}
 use Rattle.bounds.specs.Table.{Costs, IsTable, LeadsOn}
+use Rattle.bounds.specs.Recursion.{IsRecursive}
 use Rattle.bounds.specs.Paths.{Bounds, AreBounds, SomePathExceeds, step_limit, word_limit, slot_limit, depth_limit}
 use Rattle.bounds.specs.declared.limits.Bounds as declared
 use Rattle.bounds.specs.Cells.{Cell, capped, known_at}
@@ -48,6 +49,51 @@ IsCostOf row known x =
 abbrev pub StaysKnown : Typed → List (Option Cell) → List (Option Cell) → Type 0
 StaysKnown row old new =
     (c : Class) (set : ℕ → Bool) (t : Costs) → LeadsOn c set → IsTable c set t → IsRowOf c row → set row.number ≡ true → AreKnown t old → AreKnown t new
+
+-- ---- rounds
+
+-- the costs that aren't known
+abbrev pub count_unknown : List (Option Cell) → ℕ
+count_unknown [] = 0
+count_unknown (None ∷ known) = suc (count_unknown known)
+count_unknown (Some x ∷ known) = count_unknown known
+
+-- a row whose cost isn't known has a callee whose cost isn't
+abbrev pub IsSettled : List (Option Cell) → Typed → Type 0
+IsSettled known row = known_at known row.number ≡ None → are_known known row.calls.items ≡ false
+
+-- something more is known, or the row is settled
+abbrev pub Learns : Typed → Bool → List (Option Cell) → List (Option Cell) → Type 0
+Learns row true old new = count_unknown new < count_unknown old
+Learns row false old new = (new ≡ old) × IsSettled old row
+
+abbrev pub LearnsUpTo : List Typed → ℕ → Bool → List (Option Cell) → List (Option Cell) → Type 0
+LearnsUpTo rows n true old new = count_unknown new < count_unknown old
+LearnsUpTo rows n false old new = (new ≡ old) × ((i : ℕ) (d : Typed) → i < n → IsSettled old (get_or rows i d))
+
+abbrev pub AreSettled : List Typed → List (Option Cell) → Type 0
+AreSettled rows known = (i : ℕ) (d : Typed) → i < length rows → IsSettled known (get_or rows i d)
+
+-- the numbers of the rows are below this
+abbrev pub AreBelow : List Typed → ℕ → Type 0
+AreBelow rows n = (i : ℕ) (d : Typed) → i < length rows → (get_or rows i d).number < n
+
+-- the cost of one of the rows isn't known
+abbrev pub OneIsUnknown : List Typed → List (Option Cell) → Type 0
+OneIsUnknown rows known = (i : ℕ) × (row : Typed) × (i < length rows) × (row ≡ get_or rows i row) × (known_at known row.number ≡ None)
+
+-- rows of all methods of the set, whose calls are those of instructions and reach methods of the set
+pub record AreAllRowsOf (c : Class) (set : ℕ → Bool) (rows : List Typed) : Type 0 where
+  pub are : AreRowsOf c set rows
+  pub each_has_one : (k : ℕ) → set k ≡ true → (i : ℕ) × (i < length rows) × ((d : Typed) → (get_or rows i d).number ≡ k)
+  pub placed : (i : ℕ) (d : Typed) → i < length rows → (q : ℕ) (x : Called) → q < length (get_or rows i d).calls.items → IsSome (at_place (get_or rows i d).code (get_or (get_or rows i d).calls.items q x).place)
+  pub reached : (i : ℕ) (d : Typed) → i < length rows → (place k : ℕ) → own_of (callee_in (get_or rows i d).calls.items place) ≡ Some k → set k ≡ true
+
+-- own calls make a circle
+abbrev pub IsCircleIn : List Typed → Type 0
+IsCircleIn rows = (c : Class) (set : ℕ → Bool) → AreAllRowsOf c set rows → IsRecursive c
+
+-- ---- the answer
 
 abbrev pub bounds_in : declared.Bounds → Bounds
 bounds_in b = record { steps = b.steps; words = b.words; slots = b.slots; depth = b.depth }

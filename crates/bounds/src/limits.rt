@@ -1,11 +1,11 @@
 //! The bounds of a class, and their limits.
 
-ghost use Rattle.std.specs.Prelude.{◌≡◌, ◌≢◌, ℕ, Bool, IfOk, IfErr};
+ghost use Rattle.std.specs.Prelude.{◌≡◌, ◌≢◌, ℕ, ◌<◌, ◌-◌, ◌^◌, Bool, length, IsFalse, IfOk, IfErr};
 ghost use Rattle.jtypes.specs.declared.refusal.Refusal.{Refusal};
 ghost use Rattle.typecheck.specs.Typing.{Class, IsProcessOf};
 ghost use Rattle.bounds.specs.Limits.{IsWithinLimits, Judges};
 ghost use Rattle.bounds.specs.Table.{Costs, IsTable, LeadsOn};
-ghost use Rattle.bounds.specs.Rows.{AreRowsOf, AreKnown, StaysKnown, IsAnswerFor};
+ghost use Rattle.bounds.specs.Rows.{AreRowsOf, AreKnown, AreBelow, StaysKnown, Learns, LearnsUpTo, OneIsUnknown, IsCircleIn, IsAnswerFor};
 
 use crate::costs::{Cost, greatest, has_length, is_ready, known_at};
 use decode::Instruction;
@@ -45,24 +45,24 @@ fn has_lengths(method: &Typed) -> bool {
 
 /// One method whose callees are known becomes known. Answers whether it wasn't known before.
 fn learn_one(alloc: Global, method: &Typed, known: &mut [Option<Cost>]) -> Result<bool, Refusal>
+    requires { method.now.number < length known.old }
     ensures table { StaysKnown method.now known.old known.new }
+    ensures ok { IfOk result (λ b. Learns method.now b known.old known.new) }
     ensures err { IfErr result (λ r. r ≡ Refusal.NoMemory) }
 {
     if known_at(known, method.number).is_some() || !is_ready(method, known) {
         return Ok(false);
     }
     let cost = greatest(alloc, method, known)?;
-    if method.number < known.len() {
-        known[method.number] = Some(cost);
-        Ok(true)
-    } else {
-        Ok(false)
-    }
+    known[method.number] = Some(cost);
+    Ok(true)
 }
 
 /// One more round over the methods: those whose callees are known become known. Answers whether there was one.
 fn learn(alloc: Global, methods: &[Typed], known: &mut [Option<Cost>]) -> Result<bool, Refusal>
+    requires { AreBelow methods.now (length known.old) }
     ensures table { (c : Class) (set : ℕ → Bool) (t : Costs) → LeadsOn c set → IsTable c set t → AreRowsOf c set methods.now → AreKnown t known.old → AreKnown t known.new }
+    ensures ok { IfOk result (λ b. LearnsUpTo methods.now (length methods.now) b known.old known.new) }
     ensures err { IfErr result (λ r. r ≡ Refusal.NoMemory) }
 {
     let mut learnt = false;
@@ -75,7 +75,9 @@ fn learn(alloc: Global, methods: &[Typed], known: &mut [Option<Cost>]) -> Result
 }
 
 /// One more than the greatest of the methods' numbers.
-fn count_of(methods: &[Typed]) -> usize {
+fn count_of(methods: &[Typed]) -> usize
+    ensures { result < 2 ^ 64 - 1 → AreBelow methods.now result }
+{
     let mut count = 0usize;
     for method in methods {
         count = count.max(method.number.saturating_add(1));
@@ -84,7 +86,9 @@ fn count_of(methods: &[Typed]) -> usize {
 }
 
 /// Whether the cost of each method is known.
-fn are_all_known(methods: &[Typed], known: &[Option<Cost>]) -> bool {
+fn are_all_known(methods: &[Typed], known: &[Option<Cost>]) -> bool
+    ensures { IsFalse result → OneIsUnknown methods.now known.now }
+{
     for method in methods {
         if known_at(known, method.number).is_none() {
             return false;
@@ -96,13 +100,12 @@ fn are_all_known(methods: &[Typed], known: &[Option<Cost>]) -> bool {
 /// The costs of the methods, by their numbers; `Recursive` where own calls make a circle.
 fn costs_of(alloc: Global, methods: &[Typed]) -> Result<Vec<Option<Cost>>, Refusal>
     ensures table { IfOk result (λ known. (c : Class) (set : ℕ → Bool) (t : Costs) → LeadsOn c set → IsTable c set t → AreRowsOf c set methods.now → AreKnown t known.items) }
-    ensures err { IfErr result (λ r. r ≢ Refusal.NoMemory → r ≡ Refusal.Recursive) }
+    ensures err { IfErr result (λ r. r ≢ Refusal.NoMemory → (r ≡ Refusal.Recursive) × IsCircleIn methods.now) }
 {
     let mut known = vec![in alloc; None; count_of(methods)]?;
-    for _ in 0..methods.len() {
-        if !learn(alloc, methods, &mut known)? {
-            break;
-        }
+    let mut goes_on = true;
+    while goes_on {
+        goes_on = learn(alloc, methods, &mut known)?;
     }
     if are_all_known(methods, &known) {
         Ok(known)
@@ -136,6 +139,8 @@ pub fn bound(alloc: Global, methods: &[Typed]) -> Result<Bounds, Refusal>
     ensures limits { IfOk result IsWithinLimits }
     // Where these are the rows of a class's methods: the bounds are the class's, and a limit is exceeded by some path.
     ensures answer { (c : Class) (set : ℕ → Bool) → LeadsOn c set → AreRowsOf c set methods.now → IsAnswerFor c result }
+    // Where they are the rows of all of them, the class is recursive where that is answered.
+    ensures recursive { IfErr result (λ r. r ≡ Refusal.Recursive → IsCircleIn methods.now) }
 {
     if !methods.iter().all(has_lengths) {
         return Err(Refusal::LengthNotConstant);
