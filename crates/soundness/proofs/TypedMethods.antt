@@ -67,7 +67,7 @@ accepted_is_typed bytes c ok of j w m member = subst (λ v. IsWellTyped v m) (sy
         let body = file.is.body in
         let code = body.has_code in
         has_last of.pool body.parts.code m.code body.sequence (λ n.
-            ok BadCode (by_shape of.pool of.parts of.file (any_from _ of.parts.methods file.number file.item file.there (empty body.parts (code.0, one_contains _ code.0 code.1, code.2) n))))
+        ok BadCode (by_shape of.pool of.parts of.file (any_from _ of.parts.methods file.number file.item file.there (empty body.parts (code.0, one_contains _ code.0 code.1, code.2) n))))
 
     typed : (o : Option ℕ) → failure_of view m ≡ o → IsWellTyped view m
     typed None e = (passes_typed view m ready ends (λ f. none_stands FallsOff f)).0 e

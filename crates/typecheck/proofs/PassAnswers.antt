@@ -243,10 +243,13 @@ module _ (v : ClassView) (m : Method) (ready : IsReady m) where
 
   last_of : (code : List Placed) → Stops (Some (first_frame m.environment)) code → IsSome (last code) × (FallsOffEnd code → ⊥)
   last_of [] s = cc
-  last_of (p ∷ code) s = (ap is_some s.1, λ f.
-      let both : Some s.0 ≡ Some f.0 = sym s.1 ∙ f.1 in
-      let same : s.0 ≡ f.0 = cc both in
-      false≢true (sym s.2 ∙ ap (λ (x : Placed). falls_through x.instruction) same ∙ f.2))
+  last_of (p ∷ code) s = (
+    ap is_some s.1,
+    λ f.
+        let both : Some s.0 ≡ Some f.0 = sym s.1 ∙ f.1 in
+        let same : s.0 ≡ f.0 = cc both in
+        false≢true (sym s.2 ∙ ap (λ (x : Placed). falls_through x.instruction) same ∙ f.2),
+  )
 
   last_some : (p : Placed) (code : List Placed) → IsSome (last (p ∷ code))
   last_some p [] = refl

@@ -206,12 +206,15 @@ module _ (v : ClassView) (m : Method) where
       go : (o : Option Frame) → transfer v m.environment p.instruction f ≡ o → outcome_fails m p o ≡ false → HasOutcome v m frames p f
       go None a b = cc
       go (Some g) a b =
-          let n = neither (misfits_target m g (target_of p.instruction)) (falls_through p.instruction && misfits g (declared_at m p.next)) b in
-          (g, a, record {
-            branches = branch g n.0;
-            falls = λ t. falling g a n.1 t (declared_at m p.next) refl;
-            after = λ t s. behind t s (declared_at m p.next) refl;
-          })
+          let n = neither (misfits_target m g (target_of p.instruction)) (falls_through p.instruction && misfits g (declared_at m p.next)) b in (
+            g,
+            a,
+            record {
+              branches = branch g n.0;
+              falls = λ t. falling g a n.1 t (declared_at m p.next) refl;
+              after = λ t s. behind t s (declared_at m p.next) refl;
+            },
+          )
 
   -- ---- where the pass fails
 
@@ -483,13 +486,16 @@ module _ (v : ClassView) (m : Method) where
           go : (b : Bool) → misfits first (declared_at m 0) ≡ b → cond b (Some 0) (failure_in v m first m.code) ≡ None → (o : Option Placed) → last m.code ≡ o → IsSome o → IsWellTyped v m
           go true s k o l is = cc k
           go false s k None l is = cc is
-          go false s k (Some p) l is = (frames_are, record {
-            each_has_one = pass_length first m.code;
-            first = enters_first (some (Some p) l refl) s;
-            stands = λ r d a. pass_stands first m.code r d a (stand r d a);
-            outcome = λ r x f here its. has_outcome frames_are r x f whole here (none_fails first m.code k r x f here its) (λ t. next x t (next_or_last 0 m.code consecutive r x here)) (flows r x f here its);
-            last = (p, l, false_from_ne_true (falls_through p.instruction) (λ t. stops (p, l, t)));
-          })
+          go false s k (Some p) l is = (
+            frames_are,
+            record {
+              each_has_one = pass_length first m.code;
+              first = enters_first (some (Some p) l refl) s;
+              stands = λ r d a. pass_stands first m.code r d a (stand r d a);
+              outcome = λ r x f here its. has_outcome frames_are r x f whole here (none_fails first m.code k r x f here its) (λ t. next x t (next_or_last 0 m.code consecutive r x here)) (flows r x f here its);
+              last = (p, l, false_from_ne_true (falls_through p.instruction) (λ t. stops (p, l, t)));
+            },
+          )
 
 pub fails_at_mismatch : FailsAtMismatch
 fails_at_mismatch v m q ready = (failure_is_mismatch v m ready.consecutive ready.declared ready.whole q, mismatch_is_failure v m ready.consecutive q)
