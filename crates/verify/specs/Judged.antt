@@ -1,11 +1,34 @@
 -- A class that was accepted, as contracts see it.
-use Rattle.std.specs.Prelude.{List}
+use Rattle.std.specs.Prelude.{◌≡◌, ℕ, ◌<◌, true, List, length, get_or, slice_get, Some, IsSome}
 use Rattle.constpool.specs.Lookup.{Slot}
+use Rattle.constpool.specs.Names.{init_name}
 use Rattle.classfile.specs.declared.class_file.Parts.{Parts}
+use Rattle.classfile.specs.View.{MethodView, view_of}
+use Rattle.decode.specs.Places.{at_place}
+use Rattle.typecheck.specs.Typing.{Method, Class, IsProcessOf}
+use Rattle.typecheck.specs.Calls.{AreCallsOf}
+use Rattle.typecheck.specs.declared.typed.Typed.{Typed}
 use Rattle.bounds.specs.declared.limits.Bounds.{Bounds}
 
--- its pool and its parts, and what an invocation of it takes at most
+-- its pool and its parts, the rows of its methods but the constructor, and what an invocation of it takes at most
 pub record Judged : Type 0 where
   pub pool : List Slot
   pub parts : Parts
+  pub methods : List Typed
   pub bounds : Bounds
+
+-- a row is of the class's method with its number: it has its environment and its code, and what its calls reach
+pub record IsRowIn (c : Class) (row : Typed) : Type 0 where
+  pub method : (m : Method) × (slice_get c.methods row.number ≡ Some m) × (m.environment ≡ row.environment) × (m.code ≡ row.code)
+  pub starts : IsSome (at_place row.code 0)
+  pub calls : AreCallsOf c.view row.code row.calls.items
+  pub process : row.is_process ≡ true → IsProcessOf c row.number
+
+-- what was judged is this class: by rising numbers there is a row of each of its methods but the constructor, and one of `process`
+pub record IsJudgedAs (c : Class) (v : Judged) : Type 0 where
+  pub view : c.view ≡ view_of v.pool v.parts
+  pub each : (i : ℕ) (d : Typed) → i < length v.methods → IsRowIn c (get_or v.methods i d)
+  pub rising : (i j : ℕ) (d : Typed) → i < j → j < length v.methods → (get_or v.methods i d).number < (get_or v.methods j d).number
+  pub other : (i : ℕ) (d : Typed) (m : MethodView) → i < length v.methods → slice_get c.view.methods (get_or v.methods i d).number ≡ Some m → m.name ≡ init_name → ⊥
+  pub each_has_one : (k : ℕ) (m : MethodView) → slice_get c.view.methods k ≡ Some m → (m.name ≡ init_name → ⊥) → (i : ℕ) × (i < length v.methods) × ((d : Typed) → (get_or v.methods i d).number ≡ k)
+  pub process : (k : ℕ) → IsProcessOf c k → (i : ℕ) × (i < length v.methods) × ((d : Typed) → ((get_or v.methods i d).number ≡ k) × ((get_or v.methods i d).is_process ≡ true))

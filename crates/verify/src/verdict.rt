@@ -36,7 +36,7 @@ impl Model for Verified {
 
     ghost Value = { Judged };
 
-    ghost view = { λ v. record { pool = v.class.pool; parts = v.class.parts; bounds = v.bounds } };
+    ghost view = { λ v. record { pool = v.class.pool; parts = v.class.parts; methods = v.methods.items; bounds = v.bounds } };
 }
 
 impl Verified {
