@@ -1,5 +1,5 @@
 -- The bounds of an accepted class exist.
-use Rattle.std.proofs.Common.{◌≡◌, ℕ, zero, suc, ◌+◌, ◌<◌, ◌≤◌, Bool, true, false, List, [], ◌∷◌, Option, Some, None, refl, sym, ap, ◌∙◌, subst, arith}
+use Rattle.std.proofs.Common.{◌≡◌, ℕ, zero, suc, ◌<◌, Bool, true, false, List, [], ◌∷◌, Option, Some, None, refl, sym, ap, ◌∙◌, subst, arith}
 use Rattle.std.specs.Prelude.{slice_get, not, cond, IsSome, is_some, ℤ, pos}
 use Rattle.std.proofs.lemmas.Bool.{and_from, false≢true, false_from_ne_true}
 use Rattle.std.proofs.lemmas.Option.{slice_get-get_or}
@@ -11,7 +11,7 @@ use Rattle.decode.specs.declared.instruction.Placed.{Placed}
 use Rattle.decode.specs.Places.{target_of, falls_through}
 use Rattle.typecheck.specs.Typing.{Method, Class, instruction_at, is_process, process_from, number_of_process, IsProcessOf, call_of}
 use Rattle.bounds.specs.Paths.{StandsAt}
-use Rattle.bounds.specs.Table.{LeadsOn, bounds_of}
+use Rattle.bounds.specs.Table.{bounds_of}
 use Rattle.bounds.proofs.Greatest.{tables_are_bounds}
 use Rattle.bounds.proofs.FilledTables.{each_has_table}
 use Rattle.verify.specs.Shape.{IsProcess}

@@ -14,6 +14,9 @@ pub mod ReservedName
 pub mod ScatteredPlaces
 pub mod Ranks
 pub mod OneTable
+pub mod OneClass
+pub mod SmallBytes
+pub mod SmallVerdict
 pub mod SmallClasses
 pub mod NotTyped
 pub mod OtherSignature

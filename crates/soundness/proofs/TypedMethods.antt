@@ -1,7 +1,6 @@
 -- The methods of an accepted class are well typed.
-use Rattle.std.proofs.Common.{◌≡◌, ℕ, zero, suc, ◌+◌, ◌<◌, ◌≤◌, Bool, true, false, List, [], ◌∷◌, length, Option, Some, None, refl, sym, ap, ◌∙◌, subst, arith, ◌⊎◌, inl, inr}
-use Rattle.std.specs.Prelude.{map, cond, ◌==◌, All, Any, IsFalse, IsSome, is_some, Contains}
-use Rattle.std.proofs.lemmas.Bool.{eqb-true, false≢true}
+use Rattle.std.proofs.Common.{◌≡◌, ℕ, List, [], ◌∷◌, length, Option, Some, None, refl, sym, ap, subst, inr}
+use Rattle.std.specs.Prelude.{IsFalse, IsSome}
 use Rattle.jtypes.specs.declared.refusal.Refusal.{Refusal}
 use Rattle.jtypes.specs.declared.refusal.Refusal.TheVariants.{BadStackMap, TypeMismatch, FallsOff, BadCode}
 use Rattle.jtypes.specs.Lists.{last}
@@ -9,11 +8,9 @@ use Rattle.constpool.specs.Lookup.{Slot}
 use Rattle.classfile.specs.View.{ClassView, MethodView, view_of}
 use Rattle.decode.specs.declared.instruction.Placed.{Placed}
 use Rattle.decode.specs.Code.{IsSequence}
-use Rattle.decode.specs.Places.{at_place, falls_through}
 use Rattle.frames.specs.declared.frame.Environment.{Environment}
-use Rattle.frames.specs.declared.frame.Frame.{Frame}
-use Rattle.typecheck.specs.Typing.{Method, Class, IsWellTyped, instruction_at, declared_at}
-use Rattle.typecheck.specs.Mismatch.{LacksFrame, HasBadStackMap, FallsOffEnd, IsMismatch}
+use Rattle.typecheck.specs.Typing.{Method, Class, IsWellTyped}
+use Rattle.typecheck.specs.Mismatch.{IsMismatch}
 use Rattle.typecheck.specs.Pass.{failure_of, IsReady}
 use Rattle.typecheck.proofs.DeclaredPlaces.{declared_stands}
 use Rattle.typecheck.proofs.Passes.{fails_at_mismatch, passes_typed}

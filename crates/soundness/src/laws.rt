@@ -3,11 +3,14 @@
 ghost use Rattle.typecheck.specs.Typing.{IsProcessOf};
 ghost use Rattle.bounds.specs.Paths.{AreBounds};
 ghost use Rattle.verify.specs.Checked.{IsChecked};
+ghost use Rattle.verify.specs.Verdict.{IsAccepted, IsClassOf};
+ghost use Rattle.soundness.specs.Accepted.{small_bytes, small_class};
 ghost use Rattle.verify.specs.Sound.{IsSafe, SoundnessOfClasses};
 ghost use Rattle.verify.specs.Promise.{AcceptedIsChecked, AcceptedIsOrdered, TypeSoundness};
 ghost use Rattle.soundness.specs.Bounded.{AcceptedHasBounds, CheckedLeadsOn};
 ghost use Rattle.soundness.specs.Counting.{EachCallStarts, EachStepCounts};
 ghost use Rattle.soundness.specs.Example.{example, limits};
+ghost use Rattle.soundness.specs.Once.{EachClassIsOne};
 ghost use Rattle.soundness.specs.Ordering.{NotRecursiveHasRanks, RankedIsNotRecursive};
 ghost use Rattle.soundness.specs.OtherPremises.{IsCheckedButForCount, IsCheckedButForDirection, IsCheckedButForLengths, IsCheckedButForOperands, IsCheckedButForRanks, IsCheckedButForSignatures, IsCheckedButForTypes, SignedIsPlain, SomeIsNeverSafe, SoundnessByAnyMethod, SoundnessWithoutBounds};
 ghost use Rattle.soundness.specs.Premises.{IsCheckedButForInstance, IsCheckedButForName, IsCheckedButForPlaces, SoundnessOver};
@@ -57,6 +60,16 @@ pub fn example_is_checked()
     ensures safe { IsSafe example limits }
 {}
 
+/// The premises hold of the bytes of a small class too, whose `process` loads the entry and returns it: no refusal stands in
+/// them, they are the class, the bounds are those of its only path, and so it is safe within them.
+pub fn example_is_accepted()
+    ensures accepted { IsAccepted small_bytes }
+    ensures class { IsClassOf small_bytes small_class }
+    ensures process { IsProcessOf small_class 1 }
+    ensures bounds { AreBounds small_class 1 limits }
+    ensures safe { IsSafe small_class limits }
+{}
+
 /// Three of the premises are needed: without any one of them the law is false. A class with a reserved name gets stuck,
 /// and so does one whose `process` is static; one whose instructions don't stand one behind the other takes more words than its
 /// paths do. All else that is asked of a checked class holds of each.
@@ -81,6 +94,12 @@ pub fn accepted_is_ordered()
 /// The tables of frames of a method have one reading: the frames that they declare.
 pub fn one_table()
     ensures { EachTableIsOne }
+{}
+
+/// The same bytes are at most one class: one pool, one row of parts, and for each method one environment, one code and one
+/// list of declared frames.
+pub fn one_class()
+    ensures { EachClassIsOne }
 {}
 
 /// Other premises are needed too: without any one of these the law is false. All else that is asked of a checked class holds

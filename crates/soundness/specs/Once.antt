@@ -1,0 +1,8 @@
+-- The class of given bytes is one.
+use Rattle.std.specs.Prelude.{◌≡◌, ℕ, List}
+use Rattle.typecheck.specs.Typing.{Class}
+use Rattle.verify.specs.Verdict.{IsClassOf}
+
+-- the same bytes are at most one class
+abbrev pub EachClassIsOne : Type 0
+EachClassIsOne = (bytes : List ℕ) (c other : Class) → IsClassOf bytes c → IsClassOf bytes other → c ≡ other
