@@ -21,6 +21,7 @@ use Rattle.soundness.specs.Bounded.{is_other, members, CheckedLeadsOn, AcceptedH
 use Rattle.soundness.proofs.Callees.{same_is, same_refl, process_found, entry_of, method_at_number}
 use Rattle.soundness.proofs.GoodStates.{IsInside, has_frame, onward, enters_inside, enters_target}
 use Rattle.soundness.proofs.PathsExist.{own_call, starts_inside}
+use Rattle.soundness.proofs.SafeRuns.{without_room}
 use Rattle.soundness.proofs.Ranks.{accepted_has_ranks}
 use Rattle.soundness.proofs.TypedMethods.{accepted_is_checked}
 
@@ -64,8 +65,8 @@ checked_leads_on c ok = record { next = next; target = target; callee = callee; 
 
     callee : (j q k : ℕ) (m : Method) (p : Placed) → members c j ≡ true → StandsAt c j q m p → call_of c.view p.instruction ≡ Some k → (members c k ≡ true) × ((n : Method) × (slice_get c.methods k ≡ Some n) × IsSome (instruction_at n 0))
     callee j q k m p e s call =
-        let to = own_call c ok p.instruction k call in
-        (is_member c k to.0 to.1 to.2, (to.1, to.2.method, inside_is to.1 0 (starts_inside c ok k to.0 to.1 to.2)))
+        let to = own_call c (without_room c ok) p.instruction k call in
+        (is_member c k to.0 to.1 to.2, (to.1, to.2.method, inside_is to.1 0 (starts_inside c (without_room c ok) k to.0 to.1 to.2)))
 
 -- ---- `process`
 
@@ -100,7 +101,7 @@ process_member c ok j is =
     let p = process_found 0 c.view.methods j is in
     let view : slice_get c.view.methods j ≡ Some p.0 = subst (λ x. slice_get c.view.methods x ≡ Some p.0) (let h = p.2 in omega (arith, h)) p.3 in
     let m = method_at_number c.view.methods c.methods j p.0 ok.count view in
-    let entry = entry_of c ok j m.0 is m.1 in
+    let entry = entry_of c (without_room c ok) j m.0 is m.1 in
     (entry.view, m.0, entry.member)
 
 pub accepted_has_bounds : AcceptedHasBounds
@@ -111,4 +112,4 @@ accepted_has_bounds bytes c accepted of =
     let on = checked_leads_on c ok in
     let table = each_has_table c (members c) on in
     let entry = process_member c ok process.0 process.1 in
-    (process.0, bounds_of (table.0 process.0 0), process.1, tables_are_bounds c (members c) table.0 process.0 entry.1 on table.1 (is_member c process.0 entry.0 entry.1 entry.2) entry.2.method (inside_is entry.1 0 (starts_inside c ok process.0 entry.0 entry.1 entry.2)))
+    (process.0, bounds_of (table.0 process.0 0), process.1, tables_are_bounds c (members c) table.0 process.0 entry.1 on table.1 (is_member c process.0 entry.0 entry.1 entry.2) entry.2.method (inside_is entry.1 0 (starts_inside c (without_room c ok) process.0 entry.0 entry.1 entry.2)))

@@ -29,7 +29,8 @@ use Rattle.frames.specs.declared.members.Callee.{Callee}
 use Rattle.frames.specs.Members.{LibraryRow, library_rows, is_row_of, row_of, library_params, library_callee, is_method, numbered, pairs_with, callee_of, own_callee, member_at, found_callee, callee_at}
 use Rattle.typecheck.specs.Typing.{Method, Class, is_process, process_from, IsProcessOf}
 use Rattle.verify.specs.Shape.{reserved_names}
-use Rattle.verify.specs.Checked.{IsMember, IsChecked}
+use Rattle.verify.specs.Checked.{IsMember}
+use Rattle.soundness.specs.Room.{IsCheckedButForRoom}
 
 -- ---- texts
 
@@ -264,7 +265,7 @@ abbrev pub CalleeFits : Class → Callee → Reached → Type 0
 CalleeFits c callee (Library n) = NoneTop callee.params × NoneTop (result_list callee.result) × LibraryFits n callee.params callee.result
 CalleeFits c callee (Own k) = IsOwn c callee k
 
-own_fits : (c : Class) → IsChecked c → (kind : Invoke) (m : MemberRef) (callee : Callee) → own_callee c.view kind m ≡ Some callee → CalleeFits c callee callee.reached
+own_fits : (c : Class) → IsCheckedButForRoom c → (kind : Invoke) (m : MemberRef) (callee : Callee) → own_callee c.view kind m ≡ Some callee → CalleeFits c callee callee.reached
 own_fits c ok kind m callee e =
     let p = only_if_some _ _ callee e in
     let tests = and_parts (same_bytes m.class c.view.name) (not (same_bytes m.name init_name)) p.0 in
@@ -281,7 +282,7 @@ own_fits c ok kind m callee e =
     let same : callee_of k method.0.environment.signature ≡ callee = cc both in
     subst (λ (x : Callee). CalleeFits c x x.reached) same (record { view = w; method = method.0; member = record { view = view; method = method.1; other = not_init m w tests.1 named.0 }; params = refl; result = refl })
 
-pub callee_fits : (c : Class) → IsChecked c → (kind : Invoke) (i : ℕ) (callee : Callee) → callee_at c.view kind i ≡ Some callee → CalleeFits c callee callee.reached
+pub callee_fits : (c : Class) → IsCheckedButForRoom c → (kind : Invoke) (i : ℕ) (callee : Callee) → callee_at c.view kind i ≡ Some callee → CalleeFits c callee callee.reached
 unfolding callee_at RowFits
 callee_fits c ok kind i callee e =
     let p = then_some_parts (λ m. found_callee c.view kind m (row_of library_rows kind m)) (member_at c.view.pool kind i) callee e in
@@ -326,7 +327,7 @@ pub record IsEntry (c : Class) (j : ℕ) (m : Method) : Type 0 where
   pub params : m.environment.signature.params ≡ Ref ref.This ∷ Ref ref.MutableEntry ∷ Ref ref.ObjectArray ∷ []
   pub result : m.environment.signature.result ≡ Some (Ref ref.Object)
 
-pub entry_of : (c : Class) → IsChecked c → (j : ℕ) (m : Method) → IsProcessOf c j → slice_get c.methods j ≡ Some m → IsEntry c j m
+pub entry_of : (c : Class) → IsCheckedButForRoom c → (j : ℕ) (m : Method) → IsProcessOf c j → slice_get c.methods j ≡ Some m → IsEntry c j m
 unfolding method_signature
 entry_of c ok j m is known =
     let p = process_found 0 c.view.methods j is in

@@ -18,7 +18,8 @@ use Rattle.frames.specs.declared.frame.Frame.{Frame}
 use Rattle.frames.specs.Frames.{FrameAssignable}
 use Rattle.typecheck.specs.Typing.{Method, Class, instruction_at, declared_at, frame_of, frame_at, Enters, IsTyping}
 use Rattle.bounds.specs.Paths.{Cost, Path, Bounds, own_slots, last_cost, after_one, after_call}
-use Rattle.verify.specs.Checked.{NoTop, IsFormed, IsMember}
+use Rattle.verify.specs.Checked.{NoTop, IsMember}
+use Rattle.soundness.specs.Room.{IsFormedButForRoom}
 use Rattle.verify.specs.Machine.{Activation, State, Next, Goes, Ends, goes_on}
 use Rattle.verify.specs.Sound.{slots_of_method, slots_of}
 
@@ -225,7 +226,7 @@ module _ (c : Class) (b : Bounds) where
 
 -- ---- arriving at a place
 
-pub arrive : (c : Class) (arrays : Arrays) (m : Method) (view : MethodView) (frames : List Frame) (a : Activation) (g : Frame) → IsFormed m → IsMember c a.method view m → IsTyping c.view m frames → Enters m frames a.place g (declared_at m a.place) → EachSlotFits arrays a.locals g.locals → EachFit arrays a.operands g.stack → slots_by is_long_value a.operands ≤ m.environment.max_stack → IsCounted m a.place a.operands → IsAt c arrays m a
+pub arrive : (c : Class) (arrays : Arrays) (m : Method) (view : MethodView) (frames : List Frame) (a : Activation) (g : Frame) → IsFormedButForRoom m → IsMember c a.method view m → IsTyping c.view m frames → Enters m frames a.place g (declared_at m a.place) → EachSlotFits arrays a.locals g.locals → EachFit arrays a.operands g.stack → slots_by is_long_value a.operands ≤ m.environment.max_stack → IsCounted m a.place a.operands → IsAt c arrays m a
 arrive c arrays m view frames a g formed member typing enters locals operands room counted = go (declared_at m a.place) refl enters
   where
     go : (o : Option Frame) → declared_at m a.place ≡ o → Enters m frames a.place g o → IsAt c arrays m a
@@ -266,20 +267,20 @@ pub enters_target : (m : Method) (frames : List Frame) (q : ℕ) (g d : Frame) �
 enters_target m frames q g d e h = subst (Enters m frames q g) (sym e) h
 
 -- no new array follows an instruction that pushes no int, nor stands at a target
-pub no_length : (m : Method) (q : ℕ) (p : Placed) (operands : List Value) → IsFormed m → instruction_at m q ≡ Some p → int_of p.instruction ≡ None → IsCounted m p.next operands
+pub no_length : (m : Method) (q : ℕ) (p : Placed) (operands : List Value) → IsFormedButForRoom m → instruction_at m q ≡ Some p → int_of p.instruction ≡ None → IsCounted m p.next operands
 no_length m q p operands formed code none x k e is =
     let l = (formed.lengths p.next x k e is).1 in
     let same : pushed_before m.code p.next ≡ None = ap pushed_by (alone m.code 0 q p formed.consecutive code) ∙ none in
     cc (same, l.1)
 
-pub no_length_target : (m : Method) (q : ℕ) (d : Frame) (operands : List Value) → IsFormed m → declared_at m q ≡ Some d → IsCounted m q operands
+pub no_length_target : (m : Method) (q : ℕ) (d : Frame) (operands : List Value) → IsFormedButForRoom m → declared_at m q ≡ Some d → IsCounted m q operands
 no_length_target m q d operands formed e x k code is =
     let none : is_some (declared_at m q) ≡ false = (formed.lengths q x k code is).0 in
     let some : is_some (declared_at m q) ≡ true = ap is_some e in
     absurd (false≢true (sym none ∙ some))
 
 -- nor does one stand at a method's start, before which there is nothing
-pub no_length_first : (m : Method) (operands : List Value) → IsFormed m → IsCounted m 0 operands
+pub no_length_first : (m : Method) (operands : List Value) → IsFormedButForRoom m → IsCounted m 0 operands
 no_length_first m operands formed x k code is =
     let l = (formed.lengths 0 x k code is).1 in
     let same : pushed_before m.code 0 ≡ None = ap pushed_by (none_before m.code 0 0 (omega arith) formed.consecutive) in

@@ -16,7 +16,8 @@ use Rattle.frames.specs.Members.{callee_at}
 use Rattle.frames.specs.Frames.{first_frame}
 use Rattle.typecheck.specs.Typing.{Method, Class, instruction_at, own_number, own_of, call_of}
 use Rattle.bounds.specs.Paths.{Cost, Path, StandsAt, own_slots, last_cost, after_one, after_call, ends, jumps, falls, calls}
-use Rattle.verify.specs.Checked.{IsMember, IsChecked}
+use Rattle.verify.specs.Checked.{IsMember}
+use Rattle.soundness.specs.Room.{IsCheckedButForRoom}
 use Rattle.verify.specs.Machine.{Activation}
 use Rattle.verify.specs.Sound.{slots_of_method}
 use Rattle.soundness.proofs.Callees.{CalleeFits, callee_fits}
@@ -42,7 +43,7 @@ ends_or_jumps instruction.ReturnVoid h = inl refl
 ends_or_jumps _ h = cc
 
 -- an own call leads to a method
-pub own_call : (c : Class) → IsChecked c → (i : Instruction) (k : ℕ) → call_of c.view i ≡ Some k → (w : MethodView) × (m : Method) × IsMember c k w m
+pub own_call : (c : Class) → IsCheckedButForRoom c → (i : Instruction) (k : ℕ) → call_of c.view i ≡ Some k → (w : MethodView) × (m : Method) × IsMember c k w m
 own_call c ok (instruction.Invoke kind i) k e = go (callee_at c.view kind i) refl e
   where
     known : (callee : Callee) (r : Reached) → CalleeFits c callee r → own_number r ≡ Some k → (w : MethodView) × (m : Method) × IsMember c k w m
@@ -76,7 +77,7 @@ path_at c j q m p stands next target call = go (falls_through p.instruction) ref
     go true e = through e (call_of c.view p.instruction) refl
     go false e = stop (ends_or_jumps p.instruction e)
 
-module _ (c : Class) (ok : IsChecked c) where
+module _ (c : Class) (ok : IsCheckedButForRoom c) where
   -- within a method, whose callees have paths
   paths_in : (j : ℕ) (w : MethodView) (m : Method) → IsMember c j w m → ((q k : ℕ) (p : Placed) → instruction_at m q ≡ Some p → call_of c.view p.instruction ≡ Some k → HasPath c k 0) → (left q : ℕ) → top_of m.code ≤ q + left → IsInside m q → HasPath c j q
   paths_in j w m member callees zero q long inside = let low = below_top m.code q inside.0 inside.1 in absurd (omega (arith, low))

@@ -12,6 +12,8 @@ use Rattle.frames.specs.Frames.{first_frame}
 use Rattle.typecheck.specs.Typing.{Method, Class, IsProcessOf}
 use Rattle.bounds.specs.Paths.{Cost, Path, Bounds, IsWithin}
 use Rattle.verify.specs.Checked.{IsChecked}
+use Rattle.soundness.specs.Premises.{SoundnessOver}
+use Rattle.soundness.specs.Room.{IsCheckedButForRoom}
 use Rattle.verify.specs.Machine.{Invocation, State, Next, Goes, Ends, step, start_of, start, activation_of, Reaches, here, onward}
 use Rattle.verify.specs.Sound.{slots_of, StaysWithin, Finishes, SoundnessOfClasses}
 use Rattle.soundness.proofs.Locals.{first_locals}
@@ -24,7 +26,7 @@ reaches_trans : {c : Class} {s t u : State} → Reaches c s t → Reaches c t u 
 reaches_trans r here = r
 reaches_trans r (onward q e) = onward (reaches_trans r q) e
 
-module _ (c : Class) (b : Bounds) (ok : IsChecked c) where
+module _ (c : Class) (b : Bounds) (ok : IsCheckedButForRoom c) where
   rest_of : (s : State) (h : IsGood c b s) → RestOf c (h.top ∷ h.below)
   rest_of s h =
       let k = has_path c ok h.top.method h.here.view h.m h.top.place h.here.member (is_inside h.here) in
@@ -115,14 +117,37 @@ can_start c ok j is call =
     let m = method_at_number c.view.methods c.methods j p.0 ok.count view in
     (start_of j m.0 call, ap (λ o. o >>= λ i. option_map (λ x. start_of i x call) (slice_get c.methods i)) is ∙ ap (option_map (λ x. start_of j x call)) m.1)
 
--- a step that does not end the invocation counts
-pub counts : (c : Class) (j : ℕ) (b : Bounds) → IsChecked c → IsProcessOf c j → ((k : Cost) → Path c j 0 k → IsWithin k b) → (call : Invocation) (s t u : State) → start c call ≡ Some s → Reaches c s t → step c t ≡ Some (Goes u) → u.steps ≡ suc t.steps
-counts c j b ok is bounded call s t u e r h =
-    (subst (SafeNext c b t.steps) h (step_safe c b ok t (good_reached c b ok s t (good_begin c b ok j is bounded call s e) r))).1
-
-pub type_soundness : SoundnessOfClasses
-type_soundness c j b ok is bounded = record {
+pub sound_without_room : SoundnessOver IsCheckedButForRoom
+sound_without_room c j b ok is bounded = record {
   never_stuck = λ call s t e r. goes_or_ends c b ok t (good_reached c b ok s t (good_begin c b ok j is bounded call s e) r);
   stays = λ call s t e r. stays_within c b ok t (good_reached c b ok s t (good_begin c b ok j is bounded call s e) r);
   finishes = λ call s e. finishes_from c b ok (suc b.steps) s (good_begin c b ok j is bounded call s e) (omega arith);
 }
+
+-- ---- the same of classes that are checked
+
+pub without_room : (c : Class) → IsChecked c → IsCheckedButForRoom c
+without_room c ok = record {
+  named = ok.named;
+  instance = ok.instance;
+  count = ok.count;
+  signed = ok.signed;
+  typed = ok.typed;
+  formed = λ j v m member. let formed = ok.formed j v m member in record {
+    params = formed.params;
+    result = formed.result;
+    declared = formed.declared;
+    forward = formed.forward;
+    consecutive = formed.consecutive;
+    lengths = formed.lengths;
+  };
+  ordered = ok.ordered;
+}
+
+pub type_soundness : SoundnessOfClasses
+type_soundness c j b ok is bounded = sound_without_room c j b (without_room c ok) is bounded
+
+-- a step that does not end the invocation counts
+pub counts : (c : Class) (j : ℕ) (b : Bounds) → IsChecked c → IsProcessOf c j → ((k : Cost) → Path c j 0 k → IsWithin k b) → (call : Invocation) (s t u : State) → start c call ≡ Some s → Reaches c s t → step c t ≡ Some (Goes u) → u.steps ≡ suc t.steps
+counts c j b ok is bounded call s t u e r h =
+    (subst (SafeNext c b t.steps) h (step_safe c b (without_room c ok) t (good_reached c b (without_room c ok) s t (good_begin c b (without_room c ok) j is bounded call s e) r))).1

@@ -55,7 +55,7 @@ use Rattle.transfer.specs.Transfer.{transfer, take_types, with_stack, take_put, 
 use Rattle.transfer.proofs.RearrangedFit.{took, by_forms_fit}
 use Rattle.typecheck.specs.Typing.{Method, Class, instruction_at, IsFlow, own_number, own_of, call_of}
 use Rattle.bounds.specs.Paths.{Cost, Path, Bounds, StandsAt, length_of, words_at, last_cost, after_one, jumps, falls, calls, ends as ends_path}
-use Rattle.verify.specs.Checked.{IsFormed, IsChecked}
+use Rattle.soundness.specs.Room.{IsFormedButForRoom, IsCheckedButForRoom}
 use Rattle.verify.specs.Machine.{Activation, State, ends, throws, goes_on, with_operands, with_place, next_with, jump_with, load, store, store_value, increment, value_of_pushed, after_answer, after_test, make_array, same_kind, element_value, number_of, push_item, load_from, load_item, with_element, store_to, store_number, store_item, load_reference, push_length, measure, may_cast, cast, ask, split, activation_of, is_on_null, enter, after_reply, reach, invoke, end_with, return_to, narrowed, return_value, return_void, act, act_at, step, step_top}
 use Rattle.soundness.proofs.Locals.{slot_at, slots_length, slots_store, slots_keep, first_locals, split_took}
 use Rattle.soundness.proofs.Callees.{IsOwn, CalleeFits, callee_fits}
@@ -216,7 +216,7 @@ flag_fits arrays false = refl
 
 -- the topmost activation is typed, and its instruction has this outcome
 record IsHere (c : Class) (b : Bounds) (s : State) (a : Activation) (below : List Activation) (m : Method) (p : Placed) (i : Instruction) (g : Frame) : Type 0 where
-  formed : IsFormed m
+  formed : IsFormedButForRoom m
   here : IsAt c s.arrays m a
   awaits : AllAwait c s.arrays m.environment.signature.result below
   budget : HasBudget c b (a ∷ below) s.steps s.words
@@ -225,7 +225,7 @@ record IsHere (c : Class) (b : Bounds) (s : State) (a : Activation) (below : Lis
   moved : transfer c.view m.environment i here.frame ≡ Some g
   flow : IsFlow m here.frames p g
 
-module _ (c : Class) (b : Bounds) (ok : IsChecked c) (s : State) (a : Activation) (below : List Activation) (m : Method) (p : Placed) where
+module _ (c : Class) (b : Bounds) (ok : IsCheckedButForRoom c) (s : State) (a : Activation) (below : List Activation) (m : Method) (p : Placed) where
   abbrev beyond : Activation
   beyond = with_place a p.next
 
@@ -655,7 +655,7 @@ module _ (c : Class) (b : Bounds) (ok : IsChecked c) (s : State) (a : Activation
   act_safe (instruction.InstanceOf n) g h = ask_safe n g h
 
 -- every step from a good state leads to a good state or ends within the bounds
-pub step_safe : (c : Class) (b : Bounds) → IsChecked c → (s : State) → IsGood c b s → SafeNext c b s.steps (step c s)
+pub step_safe : (c : Class) (b : Bounds) → IsCheckedButForRoom c → (s : State) → IsGood c b s → SafeNext c b s.steps (step c s)
 step_safe c b ok s h =
     let m = h.m in
     let a = h.top in

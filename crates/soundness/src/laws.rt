@@ -14,6 +14,7 @@ ghost use Rattle.soundness.specs.Once.{EachClassIsOne};
 ghost use Rattle.soundness.specs.Ordering.{NotRecursiveHasRanks, RankedIsNotRecursive};
 ghost use Rattle.soundness.specs.OtherPremises.{IsCheckedButForCount, IsCheckedButForDirection, IsCheckedButForLengths, IsCheckedButForOperands, IsCheckedButForRanks, IsCheckedButForSignatures, IsCheckedButForTypes, SignedIsPlain, SomeIsNeverSafe, SoundnessByAnyMethod, SoundnessWithoutBounds};
 ghost use Rattle.soundness.specs.Premises.{IsCheckedButForInstance, IsCheckedButForName, IsCheckedButForPlaces, SoundnessOver};
+ghost use Rattle.soundness.specs.Room.{IsCheckedButForRoom};
 ghost use Rattle.soundness.specs.Tables.{EachTableIsOne};
 
 /// Type soundness with bounds. Take the bytes of a class that nothing refuses, its method `process` with the bounds of its
@@ -123,6 +124,12 @@ pub fn other_premises_are_needed()
     ensures count { SoundnessOver IsCheckedButForCount → ⊥ }
     ensures bounds { SoundnessWithoutBounds → ⊥ }
     ensures process { SoundnessByAnyMethod → ⊥ }
+{}
+
+/// One premise isn't needed: that a method's parameters have room among its locals. The law holds of all classes of which the
+/// rest is asked, so no class fails for want of it.
+pub fn room_is_not_needed()
+    ensures { SoundnessOver IsCheckedButForRoom }
 {}
 
 /// That no parameter and no result is Top, which is asked of a checked class, follows from the descriptors.
