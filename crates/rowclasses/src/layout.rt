@@ -79,10 +79,11 @@ impl Bytes {
 
     fn constant(&mut self, constant: Constant) -> Result<(), AllocError> {
         match constant {
-            Constant::Utf8(text) => {
-                self.put(&[1])?;
-                self.u16(u16::try_from(text.len()).unwrap_or(u16::MAX))?;
-                self.put(text)
+            Constant::Utf8(text) => self.text(text),
+            Constant::Numbered(number) => {
+                let alloc = *self.bytes.allocator();
+                let name = format!(in alloc; "m{number}")?;
+                self.text(name.as_bytes())
             }
             Constant::Integer(bits) => {
                 self.put(&[3])?;
@@ -106,6 +107,12 @@ impl Bytes {
             }
             _ => self.reference(constant),
         }
+    }
+
+    fn text(&mut self, text: &[u8]) -> Result<(), AllocError> {
+        self.put(&[1])?;
+        self.u16(u16::try_from(text.len()).unwrap_or(u16::MAX))?;
+        self.put(text)
     }
 
     /// A constant that is one index, or two.

@@ -4,6 +4,8 @@
 #[derive(Clone, Copy, Debug)]
 pub enum Constant {
     Utf8(&'static [u8]),
+    /// The text of `m` and a number in decimal.
+    Numbered(u16),
     Integer(u32),
     Float(u32),
     Long(u64),
