@@ -22,7 +22,7 @@ blanks_more xs now next x i n e f h =
     f ∙ ap (λ l. l ++ x ∷ []) e ∙ append_assoc xs (replicate (i - n) x) (x ∷ []) ∙ ap (λ l. xs ++ l) (replicate_more (i - n) x ∙ ap (λ m. replicate m x) k)
 
 -- the items from a place on
-drop_at_item : {A : Type 0} (xs : List A) (i : ℕ) (x : A) → i < length xs → x ≡ slice_index_or xs i x → drop i xs ≡ x ∷ drop (i + 1) xs
+pub drop_at_item : {A : Type 0} (xs : List A) (i : ℕ) (x : A) → i < length xs → x ≡ slice_index_or xs i x → drop i xs ≡ x ∷ drop (i + 1) xs
 drop_at_item xs i x h e = drop-cons xs i x h ∙ ap (λ y. y ∷ drop (suc i) xs) (sym e) ∙ ap (λ n. x ∷ drop n xs) (sym (add-one i))
 
 -- what was found before, and the types that are still to be found
@@ -47,7 +47,7 @@ found_none own found types i t total h e f so_far =
     let one : found_before own found (drop i types) ≡ None = rw (drop_at_item types i t h e, f) refl in
     sym so_far ∙ one
 
-drop_past : {A : Type 0} (xs : List A) (i : ℕ) → length xs ≤ i → drop i xs ≡ []
+pub drop_past : {A : Type 0} (xs : List A) (i : ℕ) → length xs ≤ i → drop i xs ≡ []
 drop_past [] zero h = refl
 drop_past [] (suc i) h = refl
 drop_past (x ∷ xs) zero h = absurd (omega arith)

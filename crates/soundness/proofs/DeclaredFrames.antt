@@ -14,7 +14,10 @@ use Rattle.frames.specs.Signatures.{constant_type}
 use Rattle.frames.specs.declared.frame.Frame.{Frame}
 use Rattle.frames.specs.declared.frame.Environment.{Environment}
 use Rattle.frames.specs.Frames.{frame_in}
-use Rattle.frames.specs.StackMap.{object_type, class_item, stack_type, Change, Same, OneItem, Chop, Append, Full, Entry, entry_of, one_item, one_item_extended, with_delta, append, full, entry, table, Listed, place_after, frame_of_change, then_rest, frames_from, declared_of, IsDeclared, without, with_table}
+use Rattle.frames.specs.declared.entries.Change.{Change}
+use Rattle.frames.specs.declared.entries.Change.TheVariants.{Same, OneItem, Chop, Append, Full}
+use Rattle.frames.specs.declared.entries.Entry.{Entry}
+use Rattle.frames.specs.StackMap.{object_type, class_item, stack_type, entry_of, one_item, one_item_extended, with_delta, append, full, entry, table, Listed, place_after, frame_of_change, then_rest, frames_from, declared_of, IsDeclared, without, with_table}
 use Rattle.verify.specs.Checked.{NoTop}
 
 reversed_aux : (ts us : List JType) → NoTop ts → NoTop us → NoTop (reverse_aux ts us)

@@ -7,7 +7,8 @@ use Rattle.classfile.specs.View.{ClassView}
 use Rattle.decode.specs.declared.instruction.Placed.{Placed}
 use Rattle.frames.specs.declared.frame.Frame.{Frame}
 use Rattle.frames.specs.declared.frame.Environment.{Environment}
-use Rattle.frames.specs.StackMap.{IsDeclared, without, with_table, Entry, Listed, table, frames_from, declared_of}
+use Rattle.frames.specs.declared.entries.Entry.{Entry}
+use Rattle.frames.specs.StackMap.{IsDeclared, without, with_table, Listed, table, frames_from, declared_of}
 use Rattle.soundness.specs.Tables.{EachTableIsOne}
 
 module _ (v : ClassView) (e : Environment) (code : List Placed) where

@@ -1,14 +1,19 @@
-use Rattle.std.proofs.Common.{rules, ◌≡◌, map, length, List, [], sym, subst}
-use Rattle.std.proofs.lemmas.List.{nil_from_length}
-use Rattle.frames.specs.StackMap.{IsDeclared, without}
-use Rattle.frames.specs.declared.table.Declared.{Declared}
-use Rattle.frames.specs.Seen.{declared_seen}
+use Rattle.std.proofs.Common.{refl}
+use Rattle.frames.proofs.Declares.{declared_found, none_declared, in_order}
 use Rattle.frames.proofs.table.read_frames.Goals as goal
 
-pub returns-then-is_empty-clause-declared : goal.returns-then-is_empty-clause-declared
-returns-then-is_empty-clause-declared c =
-    let none : length c.args.tables.now ≡ 0 = search rules in
-    let no_tables = nil_from_length c.args.tables.now none in
-    let no_frames : c.new.result.items ≡ [] = c.new.ensures.items in
-    subst (λ (ds : List Declared). IsDeclared c.args.view.now c.args.environment.now c.args.code.now (map (λ t. t.now) c.args.tables.now) (declared_seen ds)) (sym no_frames)
-    (subst (λ ts. IsDeclared c.args.view.now c.args.environment.now c.args.code.now (map (λ t. t.now) ts) []) (sym no_tables) without)
+pub returns-in-Some-clause-declared : goal.returns-in-Some-clause-declared
+returns-in-Some-clause-declared c =
+    let f = rw c.in-Some.is at c.in_ok-declared.ensures.frames in
+    declared_found _ _ _ _ _ f
+
+pub returns-in-Some-clause-order : goal.returns-in-Some-clause-order
+returns-in-Some-clause-order c =
+    let f = rw c.in-Some.is at c.in_ok-declared.ensures.frames in
+    let fit = rw c.in-Some.is at c.in_ok-declared.ensures.fit in
+    in_order _ _ _ _ _ fit f
+
+pub returns-in-None-clause-refusal : goal.returns-in-None-clause-refusal
+returns-in-None-clause-refusal c =
+    let f = rw c.in-None.is at c.in_ok-declared.ensures.frames in
+    λ n. (refl, λ ds. none_declared _ _ _ _ ds f)

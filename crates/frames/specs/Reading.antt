@@ -1,0 +1,76 @@
+-- What the functions that read a table answer.
+use Rattle.std.specs.Prelude.{ℕ, ◌-◌, ◌==◌, nat_le, List, [], ◌∷◌, ◌++◌, length, take, Option, Some, None, option_map, option_and_then, is_some, Result, Ok, Err}
+use Rattle.jtypes.specs.declared.refusal.Refusal.{Refusal}
+use Rattle.jtypes.specs.declared.types.JType.{JType}
+use Rattle.jtypes.specs.Layout.{first}
+use Rattle.jtypes.specs.Lists.{only_if, ◌>>=◌}
+use Rattle.jtypes.specs.Types.{is_long, slots_by}
+use Rattle.classfile.specs.View.{ClassView}
+use Rattle.decode.specs.declared.instruction.Placed.{Placed}
+use Rattle.decode.specs.Places.{at_place}
+use Rattle.frames.specs.declared.entries.Change.{Change}
+use Rattle.frames.specs.declared.entries.Change.TheVariants.{OneItem, Chop, Append, Full}
+use Rattle.frames.specs.declared.entries.Entry.{Entry}
+use Rattle.frames.specs.declared.frame.Frame.{Frame}
+use Rattle.frames.specs.declared.frame.Environment.{Environment}
+use Rattle.frames.specs.StackMap.{table, Listed, place_after, declared_of}
+
+-- the entries of a table that fills its bytes
+abbrev pub whole : {A : Type 0} → Result (A × List ℕ) Refusal → Option A
+whole (Ok x) = only_if (length x.1 == 0) (Some x.0)
+whole (Err r) = None
+
+abbrev pub entries_of : ClassView → List ℕ → Option (List Entry)
+entries_of v content = whole (first (table v) content)
+
+-- the place, where an instruction stands there
+abbrev pub standing : List Placed → ℕ → Option ℕ
+standing code p = only_if (is_some (at_place code p)) (Some p)
+
+-- the types, where so many slots have room for them
+abbrev pub within : ℕ → List JType → Option (List JType)
+within max ts = only_if (nat_le (slots_by is_long ts) max) (Some ts)
+
+-- the locals after a change, and the stack of its frame, with the bottom first
+abbrev pub locals_after : List JType → Change → Option (List JType)
+locals_after locals (Chop n) = only_if (nat_le n (length locals)) (Some (take (length locals - n) locals))
+locals_after locals (Append types) = Some (locals ++ types)
+locals_after locals (Full new stack) = Some new
+locals_after locals _ = Some locals
+
+abbrev pub stack_after : Change → List JType
+stack_after (OneItem t) = t ∷ []
+stack_after (Full new stack) = stack
+stack_after _ = []
+
+-- the frame of an entry, where it stands at an instruction and has room
+unfoldable pub next_listed : Environment → List Placed → Option ℕ → List JType → Entry → Option Listed
+next_listed e code p locals a = do
+  place ← standing code (place_after p a.delta)
+  after ← locals_after locals a.change
+  roomy ← within e.max_locals after
+  stack ← within e.max_stack (stack_after a.change)
+  Some (record { place = place; locals = roomy; stack = stack })
+
+-- what the next entry goes on from
+pub record Reached : Type 0 where
+  pub place : ℕ
+  pub locals : List JType
+
+abbrev pub reached : Listed → Reached
+reached x = record { place = x.place; locals = x.locals }
+
+-- the frames of all of the entries
+abbrev pub framed : Environment → List Placed → Option ℕ → List JType → List Entry → Option (List (ℕ × Frame))
+framed e code p locals [] = Some []
+framed e code p locals (a ∷ entries) =
+    option_and_then (λ x. option_map (λ ds. declared_of e x ∷ ds) (framed e code (Some x.place) x.locals entries)) (next_listed e code p locals a)
+
+abbrev pub framed_by : Environment → List Placed → Option (List Entry) → Option (List (ℕ × Frame))
+framed_by e code entries = option_and_then (framed e code None e.signature.params) entries
+
+-- the frames of the one table, if there is one
+abbrev pub frames_of : ClassView → Environment → List Placed → List (List ℕ) → Option (List (ℕ × Frame))
+frames_of v e code [] = Some []
+frames_of v e code (content ∷ []) = framed_by e code (entries_of v content)
+frames_of v e code (content ∷ (other ∷ more)) = None
