@@ -1,14 +1,12 @@
 //! The frames that a StackMapTable declares.
 
-ghost use Rattle.std.specs.Prelude.{◌≡◌, ◌≢◌, ◌<◌, ◌^◌, ℕ, List, All, Some, None, map, nat_le, reverse, option_map, is_some, IfOk, IfErr, IfSome, if◌then◌else◌};
+ghost use Rattle.std.specs.Prelude.{◌≡◌, ◌≢◌, ◌<◌, ◌^◌, ℕ, List, All, map, nat_le, option_map, IfOk, IfErr, IfSome};
 ghost use Rattle.jtypes.specs.declared.refusal.Refusal.{Refusal};
-ghost use Rattle.jtypes.specs.Lists.{only_if};
 ghost use Rattle.jtypes.specs.Types.{slots_by, is_long};
-ghost use Rattle.decode.specs.Places.{at_place};
 ghost use Rattle.frames.specs.declared.frame.Frame.{Frame};
-ghost use Rattle.frames.specs.StackMap.{IsDeclared, declared_of, place_after};
+ghost use Rattle.frames.specs.StackMap.{IsDeclared, place_after};
 ghost use Rattle.frames.specs.Seen.{AreInOrder, declared_seen};
-ghost use Rattle.frames.specs.Reading.{entries_of, standing, within, stack_after, next_listed, reached, framed, frames_of};
+ghost use Rattle.frames.specs.Reading.{entries_of, standing, stack_after, next_listed, reached, framed, frames_of};
 
 use crate::entries::{Change, Entry, read_table};
 use crate::table_frame::{Table, TableFrame, change_locals};
@@ -58,6 +56,7 @@ fn place_of(code: &Code, before: Option<usize>, delta: u16) -> Option<usize>
     let delta = usize::from(delta);
     let place = match before {
         None => delta,
+        // Each instruction stands before a sum that doesn't fit.
         Some(place) => place.checked_add(delta + 1)?,
     };
     match code.at(place) {
@@ -141,7 +140,7 @@ fn frames_from(
     Ok(Some(declared))
 }
 
-/// The frames of the table, or none where there is none or more than one.
+/// The frames of the one table, if there is one; none where it declares no frames, or there are two.
 fn frames_of(
     alloc: Global,
     environment: &Environment,
@@ -162,7 +161,8 @@ fn frames_of(
     }
 }
 
-/// The frames that a method's StackMapTable attributes declare. A method may have one table at most.
+/// The frames that a method's StackMapTable attributes declare, of which there may be one. Its entries are kept, and a frame is
+/// made when it is asked for.
 pub fn read_frames(
     alloc: Global,
     environment: &Environment,

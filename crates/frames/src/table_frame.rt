@@ -1,8 +1,7 @@
 //! The frames of a table's entries, which are made when they are asked for.
 
-ghost use Rattle.std.specs.Prelude.{◌≡◌, ℕ, Some, None, reverse, option_map, IfOk, if◌then◌else◌};
-ghost use Rattle.jtypes.specs.declared.types.JType.TheVariants.{Top};
-ghost use Rattle.frames.specs.Reading.{within, locals_after, locals_or, stack_after, stack_or, frame_with, frame_at};
+ghost use Rattle.std.specs.Prelude.{◌≡◌, reverse, option_map, IfOk, if◌then◌else◌};
+ghost use Rattle.frames.specs.Reading.{within, locals_after, locals_or, stack_after, frame_with, frame_at};
 
 use crate::entries::{Change, Entry};
 use crate::frame::locals_with;
@@ -21,8 +20,7 @@ pub struct Table {
     pub max_locals: u16,
 }
 
-/// The frame of an entry. The frames of a table take no more memory than its entries: `make` makes one of them, by the
-/// entries up to its own.
+/// The frame of an entry, by the entries of its table, which are kept once for all of its frames.
 #[derive(Drop)]
 pub struct TableFrame {
     table: Rc<Table>,
@@ -163,7 +161,7 @@ impl TableFrame {
         })
     }
 
-    /// The frame. It takes the time of reading the entries before it again.
+    /// The frame, by the changes of the entries up to its own.
     pub fn make(&self, alloc: Global) -> Result<Frame, AllocError>
         ensures { IfOk result (λ f. f ≡ self.now) }
     {
