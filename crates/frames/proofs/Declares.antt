@@ -192,3 +192,10 @@ tables_rise v e code (content ∷ (other ∷ more)) ds g = cc
 
 pub in_order : (v : ClassView) (e : Environment) (code : List Placed) (tables : List (List ℕ)) (ds : List Declared) → All (λ d. d.place < 2 ^ 64) ds → Some (declared_seen ds) ≡ frames_of v e code tables → AreInOrder ds
 in_order v e code tables ds h g = record { rise = rises None ds (tables_rise v e code tables (declared_seen ds) g); fit = h }
+
+-- ---- the same tables declare the same frames
+
+pub declared_once : (v : ClassView) (e : Environment) (code : List Placed) (tables : List (List ℕ)) (ds others : List (ℕ × Frame)) → IsDeclared v e code tables ds → IsDeclared v e code tables others → ds ≡ others
+declared_once v e code tables ds others a b =
+    let both : Some ds ≡ Some others = sym (declared_again v e code tables ds a) ∙ declared_again v e code tables others b in
+    cc both

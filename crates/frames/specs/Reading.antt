@@ -1,10 +1,11 @@
 -- What the functions that read a table answer.
-use Rattle.std.specs.Prelude.{ℕ, ◌-◌, ◌==◌, nat_le, List, [], ◌∷◌, ◌++◌, length, take, Option, Some, None, option_map, option_and_then, is_some, Result, Ok, Err}
+use Rattle.std.specs.Prelude.{ℕ, ◌-◌, ◌==◌, nat_le, List, [], ◌∷◌, ◌++◌, length, take, Option, Some, None, option_map, option_and_then, unwrap_or, reverse, zero, suc, is_some, Result, Ok, Err}
 use Rattle.jtypes.specs.declared.refusal.Refusal.{Refusal}
 use Rattle.jtypes.specs.declared.types.JType.{JType}
+use Rattle.jtypes.specs.declared.types.JType.TheVariants.{Top}
 use Rattle.jtypes.specs.Layout.{first}
-use Rattle.jtypes.specs.Lists.{only_if, ◌>>=◌}
-use Rattle.jtypes.specs.Types.{is_long, slots_by}
+use Rattle.jtypes.specs.Lists.{only_if, padded, ◌>>=◌}
+use Rattle.jtypes.specs.Types.{is_long, slots_by, as_locals}
 use Rattle.classfile.specs.View.{ClassView}
 use Rattle.decode.specs.declared.instruction.Placed.{Placed}
 use Rattle.decode.specs.Places.{at_place}
@@ -42,6 +43,23 @@ abbrev pub stack_after : Change → List JType
 stack_after (OneItem t) = t ∷ []
 stack_after (Full new stack) = stack
 stack_after _ = []
+
+-- the same where they can't be made: the locals before, and no stack
+abbrev pub locals_or : List JType → Change → List JType
+locals_or locals c = unwrap_or (locals_after locals c) locals
+
+abbrev pub stack_or : ℕ → Change → List JType
+stack_or max c = unwrap_or (option_map reverse (within max (stack_after c))) []
+
+-- the frame of a change with these locals
+abbrev pub frame_with : ℕ → ℕ → List JType → Change → Frame
+frame_with max_locals max_stack locals c = record { locals = padded Top max_locals (as_locals is_long (λ t. t) Top locals); stack = stack_or max_stack c }
+
+-- the frame of an entry by its number, after the locals before
+abbrev pub frame_at : ℕ → ℕ → List JType → List Entry → ℕ → Frame
+frame_at max_locals max_stack locals [] i = record { locals = []; stack = [] }
+frame_at max_locals max_stack locals (a ∷ entries) zero = frame_with max_locals max_stack (locals_or locals a.change) a.change
+frame_at max_locals max_stack locals (a ∷ entries) (suc i) = frame_at max_locals max_stack (locals_or locals a.change) entries i
 
 -- the frame of an entry, where it stands at an instruction and has room
 unfoldable pub next_listed : Environment → List Placed → Option ℕ → List JType → Entry → Option Listed

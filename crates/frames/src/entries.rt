@@ -1,6 +1,6 @@
 //! The entries of a StackMapTable.
 
-ghost use Rattle.std.specs.Prelude.{◌≡◌, ◌≢◌, ◌-◌, ℕ};
+ghost use Rattle.std.specs.Prelude.{◌≡◌};
 ghost use Rattle.jtypes.specs.Layout.{Takes, first};
 ghost use Rattle.frames.specs.StackMap.{object_type, class_item, stack_type, local_type, one_item, one_item_extended, with_delta, append, full, entry, table};
 

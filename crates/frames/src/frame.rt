@@ -50,13 +50,24 @@ fn padded(mut locals: Vec<JType>, count: usize) -> Result<Vec<JType>, AllocError
     Ok(locals)
 }
 
+/// So many locals, which begin with these types.
+pub fn locals_with(
+    alloc: Global,
+    types: &[JType],
+    max_locals: u16,
+) -> Result<Items<JType>, AllocError>
+    ensures { IfOk result (λ locals. locals ≡ padded Top max_locals (as_locals is_long (λ t. t) Top types.now)) }
+{
+    let locals = as_locals(alloc, types)?;
+    Ok(Items::new(padded(locals, usize::from(max_locals))?))
+}
+
 impl Environment {
     /// A method's locals, where they begin with these types.
     pub fn locals(&self, alloc: Global, types: &[JType]) -> Result<Items<JType>, AllocError>
         ensures { IfOk result (λ locals. locals ≡ locals_of self.now types.now) }
     {
-        let locals = as_locals(alloc, types)?;
-        Ok(Items::new(padded(locals, usize::from(self.max_locals))?))
+        locals_with(alloc, types, self.max_locals)
     }
 
     /// The frame at the method's start.

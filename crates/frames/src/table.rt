@@ -1,27 +1,27 @@
 //! The frames that a StackMapTable declares.
 
-ghost use Rattle.std.specs.Prelude.{◌≡◌, ◌≢◌, ◌<◌, ◌^◌, ℕ, List, All, Some, None, map, nat_le, reverse, option_map, is_some, IfOk, IfErr, IfSome, if◌then◌else◌};
+ghost use Rattle.std.specs.Prelude.{◌≡◌, ◌≢◌, ◌<◌, ◌^◌, ℕ, List, All, map, nat_le, option_map, IfOk, IfErr, IfSome};
 ghost use Rattle.jtypes.specs.declared.refusal.Refusal.{Refusal};
-ghost use Rattle.jtypes.specs.Lists.{only_if};
 ghost use Rattle.jtypes.specs.Types.{slots_by, is_long};
-ghost use Rattle.decode.specs.Places.{at_place};
 ghost use Rattle.frames.specs.declared.frame.Frame.{Frame};
-ghost use Rattle.frames.specs.StackMap.{IsDeclared, declared_of, place_after};
+ghost use Rattle.frames.specs.StackMap.{IsDeclared, place_after};
 ghost use Rattle.frames.specs.Seen.{AreInOrder, declared_seen};
-ghost use Rattle.frames.specs.Reading.{entries_of, standing, within, locals_after, stack_after, next_listed, reached, framed, framed_by, frames_of};
+ghost use Rattle.frames.specs.Reading.{entries_of, standing, stack_after, next_listed, reached, framed, frames_of};
 
 use crate::entries::{Change, Entry, read_table};
-use crate::{Environment, Frame, TypeStack, slots_of};
+use crate::table_frame::{Table, TableFrame, change_locals};
+use crate::{Environment, slots_of};
 use classfile::ClassView;
 use decode::Code;
 use jtypes::{Cursor, Items, JType, Refusal};
 use std::alloc::{AllocError, Global};
+use std::rc::Rc;
 
 /// A frame, and the place of the instruction that it is declared for (JVMS §4.7.4).
-#[derive(Debug, Drop)]
+#[derive(Drop)]
 pub struct Declared {
     pub place: usize,
-    pub frame: Frame,
+    pub frame: TableFrame,
 }
 
 /// The entries of a table, where they fill its bytes.
@@ -56,6 +56,7 @@ fn place_of(code: &Code, before: Option<usize>, delta: u16) -> Option<usize>
     let delta = usize::from(delta);
     let place = match before {
         None => delta,
+        // Each instruction stands before a sum that doesn't fit.
         Some(place) => place.checked_add(delta + 1)?,
     };
     match code.at(place) {
@@ -78,66 +79,29 @@ fn have_room(types: &[JType], max: u16) -> bool
     true
 }
 
-/// Makes the locals those of an entry's frame. False where there are fewer than are chopped.
-fn change_locals(locals: &mut Vec<JType>, change: &Change) -> Result<bool, AllocError>
-    ensures { IfOk result (λ changed. locals_after locals.old.items change.now ≡ (if changed then Some locals.new.items else None)) }
+/// Whether the stack of an entry's frame has room.
+fn stack_has_room(change: &Change, max: u16) -> bool
+    ensures { result ≡ nat_le (slots_by is_long (stack_after change.now)) max }
 {
     match change {
-        Change::Same | Change::OneItem(_) => {}
-        Change::Chop(count) => {
-            let count = usize::from(*count);
-            if locals.len() < count {
-                return Ok(false);
-            }
-            locals.truncate(locals.len() - count);
-        }
-        Change::Append(types) => locals.extend_from_slice(types.as_slice())?,
-        Change::Full(types, _) => {
-            locals.clear();
-            locals.extend_from_slice(types.as_slice())?;
-        }
-    }
-    Ok(true)
-}
-
-/// The stack with these types, of which the bottom comes first, where so many slots have room for them.
-fn stack_with(alloc: Global, types: &[JType], max: u16) -> Result<Option<TypeStack>, AllocError>
-    ensures { IfOk result (λ stack. stack ≡ option_map reverse (within max types.now)) }
-{
-    let mut stack = TypeStack::new(alloc);
-    for t in types {
-        if !stack.push(*t, max)? {
-            return Ok(None);
-        }
-    }
-    Ok(Some(stack))
-}
-
-/// The stack of an entry's frame.
-fn stack_of(alloc: Global, change: &Change, max: u16) -> Result<Option<TypeStack>, AllocError>
-    ensures { IfOk result (λ stack. stack ≡ option_map reverse (within max (stack_after change.now))) }
-{
-    match change {
-        Change::Same | Change::Chop(_) | Change::Append(_) => Ok(Some(TypeStack::new(alloc))),
-        Change::OneItem(t) => stack_with(alloc, &[*t], max),
-        Change::Full(_, types) => stack_with(alloc, types.as_slice(), max),
+        Change::Same | Change::Chop(_) | Change::Append(_) => true,
+        Change::OneItem(t) => slots_of(*t) <= max,
+        Change::Full(_, types) => have_room(types.as_slice(), max),
     }
 }
 
-/// The frame of an entry, after the place and the locals before, which become its own; none where it stands at no
+/// The place of an entry's frame, after the place and the locals before, which become its own; none where it stands at no
 /// instruction or has no room.
 #[tactic(auto, unfolding(crate::specs::Reading::next_listed))]
-fn next_frame(
-    alloc: Global,
+fn next_place(
     environment: &Environment,
     code: &Code,
     before: Option<usize>,
     locals: &mut Vec<JType>,
     entry: &Entry,
-) -> Result<Option<Declared>, AllocError>
-    ensures frame { IfOk result (λ next. option_map (λ d. (d.place, d.frame)) next ≡ option_map (declared_of environment.now) (next_listed environment.now code.now before locals.old.items entry.now)) }
-    ensures fits { IfOk result (λ next. IfSome next (λ d. d.place < 2 ^ 64)) }
-    ensures locals { IfOk result (λ next. IfSome next (λ d. option_map reached (next_listed environment.now code.now before locals.old.items entry.now) ≡ Some (record { place = d.place; locals = locals.new.items }))) }
+) -> Result<Option<usize>, AllocError>
+    ensures frame { IfOk result (λ next. option_map reached (next_listed environment.now code.now before locals.old.items entry.now) ≡ option_map (λ place. record { place = place; locals = locals.new.items }) next) }
+    ensures fits { IfOk result (λ next. IfSome next (λ place. place < 2 ^ 64)) }
 {
     let Some(place) = place_of(code, before, entry.delta) else {
         return Ok(None);
@@ -145,14 +109,10 @@ fn next_frame(
     if !change_locals(locals, &entry.change)? || !have_room(locals, environment.max_locals) {
         return Ok(None);
     }
-    let Some(stack) = stack_of(alloc, &entry.change, environment.max_stack)? else {
+    if !stack_has_room(&entry.change, environment.max_stack) {
         return Ok(None);
-    };
-    let locals = environment.locals(alloc, locals)?;
-    Ok(Some(Declared {
-        place,
-        frame: Frame { locals, stack },
-    }))
+    }
+    Ok(Some(place))
 }
 
 /// The frames of the entries; none where one has no place or no room.
@@ -160,27 +120,27 @@ fn frames_from(
     alloc: Global,
     environment: &Environment,
     code: &Code,
-    entries: &[Entry],
+    entries: Items<Entry>,
 ) -> Result<Option<Vec<Declared>>, AllocError>
     ensures fit { IfOk result (λ ds. IfSome ds (λ ds. All (λ d. d.place < 2 ^ 64) ds.items)) }
-    ensures frames { IfOk result (λ ds. option_map (λ ds. declared_seen ds.items) ds ≡ framed environment.now code.now None environment.now.signature.params entries.now) }
+    ensures frames { IfOk result (λ ds. option_map (λ ds. declared_seen ds.items) ds ≡ framed environment.now code.now None environment.now.signature.params entries) }
 {
+    let table = Rc::new(alloc, Table::new(alloc, environment, entries)?)?;
     let mut declared = Vec::new(alloc);
     let mut before = None;
     let mut locals = Vec::from_slice(alloc, environment.signature.params.as_slice())?;
-    for entry in entries {
-        match next_frame(alloc, environment, code, before, &mut locals, entry)? {
-            None => return Ok(None),
-            Some(next) => {
-                before = Some(next.place);
-                declared.push(next)?;
-            }
-        }
+    for entry in table.entries() {
+        let Some(place) = next_place(environment, code, before, &mut locals, entry)? else {
+            return Ok(None);
+        };
+        let frame = TableFrame::new(&table, declared.len())?;
+        declared.push(Declared { place, frame })?;
+        before = Some(place);
     }
     Ok(Some(declared))
 }
 
-/// The frames of the table, or none where there is none or more than one.
+/// The frames of the one table, if there is one; none where it declares no frames, or there are two.
 fn frames_of(
     alloc: Global,
     environment: &Environment,
@@ -195,13 +155,14 @@ fn frames_of(
         [] => Ok(Some(Vec::new(alloc))),
         [content] => match entries_of(alloc, view, content)? {
             None => Ok(None),
-            Some(entries) => frames_from(alloc, environment, code, entries.as_slice()),
+            Some(entries) => frames_from(alloc, environment, code, entries),
         },
         _ => Ok(None),
     }
 }
 
-/// The frames that a method's StackMapTable attributes declare. A method may have one table at most.
+/// The frames that a method's StackMapTable attributes declare, of which there may be one. Its entries are kept, and a frame is
+/// made when it is asked for.
 pub fn read_frames(
     alloc: Global,
     environment: &Environment,

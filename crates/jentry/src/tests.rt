@@ -256,6 +256,83 @@ fn classes_are_refused(rt: HostRuntime) -> Result<(), Fail> {
     )
 }
 
+/// Plus with a StackMapTable.
+fn plus_with(alloc: Global, count: u16, entries: &[u8]) -> Result<Vec<u8>, AllocError> {
+    let method = rows::Method {
+        frames: Some(rows::Frames { count, entries }),
+        ..rows::process(4, 5, &rows::PLUS)
+    };
+    rows::class_of(alloc, &[method])
+}
+
+#[test]
+fn declared_frames_are_read(rt: HostRuntime) -> Result<(), Fail> {
+    let alloc = rt.alloc();
+    for (count, entries) in [
+        (0, [].as_slice()),
+        (1, &[0]),
+        (1, &[76, 4]),
+        (1, &[247, 0, 12, 4]),
+        (1, &[252, 0, 15, 4]),
+        (2, &[252, 0, 15, 4, 9]),
+        (2, &[252, 0, 15, 4, 251, 0, 9]),
+        (
+            1,
+            &[
+                255, 0, 17, 0, 4, 7, 0, 2, 7, 0, 16, 7, 0, 4, 4, 0, 2, 7, 0, 16, 4,
+            ],
+        ),
+    ] {
+        rows_hold(
+            &rt,
+            alloc,
+            &plus_with(alloc, count, entries)?,
+            &[Row {
+                words: &["check", "C"],
+                status: 0,
+                output: "accepted steps=14 words=0 slots=9 depth=1\n",
+            }],
+        )?;
+    }
+    Ok(())
+}
+
+#[test]
+fn declared_frames_are_judged(rt: HostRuntime) -> Result<(), Fail> {
+    let alloc = rt.alloc();
+    let operand = "refused 22 TypeMismatch at 16\n";
+    let table = "refused 21 BadStackMap\n";
+    for (count, entries, output) in [
+        // The long is chopped with the arguments, or the stack's order is turned.
+        (1, [250, 0, 15].as_slice(), operand),
+        (
+            1,
+            &[
+                255, 0, 17, 0, 4, 7, 0, 2, 7, 0, 16, 7, 0, 4, 4, 0, 2, 4, 7, 0, 16,
+            ],
+            operand,
+        ),
+        // The bytes are more or fewer than the entries, or there is no such entry or type.
+        (1, &[252, 0, 15, 4, 9], table),
+        (2, &[252, 0, 15, 4], table),
+        (1, &[128, 0, 15], table),
+        (1, &[252, 0, 15, 3], table),
+        (1, &[252, 0, 15, 7, 0, 1], table),
+        (1, &[76, 0], table),
+        // No instruction stands there.
+        (1, &[2], table),
+        (1, &[251, 255, 255], table),
+        (2, &[252, 0, 15, 4, 8], table),
+        // There are no four locals to chop, or there is no room.
+        (2, &[248, 0, 15, 250, 0, 0], table),
+        (1, &[254, 0, 15, 4, 4, 4], table),
+        (1, &[255, 0, 17, 0, 0, 0, 3, 4, 4, 4], table),
+    ] {
+        is_refused(&rt, alloc, plus_with(alloc, count, entries)?, output)?;
+    }
+    Ok(())
+}
+
 /// One byte of Plus in the place of another, or several.
 fn changed(alloc: Global, at: usize, bytes: &[u8]) -> Result<Vec<u8>, AllocError> {
     let mut class = rows::plus(alloc)?;
@@ -381,7 +458,7 @@ fn flags_and_codes_are_refused(rt: HostRuntime) -> Result<(), Fail> {
     methods_refused(&rt, rt.alloc(), &[crowded], "refused 14 BadCode\n")?;
     let framed = rows::Method {
         frames: Some(rows::Frames {
-            count: 0,
+            count: 1,
             entries: &[],
         }),
         ..process

@@ -16,13 +16,13 @@ use crate::assign::frame_assignable;
 use crate::{Called, Typed};
 use classfile::ClassView;
 use decode::{Code, Instruction, Placed};
-use frames::{Declared, Environment, Frame, callee_at, read_frames};
+use frames::{Declared, Environment, Frame, TableFrame, callee_at, read_frames};
 use jtypes::Refusal;
 use std::alloc::{AllocError, Global};
 use transfer::apply;
 
 /// The frame that is declared at a place. The search halves the row each time.
-fn declared_at(declared: &[Declared], place: usize) -> Option<&Frame>
+fn declared_at(declared: &[Declared], place: usize) -> Option<&TableFrame>
     requires { AreInOrder declared.now }
     ensures { option_copied result ≡ frame_in (declared_seen declared.now) place }
 {
@@ -41,7 +41,7 @@ fn is_declared(declared: &[Declared], place: usize) -> bool
 }
 
 /// The frame declared at the target of an instruction that has one.
-fn declared_at_target(declared: &[Declared], target: i128) -> Option<&Frame>
+fn declared_at_target(declared: &[Declared], target: i128) -> Option<&TableFrame>
     requires { AreInOrder declared.now }
     ensures { option_copied result ≡ target_frame (declared_seen declared.now) target }
 {
@@ -80,15 +80,6 @@ fn lacks_frame(code: &Code, declared: &[Declared]) -> bool
     false
 }
 
-fn copy_of(alloc: Global, frame: &Frame) -> Result<Frame, AllocError>
-    ensures { IfOk result (λ f. f ≡ frame.now) }
-{
-    Ok(Frame {
-        locals: jtypes::Items::from_slice(alloc, frame.locals.as_slice())?,
-        stack: frame.stack.copy(alloc)?,
-    })
-}
-
 /// The refusal of the instruction at a place.
 fn mismatch(place: usize) -> Refusal
     ensures { result ≡ mismatch_at place }
@@ -102,17 +93,18 @@ fn enter(
     alloc: Global,
     from: usize,
     flow: Option<Frame>,
-    declared: Option<&Frame>,
+    declared: Option<&TableFrame>,
 ) -> Result<Frame, Refusal>
     ensures ok { IfOk result (λ f. entered from flow (option_copied declared.entry) ≡ Ok f) }
     ensures err { IfErr result (λ r. r ≢ Refusal.NoMemory → entered from flow (option_copied declared.entry) ≡ Err r) }
 {
     match (flow, declared) {
         (Some(frame), None) => Ok(frame),
-        (None, Some(d)) => Ok(copy_of(alloc, d)?),
+        (None, Some(d)) => Ok(d.make(alloc)?),
         (Some(frame), Some(d)) => {
-            if frame_assignable(&frame, d) {
-                Ok(copy_of(alloc, d)?)
+            let d = d.make(alloc)?;
+            if frame_assignable(&frame, &d) {
+                Ok(d)
             } else {
                 Err(mismatch(from))
             }
@@ -122,15 +114,21 @@ fn enter(
 }
 
 /// What flows on from an instruction with this outcome, which has to fit what is declared at its target.
-fn leave(declared: &[Declared], p: &Placed, outcome: Frame) -> Result<Option<Frame>, Refusal>
+fn leave(
+    alloc: Global,
+    declared: &[Declared],
+    p: &Placed,
+    outcome: Frame,
+) -> Result<Option<Frame>, Refusal>
     requires { AreInOrder declared.now }
-    ensures { result ≡ branched (declared_seen declared.now) p.now outcome (target_of p.now.instruction) }
+    ensures ok { IfOk result (λ next. branched (declared_seen declared.now) p.now outcome (target_of p.now.instruction) ≡ Ok next) }
+    ensures err { IfErr result (λ r. r ≢ Refusal.NoMemory → branched (declared_seen declared.now) p.now outcome (target_of p.now.instruction) ≡ Err r) }
 {
     if let Some(target) = p.instruction.target() {
         match declared_at_target(declared, target) {
             None => return Err(Refusal::BadStackMap),
             Some(d) => {
-                if !frame_assignable(&outcome, d) {
+                if !frame_assignable(&outcome, &d.make(alloc)?) {
                     return Err(mismatch(p.place));
                 }
             }
@@ -159,7 +157,7 @@ fn advance(
 {
     let mut frame = enter(alloc, from, flow, declared_at(declared, p.place))?;
     if apply(alloc, &p.instruction, environment, view, &mut frame)? {
-        leave(declared, p, frame)
+        leave(alloc, declared, p, frame)
     } else {
         Err(mismatch(p.place))
     }
