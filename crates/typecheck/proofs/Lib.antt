@@ -3,5 +3,7 @@ pub mod Consecutive
 pub mod DeclaredPlaces
 pub mod LackingFrames
 pub mod PassAnswers
+pub mod PlacesMade
 pub mod Passes
 pub mod CallsFound
+pub mod CallsMade
