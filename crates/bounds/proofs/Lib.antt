@@ -4,3 +4,5 @@ pub mod CellsFilled
 pub mod CellsOfTables
 pub mod KnownCosts
 pub mod Circles
+pub mod Grounded
+pub mod LengthsFound
