@@ -8,3 +8,5 @@ pub mod OnlyOne
 pub mod Constructor
 pub mod Names
 pub mod Shapes
+pub mod Numbered
+pub mod Judged

@@ -60,6 +60,14 @@ zip_has R (c ∷ xs) [] n x h a = absurd h
 zip_has R (c ∷ xs) (d ∷ ys) zero x h a = let first : c ≡ x = cc a in (d, refl, subst (λ z. R z d) first h.0)
 zip_has R (c ∷ xs) (d ∷ ys) (suc n) x h a = zip_has R xs ys n x h.1 a
 
+-- by an element of the second list
+pub zip_back : {A B : Type 0} (R : A → B → Type 0) (xs : List A) (ys : List B) (n : ℕ) (y : B) → AllZip R xs ys → slice_get ys n ≡ Some y → (x : A) × (slice_get xs n ≡ Some x) × R x y
+zip_back R [] [] n y h b = absurd cc
+zip_back R [] (d ∷ ys) n y h b = absurd h
+zip_back R (c ∷ xs) [] n y h b = absurd h
+zip_back R (c ∷ xs) (d ∷ ys) zero y h b = let first : d ≡ y = cc b in (c, refl, subst (R c) first h.0)
+zip_back R (c ∷ xs) (d ∷ ys) (suc n) y h b = zip_back R xs ys n y h.1 b
+
 -- an element that some test is true of, by its place
 pub any_at : {A : Type 0} (P : A → Type 0) (xs : List A) → Any P xs → (n : ℕ) × (x : A) × (slice_get xs n ≡ Some x) × P x
 any_at P xs h = (h.0, h.1, slice_get-get_or xs h.0 h.1 h.2 ∙ ap (λ z. Some z) h.3, h.4)

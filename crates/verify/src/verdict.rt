@@ -8,10 +8,12 @@ ghost use Rattle.classfile.specs.declared.class_file.Parts.{Parts};
 ghost use Rattle.classfile.specs.Class.{class_file};
 ghost use Rattle.classfile.specs.View.{view_of};
 ghost use Rattle.bounds.specs.Limits.{IsWithinLimits};
-ghost use Rattle.verify.specs.Shape.{ShapeStands};
+ghost use Rattle.std.specs.List.{AllZip};
+ghost use Rattle.verify.specs.Shape.{HasCode, ShapeStands};
+ghost use Rattle.verify.specs.Judging.{AreFound, AreTyped, HasInstructionsOf, IsTypedRow};
 ghost use Rattle.verify.specs.Verdict.{IsClassFile};
 
-use crate::instructions::judge_instructions;
+use crate::instructions::{Found, judge_instructions};
 use crate::shape::{is_process, judge_shape};
 use bounds::{Bounds, bound};
 use classfile::{ClassFile, ClassView, CodeParts, contents_named, read_class};
@@ -74,17 +76,20 @@ fn judge_method(
     number: usize,
     parts: &CodeParts,
     code: Code,
-) -> Result<Typed, Refusal> {
+) -> Result<Typed, Refusal>
+    requires { HasInstructionsOf class.now.pool class.now.parts number parts.now code }
+    ensures number { IfOk result (λ t. t.number ≡ number) }
+    ensures row { IfOk result (λ t. IsTypedRow class.now.pool class.now.parts t) }
+{
     let view = class.view();
     let Some(method) = view.method(number) else {
         return Err(Refusal::BadDescriptor);
     };
-    let Some(signature) = method_signature(alloc, &view, &method)? else {
+    let Some(member) = class.parts.methods.as_slice().get(number) else {
         return Err(Refusal::BadDescriptor);
     };
-    let is_process = match class.parts.methods.as_slice().get(number) {
-        Some(member) => is_process(class, member),
-        None => false,
+    let Some(signature) = method_signature(alloc, &view, &method)? else {
+        return Err(Refusal::BadDescriptor);
     };
     let environment = Environment {
         signature,
@@ -97,21 +102,25 @@ fn judge_method(
         names::STACK_MAP_TABLE,
         parts.attributes.as_slice(),
     )?;
+    let is_process = is_process(class, member);
     check_method(alloc, number, is_process, environment, &tables, code, &view)
 }
 
-/// Checks the types of the methods but the constructor.
+/// Checks the types of the methods whose instructions were found.
 fn judge_types(
     alloc: Global,
     class: &ClassFile,
     codes: &[CodeParts],
-    instructions: Vec<Option<Code>>,
-) -> Result<Vec<Typed>, Refusal> {
+    found: Vec<Found>,
+    constructor: usize,
+) -> Result<Vec<Typed>, Refusal>
+    requires codes { AllZip (HasCode class.now.pool) class.now.parts.methods codes.now }
+    requires found { AreFound (view_of class.now.pool class.now.parts) codes.now constructor (length codes.now) found.items }
+    ensures { IfOk result (λ rows. AreTyped class.now.pool class.now.parts constructor (length codes.now) rows.items) }
+{
     let mut methods = Vec::new(alloc);
-    for (number, (parts, code)) in codes.iter().zip(instructions).enumerate() {
-        if let Some(code) = code {
-            methods.push(judge_method(alloc, class, number, parts, code)?)?;
-        }
+    for Found { number, code } in found {
+        methods.push(judge_method(alloc, class, number, &codes[number], code)?)?;
     }
     Ok(methods)
 }
@@ -136,7 +145,7 @@ pub fn verify(alloc: Global, bytes: &[u8]) -> Result<Verified, Refusal>
     let class = read_class(alloc, bytes)?;
     let shape = judge_shape(alloc, &class)?;
     let instructions = judge_instructions(alloc, &class, &shape.codes, shape.constructor)?;
-    let methods = judge_types(alloc, &class, &shape.codes, instructions)?;
+    let methods = judge_types(alloc, &class, &shape.codes, instructions, shape.constructor)?;
     let bounds = bound(alloc, &methods)?;
     Ok(Verified {
         class,
