@@ -6,3 +6,4 @@ pub mod KnownCosts
 pub mod Circles
 pub mod Grounded
 pub mod LengthsFound
+pub mod Ranks

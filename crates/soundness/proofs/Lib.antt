@@ -12,8 +12,7 @@ pub mod StraightCode
 pub mod StaticProcess
 pub mod ReservedName
 pub mod ScatteredPlaces
-pub mod Ranks
-pub mod OneTable
+pub mod AcceptedRanks
 pub mod SmallClasses
 pub mod NotTyped
 pub mod OtherSignature

@@ -1,7 +1,6 @@
 -- The methods of an accepted class are well typed.
-use Rattle.std.proofs.Common.{◌≡◌, ℕ, zero, suc, ◌+◌, ◌<◌, ◌≤◌, Bool, true, false, List, [], ◌∷◌, length, Option, Some, None, refl, sym, ap, ◌∙◌, subst, arith, ◌⊎◌, inl, inr}
-use Rattle.std.specs.Prelude.{map, cond, ◌==◌, All, Any, IsFalse, IsSome, is_some, Contains}
-use Rattle.std.proofs.lemmas.Bool.{eqb-true, false≢true}
+use Rattle.std.proofs.Common.{◌≡◌, ℕ, List, [], ◌∷◌, length, Option, Some, None, refl, sym, ap, subst, inr}
+use Rattle.std.specs.Prelude.{IsFalse, IsSome}
 use Rattle.jtypes.specs.declared.refusal.Refusal.{Refusal}
 use Rattle.jtypes.specs.declared.refusal.Refusal.TheVariants.{BadStackMap, TypeMismatch, FallsOff, BadCode}
 use Rattle.jtypes.specs.Lists.{last}
@@ -9,11 +8,9 @@ use Rattle.constpool.specs.Lookup.{Slot}
 use Rattle.classfile.specs.View.{ClassView, MethodView, view_of}
 use Rattle.decode.specs.declared.instruction.Placed.{Placed}
 use Rattle.decode.specs.Code.{IsSequence}
-use Rattle.decode.specs.Places.{at_place, falls_through}
 use Rattle.frames.specs.declared.frame.Environment.{Environment}
-use Rattle.frames.specs.declared.frame.Frame.{Frame}
-use Rattle.typecheck.specs.Typing.{Method, Class, IsWellTyped, instruction_at, declared_at}
-use Rattle.typecheck.specs.Mismatch.{LacksFrame, HasBadStackMap, FallsOffEnd, IsMismatch}
+use Rattle.typecheck.specs.Typing.{Method, Class, IsWellTyped}
+use Rattle.typecheck.specs.Mismatch.{IsMismatch}
 use Rattle.typecheck.specs.Pass.{failure_of, IsReady}
 use Rattle.typecheck.proofs.DeclaredPlaces.{declared_stands}
 use Rattle.typecheck.proofs.Passes.{fails_at_mismatch, passes_typed}
@@ -22,8 +19,10 @@ use Rattle.verify.specs.Verdict.{IsAccepted, IsClassOf, HasShape, HasInstruction
 use Rattle.verify.specs.Checked.{IsMember}
 use Rattle.verify.specs.Promise.{TypeSoundness, AcceptedIsChecked}
 use Rattle.soundness.proofs.SafeRuns.{type_soundness}
-use Rattle.soundness.proofs.Ranks.{accepted_has_ranks}
-use Rattle.soundness.proofs.AcceptedClasses.{accepted_is_named, accepted_process_is_instance, accepted_count, accepted_signed, accepted_is_formed, sequence_is_consecutive, any_from, InFile, in_file, one_contains}
+use Rattle.soundness.proofs.AcceptedRanks.{accepted_has_ranks}
+use Rattle.verify.proofs.Methods.{any_from}
+use Rattle.decode.proofs.Consecutive.{sequence_is_consecutive}
+use Rattle.soundness.proofs.AcceptedClasses.{accepted_is_named, accepted_process_is_instance, accepted_count, accepted_signed, accepted_is_formed, InFile, in_file, one_contains}
 
 -- a code with a byte has a last instruction
 last_of_some : (x : Placed) (xs : List Placed) → IsSome (last (x ∷ xs))

@@ -7,3 +7,5 @@ pub mod PlacesMade
 pub mod Passes
 pub mod CallsFound
 pub mod CallsMade
+pub mod OneTable
+pub mod TypedOnly

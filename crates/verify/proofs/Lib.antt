@@ -10,3 +10,8 @@ pub mod Names
 pub mod Shapes
 pub mod Numbered
 pub mod Judged
+pub mod ConstructorCode
+pub mod OwnCalls
+pub mod RowsOfClass
+pub mod Verdicts
+pub mod Accepted

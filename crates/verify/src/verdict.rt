@@ -1,6 +1,6 @@
 //! The verdict, level by level.
 
-ghost use Rattle.std.specs.Prelude.{◌≡◌, ◌≢◌, ◌⊎◌, List, length, IfOk, IfErr};
+ghost use Rattle.std.specs.Prelude.{◌≡◌, ◌⊎◌, ℕ, List, length, IfOk, IfErr};
 ghost use Rattle.jtypes.specs.declared.refusal.Refusal.{Refusal};
 ghost use Rattle.jtypes.specs.Layout.{IsLaidOut, Stands};
 ghost use Rattle.constpool.specs.Lookup.{Slot};
@@ -11,7 +11,11 @@ ghost use Rattle.bounds.specs.Limits.{IsWithinLimits};
 ghost use Rattle.std.specs.List.{AllZip};
 ghost use Rattle.verify.specs.Shape.{HasCode, ShapeStands};
 ghost use Rattle.verify.specs.Judging.{AreFound, AreTyped, HasInstructionsOf, IsTypedRow};
-ghost use Rattle.verify.specs.Verdict.{IsClassFile};
+ghost use Rattle.verify.specs.Verdict.{IsAccepted, IsClassFile, IsClassOf};
+ghost use Rattle.verify.specs.Judged.{IsJudgedAs};
+ghost use Rattle.typecheck.specs.Typing.{Class, IsProcessOf};
+ghost use Rattle.bounds.specs.Paths.{AreBounds};
+ghost use Rattle.bounds.specs.Rows.{bounds_in};
 
 use crate::instructions::{Found, judge_instructions};
 use crate::shape::{is_process, judge_shape};
@@ -130,6 +134,15 @@ fn judge_types(
 pub fn verify(alloc: Global, bytes: &[u8]) -> Result<Verified, Refusal>
     // The bytes, all of them, are this class.
     ensures found { IfOk result (λ v. IsLaidOut (class_file (length bytes.now)) bytes.now (v.pool, v.parts)) }
+
+    // Only a class in which nothing is refused is accepted: neither its layout nor its shape, its instructions, their types,
+    // its recursion or its bounds.
+    ensures accepted { IfOk result (λ _. IsAccepted bytes.now) }
+
+    // The bytes are a class; and what is answered is that class, with the bounds of its `process`.
+    ensures class { IfOk result (λ _. (c : Class) × IsClassOf bytes.now c) }
+    ensures judged { IfOk result (λ v. (c : Class) → IsClassOf bytes.now c → IsJudgedAs c v) }
+    ensures bounds { IfOk result (λ v. (c : Class) (j : ℕ) → IsClassOf bytes.now c → IsProcessOf c j → AreBounds c j (bounds_in v.bounds)) }
 
     // Only a class whose layout and whose shape nothing refuses is accepted, and its bounds are within the limits.
     ensures laid_out { IfOk result (λ _. (r : Refusal) → Stands (class_file (length bytes.now)) bytes.now r → ⊥) }

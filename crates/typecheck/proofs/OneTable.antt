@@ -8,7 +8,6 @@ use Rattle.decode.specs.declared.instruction.Placed.{Placed}
 use Rattle.frames.specs.declared.frame.Frame.{Frame}
 use Rattle.frames.specs.declared.frame.Environment.{Environment}
 use Rattle.frames.specs.StackMap.{IsDeclared, without, with_table, Entry, Listed, table, frames_from, declared_of}
-use Rattle.soundness.specs.Tables.{EachTableIsOne}
 
 module _ (v : ClassView) (e : Environment) (code : List Placed) where
   -- the frames that one table lists
@@ -41,5 +40,5 @@ module _ (v : ClassView) (e : Environment) (code : List Placed) where
   declared_once (content ∷ []) ds others a b = one_list content ds others a b
   declared_once (content ∷ (x ∷ tables)) ds others a b = absurd a
 
-pub one_table : EachTableIsOne
+pub one_table : (v : ClassView) (e : Environment) (code : List Placed) (tables : List (List ℕ)) (ds others : List (ℕ × Frame)) → IsDeclared v e code tables ds → IsDeclared v e code tables others → ds ≡ others
 one_table v e code tables ds others a b = declared_once v e code tables ds others (declares v e code tables ds a) (declares v e code tables others b)
