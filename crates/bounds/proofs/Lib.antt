@@ -4,3 +4,6 @@ pub mod CellsFilled
 pub mod CellsOfTables
 pub mod KnownCosts
 pub mod Circles
+pub mod Grounded
+pub mod LengthsFound
+pub mod Ranks

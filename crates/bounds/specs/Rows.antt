@@ -9,7 +9,7 @@ use Rattle.typecheck.specs.Calls.{AreRising, callee_in}
 use Rattle.typecheck.specs.declared.typed.Called.{Called}
 use Rattle.typecheck.specs.declared.typed.Typed.{Typed}
 use Rattle.bounds.specs.Table.{Costs, IsTable, LeadsOn}
-use Rattle.bounds.specs.Recursion.{IsRecursive}
+use Rattle.bounds.specs.Recursion.{HasCall, IsRecursive}
 use Rattle.bounds.specs.Paths.{Bounds, AreBounds, SomePathExceeds, step_limit, word_limit, slot_limit, depth_limit}
 use Rattle.bounds.specs.declared.limits.Bounds as declared
 use Rattle.bounds.specs.Cells.{Cell, capped, known_at}
@@ -88,6 +88,25 @@ pub record AreAllRowsOf (c : Class) (set : ℕ → Bool) (rows : List Typed) : T
   pub each_has_one : (k : ℕ) → set k ≡ true → (i : ℕ) × (i < length rows) × ((d : Typed) → (get_or rows i d).number ≡ k)
   pub placed : (i : ℕ) (d : Typed) → i < length rows → (q : ℕ) (x : Called) → q < length (get_or rows i d).calls.items → IsSome (at_place (get_or rows i d).code (get_or (get_or rows i d).calls.items q x).place)
   pub reached : (i : ℕ) (d : Typed) → i < length rows → (place k : ℕ) → own_of (callee_in (get_or rows i d).calls.items place) ≡ Some k → set k ≡ true
+
+-- a set of methods in which each has an own call of a method of the set
+abbrev pub IsClosed : Class → (ℕ → Bool) → Type 0
+IsClosed c set = (j : ℕ) → set j ≡ true → (k : ℕ) × HasCall c j k × (set k ≡ true)
+
+-- what is known is of no method of such a set
+abbrev pub AreGrounded : Class → List (Option Cell) → Type 0
+AreGrounded c known = (set : ℕ → Bool) → IsClosed c set → (j : ℕ) → set j ≡ true → known_at known j ≡ None
+
+-- after a row of the class neither
+abbrev pub StaysGrounded : Typed → List (Option Cell) → List (Option Cell) → Type 0
+StaysGrounded row old new = (c : Class) → IsRowOf c row → AreGrounded c old → AreGrounded c new
+
+abbrev pub AreAllKnown : List Typed → List (Option Cell) → Type 0
+AreAllKnown rows known = (i : ℕ) (d : Typed) → i < length rows → IsSome (known_at known (get_or rows i d).number)
+
+-- none of the rows' methods is in such a set
+abbrev pub AreNotRecursive : List Typed → Type 0
+AreNotRecursive rows = (c : Class) (set closed : ℕ → Bool) → AreRowsOf c set rows → IsClosed c closed → (i : ℕ) (d : Typed) → i < length rows → closed (get_or rows i d).number ≡ true → ⊥
 
 -- own calls make a circle
 abbrev pub IsCircleIn : List Typed → Type 0

@@ -4,7 +4,9 @@ ghost use Rattle.std.specs.Prelude.{◌≡◌, ◌+◌, min, max, ◌-◌, lengt
 ghost use Rattle.decode.specs.Places.{pushed_before};
 ghost use Rattle.typecheck.specs.Typing.{own_number};
 ghost use Rattle.typecheck.specs.Calls.{AreRising};
+ghost use Rattle.typecheck.specs.DeclaredPlaces.{ArePlacesRising};
 ghost use Rattle.bounds.specs.Cells.{either, one_before, call_before, slots_of, words_by, cell_at, cell_at_target, known_at, callee_cell, cell_by, size_by};
+ghost use Rattle.bounds.specs.Lengths.{has_length, is_among, is_length};
 ghost use Rattle.bounds.specs.Rows.{is_known, are_known, IsCostOf};
 
 use decode::{Code, Instruction, Placed};
@@ -94,13 +96,33 @@ fn pushed_before(method: &Typed, place: usize) -> Option<i32>
     method.code.before(place)?.instruction.pushed_int()
 }
 
-/// Whether a newarray has a constant length from 0 to 65,535 before it, and no declared frame.
-pub fn has_length(method: &Typed, p: &Placed) -> bool {
-    let constant = match pushed_before(method, p.place) {
+/// Whether an array may have a length: from 0 to 65,535.
+fn is_length(length: Option<i32>) -> bool
+    ensures { result ≡ is_length length }
+{
+    match length {
         Some(n) => 0 <= n && n <= 65_535,
         None => false,
-    };
-    constant && method.declared.binary_search(&p.place).is_err()
+    }
+}
+
+/// Whether a frame is declared at a place. The search halves the row each time.
+fn is_declared(method: &Typed, place: usize) -> bool
+    ensures { ArePlacesRising method.now.declared.items → result ≡ is_among method.now.declared.items place }
+{
+    method.declared.binary_search(&place).is_ok()
+}
+
+/// Whether a newarray has a constant length before it, and no declared frame. Of other instructions nothing is asked.
+pub fn has_length(method: &Typed, p: &Placed) -> bool
+    ensures { ArePlacesRising method.now.declared.items → result ≡ has_length method.now p.now p.now.instruction }
+{
+    match p.instruction {
+        Instruction::NewArray(_) => {
+            is_length(pushed_before(method, p.place)) && !is_declared(method, p.place)
+        }
+        _ => true,
+    }
 }
 
 /// The cost from a place on, in the row of the costs by places.

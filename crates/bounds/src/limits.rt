@@ -1,14 +1,16 @@
 //! The bounds of a class, and their limits.
 
-ghost use Rattle.std.specs.Prelude.{◌≡◌, ◌≢◌, ℕ, ◌<◌, ◌-◌, ◌^◌, Bool, length, IsFalse, IfOk, IfErr};
+ghost use Rattle.std.specs.Prelude.{◌≡◌, ◌≢◌, ℕ, ◌<◌, ◌-◌, ◌^◌, Bool, false, length, get_or, Err, IsTrue, IsFalse, IfOk, IfErr};
 ghost use Rattle.jtypes.specs.declared.refusal.Refusal.{Refusal};
 ghost use Rattle.typecheck.specs.Typing.{Class, IsProcessOf};
+ghost use Rattle.typecheck.specs.DeclaredPlaces.{ArePlacesRising};
+ghost use Rattle.typecheck.specs.declared.typed.Typed.{Typed};
+ghost use Rattle.bounds.specs.Lengths.{HasLengths, LacksLengthIn, HaveLengths, OneLacksLength};
 ghost use Rattle.bounds.specs.Limits.{IsWithinLimits, Judges};
 ghost use Rattle.bounds.specs.Table.{Costs, IsTable, LeadsOn};
-ghost use Rattle.bounds.specs.Rows.{AreRowsOf, AreKnown, AreBelow, StaysKnown, Learns, LearnsUpTo, OneIsUnknown, IsCircleIn, IsAnswerFor};
+ghost use Rattle.bounds.specs.Rows.{AreRowsOf, AreKnown, AreBelow, AreGrounded, AreAllKnown, AreNotRecursive, StaysKnown, StaysGrounded, Learns, LearnsUpTo, OneIsUnknown, IsCircleIn, IsAnswerFor};
 
 use crate::costs::{Cost, greatest, has_length, is_ready, known_at};
-use decode::Instruction;
 use jtypes::Refusal;
 use std::alloc::Global;
 use typecheck::Typed;
@@ -36,17 +38,36 @@ pub const SLOT_LIMIT: u32 = 8_192;
 pub const DEPTH_LIMIT: u32 = 64;
 
 /// Whether each newarray of a method has a constant length.
-fn has_lengths(method: &Typed) -> bool {
-    method.code.as_slice().iter().all(|p| match p.instruction {
-        Instruction::NewArray(_) => has_length(method, p),
-        _ => true,
-    })
+fn has_lengths(method: &Typed) -> bool
+    ensures has { IsTrue result → ArePlacesRising method.now.declared.items → HasLengths method.now }
+    ensures lacks { IsFalse result → ArePlacesRising method.now.declared.items → LacksLengthIn method.now }
+{
+    for p in method.code.as_slice() {
+        if !has_length(method, p) {
+            return false;
+        }
+    }
+    true
+}
+
+/// Whether each newarray of the methods has a constant length.
+fn all_have_lengths(methods: &[Typed]) -> bool
+    ensures have { IsTrue result → HaveLengths methods.now }
+    ensures lack { IsFalse result → OneLacksLength methods.now }
+{
+    for method in methods {
+        if !has_lengths(method) {
+            return false;
+        }
+    }
+    true
 }
 
 /// One method whose callees are known becomes known. Answers whether it wasn't known before.
 fn learn_one(alloc: Global, method: &Typed, known: &mut [Option<Cost>]) -> Result<bool, Refusal>
     requires { method.now.number < length known.old }
     ensures table { StaysKnown method.now known.old known.new }
+    ensures grounded { StaysGrounded method.now known.old known.new }
     ensures ok { IfOk result (λ b. Learns method.now b known.old known.new) }
     ensures err { IfErr result (λ r. r ≡ Refusal.NoMemory) }
 {
@@ -62,6 +83,7 @@ fn learn_one(alloc: Global, method: &Typed, known: &mut [Option<Cost>]) -> Resul
 fn learn(alloc: Global, methods: &[Typed], known: &mut [Option<Cost>]) -> Result<bool, Refusal>
     requires { AreBelow methods.now (length known.old) }
     ensures table { (c : Class) (set : ℕ → Bool) (t : Costs) → LeadsOn c set → IsTable c set t → AreRowsOf c set methods.now → AreKnown t known.old → AreKnown t known.new }
+    ensures grounded { (c : Class) (set : ℕ → Bool) → AreRowsOf c set methods.now → AreGrounded c known.old → AreGrounded c known.new }
     ensures ok { IfOk result (λ b. LearnsUpTo methods.now (length methods.now) b known.old known.new) }
     ensures err { IfErr result (λ r. r ≡ Refusal.NoMemory) }
 {
@@ -87,7 +109,8 @@ fn count_of(methods: &[Typed]) -> usize
 
 /// Whether the cost of each method is known.
 fn are_all_known(methods: &[Typed], known: &[Option<Cost>]) -> bool
-    ensures { IsFalse result → OneIsUnknown methods.now known.now }
+    ensures all { IsTrue result → AreAllKnown methods.now known.now }
+    ensures one { IsFalse result → OneIsUnknown methods.now known.now }
 {
     for method in methods {
         if known_at(known, method.number).is_none() {
@@ -100,6 +123,8 @@ fn are_all_known(methods: &[Typed], known: &[Option<Cost>]) -> bool
 /// The costs of the methods, by their numbers; `Recursive` where own calls make a circle.
 fn costs_of(alloc: Global, methods: &[Typed]) -> Result<Vec<Option<Cost>>, Refusal>
     ensures table { IfOk result (λ known. (c : Class) (set : ℕ → Bool) (t : Costs) → LeadsOn c set → IsTable c set t → AreRowsOf c set methods.now → AreKnown t known.items) }
+    ensures grounded { IfOk result (λ known. (c : Class) (set : ℕ → Bool) → AreRowsOf c set methods.now → AreGrounded c known.items) }
+    ensures all { IfOk result (λ known. AreAllKnown methods.now known.items) }
     ensures err { IfErr result (λ r. r ≢ Refusal.NoMemory → (r ≡ Refusal.Recursive) × IsCircleIn methods.now) }
 {
     let mut known = vec![in alloc; None; count_of(methods)]?;
@@ -141,8 +166,14 @@ pub fn bound(alloc: Global, methods: &[Typed]) -> Result<Bounds, Refusal>
     ensures answer { (c : Class) (set : ℕ → Bool) → LeadsOn c set → AreRowsOf c set methods.now → IsAnswerFor c result }
     // Where they are the rows of all of them, the class is recursive where that is answered.
     ensures recursive { IfErr result (λ r. r ≡ Refusal.Recursive → IsCircleIn methods.now) }
+    // Where there are bounds, each newarray has its length, and no own calls of these methods make a circle.
+    ensures lengths { IfOk result (λ _. HaveLengths methods.now) }
+    ensures ordered { IfOk result (λ _. AreNotRecursive methods.now) }
+    // The other refusals: a newarray lacks its length, or there is no `process`.
+    ensures lacking { result ≡ Err Refusal.LengthNotConstant → OneLacksLength methods.now }
+    ensures process { result ≡ Err Refusal.NoProcess → (i : ℕ) (d : Typed) → i < length methods.now → (get_or methods.now i d).is_process ≡ false }
 {
-    if !methods.iter().all(has_lengths) {
+    if !all_have_lengths(methods) {
         return Err(Refusal::LengthNotConstant);
     }
     let known = costs_of(alloc, methods)?;

@@ -2,3 +2,4 @@ pub mod Rows
 pub mod Search
 pub mod Runs
 pub mod Targets
+pub mod Consecutive

@@ -1,12 +1,9 @@
 -- What type soundness asks of a class's name, of `process` and of places holds of accepted classes.
-use Rattle.std.proofs.Common.{◌≡◌, ℕ, zero, suc, ◌+◌, ◌<◌, Bool, true, false, List, [], ◌∷◌, length, Option, Some, None, refl, sym, ap, ◌∙◌, subst, arith, ◌⊎◌, inl, inr, ◌≤◌}
+use Rattle.std.proofs.Common.{◌≡◌, ℕ, suc, ◌+◌, ◌<◌, Bool, true, false, List, [], ◌∷◌, length, Option, Some, None, refl, sym, ap, ◌∙◌, subst, arith, ◌⊎◌, inl, inr, ◌≤◌}
 use Rattle.std.specs.Prelude.{slice_get, map, option_map, cond, ◌==◌, Any, IsFalse, ℤ, pos, ◌≤ℤ◌, T, negsuc, is_some, IsNone, Contains}
 use Rattle.std.proofs.lemmas.Bool.{and_parts, false_from_ne_true, false≢true, cases_order, eqb-true, cases_lt, le-leb, leb-true}
-use Rattle.std.proofs.Math.ListN.{length-append}
-use Rattle.std.proofs.lemmas.Option.{slice_get-get_or, slice_get-map, slice_get_within, get_or_from_slice_get}
-use Rattle.std.specs.List.{AllZip}
+use Rattle.std.proofs.lemmas.Option.{slice_get-get_or, slice_get-map}
 use Rattle.jtypes.specs.declared.refusal.Refusal.TheVariants.{BadHeader, NoProcess, DuplicateMethod, BackwardBranch, LengthNotConstant, BadCode}
-use Rattle.jtypes.specs.Layout.{operand, IsLaidOut}
 use Rattle.jtypes.specs.Lists.{same_bytes, is_one_of, result_list, ◌>>=◌}
 use Rattle.jtypes.specs.declared.types.RefType.{RefType}
 use Rattle.jtypes.specs.declared.types.JType.{JType}
@@ -14,7 +11,6 @@ use Rattle.jtypes.specs.declared.types.JType.TheVariants.{Top, Ref, Int, Long}
 use Rattle.jtypes.specs.declared.operations.ArrayKind.{ArrayKind}
 use Rattle.jtypes.specs.Types.{is_long, slots_if, slots_by}
 use Rattle.jtypes.specs.declared.types.RefType.TheVariants as ref
-use Rattle.constpool.specs.Lookup.{Slot}
 use Rattle.constpool.specs.Names.{process_name, process_descriptor, init_name}
 use Rattle.constpool.specs.declared.descriptor.FieldType.{FieldType}
 use Rattle.constpool.specs.declared.descriptor.Sig.{Sig}
@@ -23,10 +19,8 @@ use Rattle.constpool.specs.declared.descriptor.FieldType.TheVariants as field
 use Rattle.classfile.specs.View.{ClassView, MethodView, class_name_at, view_of, method_view, text_at, codes_of}
 use Rattle.classfile.specs.declared.class_file.Member.{Member}
 use Rattle.classfile.specs.declared.class_file.CodeParts.{CodeParts}
-use Rattle.decode.specs.declared.instruction.Instruction.{Instruction}
 use Rattle.decode.specs.declared.instruction.Placed.{Placed}
-use Rattle.decode.specs.Code.{one, IsSequence}
-use Rattle.decode.specs.Places.{at_place, target_of, HasBackwardTarget, pushed_before, AreConsecutive}
+use Rattle.decode.specs.Places.{at_place, target_of, HasBackwardTarget, pushed_before}
 use Rattle.decode.specs.declared.instruction.Instruction.TheVariants.{NewArray}
 use Rattle.frames.specs.Signatures.{is_static, class_type, field_type, field_types, result_type, is_boolean, signature_of, as_method, method_signature}
 use Rattle.frames.specs.declared.signatures.Signature.{Signature}
@@ -36,29 +30,12 @@ use Rattle.typecheck.specs.Mismatch.{HasLength, HasFrame, LacksLength}
 use Rattle.verify.specs.Shape.{reserved_names, reserved, AreDoubles, is_constructor, HasCode, HasBadCode, crowded, slots_taken}
 use Rattle.verify.specs.Verdict.{by_shape, IsAccepted, IsClassOf, IsMethodOf, HasShape, InstructionStands, InstructionsStand, by_instructions, HasInstructions, IsBody, BodyStands, TypesStand, by_types}
 use Rattle.verify.specs.Checked.{NoTop, IsMember, IsFormed}
-use Rattle.soundness.proofs.Callees.{process_found, same_is}
+use Rattle.decode.proofs.Consecutive.{sequence_is_consecutive}
+use Rattle.verify.proofs.Texts.{same_is}
+use Rattle.verify.proofs.Methods.{zip_back, zip_count, any_from}
+use Rattle.verify.proofs.OwnCalls.{process_found}
 use Rattle.jtypes.proofs.Fit.{then_some_parts}
 use Rattle.soundness.proofs.DeclaredFrames.{declared_has_no_top}
-
--- ---- places
-
--- an instruction takes a byte at least
-not_empty : (pool : List Slot) (at : ℕ) (front : List ℕ) (i : Instruction) → IsLaidOut (one pool at) front i → 0 < length front
-unfolding one operand
-not_empty pool at front i h =
-    let bytes = h.4 in
-    let whole : length front ≡ length h.1 + length h.2 = ap length h.3 ∙ length-append h.1 h.2 in
-    let opcode : length h.1 ≡ length bytes.1 + length bytes.2 = ap length bytes.3 ∙ length-append bytes.1 bytes.2 in
-    let single : length bytes.1 ≡ 1 = bytes.4.0 in
-    omega (arith, whole, opcode, single)
-
-pub sequence_is_consecutive : (pool : List Slot) (at : ℕ) (text : List ℕ) (code : List Placed) → IsSequence pool at text code → AreConsecutive at code
-sequence_is_consecutive pool at text [] h = tt
-sequence_is_consecutive pool at text (p ∷ code) h =
-    let some = not_empty pool at h.1 p.instruction h.5 in
-    let next : p.next ≡ at + length h.1 = h.4 in
-    let place : p.place ≡ at = h.0 in
-    (place, omega (arith, some, next, place), subst (λ q. AreConsecutive q code) (sym next) (sequence_is_consecutive pool (at + length h.1) h.2 code h.6))
 
 -- ---- the class's name
 
@@ -109,30 +86,17 @@ accepted_process_is_instance bytes c ok of j w is known = false_from_ne_true (is
 
 -- ---- methods and their signatures
 
-zip_length : {A B : Type 0} (R : A → B → Type 0) (xs : List A) (ys : List B) → AllZip R xs ys → length ys ≡ length xs
-zip_length R [] [] h = refl
-zip_length R [] (y ∷ ys) h = absurd h
-zip_length R (x ∷ xs) [] h = absurd h
-zip_length R (x ∷ xs) (y ∷ ys) h = ap suc (zip_length R xs ys h.1)
-
-zip_at : {A B : Type 0} (R : A → B → Type 0) (xs : List A) (ys : List B) (j : ℕ) (y : B) → AllZip R xs ys → slice_get ys j ≡ Some y → (x : A) × (slice_get xs j ≡ Some x) × R x y
-zip_at R [] [] j y h e = cc
-zip_at R [] (z ∷ ys) j y h e = absurd h
-zip_at R (x ∷ xs) [] j y h e = absurd h
-zip_at R (x ∷ xs) (z ∷ ys) zero y h e = let same : z ≡ y = cc in (x, refl, subst (R x) same h.0)
-zip_at R (x ∷ xs) (z ∷ ys) (suc j) y h e = zip_at R xs ys j y h.1 e
-
 map_length : {A B : Type 0} (f : A → B) (xs : List A) → length (map f xs) ≡ length xs
 map_length f [] = refl
 map_length f (x ∷ xs) = ap suc (map_length f xs)
 
 pub accepted_count : (bytes : List ℕ) (c : Class) → IsClassOf bytes c → length c.methods ≡ length c.view.methods
 accepted_count bytes c of =
-    zip_length (IsMethodOf of.pool of.parts) of.parts.methods c.methods of.class.methods ∙ sym (map_length (method_view of.pool) of.parts.methods) ∙ ap (λ (v : ClassView). length v.methods) (sym of.class.view)
+    sym (zip_count (IsMethodOf of.pool of.parts) of.parts.methods c.methods of.class.methods) ∙ sym (map_length (method_view of.pool) of.parts.methods) ∙ ap (λ (v : ClassView). length v.methods) (sym of.class.view)
 
 pub accepted_signed : (bytes : List ℕ) (c : Class) → IsClassOf bytes c → (j : ℕ) (w : MethodView) (m : Method) → slice_get c.view.methods j ≡ Some w → slice_get c.methods j ≡ Some m → method_signature c.view w ≡ Some m.environment.signature
 accepted_signed bytes c of j w m known found =
-    let x = zip_at (IsMethodOf of.pool of.parts) of.parts.methods c.methods j m of.class.methods found in
+    let x = zip_back (IsMethodOf of.pool of.parts) of.parts.methods c.methods j m of.class.methods found in
     let viewed : slice_get (view_of of.pool of.parts).methods j ≡ Some (method_view of.pool x.0) = slice_get-map (method_view of.pool) of.parts.methods j ∙ ap (option_map (method_view of.pool)) x.1 in
     let both : Some (method_view of.pool x.0) ≡ Some w = sym viewed ∙ subst (λ (v : ClassView). slice_get v.methods j ≡ Some w) of.class.view known in
     let same : method_view of.pool x.0 ≡ w = cc both in
@@ -200,9 +164,6 @@ signed_has_no_top v w s e = go (signature_of v.name w.descriptor) (no_top_signat
 
 -- ---- the methods but the constructor
 
-pub any_from : {A : Type 0} (P : A → Type 0) (xs : List A) (k : ℕ) (x : A) → slice_get xs k ≡ Some x → P x → Any P xs
-any_from P xs k x e h = (k, x, slice_get_within xs k x e, get_or_from_slice_get xs k x x e, h)
-
 placed_at : (code : List Placed) (q : ℕ) (p : Placed) → at_place code q ≡ Some p → (k : ℕ) × (slice_get code k ≡ Some p) × (p.place ≡ q)
 placed_at [] q p e = cc
 placed_at (x ∷ code) q p e = go (placed_at code q p) (x.place == q) refl e
@@ -223,7 +184,7 @@ pub record InFile (bytes : List ℕ) (c : Class) (of : IsClassOf bytes c) (m : M
 
 pub in_file : (bytes : List ℕ) (c : Class) (of : IsClassOf bytes c) (j : ℕ) (w : MethodView) (m : Method) → IsMember c j w m → InFile bytes c of m
 in_file bytes c of j w m member =
-    let x = zip_at (IsMethodOf of.pool of.parts) of.parts.methods c.methods j m of.class.methods member.method in
+    let x = zip_back (IsMethodOf of.pool of.parts) of.parts.methods c.methods j m of.class.methods member.method in
     let viewed : slice_get (view_of of.pool of.parts).methods j ≡ Some (method_view of.pool x.0) = slice_get-map (method_view of.pool) of.parts.methods j ∙ ap (option_map (method_view of.pool)) x.1 in
     let both : Some (method_view of.pool x.0) ≡ Some w = sym viewed ∙ subst (λ (v : ClassView). slice_get v.methods j ≡ Some w) of.class.view member.view in
     let same : method_view of.pool x.0 ≡ w = cc both in

@@ -1,6 +1,6 @@
 -- The bounds of an accepted class exist.
-use Rattle.std.proofs.Common.{◌≡◌, ℕ, zero, suc, ◌<◌, Bool, true, false, List, [], ◌∷◌, Option, Some, None, refl, sym, ap, ◌∙◌, subst, arith}
-use Rattle.std.specs.Prelude.{slice_get, not, cond, IsSome, is_some, ℤ, pos}
+use Rattle.std.proofs.Common.{◌≡◌, ℕ, ◌<◌, true, List, Option, Some, None, refl, sym, ap, ◌∙◌, subst, arith}
+use Rattle.std.specs.Prelude.{slice_get, not, IsSome, is_some, ℤ, pos}
 use Rattle.std.proofs.lemmas.Bool.{and_from, false≢true, false_from_ne_true}
 use Rattle.std.proofs.lemmas.Option.{slice_get-get_or}
 use Rattle.jtypes.specs.declared.refusal.Refusal.TheVariants.{NoProcess}
@@ -9,20 +9,22 @@ use Rattle.constpool.specs.Names.{init_name, process_name, process_descriptor}
 use Rattle.classfile.specs.View.{ClassView, MethodView, view_of}
 use Rattle.decode.specs.declared.instruction.Placed.{Placed}
 use Rattle.decode.specs.Places.{target_of, falls_through}
-use Rattle.typecheck.specs.Typing.{Method, Class, instruction_at, is_process, process_from, number_of_process, IsProcessOf, call_of}
+use Rattle.typecheck.specs.Typing.{Method, Class, instruction_at, process_from, number_of_process, IsProcessOf, call_of}
 use Rattle.bounds.specs.Paths.{StandsAt}
 use Rattle.bounds.specs.Table.{bounds_of}
 use Rattle.bounds.proofs.Greatest.{tables_are_bounds}
 use Rattle.bounds.proofs.FilledTables.{each_has_table}
 use Rattle.verify.specs.Shape.{IsProcess}
 use Rattle.verify.specs.Verdict.{IsAccepted, IsClassOf, by_shape}
-use Rattle.verify.specs.Checked.{IsMember, IsChecked}
-use Rattle.soundness.specs.Bounded.{is_other, members, CheckedLeadsOn, AcceptedHasBounds}
-use Rattle.soundness.proofs.Callees.{same_is, same_refl, process_found, entry_of, method_at_number}
+use Rattle.verify.specs.Checked.{IsMember, IsChecked, is_other, members}
+use Rattle.soundness.specs.Bounded.{CheckedLeadsOn, AcceptedHasBounds}
+use Rattle.verify.proofs.Texts.{same_is, same_refl}
+use Rattle.verify.proofs.OwnCalls.{none_is_process, process_found}
+use Rattle.soundness.proofs.Callees.{entry_of, method_at_number}
 use Rattle.soundness.proofs.GoodStates.{IsInside, has_frame, onward, enters_inside, enters_target}
 use Rattle.soundness.proofs.PathsExist.{own_call, starts_inside}
 use Rattle.soundness.proofs.SafeRuns.{without_room}
-use Rattle.soundness.proofs.Ranks.{accepted_has_ranks}
+use Rattle.soundness.proofs.AcceptedRanks.{accepted_has_ranks}
 use Rattle.soundness.proofs.TypedMethods.{accepted_is_checked}
 
 -- ---- the methods but the constructor
@@ -69,15 +71,6 @@ checked_leads_on c ok = record { next = next; target = target; callee = callee; 
         (is_member c k to.0 to.1 to.2, (to.1, to.2.method, inside_is to.1 0 (starts_inside c (without_room c ok) k to.0 to.1 to.2)))
 
 -- ---- `process`
-
-none_is_process : (n : ℕ) (methods : List MethodView) (i : ℕ) (w : MethodView) → process_from n methods ≡ None → slice_get methods i ≡ Some w → is_process w ≡ false
-none_is_process n [] i w none e = cc
-none_is_process n (x ∷ methods) i w none e = go (is_process x) refl none i e (λ k f. none_is_process (suc n) methods k w f)
-  where
-    go : (b : Bool) → is_process x ≡ b → cond b (Some n) (process_from (suc n) methods) ≡ None → (i : ℕ) → slice_get (x ∷ methods) i ≡ Some w → ((k : ℕ) → process_from (suc n) methods ≡ None → slice_get methods k ≡ Some w → is_process w ≡ false) → is_process w ≡ false
-    go true is f i e later = cc f
-    go false is f zero e later = let same : x ≡ w = cc e in subst (λ y. is_process y ≡ false) same is
-    go false is f (suc i) e later = later i f e
 
 accepted_has_process : (bytes : List ℕ) (c : Class) → IsAccepted bytes → IsClassOf bytes c → (j : ℕ) × IsProcessOf c j
 accepted_has_process bytes c ok of = go (number_of_process c) refl

@@ -1,8 +1,7 @@
 -- The methods that calls reach, and the signature of `process`.
-use Rattle.std.proofs.Common.{◌≡◌, ℕ, zero, suc, ◌+◌, Bool, true, false, not, ◌&&◌, List, [], ◌∷◌, length, Option, Some, None, refl, sym, ap, ◌∙◌, subst, arith}
-use Rattle.std.specs.Prelude.{slice_get, option_map, ◌==◌, cond, codes}
-use Rattle.std.proofs.lemmas.Bool.{and_parts, eqb-true, eq-eqb, false_from_ne_true, false≢true}
-use Rattle.std.proofs.lemmas.Option.{some_pair_parts}
+use Rattle.std.proofs.Common.{◌≡◌, ℕ, zero, suc, Bool, true, false, not, List, [], ◌∷◌, length, Option, Some, None, refl, sym, ap, ◌∙◌, subst, arith}
+use Rattle.std.specs.Prelude.{slice_get, option_map, cond, codes}
+use Rattle.std.proofs.lemmas.Bool.{and_parts, false_from_ne_true, false≢true}
 use Rattle.jtypes.specs.declared.types.RefType.{RefType}
 use Rattle.jtypes.specs.declared.types.RefType.TheVariants as ref
 use Rattle.jtypes.specs.declared.types.JType.{JType}
@@ -26,27 +25,15 @@ use Rattle.frames.specs.Signatures.{known_classes, by_text, class_type, field_ty
 use Rattle.frames.specs.declared.members.Reached.{Reached}
 use Rattle.frames.specs.declared.members.Reached.TheVariants.{Library, Own}
 use Rattle.frames.specs.declared.members.Callee.{Callee}
-use Rattle.frames.specs.Members.{LibraryRow, library_rows, is_row_of, row_of, library_params, library_callee, is_method, numbered, pairs_with, callee_of, own_callee, member_at, found_callee, callee_at}
-use Rattle.typecheck.specs.Typing.{Method, Class, is_process, process_from, IsProcessOf}
+use Rattle.frames.specs.Members.{LibraryRow, library_rows, is_row_of, row_of, library_params, library_callee, numbered, pairs_with, callee_of, own_callee, member_at, found_callee, callee_at}
+use Rattle.typecheck.specs.Typing.{Method, Class, IsProcessOf}
 use Rattle.verify.specs.Shape.{reserved_names}
 use Rattle.verify.specs.Checked.{IsMember}
 use Rattle.soundness.specs.Room.{IsCheckedButForRoom}
+use Rattle.verify.proofs.Texts.{same_is, same_refl}
+use Rattle.verify.proofs.OwnCalls.{not_init, number_found, process_found}
 
 -- ---- texts
-
-pub same_refl : (xs : List ℕ) → same_bytes xs xs ≡ true
-same_refl [] = refl
-same_refl (x ∷ xs) = ap (λ b. b && same_bytes xs xs) (eq-eqb x x refl) ∙ same_refl xs
-
-pub same_is : (xs ys : List ℕ) → same_bytes xs ys ≡ true → xs ≡ ys
-same_is [] [] h = refl
-same_is (x ∷ xs) (y ∷ ys) h =
-    let p = and_parts (x == y) (same_bytes xs ys) h in
-    let here : x ≡ y = eqb-true x y p.0 in
-    let rest : xs ≡ ys = same_is xs ys p.1 in
-    cc (here, rest)
-same_is [] (y ∷ ys) h = cc
-same_is (x ∷ xs) [] h = cc
 
 not_same : (xs ys : List ℕ) → same_bytes xs ys ≡ false → same_bytes ys xs ≡ false
 not_same xs ys h = false_from_ne_true (same_bytes ys xs) (λ e. let is = same_is ys xs e in false≢true (sym h ∙ ap (same_bytes xs) is ∙ same_refl xs))
@@ -228,29 +215,11 @@ library_fits own f =
 
 -- ---- the class's own methods
 
-not_init : (m : MemberRef) (v : MethodView) → not (same_bytes m.name init_name) ≡ true → same_bytes m.name v.name ≡ true → v.name ≡ init_name → ⊥
-not_init m v n s e =
-    let is : m.name ≡ init_name = same_is m.name v.name s ∙ e in
-    let yes : same_bytes m.name init_name ≡ true = ap (λ x. same_bytes x init_name) is ∙ same_refl init_name in
-    false≢true (sym (ap not yes) ∙ n)
-
 pub method_at_number : {A B : Type 0} (xs : List A) (ys : List B) (j : ℕ) (x : A) → length ys ≡ length xs → slice_get xs j ≡ Some x → (y : B) × (slice_get ys j ≡ Some y)
 method_at_number [] ys j x e h = cc
 method_at_number (a ∷ xs) [] j x e h = absurd (omega (arith, e))
 method_at_number (a ∷ xs) (b ∷ ys) zero x e h = (b, refl)
 method_at_number (a ∷ xs) (b ∷ ys) (suc j) x e h = method_at_number xs ys j x (omega (arith, e)) h
-
-number_found : (n : ℕ) (methods : List MethodView) (m : MemberRef) (k : ℕ) (w : MethodView) → numbered n methods m ≡ Some (k, w) → (i : ℕ) × (k ≡ n + i) × (slice_get methods i ≡ Some w) × (is_method m w ≡ true)
-number_found n [] m k w e = cc
-number_found n (v ∷ methods) m k w e = go (number_found (suc n) methods m k w) (is_method m v) refl e
-  where
-    go : (numbered (suc n) methods m ≡ Some (k, w) → (i : ℕ) × (k ≡ suc n + i) × (slice_get methods i ≡ Some w) × (is_method m w ≡ true)) → (b : Bool) → is_method m v ≡ b → cond b (Some (n, v)) (numbered (suc n) methods m) ≡ Some (k, w) → (i : ℕ) × (k ≡ n + i) × (slice_get (v ∷ methods) i ≡ Some w) × (is_method m w ≡ true)
-    go later true is f =
-        let p = some_pair_parts n k v w f in
-        (0, omega (arith, p.0), ap (λ x. Some x) p.1, subst (λ x. is_method m x ≡ true) p.1 is)
-    go later false is f =
-        let r = later f in
-        (suc r.0, omega (arith, r.1), r.2, r.3)
 
 -- method k of a class, to which a call leads
 pub record IsOwn (c : Class) (callee : Callee) (k : ℕ) : Type 0 where
@@ -295,16 +264,6 @@ callee_fits c ok kind i callee e =
         subst (CalleeFits c callee) (sym known.0) (known.1, known.2, known.3)
 
 -- ---- process
-
-pub process_found : (n : ℕ) (methods : List MethodView) (k : ℕ) → process_from n methods ≡ Some k → (w : MethodView) × (i : ℕ) × (k ≡ n + i) × (slice_get methods i ≡ Some w) × (is_process w ≡ true)
-process_found n [] k e = cc
-process_found n (v ∷ methods) k e = go (process_found (suc n) methods k) (is_process v) refl e
-  where
-    go : (process_from (suc n) methods ≡ Some k → (w : MethodView) × (i : ℕ) × (k ≡ suc n + i) × (slice_get methods i ≡ Some w) × (is_process w ≡ true)) → (b : Bool) → is_process v ≡ b → cond b (Some n) (process_from (suc n) methods) ≡ Some k → (w : MethodView) × (i : ℕ) × (k ≡ n + i) × (slice_get (v ∷ methods) i ≡ Some w) × (is_process w ≡ true)
-    go later true is f = let same : n ≡ k = cc in (v, 0, omega (arith, same), refl, is)
-    go later false is f =
-        let r = later f in
-        (r.0, suc r.1, omega (arith, r.2), r.3, r.4)
 
 object_array_field : (own : List ℕ) → field_type own field.ObjectArray ≡ Some (Ref ref.ObjectArray)
 unfolding field_type

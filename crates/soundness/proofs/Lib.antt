@@ -12,8 +12,7 @@ pub mod StraightCode
 pub mod StaticProcess
 pub mod ReservedName
 pub mod ScatteredPlaces
-pub mod Ranks
-pub mod OneTable
+pub mod AcceptedRanks
 pub mod OneClass
 pub mod SmallBytes
 pub mod SmallVerdict

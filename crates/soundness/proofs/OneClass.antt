@@ -19,7 +19,7 @@ use Rattle.typecheck.specs.Typing.{Method, Class}
 use Rattle.verify.specs.Shape.{HasCode}
 use Rattle.verify.specs.Verdict.{IsBody, IsMethodOf, IsClassOfFile}
 use Rattle.soundness.specs.Once.{EachClassIsOne}
-use Rattle.soundness.proofs.OneTable.{one_table}
+use Rattle.frames.proofs.Declares.{declared_once}
 
 pub code_once : (pool : List Slot) (m : Member) (c d : CodeParts) → HasCode pool m c → HasCode pool m d → c ≡ d
 code_once pool m c d h k =
@@ -57,7 +57,7 @@ method_once pool p item m n a b =
     let declared = subst (λ ts. IsDeclared (view_of pool p) n.environment n.code ts m.declared) one.tables
     (subst (λ c. IsDeclared (view_of pool p) n.environment c a.tables m.declared) one.code
     (subst (λ e. IsDeclared (view_of pool p) e m.code a.tables m.declared) one.environment a.declared)) in
-    methods m.environment n.environment m.code n.code m.declared n.declared one.environment one.code (one_table (view_of pool p) n.environment n.code b.tables m.declared n.declared declared b.declared)
+    methods m.environment n.environment m.code n.code m.declared n.declared one.environment one.code (declared_once (view_of pool p) n.environment n.code b.tables m.declared n.declared declared b.declared)
 
 zip_once : (pool : List Slot) (p : Parts) (items : List Member) (ms ns : List Method) → AllZip (IsMethodOf pool p) items ms → AllZip (IsMethodOf pool p) items ns → ms ≡ ns
 zip_once pool p [] [] [] a b = refl

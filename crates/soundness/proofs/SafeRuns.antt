@@ -17,7 +17,8 @@ use Rattle.soundness.specs.Room.{IsCheckedButForRoom}
 use Rattle.verify.specs.Machine.{Invocation, State, Next, Goes, Ends, step, start_of, start, activation_of, Reaches, here, onward}
 use Rattle.verify.specs.Sound.{slots_of, StaysWithin, Finishes, SoundnessOfClasses}
 use Rattle.soundness.proofs.Locals.{first_locals}
-use Rattle.soundness.proofs.Callees.{entry_of, process_found, method_at_number}
+use Rattle.verify.proofs.OwnCalls.{process_found}
+use Rattle.soundness.proofs.Callees.{entry_of, method_at_number}
 use Rattle.soundness.proofs.GoodStates.{IsAt, is_inside, IsGood, SafeNext, arrive, no_length_first, RestOf}
 use Rattle.soundness.proofs.PathsExist.{has_path, has_rest, path_slots, path_depth}
 use Rattle.soundness.proofs.Steps.{step_safe}

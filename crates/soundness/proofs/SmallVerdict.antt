@@ -37,9 +37,9 @@ use Rattle.verify.proofs.Methods.{any_at}
 use Rattle.soundness.specs.Example as example
 use Rattle.soundness.specs.Accepted.{small_bytes, small_pool, small_parts, constructor_member, process_member, constructor_code, constructor_method, small_class}
 use Rattle.soundness.proofs.StraightCode.{Each, each_at, at_its_place}
-use Rattle.soundness.proofs.OneTable.{one_table}
+use Rattle.frames.proofs.Declares.{declared_once}
 use Rattle.soundness.proofs.OneClass.{code_once, body_once, class_once}
-use Rattle.soundness.proofs.Ranks.{ranked_is_not_recursive}
+use Rattle.bounds.proofs.Ranks.{ranked_is_not_recursive}
 use Rattle.soundness.proofs.SmallBytes.{is_file, same_file, has_shape, constructor_parts, process_parts, constructor_signed, process_signed, are_good}
 
 abbrev view : ClassView
@@ -201,10 +201,10 @@ passes = refl
 no_type : (r : Refusal) → BodyStands view example.method.environment example.method.code [] r → ⊥
 no_type BadStackMap (inl none) = none [] without
 no_type BadStackMap (inr (ds, d, lacks)) =
-    let same = one_table view example.method.environment example.method.code [] ds [] d without in
+    let same = declared_once view example.method.environment example.method.code [] ds [] d without in
     whole (subst (λ xs. LacksFrame (record { environment = example.method.environment; code = example.method.code; declared = xs })) same lacks)
 no_type (TypeMismatch place) (fine, (ds, d, wrong)) =
-    let same = one_table view example.method.environment example.method.code [] ds [] d without in
+    let same = declared_once view example.method.environment example.method.code [] ds [] d without in
     let fails = (fails_at_mismatch view example.method place ready).1 (subst (λ xs. IsMismatch view (record { environment = example.method.environment; code = example.method.code; declared = xs }) place) same wrong) in
     cc (passes, fails)
 no_type FallsOff (p, e, falls) = let same : example.give ≡ p = cc e in false≢true (subst (λ (x : Placed). falls_through x.instruction ≡ true) (sym same) falls)

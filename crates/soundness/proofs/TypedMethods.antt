@@ -19,8 +19,10 @@ use Rattle.verify.specs.Verdict.{IsAccepted, IsClassOf, HasShape, HasInstruction
 use Rattle.verify.specs.Checked.{IsMember}
 use Rattle.verify.specs.Promise.{TypeSoundness, AcceptedIsChecked}
 use Rattle.soundness.proofs.SafeRuns.{type_soundness}
-use Rattle.soundness.proofs.Ranks.{accepted_has_ranks}
-use Rattle.soundness.proofs.AcceptedClasses.{accepted_is_named, accepted_process_is_instance, accepted_count, accepted_signed, accepted_is_formed, sequence_is_consecutive, any_from, InFile, in_file, one_contains}
+use Rattle.soundness.proofs.AcceptedRanks.{accepted_has_ranks}
+use Rattle.verify.proofs.Methods.{any_from}
+use Rattle.decode.proofs.Consecutive.{sequence_is_consecutive}
+use Rattle.soundness.proofs.AcceptedClasses.{accepted_is_named, accepted_process_is_instance, accepted_count, accepted_signed, accepted_is_formed, InFile, in_file, one_contains}
 
 -- a code with a byte has a last instruction
 last_of_some : (x : Placed) (xs : List Placed) → IsSome (last (x ∷ xs))

@@ -1,21 +1,10 @@
 -- That bounds exist.
-use Rattle.std.specs.Prelude.{ℕ, Bool, false, not, List, Option, Some, None, slice_get}
-use Rattle.jtypes.specs.Lists.{same_bytes}
-use Rattle.constpool.specs.Names.{init_name}
-use Rattle.classfile.specs.View.{MethodView}
+use Rattle.std.specs.Prelude.{ℕ, List}
 use Rattle.typecheck.specs.Typing.{Class, IsProcessOf}
 use Rattle.bounds.specs.Paths.{Bounds, AreBounds}
 use Rattle.bounds.specs.Table.{LeadsOn}
 use Rattle.verify.specs.Verdict.{IsAccepted, IsClassOf}
-use Rattle.verify.specs.Checked.{IsChecked}
-
-abbrev pub is_other : Option MethodView → Bool
-is_other None = false
-is_other (Some v) = not (same_bytes v.name init_name)
-
--- the numbers of the methods but the constructor
-abbrev pub members : Class → ℕ → Bool
-members c j = is_other (slice_get c.view.methods j)
+use Rattle.verify.specs.Checked.{IsChecked, members}
 
 -- in the methods of a checked class, but the constructor, each instruction leads on
 abbrev pub CheckedLeadsOn : Type 0

@@ -3,5 +3,8 @@ pub mod Consecutive
 pub mod DeclaredPlaces
 pub mod LackingFrames
 pub mod PassAnswers
+pub mod PlacesMade
 pub mod Passes
 pub mod CallsFound
+pub mod CallsMade
+pub mod TypedOnly

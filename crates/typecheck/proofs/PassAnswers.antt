@@ -1,6 +1,6 @@
 -- What the pass by its results says: where it ends well the pass as a function fails nowhere, and else it fails first where the answer says.
-use Rattle.std.proofs.Common.{◌≡◌, ℕ, zero, suc, ◌+◌, ◌<◌, ◌≤◌, Bool, true, false, not, ◌&&◌, ◌||◌, cond, List, [], ◌∷◌, length, Option, Some, None, refl, sym, ap, ◌∙◌, subst, arith, ◌⊎◌, inl, inr}
-use Rattle.std.specs.Prelude.{min, is_some, IsSome, IsNone, ℤ, pos, negsuc, Result, Ok, Err}
+use Rattle.std.proofs.Common.{◌≡◌, ℕ, ◌<◌, ◌≤◌, Bool, true, false, not, ◌&&◌, ◌||◌, cond, List, [], ◌∷◌, Option, Some, None, refl, sym, ap, ◌∙◌, subst, arith, ◌⊎◌, inl, inr}
+use Rattle.std.specs.Prelude.{min, is_some, IsSome, ℤ, pos, negsuc, Result, Ok, Err}
 use Rattle.std.proofs.lemmas.Bool.{false≢true}
 use Rattle.jtypes.specs.declared.refusal.Refusal.{Refusal}
 use Rattle.jtypes.specs.declared.refusal.Refusal.TheVariants.{FallsOff, TypeMismatch}
@@ -18,8 +18,8 @@ use Rattle.frames.specs.Frames.{first_frame}
 use Rattle.transfer.specs.Transfer.{transfer}
 use Rattle.typecheck.specs.Typing.{Method, IsWellTyped, instruction_at, declared_at}
 use Rattle.typecheck.specs.Mismatch.{LacksFrame, at_target, after_end, FallsOffEnd, IsMismatch}
-use Rattle.typecheck.specs.Pass.{frame_fits, or_else, frame_here, frame_next, misfits, misfits_target, outcome_fails, fails, failure_in, failure_of, IsReady}
-use Rattle.typecheck.specs.Seen.{method_seen, target_frame, mismatch_at, entered, flows, met, branched, left, after, advanced, ended, then_passed, passed}
+use Rattle.typecheck.specs.Pass.{frame_fits, or_else, frame_here, misfits, misfits_target, outcome_fails, fails, failure_in, failure_of, IsReady}
+use Rattle.typecheck.specs.Seen.{method_seen, target_frame, mismatch_at, entered, flows, met, branched, left, after, then_passed, passed}
 use Rattle.typecheck.proofs.Consecutive.{skip, first_at}
 use Rattle.typecheck.proofs.DeclaredPlaces.{declared_stands}
 use Rattle.typecheck.proofs.LackingFrames.{rising_is_consecutive}

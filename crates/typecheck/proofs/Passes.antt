@@ -1,7 +1,7 @@
 -- The pass over a method's instructions, and the two relations: a method in which it doesn't fail is well typed, and where it fails first is the mismatch.
-use Rattle.std.proofs.Common.{◌≡◌, ℕ, zero, suc, ◌+◌, ◌<◌, ◌≤◌, Bool, true, false, ◌&&◌, List, [], ◌∷◌, length, Option, Some, None, refl, sym, ap, ◌∙◌, subst, arith, ◌⊎◌, inl, inr}
+use Rattle.std.proofs.Common.{◌≡◌, ℕ, suc, ◌<◌, ◌≤◌, Bool, true, false, ◌&&◌, List, [], ◌∷◌, length, Option, Some, None, refl, sym, ap, ◌∙◌, subst, arith, ◌⊎◌, inl, inr}
 use Rattle.std.specs.Prelude.{cond, not, ◌||◌, ◌==◌, is_some, IsSome, IsNone, ℤ, pos, negsuc}
-use Rattle.std.proofs.lemmas.Bool.{and_parts, and_from, eqb-true, eq-eqb, cases_lt, cases_order, false_from_ne_true, false≢true}
+use Rattle.std.proofs.lemmas.Bool.{and_parts, and_from, eqb-true, cases_order, false_from_ne_true, false≢true}
 use Rattle.jtypes.specs.declared.types.JType.{JType}
 use Rattle.jtypes.specs.Lists.{last}
 use Rattle.jtypes.specs.Types.{assignable, EachAssignable}
@@ -11,9 +11,9 @@ use Rattle.decode.specs.Places.{at_place, target_of, falls_through, AreConsecuti
 use Rattle.frames.specs.declared.frame.Frame.{Frame}
 use Rattle.frames.specs.Frames.{FrameAssignable, first_frame}
 use Rattle.transfer.specs.Transfer.{transfer}
-use Rattle.typecheck.specs.Typing.{Method, instruction_at, declared_at, frame_of, frame_at, Enters, IsFlow, HasOutcome, EndsAsItMust, IsTyping, IsWellTyped}
+use Rattle.typecheck.specs.Typing.{Method, instruction_at, declared_at, frame_of, frame_at, Enters, HasOutcome, IsWellTyped}
 use Rattle.typecheck.specs.Mismatch.{LacksFrame, at_target, after_end, IsTypedBefore, MisfitsAt, Misfits, Fails, IsMismatch, at_start, at_place_of, FallsOffEnd}
-use Rattle.typecheck.specs.Pass.{each_fits, frame_fits, or_else, frame_here, frame_next, pass, misfits, misfits_target, outcome_fails, fails, failure_in, failure_of, IsReady, FailsAtMismatch, PassesTyped}
+use Rattle.typecheck.specs.Pass.{each_fits, frame_fits, or_else, frame_here, frame_next, pass, misfits, misfits_target, outcome_fails, fails, failure_in, failure_of, FailsAtMismatch, PassesTyped}
 use Rattle.typecheck.proofs.Consecutive.{found, skip, skip_frame, first_at, first_frame_at, next_or_last, last_is_last, some_first, frame_found, frame_stands}
 
 -- ---- the tests are the relations

@@ -1,13 +1,15 @@
 //! Type checking of one method (JVMS §4.10.1).
 
-ghost use Rattle.std.specs.Prelude.{◌≡◌, ◌≢◌, ◌⊎◌, ℕ, List, [], map, min, is_some, option_copied, Some, Ok, Err, IfOk, IfErr, IsTrue, IsFalse};
+ghost use Rattle.std.specs.Prelude.{◌≡◌, ◌≢◌, ◌⊎◌, ℕ, List, [], map, min, is_some, option_copied, Some, IsSome, Ok, Err, IfOk, IfErr, IsTrue, IsFalse};
 ghost use Rattle.jtypes.specs.declared.refusal.Refusal.{Refusal};
-ghost use Rattle.decode.specs.Places.{target_of};
+ghost use Rattle.decode.specs.Places.{at_place, target_of};
 ghost use Rattle.frames.specs.Frames.{frame_in, first_frame};
 ghost use Rattle.frames.specs.Seen.{AreInOrder, declared_seen};
 ghost use Rattle.frames.specs.declared.frame.Environment.{Environment};
 ghost use Rattle.frames.specs.declared.frame.Frame.{Frame};
 ghost use Rattle.frames.specs.StackMap.{IsDeclared};
+ghost use Rattle.typecheck.specs.Calls.{AreCallsOf, call_at};
+ghost use Rattle.typecheck.specs.DeclaredPlaces.{ArePlacesOf};
 ghost use Rattle.typecheck.specs.Typing.{IsWellTyped};
 ghost use Rattle.typecheck.specs.Mismatch.{FallsOffEnd, IsMismatch, LacksFrame};
 ghost use Rattle.typecheck.specs.Seen.{advanced, branched, entered, lacks_at, method_seen, mismatch_at, passed, target_frame};
@@ -187,26 +189,41 @@ fn pass(
     }
 }
 
+/// The call of an instruction that is one, with what it reaches.
+fn called_at(alloc: Global, view: &ClassView<'_>, p: &Placed) -> Result<Option<Called>, Refusal>
+    ensures ok { IfOk result (λ call. call ≡ call_at view.now p.now) }
+    ensures err { IfErr result (λ r. (r ≡ Refusal.NoMemory) ⊎ (r ≡ Refusal.UnknownMember)) }
+{
+    let Instruction::Invoke(kind, i) = p.instruction else {
+        return Ok(None);
+    };
+    match callee_at(alloc, view, kind, i)? {
+        None => Err(Refusal::UnknownMember),
+        Some(callee) => Ok(Some(Called {
+            place: p.place,
+            callee,
+        })),
+    }
+}
+
 /// The calls of a code, with what they reach.
 fn calls_of(alloc: Global, view: &ClassView<'_>, code: &Code) -> Result<Vec<Called>, Refusal>
-    ensures { IfErr result (λ r. (r ≡ Refusal.NoMemory) ⊎ (r ≡ Refusal.UnknownMember)) }
+    ensures ok { IfOk result (λ calls. AreCallsOf view.now code.now calls.items) }
+    ensures err { IfErr result (λ r. (r ≡ Refusal.NoMemory) ⊎ (r ≡ Refusal.UnknownMember)) }
 {
     let mut calls = Vec::new(alloc);
     for p in code.as_slice() {
-        if let Instruction::Invoke(kind, i) = p.instruction {
-            match callee_at(alloc, view, kind, i)? {
-                None => return Err(Refusal::UnknownMember),
-                Some(callee) => calls.push(Called {
-                    place: p.place,
-                    callee,
-                })?,
-            }
+        if let Some(called) = called_at(alloc, view, p)? {
+            calls.push(called)?;
         }
     }
     Ok(calls)
 }
 
-fn places_of(alloc: Global, declared: &[Declared]) -> Result<Vec<usize>, AllocError> {
+fn places_of(alloc: Global, declared: &[Declared]) -> Result<Vec<usize>, AllocError>
+    requires { AreInOrder declared.now }
+    ensures { IfOk result (λ places. ArePlacesOf (declared_seen declared.now) places.items) }
+{
     let mut places = Vec::new(alloc);
     for d in declared {
         places.push(d.place)?;
@@ -234,6 +251,11 @@ pub fn check_method(
     ensures typed { IfOk result (λ _. (ds : List (ℕ × Frame)) × IsDeclared view.now environment code (map (λ t. t.now) tables.now) ds × IsWellTyped view.now (record { environment = environment; code = code; declared = ds })) }
     ensures mismatch { (place : ℕ) → result ≡ Err (Refusal.TypeMismatch place) → (ds : List (ℕ × Frame)) × IsDeclared view.now environment code (map (λ t. t.now) tables.now) ds × ((q : ℕ) × IsMismatch view.now (record { environment = environment; code = code; declared = ds }) q × (place ≡ min q 4294967295)) }
     ensures falls { result ≡ Err Refusal.FallsOff → FallsOffEnd code ⊎ (code ≡ []) }
+
+    // An instruction stands at its start; its calls are answered, and the places of the frames that its tables declare.
+    ensures starts { IfOk result (λ t. IsSome (at_place t.code 0)) }
+    ensures calls { IfOk result (λ t. AreCallsOf view.now t.code t.calls.items) }
+    ensures declared { IfOk result (λ t. (ds : List (ℕ × Frame)) × IsDeclared view.now environment code (map (λ t. t.now) tables.now) ds × ArePlacesOf ds t.declared.items) }
 {
     let declared = read_frames(alloc, &environment, tables, &code, view)?;
     if lacks_frame(&code, &declared) {

@@ -8,3 +8,10 @@ pub mod OnlyOne
 pub mod Constructor
 pub mod Names
 pub mod Shapes
+pub mod Numbered
+pub mod Judged
+pub mod ConstructorCode
+pub mod OwnCalls
+pub mod RowsOfClass
+pub mod Verdicts
+pub mod Accepted

@@ -3,7 +3,7 @@ use Rattle.std.proofs.Common.{◌≡◌, ℕ, zero, suc, ◌+◌, ◌<◌, List,
 use Rattle.std.specs.Prelude.{Any, slice_get}
 use Rattle.std.specs.List.{AllZip}
 use Rattle.std.proofs.lemmas.List.{take_more}
-use Rattle.std.proofs.lemmas.Option.{slice_get-get_or}
+use Rattle.std.proofs.lemmas.Option.{slice_get-get_or, slice_get_within, get_or_from_slice_get}
 use Rattle.jtypes.specs.declared.refusal.Refusal.{Refusal}
 use Rattle.jtypes.specs.declared.refusal.Refusal.TheVariants.{NoMemory, BadDescriptor}
 use Rattle.constpool.specs.Lookup.{Slot}
@@ -60,9 +60,35 @@ zip_has R (c ∷ xs) [] n x h a = absurd h
 zip_has R (c ∷ xs) (d ∷ ys) zero x h a = let first : c ≡ x = cc a in (d, refl, subst (λ z. R z d) first h.0)
 zip_has R (c ∷ xs) (d ∷ ys) (suc n) x h a = zip_has R xs ys n x h.1 a
 
+pub zip_count : {A B : Type 0} (R : A → B → Type 0) (xs : List A) (ys : List B) → AllZip R xs ys → length xs ≡ length ys
+zip_count R [] [] h = refl
+zip_count R [] (d ∷ ys) h = absurd h
+zip_count R (c ∷ xs) [] h = absurd h
+zip_count R (c ∷ xs) (d ∷ ys) h = ap suc (zip_count R xs ys h.1)
+
+-- where each element has one, there is a list of them
+pub zip_of : {A B : Type 0} (R : A → B → Type 0) (xs : List A) → ((n : ℕ) (x : A) → slice_get xs n ≡ Some x → (y : B) × R x y) → (ys : List B) × AllZip R xs ys
+zip_of R [] each = ([], tt)
+zip_of R (x ∷ xs) each =
+    let first = each 0 x refl in
+    let rest = zip_of R xs (λ n y e. each (suc n) y e) in
+    (first.0 ∷ rest.0, (first.1, rest.1))
+
+-- by an element of the second list
+pub zip_back : {A B : Type 0} (R : A → B → Type 0) (xs : List A) (ys : List B) (n : ℕ) (y : B) → AllZip R xs ys → slice_get ys n ≡ Some y → (x : A) × (slice_get xs n ≡ Some x) × R x y
+zip_back R [] [] n y h b = absurd cc
+zip_back R [] (d ∷ ys) n y h b = absurd h
+zip_back R (c ∷ xs) [] n y h b = absurd h
+zip_back R (c ∷ xs) (d ∷ ys) zero y h b = let first : d ≡ y = cc b in (c, refl, subst (R c) first h.0)
+zip_back R (c ∷ xs) (d ∷ ys) (suc n) y h b = zip_back R xs ys n y h.1 b
+
 -- an element that some test is true of, by its place
 pub any_at : {A : Type 0} (P : A → Type 0) (xs : List A) → Any P xs → (n : ℕ) × (x : A) × (slice_get xs n ≡ Some x) × P x
 any_at P xs h = (h.0, h.1, slice_get-get_or xs h.0 h.1 h.2 ∙ ap (λ z. Some z) h.3, h.4)
+
+-- by an element that it is true of
+pub any_from : {A : Type 0} (P : A → Type 0) (xs : List A) (k : ℕ) (x : A) → slice_get xs k ≡ Some x → P x → Any P xs
+any_from P xs k x e h = (k, x, slice_get_within xs k x e, get_or_from_slice_get xs k x x e, h)
 
 pub codes_of_good : (pool : List Slot) (p : Parts) (ms : List Member) (cs : List CodeParts) → AllZip (HasGoodMethod pool p) ms cs → AllZip (HasCode pool) ms cs
 codes_of_good pool p [] [] h = tt

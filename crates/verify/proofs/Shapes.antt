@@ -63,7 +63,7 @@ good_shape pool p cs n header methods constructor names =
 
 -- ---- the shape of the class that bytes are
 
-the_file : (bytes : List ℕ) (a pool : List Slot) (b p : Parts) → IsLaidOut (class_file (length bytes)) bytes (a, b) → IsClassFile bytes pool p → (a ≡ pool) × (b ≡ p)
+pub the_file : (bytes : List ℕ) (a pool : List Slot) (b p : Parts) → IsLaidOut (class_file (length bytes)) bytes (a, b) → IsClassFile bytes pool p → (a ≡ pool) × (b ≡ p)
 the_file bytes a pool b p h file =
     let same = laid_out_once (class_file (length bytes)) bytes [] bytes [] (a, b) (pool, p) h file.laid_out refl in
     (ap (λ (x : List Slot × Parts). x.0) same.2, ap (λ (x : List Slot × Parts). x.1) same.2)

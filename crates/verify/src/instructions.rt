@@ -1,5 +1,10 @@
 //! The instructions of a class's methods.
 
+ghost use Rattle.std.specs.Prelude.{◌≡◌, true, length, IfOk};
+ghost use Rattle.verify.specs.Verdict.{is_known};
+ghost use Rattle.verify.specs.Judging.{AreFound, IsGoodCode};
+ghost use Rattle.classfile.specs.View.{view_of};
+
 use crate::first_cut::{has_callee, has_cast, judge_opcodes};
 use classfile::{ClassFile, ClassView, CodeParts};
 use decode::{Code, Instruction, decode};
@@ -7,12 +12,21 @@ use frames::{callee_at, constant_type};
 use jtypes::Refusal;
 use std::alloc::{AllocError, Global};
 
+/// The instructions of the method with a number.
+#[derive(Drop)]
+pub struct Found {
+    pub number: usize,
+    pub code: Code,
+}
+
 /// Whether the member that an instruction names is known.
 fn is_known(
     alloc: Global,
     view: &ClassView<'_>,
     instruction: &Instruction,
-) -> Result<bool, AllocError> {
+) -> Result<bool, AllocError>
+    ensures { IfOk result (λ b. b ≡ true → is_known view.now instruction.now ≡ true) }
+{
     match *instruction {
         Instruction::Invoke(kind, i) => match callee_at(alloc, view, kind, i)? {
             Some(callee) => Ok(has_callee(&callee)),
@@ -27,7 +41,9 @@ fn is_known(
 }
 
 /// The instructions of one method.
-fn judge_code(alloc: Global, view: &ClassView<'_>, bytes: &[u8]) -> Result<Code, Refusal> {
+fn judge_code(alloc: Global, view: &ClassView<'_>, bytes: &[u8]) -> Result<Code, Refusal>
+    ensures { IfOk result (λ code. IsGoodCode view.now bytes.now code) }
+{
     judge_opcodes(alloc, view.pool(), bytes)?;
     let code = decode(alloc, bytes, view.pool())?;
     for p in code.as_slice() {
@@ -38,22 +54,22 @@ fn judge_code(alloc: Global, view: &ClassView<'_>, bytes: &[u8]) -> Result<Code,
     Ok(code)
 }
 
-/// The instructions of each method, in the methods' order; the constructor's are none, since its form is judged already.
+/// The instructions of each method, in the methods' order, but the constructor's, since its form is judged already.
 pub fn judge_instructions(
     alloc: Global,
     class: &ClassFile,
     codes: &[CodeParts],
     constructor: usize,
-) -> Result<Vec<Option<Code>>, Refusal> {
+) -> Result<Vec<Found>, Refusal>
+    ensures { IfOk result (λ found. AreFound (view_of class.now.pool class.now.parts) codes.now constructor (length codes.now) found.items) }
+{
     let view = class.view();
     let mut found = Vec::new(alloc);
-    for (number, parts) in codes.iter().enumerate() {
-        let code = if number == constructor {
-            None
-        } else {
-            Some(judge_code(alloc, &view, parts.code.as_slice())?)
-        };
-        found.push(code)?;
+    for number in 0..codes.len() {
+        if number != constructor {
+            let code = judge_code(alloc, &view, codes[number].code.as_slice())?;
+            found.push(Found { number, code })?;
+        }
     }
     Ok(found)
 }

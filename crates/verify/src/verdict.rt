@@ -1,6 +1,6 @@
 //! The verdict, level by level.
 
-ghost use Rattle.std.specs.Prelude.{◌≡◌, ◌≢◌, ◌⊎◌, List, length, IfOk, IfErr};
+ghost use Rattle.std.specs.Prelude.{◌≡◌, ◌⊎◌, ℕ, List, length, IfOk, IfErr};
 ghost use Rattle.jtypes.specs.declared.refusal.Refusal.{Refusal};
 ghost use Rattle.jtypes.specs.Layout.{IsLaidOut, Stands};
 ghost use Rattle.constpool.specs.Lookup.{Slot};
@@ -8,10 +8,16 @@ ghost use Rattle.classfile.specs.declared.class_file.Parts.{Parts};
 ghost use Rattle.classfile.specs.Class.{class_file};
 ghost use Rattle.classfile.specs.View.{view_of};
 ghost use Rattle.bounds.specs.Limits.{IsWithinLimits};
-ghost use Rattle.verify.specs.Shape.{ShapeStands};
-ghost use Rattle.verify.specs.Verdict.{IsClassFile};
+ghost use Rattle.std.specs.List.{AllZip};
+ghost use Rattle.verify.specs.Shape.{HasCode, ShapeStands};
+ghost use Rattle.verify.specs.Judging.{AreFound, AreTyped, HasInstructionsOf, IsTypedRow};
+ghost use Rattle.verify.specs.Verdict.{IsAccepted, IsClassFile, IsClassOf};
+ghost use Rattle.verify.specs.Judged.{IsJudgedAs};
+ghost use Rattle.typecheck.specs.Typing.{Class, IsProcessOf};
+ghost use Rattle.bounds.specs.Paths.{AreBounds};
+ghost use Rattle.bounds.specs.Rows.{bounds_in};
 
-use crate::instructions::judge_instructions;
+use crate::instructions::{Found, judge_instructions};
 use crate::shape::{is_process, judge_shape};
 use bounds::{Bounds, bound};
 use classfile::{ClassFile, ClassView, CodeParts, contents_named, read_class};
@@ -74,17 +80,20 @@ fn judge_method(
     number: usize,
     parts: &CodeParts,
     code: Code,
-) -> Result<Typed, Refusal> {
+) -> Result<Typed, Refusal>
+    requires { HasInstructionsOf class.now.pool class.now.parts number parts.now code }
+    ensures number { IfOk result (λ t. t.number ≡ number) }
+    ensures row { IfOk result (λ t. IsTypedRow class.now.pool class.now.parts t) }
+{
     let view = class.view();
     let Some(method) = view.method(number) else {
         return Err(Refusal::BadDescriptor);
     };
-    let Some(signature) = method_signature(alloc, &view, &method)? else {
+    let Some(member) = class.parts.methods.as_slice().get(number) else {
         return Err(Refusal::BadDescriptor);
     };
-    let is_process = match class.parts.methods.as_slice().get(number) {
-        Some(member) => is_process(class, member),
-        None => false,
+    let Some(signature) = method_signature(alloc, &view, &method)? else {
+        return Err(Refusal::BadDescriptor);
     };
     let environment = Environment {
         signature,
@@ -97,21 +106,25 @@ fn judge_method(
         names::STACK_MAP_TABLE,
         parts.attributes.as_slice(),
     )?;
+    let is_process = is_process(class, member);
     check_method(alloc, number, is_process, environment, &tables, code, &view)
 }
 
-/// Checks the types of the methods but the constructor.
+/// Checks the types of the methods whose instructions were found.
 fn judge_types(
     alloc: Global,
     class: &ClassFile,
     codes: &[CodeParts],
-    instructions: Vec<Option<Code>>,
-) -> Result<Vec<Typed>, Refusal> {
+    found: Vec<Found>,
+    constructor: usize,
+) -> Result<Vec<Typed>, Refusal>
+    requires codes { AllZip (HasCode class.now.pool) class.now.parts.methods codes.now }
+    requires found { AreFound (view_of class.now.pool class.now.parts) codes.now constructor (length codes.now) found.items }
+    ensures { IfOk result (λ rows. AreTyped class.now.pool class.now.parts constructor (length codes.now) rows.items) }
+{
     let mut methods = Vec::new(alloc);
-    for (number, (parts, code)) in codes.iter().zip(instructions).enumerate() {
-        if let Some(code) = code {
-            methods.push(judge_method(alloc, class, number, parts, code)?)?;
-        }
+    for Found { number, code } in found {
+        methods.push(judge_method(alloc, class, number, &codes[number], code)?)?;
     }
     Ok(methods)
 }
@@ -121,6 +134,15 @@ fn judge_types(
 pub fn verify(alloc: Global, bytes: &[u8]) -> Result<Verified, Refusal>
     // The bytes, all of them, are this class.
     ensures found { IfOk result (λ v. IsLaidOut (class_file (length bytes.now)) bytes.now (v.pool, v.parts)) }
+
+    // Only a class in which nothing is refused is accepted: neither its layout nor its shape, its instructions, their types,
+    // its recursion or its bounds.
+    ensures accepted { IfOk result (λ _. IsAccepted bytes.now) }
+
+    // The bytes are a class; and what is answered is that class, with the bounds of its `process`.
+    ensures class { IfOk result (λ _. (c : Class) × IsClassOf bytes.now c) }
+    ensures judged { IfOk result (λ v. (c : Class) → IsClassOf bytes.now c → IsJudgedAs c v) }
+    ensures bounds { IfOk result (λ v. (c : Class) (j : ℕ) → IsClassOf bytes.now c → IsProcessOf c j → AreBounds c j (bounds_in v.bounds)) }
 
     // Only a class whose layout and whose shape nothing refuses is accepted, and its bounds are within the limits.
     ensures laid_out { IfOk result (λ _. (r : Refusal) → Stands (class_file (length bytes.now)) bytes.now r → ⊥) }
@@ -136,7 +158,7 @@ pub fn verify(alloc: Global, bytes: &[u8]) -> Result<Verified, Refusal>
     let class = read_class(alloc, bytes)?;
     let shape = judge_shape(alloc, &class)?;
     let instructions = judge_instructions(alloc, &class, &shape.codes, shape.constructor)?;
-    let methods = judge_types(alloc, &class, &shape.codes, instructions)?;
+    let methods = judge_types(alloc, &class, &shape.codes, instructions, shape.constructor)?;
     let bounds = bound(alloc, &methods)?;
     Ok(Verified {
         class,

@@ -1,6 +1,9 @@
-use Rattle.std.proofs.Common.{ap, ◌∙◌}
+use Rattle.std.proofs.Common.{rules, ap, ◌∙◌}
 use Rattle.bounds.specs.Cells.{known_at}
+use Rattle.bounds.specs.Lengths.{HaveLengths}
+use Rattle.bounds.specs.Rows.{AreNotRecursive}
 use Rattle.bounds.proofs.KnownCosts.{answers}
+use Rattle.bounds.proofs.Grounded.{not_recursive, ok_whatever}
 use Rattle.bounds.proofs.limits.bound.Goals as goal
 
 pub returns-in-Some-clause-answer : goal.returns-in-Some-clause-answer
@@ -8,3 +11,11 @@ returns-in-Some-clause-answer c =
     let row = c.method-item.result in
     answers c.args.methods.now c.loop-method.method-index row c.in_ok-known.known.items c.in-Some.cost c.within_limits.result c.loop-method-test.true c.method-item.is c.if-method.true
     c.in_ok-known.ensures.table (c.in-Some.ensures ∙ ap (λ l. known_at l row.number) c.deref.ensures.value) c.within_limits.ensures
+
+pub returns-in-Some-clause-lengths : goal.returns-in-Some-clause-lengths
+returns-in-Some-clause-lengths c = ok_whatever (HaveLengths c.args.methods.now) c.within_limits.result (c.if-not-all_have_lengths.ensures.have (search rules))
+
+pub returns-in-Some-clause-ordered : goal.returns-in-Some-clause-ordered
+returns-in-Some-clause-ordered c =
+    let known = c.in_ok-known in
+    ok_whatever (AreNotRecursive c.args.methods.now) c.within_limits.result (not_recursive c.args.methods.now known.known.items known.ensures.grounded known.ensures.all)

@@ -15,8 +15,12 @@ returns-in_err-learn_one-clause-table c = λ k set t on table are right.
     (row_within k set c.args.methods.now i row are c.loop-method-test.true c.method-item.is)
     (c.loop-method.invariant.table k set t on table are right)
 
+pub returns-in_err-learn_one-clause-grounded : goal.returns-in_err-learn_one-clause-grounded
+returns-in_err-learn_one-clause-grounded c = λ k set are right.
+    c.learn_one.ensures.grounded k (row_at k set c.args.methods.now c.loop-method.method-index c.method-item.result are c.loop-method-test.true c.method-item.is) (c.loop-method.invariant.grounded k set are right)
+
 pub loop-method-init : goal.loop-method-init
-loop-method-init c = record { table = λ k set t on table are right. right; learns = (refl, λ i d l. absurd (omega (arith, l))) }
+loop-method-init c = record { table = λ k set t on table are right. right; grounded = λ k set are right. right; learns = (refl, λ i d l. absurd (omega (arith, l))) }
 
 pub loop-method-preserved : goal.loop-method-preserved
 loop-method-preserved c =
@@ -28,6 +32,7 @@ loop-method-preserved c =
           (row_at k set rows i row are c.loop-method-test.true c.method-item.is)
           (row_within k set rows i row are c.loop-method-test.true c.method-item.is)
           (c.loop-method.invariant.table k set t on table are right);
+      grounded = λ k set are right. c.learn_one.ensures.grounded k (row_at k set rows i row are c.loop-method-test.true c.method-item.is) (c.loop-method.invariant.grounded k set are right);
       learns = elim c.if-branch.branch [
         | then-branch w ↦ subst (λ b. LearnsUpTo rows (i + 1) b c.args.known.now c.learn_one.new.known) (sym w.learnt-is)
             (learnt_more rows i (i + 1) row c.args.known.now c.loop-method.known c.learn_one.new.known c.loop-method.learnt c.loop-method.invariant.learns

@@ -3,6 +3,7 @@ use Rattle.std.specs.Prelude.{is_some}
 use Rattle.bounds.specs.Rows.{are_known}
 use Rattle.bounds.proofs.KnownCosts.{learns}
 use Rattle.bounds.proofs.Circles.{fewer, none_is}
+use Rattle.bounds.proofs.Grounded.{stays_grounded}
 use Rattle.bounds.proofs.limits.learn_one.Goals.{then-is_some-via-then-is_some, then-is_some-via-else-is_some+then-not-is_ready}
 use Rattle.bounds.proofs.limits.learn_one.Goals as goal
 
@@ -22,3 +23,8 @@ returns-clause-table c =
 
 pub returns-clause-ok : goal.returns-clause-ok
 returns-clause-ok c = fewer c.args.known.now c.args.method.now.number c.in_ok-cost.cost c.requires (sym c.known_at.ensures ∙ none_is c.known_at.result (sym c.is_some.ensures ∙ c.if-is_some.false))
+
+pub returns-clause-grounded : goal.returns-clause-grounded
+returns-clause-grounded c =
+    let ready : are_known c.args.known.now c.args.method.now.calls.items ≡ true = search rules in
+    stays_grounded c.args.method.now c.args.known.now _ c.in_ok-cost.cost ready refl

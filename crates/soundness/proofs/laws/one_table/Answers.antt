@@ -1,5 +1,5 @@
-use Rattle.soundness.proofs.OneTable.{one_table}
+use Rattle.frames.proofs.Declares.{declared_once}
 use Rattle.soundness.proofs.laws.one_table.Goals as goal
 
 pub returns : goal.returns
-returns c = one_table
+returns c = declared_once

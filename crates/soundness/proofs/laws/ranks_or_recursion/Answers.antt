@@ -1,4 +1,4 @@
-use Rattle.soundness.proofs.Ranks.{not_recursive_has_ranks, ranked_is_not_recursive}
+use Rattle.bounds.proofs.Ranks.{not_recursive_has_ranks, ranked_is_not_recursive}
 use Rattle.soundness.proofs.laws.ranks_or_recursion.Goals as goal
 
 pub returns-clause-ranks : goal.returns-clause-ranks

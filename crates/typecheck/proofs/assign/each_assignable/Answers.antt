@@ -1,4 +1,4 @@
-use Rattle.std.proofs.Common.{◌≡◌, ◌<◌, length, sym, ◌∙◌, arith}
+use Rattle.std.proofs.Common.{◌<◌, length, sym, ◌∙◌, arith}
 use Rattle.typecheck.proofs.Compared.{fits_no_other_length, fits_on, fits_not, items_fit}
 use Rattle.typecheck.proofs.assign.each_assignable.Goals as goal
 

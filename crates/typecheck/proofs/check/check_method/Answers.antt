@@ -1,6 +1,4 @@
-use Rattle.std.proofs.Common.{rules, ◌≡◌, List, map, Some, Ok, Err, subst, sym, ◌∙◌, ap, refl}
-use Rattle.std.specs.Prelude.{Result}
-use Rattle.jtypes.specs.declared.refusal.Refusal.{Refusal}
+use Rattle.std.proofs.Common.{rules, ◌≡◌, List, map, Some, Ok, Err, subst, ◌∙◌, ap}
 use Rattle.jtypes.specs.declared.refusal.Refusal.TheVariants.{TypeMismatch, FallsOff}
 use Rattle.decode.specs.Reading.{RisesFrom}
 use Rattle.frames.specs.declared.table.Declared.{Declared}
@@ -9,6 +7,7 @@ use Rattle.frames.specs.Seen.{declared_seen}
 use Rattle.typecheck.specs.Mismatch.{LacksFrame}
 use Rattle.typecheck.specs.Seen.{method_seen, passed}
 use Rattle.typecheck.proofs.PassAnswers.{ready_of, well_typed, mismatch, falls_off_end}
+use Rattle.typecheck.proofs.PlacesMade.{starts}
 use Rattle.typecheck.proofs.check.check_method.Goals as goal
 
 pub returns-clause-typed : goal.returns-clause-typed
@@ -51,3 +50,8 @@ returns-in_err-pass-clause-falls c = λ f.
     let answer : c.in_err-pass.field-0.0 ≡ FallsOff = search rules in
     let passes = subst (λ (ds : List Declared). passed v e (declared_seen ds) 0 (Some (first_frame e)) code ≡ Err FallsOff) c.deref-2.ensures.value (c.in_err-pass.ensures.err (λ n. cc (answer, n)) ∙ ap Err answer) in
     falls_off_end v (method_seen e code items) ready passes
+
+pub returns-clause-starts : goal.returns-clause-starts
+returns-clause-starts c =
+    let rises = subst (RisesFrom 0) c.code.view_is c.code.invariant in
+    starts c.args.view.now c.args.environment (declared_seen c.deref-2.result.now) (first_frame c.args.environment) c.args.code rises c.in_ok-pass.ensures.ok

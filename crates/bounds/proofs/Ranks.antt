@@ -8,11 +8,7 @@ use Rattle.classfile.specs.View.{ClassView}
 use Rattle.decode.specs.declared.instruction.Placed.{Placed}
 use Rattle.decode.specs.Places.{at_place}
 use Rattle.typecheck.specs.Typing.{Method, Class, call_of}
-use Rattle.bounds.specs.Recursion.{HasCall}
-use Rattle.jtypes.specs.declared.refusal.Refusal.TheVariants.{Recursive}
-use Rattle.verify.specs.Verdict.{by_shape, by_instructions, by_types, by_class, HasShape, HasInstructions, HasTypes}
-use Rattle.verify.specs.Promise.{AcceptedIsOrdered}
-use Rattle.soundness.specs.Ordering.{NotRecursiveHasRanks, RankedIsNotRecursive}
+use Rattle.bounds.specs.Recursion.{HasCall, IsOrdered, IsRecursive}
 
 -- ---- lists of numbers
 
@@ -258,7 +254,7 @@ has_call c j k h = go (slice_get c.methods j) refl h
 
 -- ---- ranks
 
-pub not_recursive_has_ranks : NotRecursiveHasRanks
+pub not_recursive_has_ranks : (c : Class) → (IsRecursive c → ⊥) → (rank : ℕ → ℕ) × IsOrdered c rank
 not_recursive_has_ranks c not_recursive = (misses calls i.0, λ j k h. callee_is_lower calls i.0 all j k (listed c j k h))
   where
     calls : ℕ → List ℕ
@@ -280,7 +276,7 @@ not_recursive_has_ranks c not_recursive = (misses calls i.0, λ j k h. callee_is
         go true e = e
         go false e = absurd (not_recursive (λ k. not (within calls i.0 k), (j, ap not e), missed))
 
-pub ranked_is_not_recursive : RankedIsNotRecursive
+pub ranked_is_not_recursive : (c : Class) → (rank : ℕ → ℕ) × IsOrdered c rank → IsRecursive c → ⊥
 ranked_is_not_recursive c ranks r = none (suc (ranks.0 r.1.0)) r.1.0 (omega arith) r.1.1
   where
     none : (n j : ℕ) → ranks.0 j < n → r.0 j ≡ true → ⊥
@@ -289,17 +285,3 @@ ranked_is_not_recursive c ranks r = none (suc (ranks.0 r.1.0)) r.1.0 (omega arit
         let next = r.2 j e in
         let less = ranks.1 j next.0 next.1 in
         none n next.0 (omega (arith, l, less)) next.2
-
--- ---- of bytes
-
-pub accepted_has_ranks : AcceptedIsOrdered
-accepted_has_ranks bytes c ok of = not_recursive_has_ranks c (λ recursive. ok Recursive (by_class of.pool of.parts c of.file shape instructions types of.class recursive))
-  where
-    shape : HasShape of.pool of.parts
-    shape = record { none_stands = λ r s. ok r (by_shape of.pool of.parts of.file s) }
-
-    instructions : HasInstructions of.pool of.parts
-    instructions = record { none_stands = λ r s. ok r (by_instructions of.pool of.parts of.file shape s) }
-
-    types : HasTypes of.pool of.parts
-    types = record { none_stands = λ r s. ok r (by_types of.pool of.parts of.file shape instructions s) }

@@ -1,0 +1,18 @@
+use Rattle.std.proofs.Common.{◌≡◌, List, true, length, ap, subst, arith, get_or}
+use Rattle.jtypes.specs.declared.refusal.Refusal.{Refusal}
+use Rattle.constpool.specs.Lookup.{Slot}
+use Rattle.decode.specs.declared.instruction.Placed.{Placed}
+use Rattle.decode.specs.Code.{IsSequence}
+use Rattle.decode.specs.Places.{CodeStands}
+use Rattle.verify.specs.Verdict.{is_known}
+use Rattle.verify.proofs.Judged.{good_code}
+use Rattle.verify.proofs.instructions.judge_code.Goals as goal
+
+pub returns : goal.returns
+returns c =
+    let list = c.as_slice-p-items in
+    let known = c.loop-p.invariant in
+    good_code c.args.view.now c.args.bytes.now c.in_ok-code.code
+    (subst (λ (pool : List Slot). IsSequence pool 0 c.args.bytes.now c.in_ok-code.code) c.pool-2.ensures c.in_ok-code.ensures.found)
+    (subst (λ (pool : List Slot). (r : Refusal) → CodeStands pool c.args.bytes.now r → ⊥) c.pool-2.ensures c.in_ok-code.ensures.accepted)
+    (λ k d l. subst (λ (xs : List Placed). is_known c.args.view.now (get_or xs k d).instruction ≡ true) list.ensures.value (known k d (omega arith) (omega (arith, l, ap length list.ensures.value, c.loop-p-test.false))))

@@ -1,0 +1,43 @@
+use Rattle.std.proofs.Common.{sym, ap, ◌∙◌, ◌∷◌, [], Some, length, arith}
+use Rattle.std.specs.Vec.Iter.{into_iter_items}
+use Rattle.std.proofs.lemmas.Option.{slice_get-get_or, slice_get_within}
+use Rattle.std.proofs.lemmas.List.Elements.{All-append}
+use Rattle.classfile.specs.View.{view_of}
+use Rattle.classfile.specs.declared.class_file.CodeParts.{CodeParts}
+use Rattle.verify.specs.Judging.{IsFoundIn, IsTypedRow, numbers_but}
+use Rattle.verify.proofs.Judged.{has_instructions, first_of, rest_of, row_added, nothing_left, all_rows}
+use Rattle.verify.proofs.Numbered.{one_all}
+use Rattle.verify.proofs.verdict.judge_types.Goals as goal
+
+pub judge_method-requires : goal.judge_method-requires
+judge_method-requires c =
+    let pool = c.args.class.now.pool in
+    let p = c.args.class.now.parts in
+    let f = c.in-Some.field-0 in
+    let parts = c.index-codes-number.result in
+    let found = first_of (IsFoundIn (view_of pool p) c.args.codes.now) (into_iter_items c.loop-number.number-iterator) _ f c.loop-number.invariant.rest c.in-Some.ensures.steps.0 in
+    has_instructions pool p c.args.codes.now f parts c.requires.codes found (slice_get-get_or c.args.codes.now f.number parts (slice_get_within c.args.codes.now f.number found.parts found.there) ∙ ap (λ (x : CodeParts). Some x) (sym c.index-codes-number.is))
+
+pub loop-number-preserved : goal.loop-number-preserved
+loop-number-preserved c =
+    let pool = c.args.class.now.pool in
+    let p = c.args.class.now.parts in
+    let f = c.in-Some.field-0 in
+    let old = into_iter_items c.loop-number.number-iterator in
+    let new = into_iter_items c.next.new.self in
+    let steps = c.in-Some.ensures.steps in
+    let at = c.loop-number.invariant in
+    let row = c.in_ok-judge_method.field-0 in
+    let methods = c.loop-number.methods.items in
+    rw c.in_ok-push.ensures.items (record {
+      numbers = row_added methods row old new f (numbers_but c.args.constructor (length c.args.codes.now)) at.numbers steps.0 c.in_ok-judge_method.ensures.number;
+      each = All-append (IsTypedRow pool p) methods (row ∷ []) at.each (one_all (IsTypedRow pool p) row c.in_ok-judge_method.ensures.row);
+      rest = rest_of (IsFoundIn (view_of pool p) c.args.codes.now) old new f at.rest steps.0;
+      count = (let was = at.count in let gone = steps.1 in let short = ap length steps.0 in omega arith);
+    })
+
+pub returns : goal.returns
+returns c =
+    let items = into_iter_items c.loop-number.number-iterator in
+    let at = c.loop-number.invariant in
+    all_rows c.args.class.now.pool c.args.class.now.parts c.args.constructor (length c.args.codes.now) c.loop-number.methods.items items at.numbers at.each (nothing_left items (sym at.count ∙ c.in-None.ensures.steps.0))
