@@ -9,3 +9,4 @@ pub mod CallsFound
 pub mod CallsMade
 pub mod OneTable
 pub mod TypedOnly
+pub mod Refusals
