@@ -1,6 +1,6 @@
 -- Methods whose costs are known are in no set in which each calls another of the set.
 use Rattle.std.proofs.Common.{◌≡◌, ℕ, zero, suc, Bool, true, false, eqb, List, [], ◌∷◌, get_or, Option, Some, None, refl, sym, ap, ◌∙◌, subst}
-use Rattle.std.specs.Prelude.{Result, Ok, Err, IfOk, replicate, cond, ◌==◌, slice_get, slice_set, IsSome, ◌&&◌}
+use Rattle.std.specs.Prelude.{Result, Ok, Err, IfOk, IfErr, replicate, cond, ◌==◌, slice_get, slice_set, IsSome, ◌&&◌}
 use Rattle.std.proofs.lemmas.Bool.{eqb-true, eqb-false}
 use Rattle.std.proofs.lemmas.List.{get_or-set_other}
 use Rattle.decode.specs.declared.instruction.Placed.{Placed}
@@ -60,3 +60,7 @@ not_recursive rows known grounded all c set closed are is i d l member = not_non
 pub ok_whatever : {A B : Type 0} (P : Type 0) (r : Result A B) → P → IfOk r (λ _. P)
 ok_whatever P (Ok x) p = p
 ok_whatever P (Err e) p = tt
+
+pub err_whatever : {A B : Type 0} (Q : B → Type 0) (P : Type 0) (r : Result A B) → P → IfErr r (λ e. Q e → P)
+err_whatever Q P (Ok x) p = tt
+err_whatever Q P (Err e) p = λ q. p

@@ -1,7 +1,7 @@
 -- The limits of an invocation.
 use Rattle.std.specs.Prelude.{◌≡◌, ◌<◌, ◌≤◌, ◌⊎◌, Result, Ok, Err}
 use Rattle.jtypes.specs.declared.refusal.Refusal.{Refusal}
-use Rattle.jtypes.specs.declared.refusal.Refusal.TheVariants.{StepLimit, WordLimit, FrameLimit}
+use Rattle.jtypes.specs.declared.refusal.Refusal.TheVariants.{NoMemory, NoProcess, LengthNotConstant, Recursive, StepLimit, WordLimit, FrameLimit}
 use Rattle.bounds.specs.declared.costs.Cost.{Cost}
 use Rattle.bounds.specs.declared.limits.Bounds.{Bounds}
 use Rattle.bounds.specs.Paths.{step_limit, word_limit, slot_limit, depth_limit}
@@ -24,3 +24,17 @@ Exceeds k _ = ⊥
 abbrev pub Judges : Cost → Result Bounds Refusal → Type 0
 Judges k (Ok b) = IsWithinLimits b × (b.steps ≡ k.steps) × (b.words ≡ k.words) × (b.slots ≡ k.slots) × (b.depth ≡ k.depth)
 Judges k (Err r) = Exceeds k r
+
+abbrev pub IsLimit : Refusal → Type 0
+IsLimit StepLimit = Unit {0}
+IsLimit WordLimit = Unit {0}
+IsLimit FrameLimit = Unit {0}
+IsLimit _ = ⊥
+
+-- what may be refused where bounds are looked for
+abbrev pub IsOfBounds : Refusal → Type 0
+IsOfBounds NoMemory = Unit {0}
+IsOfBounds LengthNotConstant = Unit {0}
+IsOfBounds Recursive = Unit {0}
+IsOfBounds NoProcess = Unit {0}
+IsOfBounds r = IsLimit r

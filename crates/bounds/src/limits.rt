@@ -6,7 +6,7 @@ ghost use Rattle.typecheck.specs.Typing.{Class, IsProcessOf};
 ghost use Rattle.typecheck.specs.DeclaredPlaces.{ArePlacesRising};
 ghost use Rattle.typecheck.specs.declared.typed.Typed.{Typed};
 ghost use Rattle.bounds.specs.Lengths.{HasLengths, LacksLengthIn, HaveLengths, OneLacksLength};
-ghost use Rattle.bounds.specs.Limits.{IsWithinLimits, Judges};
+ghost use Rattle.bounds.specs.Limits.{IsLimit, IsOfBounds, IsWithinLimits, Judges};
 ghost use Rattle.bounds.specs.Table.{Costs, IsTable, LeadsOn};
 ghost use Rattle.bounds.specs.Rows.{AreRowsOf, AreKnown, AreBelow, AreGrounded, AreAllKnown, AreNotRecursive, StaysKnown, StaysGrounded, Learns, LearnsUpTo, OneIsUnknown, IsCircleIn, IsAnswerFor};
 
@@ -169,6 +169,10 @@ pub fn bound(alloc: Global, methods: &[Typed]) -> Result<Bounds, Refusal>
     // Where there are bounds, each newarray has its length, and no own calls of these methods make a circle.
     ensures lengths { IfOk result (λ _. HaveLengths methods.now) }
     ensures ordered { IfOk result (λ _. AreNotRecursive methods.now) }
+    // The same holds where a limit is refused; and lengths are judged before all else.
+    ensures limit { IfErr result (λ r. IsLimit r → AreNotRecursive methods.now) }
+    ensures judged { IfErr result (λ r. r ≢ Refusal.LengthNotConstant → HaveLengths methods.now) }
+    ensures refusal { IfErr result IsOfBounds }
     // The other refusals: a newarray lacks its length, or there is no `process`.
     ensures lacking { result ≡ Err Refusal.LengthNotConstant → OneLacksLength methods.now }
     ensures process { result ≡ Err Refusal.NoProcess → (i : ℕ) (d : Typed) → i < length methods.now → (get_or methods.now i d).is_process ≡ false }

@@ -8,3 +8,4 @@ pub mod Passes
 pub mod CallsFound
 pub mod CallsMade
 pub mod TypedOnly
+pub mod Refusals

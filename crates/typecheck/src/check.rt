@@ -12,7 +12,7 @@ ghost use Rattle.typecheck.specs.Calls.{AreCallsOf, call_at};
 ghost use Rattle.typecheck.specs.DeclaredPlaces.{ArePlacesOf};
 ghost use Rattle.typecheck.specs.Typing.{IsWellTyped};
 ghost use Rattle.typecheck.specs.Mismatch.{FallsOffEnd, IsMismatch, LacksFrame};
-ghost use Rattle.typecheck.specs.Seen.{advanced, branched, entered, lacks_at, method_seen, mismatch_at, passed, target_frame};
+ghost use Rattle.typecheck.specs.Seen.{IsOfTypes, advanced, branched, entered, lacks_at, method_seen, mismatch_at, passed, target_frame};
 
 use crate::assign::frame_assignable;
 use crate::{Called, Typed};
@@ -251,6 +251,7 @@ pub fn check_method(
     ensures typed { IfOk result (λ _. (ds : List (ℕ × Frame)) × IsDeclared view.now environment code (map (λ t. t.now) tables.now) ds × IsWellTyped view.now (record { environment = environment; code = code; declared = ds })) }
     ensures mismatch { (place : ℕ) → result ≡ Err (Refusal.TypeMismatch place) → (ds : List (ℕ × Frame)) × IsDeclared view.now environment code (map (λ t. t.now) tables.now) ds × ((q : ℕ) × IsMismatch view.now (record { environment = environment; code = code; declared = ds }) q × (place ≡ min q 4294967295)) }
     ensures falls { result ≡ Err Refusal.FallsOff → FallsOffEnd code ⊎ (code ≡ []) }
+    ensures refusal { IfErr result IsOfTypes }
 
     // An instruction stands at its start; its calls are answered, and the places of the frames that its tables declare.
     ensures starts { IfOk result (λ t. IsSome (at_place t.code 0)) }

@@ -7,7 +7,9 @@ use Rattle.frames.specs.Seen.{declared_seen}
 use Rattle.typecheck.specs.Mismatch.{LacksFrame}
 use Rattle.typecheck.specs.Seen.{method_seen, passed}
 use Rattle.typecheck.proofs.PassAnswers.{ready_of, well_typed, mismatch, falls_off_end}
+use Rattle.std.proofs.lemmas.Result.{err_from_is_err_and}
 use Rattle.typecheck.proofs.PlacesMade.{starts}
+use Rattle.typecheck.proofs.Refusals.{pass_refuses}
 use Rattle.typecheck.proofs.check.check_method.Goals as goal
 
 pub returns-clause-typed : goal.returns-clause-typed
@@ -55,3 +57,8 @@ pub returns-clause-starts : goal.returns-clause-starts
 returns-clause-starts c =
     let rises = subst (RisesFrom 0) c.code.view_is c.code.invariant in
     starts c.args.view.now c.args.environment (declared_seen c.deref-2.result.now) (first_frame c.args.environment) c.args.code rises c.in_ok-pass.ensures.ok
+
+pub returns-in_err-pass-clause-refusal : goal.returns-in_err-pass-clause-refusal
+returns-in_err-pass-clause-refusal c =
+    let p = err_from_is_err_and c.from_residual-in_err-pass.result c.from_residual-in_err-pass.ensures.1 in
+    rw (p.1, p.2) (pass_refuses c.args.view.now c.args.environment (declared_seen c.deref-2.result.now) 0 (Some (first_frame c.args.environment)) c.args.code c.in_err-pass.field-0.0 c.in_err-pass.ensures.err)
