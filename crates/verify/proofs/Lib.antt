@@ -8,3 +8,4 @@ pub mod OnlyOne
 pub mod Constructor
 pub mod Names
 pub mod Shapes
+pub mod RowsFound
