@@ -1,0 +1,7 @@
+pub mod Changed
+pub mod Told
+pub mod Far
+pub mod Replies
+pub mod Invoked
+pub mod Rows
+pub mod Begun
