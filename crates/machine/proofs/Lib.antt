@@ -5,3 +5,4 @@ pub mod Replies
 pub mod Invoked
 pub mod Rows
 pub mod Begun
+pub mod Forms

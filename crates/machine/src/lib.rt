@@ -13,6 +13,7 @@ mod library;
 mod locals;
 mod machine;
 mod operands;
+mod rearrange;
 mod returns;
 mod taken;
 mod turn;
