@@ -2,9 +2,22 @@
 #![tactic(auto)]
 
 mod act;
+mod arithmetic;
+mod branches;
+mod calls;
+mod casts;
 mod cells;
 mod done;
+mod fits;
+mod library;
+mod locals;
+mod machine;
+mod operands;
+mod rearrange;
+mod returns;
 mod taken;
+mod turn;
+mod windows;
 mod workspace;
 
 pub use done::{Done, Ending, Fault, Going};

@@ -1,5 +1,5 @@
 -- A class that was accepted, as contracts see it.
-use Rattle.std.specs.Prelude.{◌≡◌, ℕ, ◌<◌, true, List, length, get_or, slice_get, Some, IsSome}
+use Rattle.std.specs.Prelude.{◌≡◌, ℕ, ◌<◌, ◌==◌, true, List, [], ◌∷◌, length, get_or, slice_get, Option, Some, None, IsSome, if◌then◌else◌}
 use Rattle.constpool.specs.Lookup.{Slot}
 use Rattle.constpool.specs.Names.{init_name}
 use Rattle.classfile.specs.declared.class_file.Parts.{Parts}
@@ -16,6 +16,20 @@ pub record Judged : Type 0 where
   pub parts : Parts
   pub methods : List Typed
   pub bounds : Bounds
+
+-- the numbers of the rows rise
+abbrev pub NumbersRise : List Typed → Type 0
+NumbersRise rows = (i j : ℕ) (d : Typed) → i < j → j < length rows → (get_or rows i d).number < (get_or rows j d).number
+
+-- the row with a number
+abbrev pub row_in : List Typed → ℕ → Option Typed
+row_in [] k = None
+row_in (x ∷ rows) k = if x.number == k then Some x else row_in rows k
+
+-- the row of `process`
+abbrev pub process_row : List Typed → Option Typed
+process_row [] = None
+process_row (x ∷ rows) = if x.is_process then Some x else process_row rows
 
 -- a row is of the class's method with its number: it has its environment and its code, and what its calls reach
 pub record IsRowIn (c : Class) (row : Typed) : Type 0 where

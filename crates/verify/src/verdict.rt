@@ -1,6 +1,6 @@
 //! The verdict, level by level.
 
-ghost use Rattle.std.specs.Prelude.{◌≡◌, ◌⊎◌, ℕ, List, length, IfOk, IfErr};
+ghost use Rattle.std.specs.Prelude.{◌≡◌, ◌⊎◌, ℕ, List, length, IfOk, IfErr, option_copied};
 ghost use Rattle.jtypes.specs.declared.refusal.Refusal.{Refusal};
 ghost use Rattle.jtypes.specs.Layout.{IsLaidOut, Stands};
 ghost use Rattle.constpool.specs.Lookup.{Slot};
@@ -12,7 +12,7 @@ ghost use Rattle.std.specs.List.{AllZip};
 ghost use Rattle.verify.specs.Shape.{HasCode, ShapeStands};
 ghost use Rattle.verify.specs.Judging.{AreFound, AreTyped, HasInstructionsOf, IsTypedRow};
 ghost use Rattle.verify.specs.Verdict.{IsAccepted, IsClassFile, IsClassOf};
-ghost use Rattle.verify.specs.Judged.{IsJudgedAs};
+ghost use Rattle.verify.specs.Judged.{IsJudgedAs, NumbersRise, row_in, process_row};
 ghost use Rattle.typecheck.specs.Typing.{Class, IsProcessOf};
 ghost use Rattle.bounds.specs.Paths.{AreBounds};
 ghost use Rattle.bounds.specs.Rows.{bounds_in};
@@ -60,16 +60,27 @@ impl Verified {
     }
 
     /// The method with this number among the methods of the class, but the constructor.
-    pub fn method(&self, number: usize) -> Option<&Typed> {
-        match self.methods.binary_search_by_key(&number, |m| m.number) {
-            Ok(i) => self.methods.get(i),
-            Err(_) => None,
+    pub fn method(&self, number: usize) -> Option<&Typed>
+        ensures { NumbersRise self.now.methods → option_copied result ≡ row_in self.now.methods number }
+    {
+        let rows = self.methods.as_slice();
+        let i = rows.partition_point(|m| m.number < number);
+        match rows.get(i) {
+            Some(m) if m.number == number => Some(m),
+            _ => None,
         }
     }
 
     /// `process` with the erased descriptor.
-    pub fn process(&self) -> Option<&Typed> {
-        self.methods.iter().find(|m| m.is_process)
+    pub fn process(&self) -> Option<&Typed>
+        ensures { option_copied result ≡ process_row self.now.methods }
+    {
+        for row in self.methods.as_slice() {
+            if row.is_process {
+                return Some(row);
+            }
+        }
+        None
     }
 }
 

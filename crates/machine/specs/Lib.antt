@@ -1,0 +1,5 @@
+pub mod Cut
+pub mod Seen
+pub mod Answered
+pub mod Taken
+pub mod Turned
