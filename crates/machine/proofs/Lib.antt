@@ -6,3 +6,4 @@ pub mod Invoked
 pub mod Rows
 pub mod Begun
 pub mod Forms
+pub mod Ran

@@ -206,7 +206,8 @@ fn answer(operands: &mut Operands, operation: Operation) -> Result<Value, Failur
 
 /// An operation on the topmost operands.
 pub fn operate(machine: &mut Machine, operation: Operation) -> Result<(), Ending>
-    ensures { (c : Class) (all : List Activation) → Told c (after_answer c (seen all machine.old) (top_of machine.old) (callers_of machine.old) (operate operation machine.old.operands.0)) result machine.new }
+    ensures told { (c : Class) (all : List Activation) → Told c (after_answer c (seen all machine.old) (top_of machine.old) (callers_of machine.old) (operate operation machine.old.operands.0)) result machine.new }
+    ensures before { machine.new.entry.before ≡ machine.old.entry.before }
 {
     match answer(&mut machine.operands, operation) {
         Ok(value) => machine.push(value),

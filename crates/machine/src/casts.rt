@@ -28,7 +28,8 @@ fn may_cast(arena: &Arena, value: RefValue, r: RefType) -> bool
 /// Leaves a reference where it may be cast.
 #[tactic(auto, using(crate::proofs::Told::told_put))]
 pub fn cast(machine: &mut Machine, r: Option<RefType>) -> Result<(), Ending>
-    ensures { (c : Class) (all : List Activation) → Told c (cast c (seen all machine.old) (top_of machine.old) (callers_of machine.old) r machine.old.operands.0) result machine.new }
+    ensures told { (c : Class) (all : List Activation) → Told c (cast c (seen all machine.old) (top_of machine.old) (callers_of machine.old) r machine.old.operands.0) result machine.new }
+    ensures before { machine.new.entry.before ≡ machine.old.entry.before }
 {
     match (r, machine.operands.pop()) {
         (Some(r), Some(Value::Ref(v))) => {
@@ -53,7 +54,8 @@ fn flag(holds: bool) -> Value
 /// Tells whether a reference is of a type. Null is of none.
 #[tactic(auto, using(crate::proofs::Told::told_put))]
 pub fn ask(machine: &mut Machine, r: Option<RefType>) -> Result<(), Ending>
-    ensures { (c : Class) (all : List Activation) → Told c (ask c (seen all machine.old) (top_of machine.old) (callers_of machine.old) r machine.old.operands.0) result machine.new }
+    ensures told { (c : Class) (all : List Activation) → Told c (ask c (seen all machine.old) (top_of machine.old) (callers_of machine.old) r machine.old.operands.0) result machine.new }
+    ensures before { machine.new.entry.before ≡ machine.old.entry.before }
 {
     match (r, machine.operands.pop()) {
         (Some(r), Some(Value::Ref(v))) => {

@@ -53,7 +53,8 @@ fn reply(
     declared: Option<JType>,
     values: &[Value],
 ) -> Result<(), Ending>
-    ensures { (c : Class) (all : List Activation) → Told c (after_reply c (seen all machine.old) (top_of machine.old) (callers_of machine.old) declared machine.old.operands.0 (library native machine.old.key machine.old.entry.current values.now)) result machine.new }
+    ensures told { (c : Class) (all : List Activation) → Told c (after_reply c (seen all machine.old) (top_of machine.old) (callers_of machine.old) declared machine.old.operands.0 (library native machine.old.key machine.old.entry.current values.now)) result machine.new }
+    ensures before { machine.new.entry.before ≡ machine.old.entry.before }
 {
     if !are_taken(native, values) {
         return Err(STUCK);
@@ -78,7 +79,8 @@ pub fn call_library(
     count: usize,
 ) -> Result<(), Ending>
     requires { count ≤ length machine.old.operands.0 }
-    ensures { (c : Class) (all : List Activation) → Told c (after_reply c (seen all machine.old) (top_of machine.old) (callers_of machine.old) declared (drop count machine.old.operands.0) (library native machine.old.key machine.old.entry.current (reverse (take count machine.old.operands.0)))) result machine.new }
+    ensures told { (c : Class) (all : List Activation) → Told c (after_reply c (seen all machine.old) (top_of machine.old) (callers_of machine.old) declared (drop count machine.old.operands.0) (library native machine.old.key machine.old.entry.current (reverse (take count machine.old.operands.0)))) result machine.new }
+    ensures before { machine.new.entry.before ≡ machine.old.entry.before }
 {
     match count {
         0 => reply(machine, native, declared, &[]),

@@ -25,7 +25,8 @@ fn has_local(machine: &Machine, kind: Kind, n: u16, value: Value) -> bool
 
 /// Puts a local onto the operands.
 pub fn load(machine: &mut Machine, kind: Kind, n: u16) -> Result<(), Ending>
-    ensures { (c : Class) (all : List Activation) → Told c (load c (seen all machine.old) (top_of machine.old) (callers_of machine.old) kind n (slice_get machine.old.locals.0 n)) result machine.new }
+    ensures told { (c : Class) (all : List Activation) → Told c (load c (seen all machine.old) (top_of machine.old) (callers_of machine.old) kind n (slice_get machine.old.locals.0 n)) result machine.new }
+    ensures before { machine.new.entry.before ≡ machine.old.entry.before }
 {
     match machine.locals.get(usize::from(n)) {
         Some(Some(value)) => {
@@ -74,7 +75,8 @@ fn set_local(locals: &mut Windows<Option<Value>>, n: u16, value: Value)
 
 /// Takes an operand into a local.
 pub fn store(machine: &mut Machine, kind: Kind, n: u16) -> Result<(), Ending>
-    ensures { (c : Class) (all : List Activation) → Told c (store c (seen all machine.old) (top_of machine.old) (callers_of machine.old) kind n machine.old.operands.0) result machine.new }
+    ensures told { (c : Class) (all : List Activation) → Told c (store c (seen all machine.old) (top_of machine.old) (callers_of machine.old) kind n machine.old.operands.0) result machine.new }
+    ensures before { machine.new.entry.before ≡ machine.old.entry.before }
 {
     match machine.operands.pop() {
         Some(value) => {
@@ -90,7 +92,8 @@ pub fn store(machine: &mut Machine, kind: Kind, n: u16) -> Result<(), Ending>
 
 /// Adds to a local that is an int, and wraps.
 pub fn increment(machine: &mut Machine, n: u16, by: i16) -> Result<(), Ending>
-    ensures { (c : Class) (all : List Activation) → Told c (increment c (seen all machine.old) (top_of machine.old) (callers_of machine.old) n by (slice_get machine.old.locals.0 n)) result machine.new }
+    ensures told { (c : Class) (all : List Activation) → Told c (increment c (seen all machine.old) (top_of machine.old) (callers_of machine.old) n by (slice_get machine.old.locals.0 n)) result machine.new }
+    ensures before { machine.new.entry.before ≡ machine.old.entry.before }
 {
     let n = usize::from(n);
     match machine.locals.get(n) {

@@ -75,7 +75,8 @@ fn form_for<'a>(operands: &Operands, forms: &'a [StackForm]) -> Option<&'a Stack
 
 /// Rearranges the operands by the form that has their sizes.
 pub fn rearrange(machine: &mut Machine, rearrangement: Rearrangement) -> Result<(), Ending>
-    ensures { (c : Class) (all : List Activation) → Told c (option_and_then (next_with c (seen all machine.old) (top_of machine.old) (callers_of machine.old)) (rearranged is_long_value rearrangement machine.old.operands.0)) result machine.new }
+    ensures told { (c : Class) (all : List Activation) → Told c (option_and_then (next_with c (seen all machine.old) (top_of machine.old) (callers_of machine.old)) (rearranged is_long_value rearrangement machine.old.operands.0)) result machine.new }
+    ensures before { machine.new.entry.before ≡ machine.old.entry.before }
 {
     let Some(form) = form_for(&machine.operands, forms_of(rearrangement)) else {
         return Err(STUCK);

@@ -4,15 +4,15 @@ use Rattle.jtypes.specs.Library.{Reply, library}
 use Rattle.machine.proofs.Replies.{told_reply}
 use Rattle.machine.proofs.library.call_library.Goals as goal
 
-pub returns-in-0 : goal.returns-in-0
-returns-in-0 c = λ class all.
+pub returns-in-0-clause-told : goal.returns-in-0-clause-told
+returns-in-0-clause-told c = λ class all.
     let now = c.args.machine.now in
     let ops = now.operands.0 in
     let by : List Value → Reply = λ vs. library c.args.native now.key now.entry.current vs in
-    told_reply class all now now.operands c.args.declared (drop c.args.count ops) (by []) (by (reverse (take c.args.count ops))) c.reply.result c.reply.new.machine refl (ap (λ n. drop n ops) (sym c.in-0.is)) (ap (λ n. by (reverse (take n ops))) (sym c.in-0.is)) (c.reply.ensures class all)
+    told_reply class all now now.operands c.args.declared (drop c.args.count ops) (by []) (by (reverse (take c.args.count ops))) c.reply.result c.reply.new.machine refl (ap (λ n. drop n ops) (sym c.in-0.is)) (ap (λ n. by (reverse (take n ops))) (sym c.in-0.is)) (c.reply.ensures.told class all)
 
-pub returns-in-1 : goal.returns-in-1
-returns-in-1 c = λ class all.
+pub returns-in-1-clause-told : goal.returns-in-1-clause-told
+returns-in-1-clause-told c = λ class all.
     let now = c.args.machine.now in
     let ops = now.operands.0 in
     let by : List Value → Reply = λ vs. library c.args.native now.key now.entry.current vs in
@@ -23,10 +23,10 @@ returns-in-1 c = λ class all.
     (ap (λ (o : List Value × List (List Value)). o.1) (sym popped))
     (ap (λ (o : List Value × List (List Value)). drop 1 o.0) (sym popped) ∙ ap (λ n. drop n ops) (sym c.in-1.is))
     (ap (λ (o : List Value × List (List Value)). by (reverse (take 1 o.0))) (sym popped) ∙ ap (λ n. by (reverse (take n ops))) (sym c.in-1.is))
-    (c.reply-in-1.ensures class all)
+    (c.reply-in-1.ensures.told class all)
 
-pub returns-in-2 : goal.returns-in-2
-returns-in-2 c = λ class all.
+pub returns-in-2-clause-told : goal.returns-in-2-clause-told
+returns-in-2-clause-told c = λ class all.
     let now = c.args.machine.now in
     let ops = now.operands.0 in
     let by : List Value → Reply = λ vs. library c.args.native now.key now.entry.current vs in
@@ -41,4 +41,4 @@ returns-in-2 c = λ class all.
     (ap (λ (o : List Value × List (List Value)). o.1) (sym popped))
     (ap (λ (o : List Value × List (List Value)). drop 2 o.0) (sym popped) ∙ ap (λ n. drop n ops) (sym c.in-2.is))
     (ap (λ (o : List Value × List (List Value)). by (reverse (take 2 o.0))) (sym popped) ∙ ap (λ n. by (reverse (take n ops))) (sym c.in-2.is))
-    (c.reply-in-2.ensures class all)
+    (c.reply-in-2.ensures.told class all)
