@@ -6,6 +6,8 @@ mod line;
 mod output;
 mod program;
 #[cfg(test)]
+mod row_tests;
+#[cfg(test)]
 mod tests;
 
 use files::RealFiles;

@@ -117,13 +117,18 @@ fn is_told(told: &Answered, status: u8, output: &str, errors: &str) -> bool {
 
 /// A command over a class, and what it must tell.
 #[derive(Clone, Copy)]
-struct Row<'a> {
-    words: &'a [&'a str],
-    status: u8,
-    output: &'a str,
+pub(crate) struct Row<'a> {
+    pub(crate) words: &'a [&'a str],
+    pub(crate) status: u8,
+    pub(crate) output: &'a str,
 }
 
-fn rows_hold(rt: &impl Abort, alloc: Global, class: &[u8], rows: &[Row<'_>]) -> Result<(), Fail> {
+pub(crate) fn rows_hold(
+    rt: &impl Abort,
+    alloc: Global,
+    class: &[u8],
+    rows: &[Row<'_>],
+) -> Result<(), Fail> {
     for row in rows {
         let bytes = Vec::from_slice(alloc, class)?;
         let answer = told(alloc, row.words, bytes)?;
@@ -211,14 +216,6 @@ fn classes_are_refused(rt: HostRuntime) -> Result<(), Fail> {
     for (class, output) in [
         (rows::mixed(alloc)?, "refused 22 TypeMismatch at 1\n"),
         (rows::falls(alloc)?, "refused 23 FallsOff\n"),
-        (
-            rows::shift64(alloc)?,
-            "refused 17 OutsideProfile opcode 16\n",
-        ),
-        (
-            rows::counter(alloc)?,
-            "refused 17 OutsideProfile opcode 153\n",
-        ),
         (
             rows::give_entry_with_stack(alloc, 8190)?,
             "refused 29 FrameLimit\n",
@@ -557,25 +554,24 @@ fn instructions_are_refused(rt: HostRuntime) -> Result<(), Fail> {
             "refused 17 OutsideProfile opcode 186\n",
         ),
         (&[0x2B, 0xC0, 0], "refused 18 BadOperand\n"),
-        (
-            &[0xA7, 0, 3, 0xB0],
-            "refused 17 OutsideProfile opcode 167\n",
-        ),
-        // A cut instruction behind one that is not accepted.
-        (&[0x03, 0xC0], "refused 17 OutsideProfile opcode 3\n"),
-        // A cast to the entry, and a call of an own method.
-        (&[0x2B, 0xC0, 0, 16, 0xB0], "refused 24 UnknownMember\n"),
+        // A branch behind the code, one into an instruction, one to itself.
+        (&[0xA7, 0, 4, 0xB0], "refused 19 BadTarget\n"),
+        (&[0xA7, 0, 4, 0x10, 1, 0x01, 0xB0], "refused 19 BadTarget\n"),
+        (&[0xA7, 0, 0], "refused 20 BackwardBranch\n"),
+        // A call of a method that the class lacks, and one of a constructor.
         (
             &[0x0A, 0xB8, 0, 45, 0x2B, 0xB0],
             "refused 24 UnknownMember\n",
         ),
         (
-            &[0x2B, 0xB9, 0, 22, 1, 0, 0x2B, 0xB0],
+            &[0x2A, 0xB7, 0, 10, 0x2B, 0xB0],
             "refused 24 UnknownMember\n",
         ),
-        // What follows a return has no frame.
+        // What follows a return, and a target, have no frame.
         (&[0x2B, 0xB0, 0x2B, 0xB0], "refused 21 BadStackMap\n"),
+        (&[0xA7, 0, 3, 0x2B, 0xB0], "refused 21 BadStackMap\n"),
         (&[0xB0], "refused 22 TypeMismatch at 0\n"),
+        (&[0x2B, 0x00], "refused 23 FallsOff\n"),
     ] {
         let class = rows::class_of(alloc, &[rows::process(2, 3, code)])?;
         is_refused(&rt, alloc, class, output)?;

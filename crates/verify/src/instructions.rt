@@ -5,7 +5,6 @@ ghost use Rattle.verify.specs.Verdict.{is_known};
 ghost use Rattle.verify.specs.Judging.{AreFound, IsGoodCode};
 ghost use Rattle.classfile.specs.View.{view_of};
 
-use crate::first_cut::{has_callee, has_cast, judge_opcodes};
 use classfile::{ClassFile, ClassView, CodeParts};
 use decode::{Code, Instruction, decode};
 use frames::{callee_at, constant_type};
@@ -25,17 +24,13 @@ fn is_known(
     view: &ClassView<'_>,
     instruction: &Instruction,
 ) -> Result<bool, AllocError>
-    ensures { IfOk result (λ b. b ≡ true → is_known view.now instruction.now ≡ true) }
+    ensures { IfOk result (λ b. b ≡ is_known view.now instruction.now) }
 {
     match *instruction {
-        Instruction::Invoke(kind, i) => match callee_at(alloc, view, kind, i)? {
-            Some(callee) => Ok(has_callee(&callee)),
-            None => Ok(false),
-        },
-        Instruction::CheckCast(i) | Instruction::InstanceOf(i) => match constant_type(view, i) {
-            Some(r) => Ok(has_cast(r)),
-            None => Ok(false),
-        },
+        Instruction::Invoke(kind, i) => Ok(callee_at(alloc, view, kind, i)?.is_some()),
+        Instruction::CheckCast(i) | Instruction::InstanceOf(i) => {
+            Ok(constant_type(view, i).is_some())
+        }
         _ => Ok(true),
     }
 }
@@ -44,7 +39,6 @@ fn is_known(
 fn judge_code(alloc: Global, view: &ClassView<'_>, bytes: &[u8]) -> Result<Code, Refusal>
     ensures { IfOk result (λ code. IsGoodCode view.now bytes.now code) }
 {
-    judge_opcodes(alloc, view.pool(), bytes)?;
     let code = decode(alloc, bytes, view.pool())?;
     for p in code.as_slice() {
         if !is_known(alloc, view, &p.instruction)? {
