@@ -15,3 +15,4 @@ pub mod OwnCalls
 pub mod RowsOfClass
 pub mod Verdicts
 pub mod Accepted
+pub mod Refused

@@ -1,6 +1,9 @@
 //! The instructions and members that processors may use today, a part of the profile: what stands in straight lines, on longs and
 //! references, with the entry's value and boxes of longs. The rest of the profile is refused as if it were outside it.
 
+ghost use Rattle.std.specs.Prelude.{IfErr};
+ghost use Rattle.verify.specs.Judging.{IsUnsure};
+
 use constpool::Pool;
 use decode::{Instruction, read_instruction};
 use frames::{Callee, Reached};
@@ -28,7 +31,9 @@ fn has_opcode(opcode: u8) -> bool {
 }
 
 /// The first opcode of a code that is not accepted, before any that cannot be read.
-pub fn judge_opcodes(alloc: Global, pool: &Pool, code: &[u8]) -> Result<(), Refusal> {
+pub fn judge_opcodes(alloc: Global, pool: &Pool, code: &[u8]) -> Result<(), Refusal>
+    ensures { IfErr result IsUnsure }
+{
     let mut cursor = Cursor::new(code);
     for _ in 0..code.len() {
         let rest = cursor.rest();
