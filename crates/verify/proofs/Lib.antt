@@ -16,3 +16,4 @@ pub mod RowsOfClass
 pub mod Verdicts
 pub mod Accepted
 pub mod RowsFound
+pub mod Refused

@@ -70,7 +70,7 @@ pub record RowMethod (c : Class) (row : Typed) : Type 0 where
   pub typed : IsWellTyped c.view method
   pub ready : IsReady method
 
-calls_are : (v : ClassView) (i : Instruction) → call_of v i ≡ own_of (called_by v i)
+pub calls_are : (v : ClassView) (i : Instruction) → call_of v i ≡ own_of (called_by v i)
 calls_are v (instruction.Invoke kind i) = refl
 calls_are v _ = refl
 

@@ -53,7 +53,7 @@ use Rattle.verify.proofs.OwnCalls.{own_call, process_found}
 use Rattle.verify.proofs.RowsOfClass.{one_body, method_of, row_of, not_constructor, method_at, row_of_view, row_of_member, member_of_view, view_of_row, process_is, are_rows}
 
 -- an element of a list, by its place
-item_of : {A : Type 0} (xs : List A) (i : ℕ) → i < length xs → (x : A) × ((d : A) → get_or xs i d ≡ x)
+pub item_of : {A : Type 0} (xs : List A) (i : ℕ) → i < length xs → (x : A) × ((d : A) → get_or xs i d ≡ x)
 item_of [] i l = absurd (omega (arith, l))
 item_of (x ∷ xs) zero l = (x, λ d. refl)
 item_of (x ∷ xs) (suc i) l = item_of xs i (omega (arith, l))

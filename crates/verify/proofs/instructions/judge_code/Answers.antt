@@ -8,8 +8,8 @@ use Rattle.verify.specs.Verdict.{is_known}
 use Rattle.verify.proofs.Judged.{good_code}
 use Rattle.verify.proofs.instructions.judge_code.Goals as goal
 
-pub returns : goal.returns
-returns c =
+pub returns-clause-ok : goal.returns-clause-ok
+returns-clause-ok c =
     let list = c.as_slice-p-items in
     let known = c.loop-p.invariant in
     good_code c.args.view.now c.args.bytes.now c.in_ok-code.code

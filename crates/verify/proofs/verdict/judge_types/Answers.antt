@@ -36,8 +36,8 @@ loop-number-preserved c =
       count = (let was = at.count in let gone = steps.1 in let short = ap length steps.0 in omega arith);
     })
 
-pub returns : goal.returns
-returns c =
+pub returns-clause-ok : goal.returns-clause-ok
+returns-clause-ok c =
     let items = into_iter_items c.loop-number.number-iterator in
     let at = c.loop-number.invariant in
     all_rows c.args.class.now.pool c.args.class.now.parts c.args.constructor (length c.args.codes.now) c.loop-number.methods.items items at.numbers at.each (nothing_left items (sym at.count ∙ c.in-None.ensures.steps.0))
