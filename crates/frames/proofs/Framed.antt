@@ -1,6 +1,6 @@
 -- The frames that the entries of a table stand for.
 use Rattle.std.proofs.Common.{◌≡◌, ℕ, zero, suc, ◌+◌, ◌-◌, ◌≤◌, ◌<◌, Bool, true, false, List, [], ◌∷◌, ◌++◌, length, drop, take, Option, Some, None, refl, sym, ap, subst, ◌∙◌, append_assoc, arith}
-use Rattle.std.specs.Prelude.{nat_le, map, option_map, option_and_then, unwrap_or, reverse, is_some, IsSome, slice_index_or, All}
+use Rattle.std.specs.Prelude.{nat_le, map, option_map, option_and_then, unwrap_or, is_some, IsSome, slice_index_or, All}
 use Rattle.std.proofs.lemmas.Bool.{le-leb, leb-true}
 use Rattle.std.proofs.lemmas.List.{append-nil}
 use Rattle.jtypes.specs.declared.types.JType.{JType}
@@ -17,7 +17,7 @@ use Rattle.frames.specs.declared.entries.Change.{Change}
 use Rattle.frames.specs.declared.entries.Change.TheVariants.{Same, OneItem, Chop, Append, Full}
 use Rattle.frames.specs.declared.entries.Entry.{Entry}
 use Rattle.frames.specs.StackMap.{Listed, place_after, frame_of_change, then_rest, frames_from, IsRoomy, declared_of}
-use Rattle.frames.specs.Reading.{standing, within, locals_after, stack_after, locals_or, stack_or, frame_with, frame_at, next_listed, Reached, reached, framed}
+use Rattle.frames.specs.Reading.{standing, within, locals_after, stack_after, locals_or, frame_with, next_listed, Reached, reached, framed}
 use Rattle.frames.proofs.Rows.{drop_at_item, drop_past}
 
 -- ---- one entry
@@ -179,43 +179,27 @@ module _ (e : Environment) (code : List Placed) where
 
   -- ---- the loop over the entries
 
-  -- an entry's frame is the one that its number makes
-  frame_here : (p : Option ℕ) (locals : List JType) (a : Entry) (rest : List Entry) (x : Listed) → next_listed e code p locals a ≡ Some x → frame_at e.max_locals e.max_stack locals (a ∷ rest) zero ≡ (declared_of e x).1
-  frame_here p locals a rest x h =
-      let l = listed_is e code p locals a x h in
-      let at = place_after p a.delta in
-      let m = mapped (listed_with at (stack_after a.change)) (locals_after locals a.change) x (sym (by_change at locals a.change) ∙ l.0) in
-      let locals_are : locals_or locals a.change ≡ x.locals = ap (λ (o : Option (List JType)). unwrap_or o locals) m.1 ∙ ap (λ (y : Listed). y.locals) m.2 in
-      let stack_is : stack_after a.change ≡ x.stack = ap (λ (y : Listed). y.stack) m.2 in
-      let room : within e.max_stack (stack_after a.change) ≡ Some x.stack = ap (within e.max_stack) stack_is ∙ keeps e.max_stack x.stack l.1.stack in
-      let stack : stack_or e.max_stack a.change ≡ reverse x.stack = ap (λ (o : Option (List JType)). unwrap_or (option_map reverse o) []) room in
-      rw (locals_are, stack) refl
-
-  pub locals_next : (p : Option ℕ) (locals after : List JType) (a : Entry) (place : ℕ) → option_map reached (next_listed e code p locals a) ≡ Some (record { place = place; locals = after }) → after ≡ locals_or locals a.change
-  locals_next p locals after a place h =
-      let r = mapped reached (next_listed e code p locals a) (record { place = place; locals = after }) h in
+  -- the locals that an entry leaves
+  pub locals_next : (p : Option ℕ) (locals after stack : List JType) (a : Entry) (place : ℕ) → option_map reached (next_listed e code p locals a) ≡ Some (record { place = place; locals = after; stack = stack }) → after ≡ locals_or locals a.change
+  locals_next p locals after stack a place h =
+      let r = mapped reached (next_listed e code p locals a) (record { place = place; locals = after; stack = stack }) h in
       let x = r.0 in
       let at = place_after p a.delta in
       let m = mapped (listed_with at (stack_after a.change)) (locals_after locals a.change) x (sym (by_change at locals a.change) ∙ (listed_is e code p locals a x r.1).0) in
       sym (ap (λ (o : Option (List JType)). unwrap_or o locals) m.1 ∙ ap (λ (y : Listed). y.locals) m.2 ∙ ap (λ (y : Reached). y.locals) r.2)
 
-  pair_of : (x y : ℕ) (f g : Frame) → x ≡ y → f ≡ g → (let d : ℕ × Frame = (x, f) in d ≡ (y, g))
-  pair_of x y f g h k = cc
-
   -- the next entry's frame behind those before it
-  pub frames_more : (fs : List (ℕ × Frame)) (es : List Entry) (i : ℕ) (a : Entry) (p : Option ℕ) (locals after : List JType) (place : ℕ) (frame : Frame) (total : Option (List (ℕ × Frame))) → i < length es → a ≡ slice_index_or es i a
-      → option_map reached (next_listed e code p locals a) ≡ Some (record { place = place; locals = after }) → frame ≡ frame_at e.max_locals e.max_stack locals (drop i es) zero
+  pub frames_more : (fs : List (ℕ × Frame)) (es : List Entry) (i : ℕ) (a : Entry) (p : Option ℕ) (locals after stack : List JType) (place : ℕ) (frame : Frame) (total : Option (List (ℕ × Frame))) → i < length es → a ≡ slice_index_or es i a
+      → option_map reached (next_listed e code p locals a) ≡ Some (record { place = place; locals = after; stack = stack }) → frame ≡ frame_with e.max_locals after stack
       → with_frames fs (framed e code p locals (drop i es)) ≡ total → with_frames (fs ++ (place, frame) ∷ []) (framed e code (Some place) after (drop (i + 1) es)) ≡ total
-  frames_more fs es i a p locals after place frame total l h g f so_far =
+  frames_more fs es i a p locals after stack place frame total l h g f so_far =
       let rest = drop (i + 1) es in
       let d : ℕ × Frame = (place, frame) in
-      let r = mapped reached (next_listed e code p locals a) (record { place = place; locals = after }) g in
+      let r = mapped reached (next_listed e code p locals a) (record { place = place; locals = after; stack = stack }) g in
       let x = r.0 in
-      let list : drop i es ≡ a ∷ rest = drop_at_item es i a l h in
-      let same : frame ≡ (declared_of e x).1 = f ∙ ap (λ (q : List Entry). frame_at e.max_locals e.max_stack locals q zero) list ∙ frame_here p locals a rest x r.1 in
-      let here : declared_of e x ≡ d = pair_of x.place place (declared_of e x).1 frame (ap (λ (y : Reached). y.place) r.2) (sym same) in
+      let here : declared_of e x ≡ d = ap (λ (y : Reached). (y.place, frame_with e.max_locals y.locals y.stack)) r.2 ∙ ap (λ (y : Frame). (place, y)) (sym f) in
       let next : framed e code (Some x.place) x.locals rest ≡ framed e code (Some place) after rest = ap (λ (y : Reached). framed e code (Some y.place) y.locals rest) r.2 in
-      let whole : framed e code p locals (drop i es) ≡ option_map (λ ds. d ∷ ds) (framed e code (Some place) after rest) = rw (list, r.1, next, here) refl in
+      let whole : framed e code p locals (drop i es) ≡ option_map (λ ds. d ∷ ds) (framed e code (Some place) after rest) = rw (drop_at_item es i a l h, r.1, next, here) refl in
       sym (ap (with_frames fs) whole ∙ regrouped fs d (framed e code (Some place) after rest)) ∙ so_far
 
   -- an entry with no frame
@@ -231,19 +215,3 @@ module _ (e : Environment) (code : List Placed) where
   frames_all fs es i p locals total l so_far =
       let whole : framed e code p locals (drop i es) ≡ Some [] = rw (drop_past es i l) refl in
       sym (ap (with_frames fs) whole ∙ ap (λ (gs : List (ℕ × Frame)). Some gs) (append-nil fs)) ∙ so_far
-
--- ---- the frames by their numbers
-
-pub frame_on : (max_locals max_stack : ℕ) (locals after : List JType) (es : List Entry) (i : ℕ) (a : Entry) (left : ℕ) (total : Frame) → i < length es → a ≡ slice_index_or es i a → after ≡ locals_or locals a.change
-    → frame_at max_locals max_stack locals (drop i es) (suc left) ≡ total → frame_at max_locals max_stack after (drop (i + 1) es) left ≡ total
-frame_on max_locals max_stack locals after es i a left total l h n so_far =
-    let rest = drop (i + 1) es in
-    ap (λ (ls : List JType). frame_at max_locals max_stack ls rest left) n ∙ sym (ap (λ (q : List Entry). frame_at max_locals max_stack locals q (suc left)) (drop_at_item es i a l h)) ∙ so_far
-
-pub frame_found : (max_locals max_stack : ℕ) (locals after : List JType) (es : List Entry) (i : ℕ) (a : Entry) (total : Frame) → i < length es → a ≡ slice_index_or es i a → after ≡ locals_or locals a.change
-    → frame_at max_locals max_stack locals (drop i es) zero ≡ total → frame_with max_locals max_stack after a.change ≡ total
-frame_found max_locals max_stack locals after es i a total l h n so_far =
-    ap (λ (ls : List JType). frame_with max_locals max_stack ls a.change) n ∙ sym (ap (λ (q : List Entry). frame_at max_locals max_stack locals q zero) (drop_at_item es i a l h)) ∙ so_far
-
-pub frame_none : (max_locals max_stack : ℕ) (locals : List JType) (es : List Entry) (i left : ℕ) (total : Frame) → length es ≤ i → frame_at max_locals max_stack locals (drop i es) left ≡ total → record { locals = []; stack = [] } ≡ total
-frame_none max_locals max_stack locals es i left total l so_far = sym (ap (λ (q : List Entry). frame_at max_locals max_stack locals q left) (drop_past es i l)) ∙ so_far

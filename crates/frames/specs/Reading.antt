@@ -1,5 +1,5 @@
 -- What the functions that read a table answer.
-use Rattle.std.specs.Prelude.{ℕ, ◌-◌, ◌==◌, nat_le, List, [], ◌∷◌, ◌++◌, length, take, Option, Some, None, option_map, option_and_then, unwrap_or, reverse, zero, suc, is_some, Result, Ok, Err}
+use Rattle.std.specs.Prelude.{ℕ, ◌-◌, ◌==◌, nat_le, List, [], ◌∷◌, ◌++◌, length, take, Option, Some, None, option_map, option_and_then, unwrap_or, reverse, is_some, Result, Ok, Err}
 use Rattle.jtypes.specs.declared.refusal.Refusal.{Refusal}
 use Rattle.jtypes.specs.declared.types.JType.{JType}
 use Rattle.jtypes.specs.declared.types.JType.TheVariants.{Top}
@@ -44,22 +44,13 @@ stack_after (OneItem t) = t ∷ []
 stack_after (Full new stack) = stack
 stack_after _ = []
 
--- the same where they can't be made: the locals before, and no stack
+-- the locals before, where they can't be changed so
 abbrev pub locals_or : List JType → Change → List JType
 locals_or locals c = unwrap_or (locals_after locals c) locals
 
-abbrev pub stack_or : ℕ → Change → List JType
-stack_or max c = unwrap_or (option_map reverse (within max (stack_after c))) []
-
--- the frame of a change with these locals
-abbrev pub frame_with : ℕ → ℕ → List JType → Change → Frame
-frame_with max_locals max_stack locals c = record { locals = padded Top max_locals (as_locals is_long (λ t. t) Top locals); stack = stack_or max_stack c }
-
--- the frame of an entry by its number, after the locals before
-abbrev pub frame_at : ℕ → ℕ → List JType → List Entry → ℕ → Frame
-frame_at max_locals max_stack locals [] i = record { locals = []; stack = [] }
-frame_at max_locals max_stack locals (a ∷ entries) zero = frame_with max_locals max_stack (locals_or locals a.change) a.change
-frame_at max_locals max_stack locals (a ∷ entries) (suc i) = frame_at max_locals max_stack (locals_or locals a.change) entries i
+-- the frame with these types of locals
+abbrev pub frame_with : ℕ → List JType → List JType → Frame
+frame_with max_locals types stack = record { locals = padded Top max_locals (as_locals is_long (λ t. t) Top types); stack = stack }
 
 -- the frame of an entry, where it stands at an instruction and has room
 unfoldable pub next_listed : Environment → List Placed → Option ℕ → List JType → Entry → Option Listed
@@ -70,13 +61,14 @@ next_listed e code p locals a = do
   stack ← within e.max_stack (stack_after a.change)
   Some (record { place = place; locals = roomy; stack = stack })
 
--- what the next entry goes on from
+-- the same with the stack's top first
 pub record Reached : Type 0 where
   pub place : ℕ
   pub locals : List JType
+  pub stack : List JType
 
 abbrev pub reached : Listed → Reached
-reached x = record { place = x.place; locals = x.locals }
+reached x = record { place = x.place; locals = x.locals; stack = reverse x.stack }
 
 -- the frames of all of the entries
 abbrev pub framed : Environment → List Placed → Option ℕ → List JType → List Entry → Option (List (ℕ × Frame))

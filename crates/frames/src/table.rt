@@ -6,11 +6,11 @@ ghost use Rattle.jtypes.specs.Types.{slots_by, is_long};
 ghost use Rattle.frames.specs.declared.frame.Frame.{Frame};
 ghost use Rattle.frames.specs.StackMap.{IsDeclared, place_after};
 ghost use Rattle.frames.specs.Seen.{AreInOrder, declared_seen};
-ghost use Rattle.frames.specs.Reading.{entries_of, standing, stack_after, next_listed, reached, framed, frames_of};
+ghost use Rattle.frames.specs.Reading.{entries_of, standing, next_listed, reached, framed, frames_of};
 
-use crate::entries::{Change, Entry, read_table};
-use crate::table_frame::{Table, TableFrame, change_locals};
-use crate::{Environment, slots_of};
+use crate::entries::{Entry, read_table};
+use crate::table_frame::{TableFrame, change_locals, shared_with, stack_of};
+use crate::{Environment, TypeStack, slots_of};
 use classfile::ClassView;
 use decode::Code;
 use jtypes::{Cursor, Items, JType, Refusal};
@@ -79,29 +79,26 @@ fn have_room(types: &[JType], max: u16) -> bool
     true
 }
 
-/// Whether the stack of an entry's frame has room.
-fn stack_has_room(change: &Change, max: u16) -> bool
-    ensures { result ≡ nat_le (slots_by is_long (stack_after change.now)) max }
-{
-    match change {
-        Change::Same | Change::Chop(_) | Change::Append(_) => true,
-        Change::OneItem(t) => slots_of(*t) <= max,
-        Change::Full(_, types) => have_room(types.as_slice(), max),
-    }
+/// The place of an entry's frame, and its stack.
+#[derive(Drop)]
+struct Next {
+    place: usize,
+    stack: TypeStack,
 }
 
-/// The place of an entry's frame, after the place and the locals before, which become its own; none where it stands at no
+/// The frame of an entry, after the place and the locals before, which become its own; none where it stands at no
 /// instruction or has no room.
 #[tactic(auto, unfolding(crate::specs::Reading::next_listed))]
-fn next_place(
+fn next_frame(
+    alloc: Global,
     environment: &Environment,
     code: &Code,
     before: Option<usize>,
     locals: &mut Vec<JType>,
     entry: &Entry,
-) -> Result<Option<usize>, AllocError>
-    ensures frame { IfOk result (λ next. option_map reached (next_listed environment.now code.now before locals.old.items entry.now) ≡ option_map (λ place. record { place = place; locals = locals.new.items }) next) }
-    ensures fits { IfOk result (λ next. IfSome next (λ place. place < 2 ^ 64)) }
+) -> Result<Option<Next>, AllocError>
+    ensures frame { IfOk result (λ next. option_map reached (next_listed environment.now code.now before locals.old.items entry.now) ≡ option_map (λ n. record { place = n.place; locals = locals.new.items; stack = n.stack }) next) }
+    ensures fits { IfOk result (λ next. IfSome next (λ n. n.place < 2 ^ 64)) }
 {
     let Some(place) = place_of(code, before, entry.delta) else {
         return Ok(None);
@@ -109,10 +106,10 @@ fn next_place(
     if !change_locals(locals, &entry.change)? || !have_room(locals, environment.max_locals) {
         return Ok(None);
     }
-    if !stack_has_room(&entry.change, environment.max_stack) {
-        return Ok(None);
+    match stack_of(alloc, &entry.change, environment.max_stack)? {
+        Some(stack) => Ok(Some(Next { place, stack })),
+        None => Ok(None),
     }
-    Ok(Some(place))
 }
 
 /// The frames of the entries; none where one has no place or no room.
@@ -120,20 +117,23 @@ fn frames_from(
     alloc: Global,
     environment: &Environment,
     code: &Code,
-    entries: Items<Entry>,
+    entries: &[Entry],
 ) -> Result<Option<Vec<Declared>>, AllocError>
     ensures fit { IfOk result (λ ds. IfSome ds (λ ds. All (λ d. d.place < 2 ^ 64) ds.items)) }
-    ensures frames { IfOk result (λ ds. option_map (λ ds. declared_seen ds.items) ds ≡ framed environment.now code.now None environment.now.signature.params entries) }
+    ensures frames { IfOk result (λ ds. option_map (λ ds. declared_seen ds.items) ds ≡ framed environment.now code.now None environment.now.signature.params entries.now) }
 {
-    let table = Rc::new(alloc, Table::new(alloc, environment, entries)?)?;
     let mut declared = Vec::new(alloc);
     let mut before = None;
-    let mut locals = Vec::from_slice(alloc, environment.signature.params.as_slice())?;
-    for entry in table.entries() {
-        let Some(place) = next_place(environment, code, before, &mut locals, entry)? else {
+    let params = environment.signature.params.as_slice();
+    let mut locals = Vec::from_slice(alloc, params)?;
+    let mut shared = Rc::new(alloc, Items::from_slice(alloc, params)?)?;
+    for entry in entries {
+        let Some(next) = next_frame(alloc, environment, code, before, &mut locals, entry)? else {
             return Ok(None);
         };
-        let frame = TableFrame::new(&table, declared.len())?;
+        let Next { place, stack } = next;
+        shared = shared_with(alloc, &shared, &locals, &entry.change)?;
+        let frame = TableFrame::new(&shared, environment.max_locals, stack)?;
         declared.push(Declared { place, frame })?;
         before = Some(place);
     }
@@ -155,14 +155,14 @@ fn frames_of(
         [] => Ok(Some(Vec::new(alloc))),
         [content] => match entries_of(alloc, view, content)? {
             None => Ok(None),
-            Some(entries) => frames_from(alloc, environment, code, entries),
+            Some(entries) => frames_from(alloc, environment, code, entries.as_slice()),
         },
         _ => Ok(None),
     }
 }
 
-/// The frames that a method's StackMapTable attributes declare, of which there may be one. Its entries are kept, and a frame is
-/// made when it is asked for.
+/// The frames that a method's StackMapTable attributes declare, of which there may be one. A frame is made when it is asked
+/// for: entries that keep the locals before share them.
 pub fn read_frames(
     alloc: Global,
     environment: &Environment,

@@ -1,39 +1,32 @@
 //! The frames of a table's entries, which are made when they are asked for.
 
 ghost use Rattle.std.specs.Prelude.{◌≡◌, reverse, option_map, IfOk, if◌then◌else◌};
-ghost use Rattle.frames.specs.Reading.{within, locals_after, locals_or, stack_after, frame_with, frame_at};
+ghost use Rattle.frames.specs.Reading.{within, locals_after, locals_or, stack_after, frame_with};
 
-use crate::entries::{Change, Entry};
+use crate::entries::Change;
 use crate::frame::locals_with;
-use crate::{Environment, Frame, TypeStack};
+use crate::{Frame, TypeStack};
 use jtypes::{Items, JType};
 use std::alloc::{AllocError, Global};
 use std::marker::Model;
 use std::rc::Rc;
 
-/// What the frames of a table share: its entries, and the method that they are of.
-#[derive(Drop)]
-pub struct Table {
-    pub entries: Items<Entry>,
-    pub params: Items<JType>,
-    pub max_stack: u16,
-    pub max_locals: u16,
-}
-
-/// The frame of an entry, by the entries of its table, which are kept once for all of its frames.
+/// The frame of an entry. Its locals are kept as the table lists them, and shared with the entries behind it that have the
+/// same.
 #[derive(Drop)]
 pub struct TableFrame {
-    table: Rc<Table>,
-    entry: usize,
+    types: Rc<Items<JType>>,
+    max_locals: u16,
+    stack: TypeStack,
 }
 
 impl Model for TableFrame {
     ghost use Rattle.frames.specs.declared.frame.Frame.{Frame};
-    ghost use Rattle.frames.specs.Reading.{frame_at};
+    ghost use Rattle.frames.specs.Reading.{frame_with};
 
     ghost Value = { Frame };
 
-    ghost view = { λ f. frame_at f.table.value.max_locals f.table.value.max_stack f.table.value.params f.table.value.entries f.entry };
+    ghost view = { λ f. frame_with f.max_locals f.types.value f.stack };
 }
 
 /// Makes the locals those of an entry's frame. False where there are fewer than are chopped.
@@ -73,7 +66,7 @@ fn stack_with(alloc: Global, types: &[JType], max: u16) -> Result<Option<TypeSta
 }
 
 /// The stack of an entry's frame.
-fn stack_of(alloc: Global, change: &Change, max: u16) -> Result<Option<TypeStack>, AllocError>
+pub fn stack_of(alloc: Global, change: &Change, max: u16) -> Result<Option<TypeStack>, AllocError>
     ensures { IfOk result (λ stack. stack ≡ option_map reverse (within max (stack_after change.now))) }
 {
     match change {
@@ -83,88 +76,45 @@ fn stack_of(alloc: Global, change: &Change, max: u16) -> Result<Option<TypeStack
     }
 }
 
-/// The frame of an entry with this change, behind these locals, which are its own then.
-fn frame_with(
+/// The locals of an entry's frame, which are those before where its change keeps them.
+pub fn shared_with(
     alloc: Global,
-    max_locals: u16,
-    max_stack: u16,
+    before: &Rc<Items<JType>>,
     locals: &[JType],
     change: &Change,
-) -> Result<Frame, AllocError>
-    ensures { IfOk result (λ f. f ≡ frame_with max_locals max_stack locals.now change.now) }
+) -> Result<Rc<Items<JType>>, AllocError>
+    ensures { IfOk result (λ shared. locals.now ≡ locals_or before.now.value change.now → shared.value ≡ locals.now) }
 {
-    let stack = match stack_of(alloc, change, max_stack)? {
-        Some(stack) => stack,
-        None => TypeStack::new(alloc),
-    };
-    Ok(Frame {
-        locals: locals_with(alloc, locals, max_locals)?,
-        stack,
-    })
-}
-
-impl Table {
-    pub fn new(
-        alloc: Global,
-        environment: &Environment,
-        entries: Items<Entry>,
-    ) -> Result<Table, AllocError>
-        ensures { IfOk result (λ t. t ≡ record { entries = entries; params = environment.now.signature.params; max_stack = environment.now.max_stack; max_locals = environment.now.max_locals }) }
-    {
-        Ok(Table {
-            entries,
-            params: Items::from_slice(alloc, environment.signature.params.as_slice())?,
-            max_stack: environment.max_stack,
-            max_locals: environment.max_locals,
-        })
-    }
-
-    pub fn entries(&self) -> &[Entry]
-        ensures { result.now ≡ self.now.entries }
-    {
-        self.entries.as_slice()
-    }
-
-    /// The frame of an entry.
-    fn frame_at(&self, alloc: Global, i: usize) -> Result<Frame, AllocError>
-        ensures { IfOk result (λ f. f ≡ frame_at self.now.max_locals self.now.max_stack self.now.params self.now.entries i) }
-    {
-        let mut left = i;
-        let mut locals = Vec::from_slice(alloc, self.params.as_slice())?;
-        for entry in self.entries() {
-            change_locals(&mut locals, &entry.change)?;
-            if left == 0 {
-                return frame_with(
-                    alloc,
-                    self.max_locals,
-                    self.max_stack,
-                    &locals,
-                    &entry.change,
-                );
-            }
-            left -= 1;
+    match change {
+        Change::Same | Change::OneItem(_) => before.clone(),
+        Change::Chop(_) | Change::Append(_) | Change::Full(_, _) => {
+            Ok(Rc::new(alloc, Items::from_slice(alloc, locals)?)?)
         }
-        Ok(Frame {
-            locals: Items::new(Vec::new(alloc)),
-            stack: TypeStack::new(alloc),
-        })
     }
 }
 
 impl TableFrame {
-    pub fn new(table: &Rc<Table>, entry: usize) -> Result<TableFrame, AllocError>
-        ensures { IfOk result (λ f. f ≡ frame_at table.now.value.max_locals table.now.value.max_stack table.now.value.params table.now.value.entries entry) }
+    pub fn new(
+        types: &Rc<Items<JType>>,
+        max_locals: u16,
+        stack: TypeStack,
+    ) -> Result<TableFrame, AllocError>
+        ensures { IfOk result (λ f. f ≡ frame_with max_locals types.now.value stack) }
     {
         Ok(TableFrame {
-            table: table.clone()?,
-            entry,
+            types: types.clone()?,
+            max_locals,
+            stack,
         })
     }
 
-    /// The frame, by the changes of the entries up to its own.
+    /// The frame, with all of its locals.
     pub fn make(&self, alloc: Global) -> Result<Frame, AllocError>
         ensures { IfOk result (λ f. f ≡ self.now) }
     {
-        self.table.frame_at(alloc, self.entry)
+        Ok(Frame {
+            locals: locals_with(alloc, self.types.as_slice(), self.max_locals)?,
+            stack: self.stack.copy(alloc)?,
+        })
     }
 }
