@@ -1,7 +1,7 @@
 -- What the functions that judge instructions and types answer.
 use Rattle.std.specs.Prelude.{◌≡◌, ℕ, zero, suc, ◌==◌, List, [], ◌∷◌, ◌++◌, map, All, Some, IsSome, slice_get, if◌then◌else◌}
 use Rattle.jtypes.specs.declared.refusal.Refusal.{Refusal}
-use Rattle.jtypes.specs.declared.refusal.Refusal.TheVariants.{NoMemory, OutsideProfile, UnknownMember, BadDescriptor, BadStackMap, TypeMismatch, FallsOff}
+use Rattle.jtypes.specs.declared.refusal.Refusal.TheVariants.{NoMemory, UnknownMember, BadDescriptor, BadStackMap, TypeMismatch, FallsOff}
 use Rattle.constpool.specs.Lookup.{Slot}
 use Rattle.classfile.specs.declared.class_file.Member.{Member}
 use Rattle.classfile.specs.declared.class_file.Parts.{Parts}
@@ -49,10 +49,9 @@ pub record IsFoundIn (v : ClassView) (codes : List CodeParts) (f : Found) : Type
 abbrev pub AreFound : ClassView → List CodeParts → (c n : ℕ) → List Found → Type 0
 AreFound v codes c n found = AreNumbered (λ f. f.number) (IsFoundIn v codes) c n found
 
--- ---- refusals that aren't said to stand: for want of memory, of instructions and members beyond those of today, and of types
+-- ---- refusals that aren't said to stand: for want of memory, of unknown members, and of types
 abbrev pub IsUnsure : Refusal → Type 0
 IsUnsure NoMemory = Unit {0}
-IsUnsure (OutsideProfile opcode) = Unit {0}
 IsUnsure UnknownMember = Unit {0}
 IsUnsure BadDescriptor = Unit {0}
 IsUnsure BadStackMap = Unit {0}

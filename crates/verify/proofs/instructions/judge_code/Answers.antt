@@ -13,6 +13,6 @@ returns-clause-ok c =
     let list = c.as_slice-p-items in
     let known = c.loop-p.invariant in
     good_code c.args.view.now c.args.bytes.now c.in_ok-code.code
-    (subst (λ (pool : List Slot). IsSequence pool 0 c.args.bytes.now c.in_ok-code.code) c.pool-2.ensures c.in_ok-code.ensures.found)
-    (subst (λ (pool : List Slot). (r : Refusal) → CodeStands pool c.args.bytes.now r → ⊥) c.pool-2.ensures c.in_ok-code.ensures.accepted)
+    (subst (λ (pool : List Slot). IsSequence pool 0 c.args.bytes.now c.in_ok-code.code) c.pool.ensures c.in_ok-code.ensures.found)
+    (subst (λ (pool : List Slot). (r : Refusal) → CodeStands pool c.args.bytes.now r → ⊥) c.pool.ensures c.in_ok-code.ensures.accepted)
     (λ k d l. subst (λ (xs : List Placed). is_known c.args.view.now (get_or xs k d).instruction ≡ true) list.ensures.value (known k d (omega arith) (omega (arith, l, ap length list.ensures.value, c.loop-p-test.false))))
