@@ -3,3 +3,4 @@ pub mod Search
 pub mod Runs
 pub mod Targets
 pub mod Consecutive
+pub mod Unrefused

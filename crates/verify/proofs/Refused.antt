@@ -14,7 +14,9 @@ use Rattle.classfile.specs.declared.class_file.CodeParts.{CodeParts}
 use Rattle.classfile.specs.Class.{class_file}
 use Rattle.classfile.specs.View.{ClassView, MethodView, view_of}
 use Rattle.decode.specs.declared.instruction.Placed.{Placed}
+use Rattle.decode.specs.Code.{IsSequence}
 use Rattle.decode.specs.Places.{at_place, CodeStands}
+use Rattle.decode.proofs.Unrefused.{members_unread}
 use Rattle.frames.specs.declared.members.Callee.{Callee}
 use Rattle.frames.specs.declared.frame.Frame.{Frame}
 use Rattle.frames.specs.Frames.{frame_in}
@@ -31,7 +33,7 @@ use Rattle.bounds.specs.Rows.{AreRowsOf, AreAllRowsOf, AreNotRecursive, IsAnswer
 use Rattle.bounds.specs.Table.{LeadsOn}
 use Rattle.verify.specs.Shape.{HasCode, IsProcess, ShapeStands, is_constructor}
 use Rattle.verify.specs.Shaping.{HasGoodShape}
-use Rattle.verify.specs.Verdict.{IsClassFile, HasShape, HasInstructions, HasTypes, IsClassOfFile, InstructionStands, InstructionsStand, ClassStands, IsRefused, by_layout, by_shape, by_instructions, by_types, by_class}
+use Rattle.verify.specs.Verdict.{is_known, IsClassFile, HasShape, HasInstructions, HasTypes, IsClassOfFile, InstructionStands, InstructionsStand, ClassStands, IsRefused, by_layout, by_shape, by_instructions, by_types, by_class}
 use Rattle.verify.specs.Checked.{members}
 use Rattle.verify.specs.Judging.{AreTyped, AreFound, IsUnsure}
 use Rattle.verify.specs.declared.instructions.Found.{Found}
@@ -44,13 +46,17 @@ use Rattle.bounds.specs.declared.limits.Bounds as declared
 
 -- ---- instructions and types
 
-pub code_refused : (v : ClassView) (bytes : List ℕ) (r : Refusal) → (r ≢ NoMemory → CodeStands v.pool bytes r) → IsUnsure r ⊎ InstructionStands v bytes r
-code_refused v bytes NoMemory h = inl tt
-code_refused v bytes UnknownMember h = inl tt
-code_refused v bytes r h = inr (h (λ e. cc))
+pub code_refused : (v : ClassView) (bytes : List ℕ) (r : Refusal) → (r ≢ NoMemory → CodeStands v.pool bytes r) → (r ≡ NoMemory) ⊎ InstructionStands v bytes r
+code_refused v bytes NoMemory h = inl refl
+code_refused v bytes UnknownMember h = absurd (members_unread v.pool bytes (h (λ e. cc e)))
+code_refused v bytes r h = inr (h (λ e. cc e))
 
-pub method_refused : (pool : List Slot) (p : Parts) (n : ℕ) (codes : List CodeParts) → HasGoodShape pool p codes n → (k : ℕ) (parts : CodeParts) → slice_get codes k ≡ Some parts → (k ≡ n → ⊥) → (r : Refusal) → IsUnsure r ⊎ InstructionStands (view_of pool p) parts.code r → IsUnsure r ⊎ InstructionsStand pool p r
-method_refused pool p n codes shape k parts at other r (inl u) = inl u
+-- an instruction whose member isn't known
+pub member_refused : (v : ClassView) (bytes : List ℕ) (code : List Placed) (k : ℕ) (p : Placed) → IsSequence v.pool 0 bytes code → k < length code → p ≡ get_or code k p → is_known v p.instruction ≡ false → InstructionStands v bytes UnknownMember
+member_refused v bytes code k p s l there unknown = (code, s, (k, p, l, sym there, unknown))
+
+pub method_refused : (pool : List Slot) (p : Parts) (n : ℕ) (codes : List CodeParts) → HasGoodShape pool p codes n → (k : ℕ) (parts : CodeParts) → slice_get codes k ≡ Some parts → (k ≡ n → ⊥) → (r : Refusal) → (r ≡ NoMemory) ⊎ InstructionStands (view_of pool p) parts.code r → (r ≡ NoMemory) ⊎ InstructionsStand pool p r
+method_refused pool p n codes shape k parts at other r (inl e) = inl e
 method_refused pool p n codes shape k parts at other r (inr s) =
     let m = zip_back (HasCode pool) p.methods codes k parts shape.codes_are at in
     let not_one : is_constructor pool m.0 ≡ false = false_from_ne_true (is_constructor pool m.0) (λ e. other (shape.constructor_is.no_other k m.0 m.1 e)) in
@@ -74,8 +80,8 @@ pub shape_refused : (bytes : List ℕ) (pool : List Slot) (p : Parts) (r : Refus
 shape_refused bytes pool p r file (inl e) = inl (subst IsUnsure (sym e) tt)
 shape_refused bytes pool p r file (inr s) = inr (by_shape pool p file s)
 
-pub instructions_refused : (bytes : List ℕ) (pool : List Slot) (p : Parts) (n : ℕ) (codes : List CodeParts) (r : Refusal) → IsClassFile bytes pool p → HasGoodShape pool p codes n → IsUnsure r ⊎ InstructionsStand pool p r → IsUnsure r ⊎ IsRefused bytes r
-instructions_refused bytes pool p n codes r file shape (inl u) = inl u
+pub instructions_refused : (bytes : List ℕ) (pool : List Slot) (p : Parts) (n : ℕ) (codes : List CodeParts) (r : Refusal) → IsClassFile bytes pool p → HasGoodShape pool p codes n → (r ≡ NoMemory) ⊎ InstructionsStand pool p r → IsUnsure r ⊎ IsRefused bytes r
+instructions_refused bytes pool p n codes r file shape (inl e) = inl (subst IsUnsure (sym e) tt)
 instructions_refused bytes pool p n codes r file shape (inr s) = inr (by_instructions pool p file (record { none_stands = shape.none_stands }) s)
 
 -- a frame is declared at each of the places

@@ -1,8 +1,9 @@
 //! The instructions of a class's methods.
 
 ghost use Rattle.std.specs.Prelude.{◌≡◌, ◌⊎◌, true, length, IfOk, IfErr};
+ghost use Rattle.jtypes.specs.declared.refusal.Refusal.{Refusal};
 ghost use Rattle.verify.specs.Verdict.{InstructionStands, InstructionsStand, is_known};
-ghost use Rattle.verify.specs.Judging.{AreFound, IsGoodCode, IsUnsure};
+ghost use Rattle.verify.specs.Judging.{AreFound, IsGoodCode};
 ghost use Rattle.verify.specs.Shaping.{HasGoodShape};
 ghost use Rattle.classfile.specs.View.{view_of};
 
@@ -39,7 +40,7 @@ fn is_known(
 /// The instructions of one method.
 fn judge_code(alloc: Global, view: &ClassView<'_>, bytes: &[u8]) -> Result<Code, Refusal>
     ensures ok { IfOk result (λ code. IsGoodCode view.now bytes.now code) }
-    ensures err { IfErr result (λ r. IsUnsure r ⊎ InstructionStands view.now bytes.now r) }
+    ensures err { IfErr result (λ r. (r ≡ Refusal.NoMemory) ⊎ InstructionStands view.now bytes.now r) }
 {
     let code = decode(alloc, bytes, view.pool())?;
     for p in code.as_slice() {
@@ -59,7 +60,7 @@ pub fn judge_instructions(
 ) -> Result<Vec<Found>, Refusal>
     requires { HasGoodShape class.now.pool class.now.parts codes.now constructor }
     ensures ok { IfOk result (λ found. AreFound (view_of class.now.pool class.now.parts) codes.now constructor (length codes.now) found.items) }
-    ensures err { IfErr result (λ r. IsUnsure r ⊎ InstructionsStand class.now.pool class.now.parts r) }
+    ensures err { IfErr result (λ r. (r ≡ Refusal.NoMemory) ⊎ InstructionsStand class.now.pool class.now.parts r) }
 {
     let view = class.view();
     let mut found = Vec::new(alloc);

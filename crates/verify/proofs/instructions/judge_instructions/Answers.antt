@@ -1,11 +1,12 @@
-use Rattle.std.proofs.Common.{rules, refl, sym, ap, ◌∙◌, subst, Some, List, ℕ, ◌⊎◌}
+use Rattle.std.proofs.Common.{rules, ◌≡◌, refl, sym, ap, ◌∙◌, subst, Some, List, ℕ, ◌⊎◌}
 use Rattle.std.proofs.lemmas.Option.{slice_get-get_or}
 use Rattle.classfile.specs.View.{view_of, ClassView}
 use Rattle.classfile.specs.declared.class_file.CodeParts.{CodeParts}
 use Rattle.std.proofs.lemmas.Result.{err_from_is_err_and}
 use Rattle.jtypes.specs.declared.refusal.Refusal.{Refusal}
+use Rattle.jtypes.specs.declared.refusal.Refusal.TheVariants.{NoMemory}
 use Rattle.verify.specs.Verdict.{InstructionStands}
-use Rattle.verify.specs.Judging.{IsFoundIn, IsGoodCode, IsUnsure}
+use Rattle.verify.specs.Judging.{IsFoundIn, IsGoodCode}
 use Rattle.verify.proofs.Refused.{method_refused}
 use Rattle.verify.specs.declared.instructions.Found.{Found}
 use Rattle.verify.proofs.Numbered.{next_numbered, skip_numbered}
@@ -40,6 +41,6 @@ returns-in_err-code-clause-err c =
     let refusal : Refusal = c.in_err-code.field-0.0 in
     let there = slice_get-get_or codes n parts c.loop-number-test.true ∙ ap (λ (x : CodeParts). Some x) (sym c.index-codes-number.is) in
     let bytes = c.as_slice.ensures ∙ ap (λ (x : CodeParts). x.code) (sym c.index-codes-number.is) in
-    let stands : IsUnsure refusal ⊎ InstructionStands v parts.code refusal = subst (λ (x : ClassView). IsUnsure refusal ⊎ InstructionStands x parts.code refusal) c.view-view.ensures (subst (λ (b : List ℕ). IsUnsure refusal ⊎ InstructionStands c.view-view.result b refusal) bytes c.in_err-code.ensures.err) in
+    let stands : (refusal ≡ NoMemory) ⊎ InstructionStands v parts.code refusal = subst (λ (x : ClassView). (refusal ≡ NoMemory) ⊎ InstructionStands x parts.code refusal) c.view-view.ensures (subst (λ (b : List ℕ). (refusal ≡ NoMemory) ⊎ InstructionStands c.view-view.result b refusal) bytes c.in_err-code.ensures.err) in
     let e = err_from_is_err_and c.from_residual.result c.from_residual.ensures.1 in
     rw (e.1, e.2) (method_refused pool p c.args.constructor codes c.requires n parts there c.if-number-constructor.true refusal stands)

@@ -1,0 +1,86 @@
+-- Refusals that no reading of instructions gives.
+use Rattle.std.proofs.Common.{◌≡◌, ℕ, true, false, List, Option, Some, None, ◌⊎◌, inl, inr}
+use Rattle.jtypes.specs.declared.refusal.Refusal.{Refusal}
+use Rattle.jtypes.specs.declared.refusal.Refusal.TheVariants.{UnknownMember, TrailingBytes}
+use Rattle.jtypes.specs.Layout.{Layout, known, part_or, followed, judged, stopped, chosen, ended, operand, Stands}
+use Rattle.constpool.specs.declared.constant.Constant.{Constant}
+use Rattle.constpool.specs.declared.constant.Constant.TheVariants as constant
+use Rattle.constpool.specs.Lookup.{Slot, constant_at}
+use Rattle.decode.specs.declared.instruction.Form.{Form}
+use Rattle.decode.specs.declared.instruction.Form.TheVariants as form
+use Rattle.decode.specs.Code.{one, by_form, operands, signed_byte, signed_short, int_constant, long_constant, array_of_code}
+use Rattle.decode.specs.Places.{CodeStands}
+use Rattle.decode.specs.Table.{form_at}
+
+-- the refusal is none of those that a layout judges
+abbrev IsNever : {A : Type 0} → Refusal → Layout A → Type 0
+IsNever r (known x) = Unit {0}
+IsNever r (part_or q n) = r ≡ q → ⊥
+IsNever r (followed {A = A} l f) = IsNever r l × ((x : A) → IsNever r (f x))
+IsNever r (judged q b) = r ≡ q → ⊥
+IsNever r (stopped q) = r ≡ q → ⊥
+IsNever r (chosen b l m) = IsNever r l × IsNever r m
+IsNever r ended = r ≡ TrailingBytes → ⊥
+
+never : {A : Type 0} (r : Refusal) (l : Layout A) → IsNever r l → (bytes : List ℕ) → Stands l bytes r → ⊥
+never r (known x) h bytes s = s
+never r (part_or q n) h bytes s = h s.0
+never r (followed l f) h bytes (inl s) = never r l h.0 bytes s
+never r (followed l f) h bytes (inr s) = never r (f s.0) (h.1 s.0) s.2 s.5
+never r (judged q b) h bytes s = h s.0
+never r (stopped q) h bytes s = h s
+never r (chosen true l m) h bytes s = never r l h.0 bytes s
+never r (chosen false l m) h bytes s = never r m h.1 bytes s
+never r ended h bytes s = h s.0
+
+-- ---- an instruction
+
+number_never : (n : ℕ) → IsNever UnknownMember (operand n)
+unfolding operand
+number_never n = ((λ e. cc e), λ x. tt)
+
+int_never : (opcode : ℕ) (s : Slot) → IsNever UnknownMember (int_constant opcode s)
+unfolding int_constant
+int_never opcode None = λ e. cc e
+int_never opcode (Some (constant.Integer value)) = tt
+int_never opcode (Some c) = λ e. cc e
+
+long_never : (opcode : ℕ) (s : Slot) → IsNever UnknownMember (long_constant opcode s)
+unfolding long_constant
+long_never opcode None = λ e. cc e
+long_never opcode (Some (constant.Long value)) = tt
+long_never opcode (Some c) = λ e. cc e
+
+operands_never : (pool : List Slot) (at opcode : ℕ) (f : Form) → IsNever UnknownMember (operands pool at opcode f)
+unfolding operands signed_byte signed_short array_of_code
+operands_never pool at opcode (form.Alone i) = tt
+operands_never pool at opcode form.PushByte = ((number_never 1, λ x. tt), λ x. tt)
+operands_never pool at opcode form.PushShort = ((number_never 2, λ x. tt), λ x. tt)
+operands_never pool at opcode form.IntConstant = (number_never 1, λ i. int_never opcode (constant_at pool i))
+operands_never pool at opcode form.WideIntConstant = (number_never 2, λ i. int_never opcode (constant_at pool i))
+operands_never pool at opcode form.LongConstant = (number_never 2, λ i. long_never opcode (constant_at pool i))
+operands_never pool at opcode (form.Load kind) = (number_never 1, λ x. tt)
+operands_never pool at opcode (form.Store kind) = (number_never 1, λ x. tt)
+operands_never pool at opcode form.Increment = (number_never 1, λ n. ((number_never 1, λ x. tt), λ x. tt))
+operands_never pool at opcode (form.Branch test) = ((number_never 2, λ x. tt), λ x. tt)
+operands_never pool at opcode form.Goto = ((number_never 2, λ x. tt), λ x. tt)
+operands_never pool at opcode (form.Invoke kind) = (number_never 2, λ i. ((tt, λ e. cc e), λ x. tt))
+operands_never pool at opcode form.InvokeInterface = (number_never 2, λ i. (number_never 1, λ n. (number_never 1, λ z. ((tt, λ e. cc e), λ x. tt))))
+operands_never pool at opcode form.NewArray = (number_never 1, λ code. (tt, (tt, ((λ e. cc e), λ e. cc e))))
+operands_never pool at opcode form.CheckCast = (number_never 2, λ i. ((tt, λ e. cc e), λ x. tt))
+operands_never pool at opcode form.InstanceOf = (number_never 2, λ i. ((tt, λ e. cc e), λ x. tt))
+
+form_never : (pool : List Slot) (at opcode : ℕ) (f : Option Form) → IsNever UnknownMember (by_form pool at opcode f)
+unfolding by_form
+form_never pool at opcode None = ((λ e. cc e), λ e. cc e)
+form_never pool at opcode (Some f) = operands_never pool at opcode f
+
+one_never : (pool : List Slot) (at : ℕ) → IsNever UnknownMember (one pool at)
+unfolding one
+one_never pool at = (number_never 1, λ opcode. form_never pool at opcode (form_at opcode))
+
+-- ---- a code
+
+pub members_unread : (pool : List Slot) (bytes : List ℕ) → CodeStands pool bytes UnknownMember → ⊥
+members_unread pool bytes (inl s) = never UnknownMember (one pool _) (one_never pool _) s.2 s.6
+members_unread pool bytes (inr s) = s.2
