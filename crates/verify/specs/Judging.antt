@@ -49,7 +49,9 @@ pub record IsFoundIn (v : ClassView) (codes : List CodeParts) (f : Found) : Type
 abbrev pub AreFound : ClassView → List CodeParts → (c n : ℕ) → List Found → Type 0
 AreFound v codes c n found = AreNumbered (λ f. f.number) (IsFoundIn v codes) c n found
 
--- ---- refusals that aren't said to stand: for want of memory, of instructions and members beyond those of today, and of types
+-- ---- refusals
+
+-- of these it isn't said that they stand: want of memory, a descriptor, instructions and members beyond those of today, types
 abbrev pub IsUnsure : Refusal → Type 0
 IsUnsure NoMemory = Unit {0}
 IsUnsure (OutsideProfile opcode) = Unit {0}
