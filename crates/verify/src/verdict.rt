@@ -162,8 +162,8 @@ pub fn verify(alloc: Global, bytes: &[u8]) -> Result<Verified, Refusal>
     ensures shaped { IfOk result (λ v. (r : Refusal) → ShapeStands v.pool v.parts r → ⊥) }
     ensures limits { IfOk result (λ v. IsWithinLimits v.bounds) }
 
-    // A refusal that is answered stands; but of want of memory, of instructions and members that are beyond those of
-    // today, and of types this isn't said.
+    // A refusal that is answered stands. This isn't said of want of memory, of a descriptor, of instructions and members
+    // beyond those of today, and of types.
     ensures refused { IfErr result (λ r. IsUnsure r ⊎ IsRefused bytes.now r) }
 
     // Where something refuses the layout, it is a refusal of the layout that is answered.
