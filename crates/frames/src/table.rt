@@ -1,6 +1,6 @@
 //! The frames that a StackMapTable declares.
 
-ghost use Rattle.std.specs.Prelude.{◌≡◌, ◌≢◌, ◌<◌, ◌^◌, ℕ, List, All, map, nat_le, option_map, IfOk, IfErr, IfSome};
+ghost use Rattle.std.specs.Prelude.{◌≡◌, ◌≢◌, ◌⊎◌, ◌<◌, ◌^◌, ℕ, List, All, map, nat_le, option_map, IfOk, IfErr, IfSome};
 ghost use Rattle.jtypes.specs.declared.refusal.Refusal.{Refusal};
 ghost use Rattle.jtypes.specs.Types.{slots_by, is_long};
 ghost use Rattle.frames.specs.declared.frame.Frame.{Frame};
@@ -174,7 +174,8 @@ pub fn read_frames(
     ensures declared { IfOk result (λ ds. IsDeclared view.now environment.now code.now (map (λ t. t.now) tables.now) (declared_seen ds.items)) }
     ensures order { IfOk result (λ ds. AreInOrder ds.items) }
 
-    // A refusal says that no frames are declared.
+    // The one refusal says that no frames are declared.
+    ensures one { IfErr result (λ r. (r ≡ Refusal.NoMemory) ⊎ (r ≡ Refusal.BadStackMap)) }
     ensures refusal { IfErr result (λ r. r ≢ Refusal.NoMemory → (r ≡ Refusal.BadStackMap) × ((ds : List (ℕ × Frame)) → IsDeclared view.now environment.now code.now (map (λ t. t.now) tables.now) ds → ⊥)) }
 {
     match frames_of(alloc, environment, tables, code, view)? {
