@@ -1,14 +1,14 @@
 //! Instructions on arrays (JVMS §6.5).
 
-ghost use Rattle.std.specs.Prelude.{◌≡◌, List, option_map};
+ghost use Rattle.std.specs.Prelude.{◌≡◌, List, IfSome, option_map, slice_get};
 ghost use Rattle.jtypes.specs.Values.{value_of_arg, item_at};
 ghost use Rattle.typecheck.specs.Typing.{Class};
-ghost use Rattle.verify.specs.Machine.{Activation, make_array, load_reference};
+ghost use Rattle.verify.specs.Machine.{Activation, make_array, load_reference, same_kind, element_value, load_from, load_item};
 ghost use Rattle.machine.specs.Seen.{seen, top_of, callers_of, Told};
 
 use crate::Ending;
 use crate::machine::{Machine, OVER_WORDS, STUCK};
-use jtypes::{Arg, Args, ArrayKind, JavaFault, RefValue, Value};
+use jtypes::{Arg, Args, ArrayId, ArrayKind, JavaFault, RefValue, Value};
 
 /// Makes an array of zeros, of as many elements as the top says.
 pub fn make_array(machine: &mut Machine, kind: ArrayKind) -> Result<(), Ending>
@@ -71,6 +71,60 @@ pub fn load_reference(machine: &mut Machine) -> Result<(), Ending>
             Some(value) => machine.push(value),
             None => Err(Ending::Threw(JavaFault::ArrayIndexOutOfBounds)),
         },
+        _ => Err(STUCK),
+    }
+}
+
+fn same_kind(a: ArrayKind, b: ArrayKind) -> bool
+    ensures { result ≡ same_kind a b }
+{
+    match (a, b) {
+        (ArrayKind::Int, ArrayKind::Int) | (ArrayKind::Long, ArrayKind::Long) => true,
+        _ => false,
+    }
+}
+
+/// An element as a value; none where it is too large for an int.
+fn element_value(kind: ArrayKind, n: i64) -> Option<Value>
+    ensures { IfSome result (λ v. v ≡ element_value kind n) }
+{
+    match kind {
+        ArrayKind::Long => Some(Value::Long(n)),
+        ArrayKind::Int => match i32::try_from(n) {
+            Ok(n) => Some(Value::Int(n)),
+            Err(_) => None,
+        },
+    }
+}
+
+/// Puts an element of an array.
+fn load_from(machine: &mut Machine, kind: ArrayKind, id: ArrayId, index: i32) -> Result<(), Ending>
+    ensures told { (c : Class) (all : List Activation) → Told c (load_from c (seen all machine.old) (top_of machine.old) (callers_of machine.old) kind index machine.old.operands.0 (slice_get machine.old.arena.arrays id)) result machine.new }
+    ensures before { machine.new.entry.before ≡ machine.old.entry.before }
+{
+    if !machine.arena.holds(id) || !same_kind(kind, machine.arena.kind(id)) {
+        return Err(STUCK);
+    }
+    match machine.arena.get(id, index) {
+        Ok(n) => match element_value(kind, n) {
+            Some(value) => machine.push(value),
+            None => Err(OVER_WORDS),
+        },
+        Err(_) => Err(Ending::Threw(JavaFault::ArrayIndexOutOfBounds)),
+    }
+}
+
+/// Puts the element at an index of an array.
+pub fn load_item(machine: &mut Machine, kind: ArrayKind) -> Result<(), Ending>
+    ensures told { (c : Class) (all : List Activation) → Told c (load_item c (seen all machine.old) (top_of machine.old) (callers_of machine.old) kind machine.old.operands.0) result machine.new }
+    ensures before { machine.new.entry.before ≡ machine.old.entry.before }
+{
+    let Some(Value::Int(index)) = machine.operands.pop() else {
+        return Err(STUCK);
+    };
+    match machine.operands.pop() {
+        Some(Value::Ref(RefValue::Null)) => Err(Ending::Threw(JavaFault::NullPointer)),
+        Some(Value::Ref(RefValue::Array(id))) => load_from(machine, kind, id, index),
         _ => Err(STUCK),
     }
 }
