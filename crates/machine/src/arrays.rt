@@ -1,9 +1,10 @@
 //! Instructions on arrays (JVMS §6.5).
 
-ghost use Rattle.std.specs.Prelude.{◌≡◌, List, IfSome, option_map, slice_get};
+ghost use Rattle.std.specs.Prelude.{◌≡◌, ◌∷◌, List, pos, IfSome, option_map, slice_get};
+ghost use Rattle.jtypes.specs.declared.types.Value.TheVariants.{Int};
 ghost use Rattle.jtypes.specs.Values.{value_of_arg, item_at};
 ghost use Rattle.typecheck.specs.Typing.{Class};
-ghost use Rattle.verify.specs.Machine.{Activation, make_array, load_reference, same_kind, element_value, load_from, load_item};
+ghost use Rattle.verify.specs.Machine.{Activation, make_array, load_reference, same_kind, element_value, load_from, load_item, measure, next_with};
 ghost use Rattle.machine.specs.Seen.{seen, top_of, callers_of, Told};
 
 use crate::Ending;
@@ -125,6 +126,40 @@ pub fn load_item(machine: &mut Machine, kind: ArrayKind) -> Result<(), Ending>
     match machine.operands.pop() {
         Some(Value::Ref(RefValue::Null)) => Err(Ending::Threw(JavaFault::NullPointer)),
         Some(Value::Ref(RefValue::Array(id))) => load_from(machine, kind, id, index),
+        _ => Err(STUCK),
+    }
+}
+
+/// Puts a count.
+fn put_count(machine: &mut Machine, count: usize) -> Result<(), Ending>
+    ensures told { (c : Class) (all : List Activation) → Told c (next_with c (seen all machine.old) (top_of machine.old) (callers_of machine.old) (Int (pos count) ∷ machine.old.operands.0)) result machine.new }
+    ensures before { machine.new.entry.before ≡ machine.old.entry.before }
+{
+    match i32::try_from(count) {
+        Ok(count) => machine.push(Value::Int(count)),
+        Err(_) => Err(OVER_WORDS),
+    }
+}
+
+/// Puts the length of an array.
+#[tactic(auto, using(crate::proofs::Told::told_put, crate::proofs::Elements::measured))]
+pub fn measure(machine: &mut Machine) -> Result<(), Ending>
+    ensures told { (c : Class) (all : List Activation) → Told c (measure c (seen all machine.old) (top_of machine.old) (callers_of machine.old) machine.old.operands.0) result machine.new }
+    ensures before { machine.new.entry.before ≡ machine.old.entry.before }
+{
+    match machine.operands.pop() {
+        Some(Value::Ref(RefValue::Null)) => Err(Ending::Threw(JavaFault::NullPointer)),
+        Some(Value::Ref(RefValue::Args)) => {
+            let count = machine.args.as_slice().len();
+            put_count(machine, count)
+        }
+        Some(Value::Ref(RefValue::Array(id))) => {
+            if !machine.arena.holds(id) {
+                return Err(STUCK);
+            }
+            let count = machine.arena.length(id);
+            put_count(machine, count as usize)
+        }
         _ => Err(STUCK),
     }
 }
