@@ -7,3 +7,4 @@ pub mod Rows
 pub mod Begun
 pub mod Forms
 pub mod Ran
+pub mod Elements

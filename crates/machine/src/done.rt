@@ -2,8 +2,8 @@
 
 use jtypes::{Arg, Effect, JavaFault};
 
-/// A fault of the machine's own. No class that `verify` accepts is meant to meet one; that is not proved yet, and nothing is said of
-/// when a fault comes.
+/// A fault of the machine's own. No class that `verify` accepts is meant to meet one; that is not proved yet, and of a fault only that it
+/// keeps the entry.
 #[derive(Clone, Copy, Debug, PartialEq, Eq)]
 pub enum Fault {
     /// The next instruction has no meaning in this state.

@@ -3,6 +3,7 @@
 
 mod act;
 mod arithmetic;
+mod arrays;
 mod branches;
 mod calls;
 mod casts;
