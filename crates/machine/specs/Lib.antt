@@ -3,3 +3,4 @@ pub mod Seen
 pub mod Answered
 pub mod Taken
 pub mod Turned
+pub mod Entered

@@ -9,6 +9,7 @@ mod calls;
 mod casts;
 mod cells;
 mod done;
+mod enter;
 mod fits;
 mod library;
 mod locals;

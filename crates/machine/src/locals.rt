@@ -1,6 +1,6 @@
 //! Instructions that move locals (JVMS §6.5, loads, stores and `iinc`).
 
-ghost use Rattle.std.specs.Prelude.{List, ◌≡◌, slice_get, slice_set};
+ghost use Rattle.std.specs.Prelude.{List, ◌≡◌, ◌++◌, None, IsTrue, replicate, slice_get, slice_set};
 ghost use Rattle.jtypes.specs.Lists.{change_before};
 ghost use Rattle.typecheck.specs.Typing.{Class};
 ghost use Rattle.verify.specs.Machine.{Activation, has_local, load, store, store_value, increment, without_long_value};
@@ -13,6 +13,18 @@ use crate::operands::slots_of;
 use crate::windows::Windows;
 use jtypes::{Kind, Value};
 use transfer::type_of_kind;
+
+/// Puts so many locals without a value; false where there is no room.
+pub fn put_blanks(locals: &mut Windows<Option<Value>>, count: usize) -> bool
+    ensures { IsTrue result → locals.new ≡ (replicate count None ++ locals.old.0, locals.old.1) }
+{
+    for _ in 0..count {
+        if !locals.push(None) {
+            return false;
+        }
+    }
+    true
+}
 
 /// Whether a load or a store of this kind moves the value between the operands and a local, both slots of a long lying
 /// among the locals.
