@@ -8,3 +8,4 @@ pub mod Begun
 pub mod Forms
 pub mod Ran
 pub mod Elements
+pub mod Stored
