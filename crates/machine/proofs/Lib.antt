@@ -9,3 +9,4 @@ pub mod Forms
 pub mod Ran
 pub mod Elements
 pub mod Entered
+pub mod Stored

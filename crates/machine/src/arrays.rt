@@ -4,7 +4,7 @@ ghost use Rattle.std.specs.Prelude.{◌≡◌, ◌∷◌, List, pos, IfSome, opt
 ghost use Rattle.jtypes.specs.declared.types.Value.TheVariants.{Int};
 ghost use Rattle.jtypes.specs.Values.{value_of_arg, item_at};
 ghost use Rattle.typecheck.specs.Typing.{Class};
-ghost use Rattle.verify.specs.Machine.{Activation, make_array, load_reference, same_kind, element_value, load_from, load_item, measure, next_with};
+ghost use Rattle.verify.specs.Machine.{Activation, make_array, load_reference, same_kind, element_value, load_from, load_item, number_of, store_to, store_item, measure, next_with};
 ghost use Rattle.machine.specs.Seen.{seen, top_of, callers_of, Told};
 
 use crate::Ending;
@@ -126,6 +126,58 @@ pub fn load_item(machine: &mut Machine, kind: ArrayKind) -> Result<(), Ending>
     match machine.operands.pop() {
         Some(Value::Ref(RefValue::Null)) => Err(Ending::Threw(JavaFault::NullPointer)),
         Some(Value::Ref(RefValue::Array(id))) => load_from(machine, kind, id, index),
+        _ => Err(STUCK),
+    }
+}
+
+/// The number in a value of an array's element type.
+fn number_of(kind: ArrayKind, value: Value) -> Option<i64>
+    ensures { result ≡ number_of kind value }
+{
+    match (kind, value) {
+        (ArrayKind::Int, Value::Int(n)) => Some(n as i64),
+        (ArrayKind::Long, Value::Long(n)) => Some(n),
+        _ => None,
+    }
+}
+
+/// Changes an element of an array.
+fn store_to(
+    machine: &mut Machine,
+    kind: ArrayKind,
+    id: ArrayId,
+    index: i32,
+    number: i64,
+) -> Result<(), Ending>
+    ensures told { (c : Class) (all : List Activation) → Told c (store_to c (seen all machine.old) (top_of machine.old) (callers_of machine.old) kind id index number machine.old.operands.0 (slice_get machine.old.arena.arrays id)) result machine.new }
+    ensures before { machine.new.entry.before ≡ machine.old.entry.before }
+{
+    if !machine.arena.holds(id) || !same_kind(kind, machine.arena.kind(id)) {
+        return Err(STUCK);
+    }
+    match machine.arena.set(id, index, number) {
+        Ok(()) => Ok(()),
+        Err(_) => Err(Ending::Threw(JavaFault::ArrayIndexOutOfBounds)),
+    }
+}
+
+/// Changes the element at an index of an array.
+pub fn store_item(machine: &mut Machine, kind: ArrayKind) -> Result<(), Ending>
+    ensures told { (c : Class) (all : List Activation) → Told c (store_item c (seen all machine.old) (top_of machine.old) (callers_of machine.old) kind machine.old.operands.0) result machine.new }
+    ensures before { machine.new.entry.before ≡ machine.old.entry.before }
+{
+    let Some(value) = machine.operands.pop() else {
+        return Err(STUCK);
+    };
+    let Some(number) = number_of(kind, value) else {
+        return Err(STUCK);
+    };
+    let Some(Value::Int(index)) = machine.operands.pop() else {
+        return Err(STUCK);
+    };
+    match machine.operands.pop() {
+        Some(Value::Ref(RefValue::Null)) => Err(Ending::Threw(JavaFault::NullPointer)),
+        Some(Value::Ref(RefValue::Array(id))) => store_to(machine, kind, id, index, number),
         _ => Err(STUCK),
     }
 }
