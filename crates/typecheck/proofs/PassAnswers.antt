@@ -229,6 +229,12 @@ module _ (v : ClassView) (m : Method) where
 
 -- ---- what the check answers
 
+-- the pass refuses a mismatch, or falling off the end: a frame that lacks is no matter of it
+abbrev pub IsOfPass : Refusal → Type 0
+IsOfPass (TypeMismatch place) = Unit {0}
+IsOfPass FallsOff = Unit {0}
+IsOfPass _ = ⊥
+
 -- from its start the pass by results is the pass as a function
 module _ (v : ClassView) (m : Method) (ready : IsReady m) where
   abbrev whole_pass : Result (Unit {0}) Refusal
@@ -287,6 +293,14 @@ module _ (v : ClassView) (m : Method) (ready : IsReady m) where
       go [] same _ (falls_off n s) f = inr (sym same)
       go (p ∷ code) same _ (falls_off n s) f = inl (subst FallsOffEnd same s)
       go code same _ (fails_at q n) f = cc f
+
+  pub only_these : (r : Refusal) → whole_pass ≡ Err r → IsOfPass r
+  only_these r e = go whole_pass from_start e
+    where
+      go : (x : Result (Unit {0}) Refusal) → Said v m 0 (Some (first_frame m.environment)) m.code x → x ≡ Err r → IsOfPass r
+      go _ (passes n s) f = cc f
+      go _ (falls_off n s) f = let same : FallsOff ≡ r = cc f in subst IsOfPass same tt
+      go _ (fails_at q n) f = let same : mismatch_at q ≡ r = cc f in subst IsOfPass same tt
 
 pub ready_of : (v : ClassView) (e : Environment) (code : List Placed) (tables : List (List ℕ)) (ds : List Declared) → RisesFrom 0 code → IsDeclared v e code tables (declared_seen ds) → (LacksFrame (method_seen e code ds) → ⊥) → IsReady (method_seen e code ds)
 ready_of v e code tables ds rises declared whole = record {

@@ -1,61 +1,63 @@
--- What the check of types refuses.
-use Rattle.std.proofs.Common.{◌≡◌, ◌≢◌, ℕ, Bool, true, false, cond, List, [], ◌∷◌, Option, Some, None, refl, subst}
-use Rattle.std.specs.Prelude.{Result, Ok, Err, ℤ}
+-- What the check of types refuses stands.
+use Rattle.std.proofs.Common.{◌≡◌, ◌≢◌, ℕ, ◌<◌, List, length, get_or, sym, subst, ◌⊎◌, inl, inr}
+use Rattle.std.specs.Prelude.{Err, Some, Any}
+use Rattle.std.proofs.lemmas.List.{get_or_default}
 use Rattle.jtypes.specs.declared.refusal.Refusal.{Refusal}
-use Rattle.jtypes.specs.declared.refusal.Refusal.TheVariants.{NoMemory, BadStackMap, FallsOff}
+use Rattle.jtypes.specs.declared.refusal.Refusal.TheVariants.{NoMemory, UnknownMember, BadStackMap, TypeMismatch, FallsOff}
 use Rattle.classfile.specs.View.{ClassView}
 use Rattle.decode.specs.declared.instruction.Placed.{Placed}
-use Rattle.decode.specs.Places.{target_of}
+use Rattle.decode.specs.Reading.{RisesFrom}
 use Rattle.frames.specs.declared.frame.Environment.{Environment}
 use Rattle.frames.specs.declared.frame.Frame.{Frame}
-use Rattle.frames.specs.Frames.{frame_in}
-use Rattle.transfer.specs.Transfer.{transfer}
-use Rattle.typecheck.specs.Pass.{frame_fits}
-use Rattle.typecheck.specs.Seen.{IsOfTypes, mismatch_at, entered, flows, met, branched, left, after, advanced, then_passed, passed, target_frame}
+use Rattle.frames.specs.declared.table.Declared.{Declared}
+use Rattle.frames.specs.Frames.{first_frame}
+use Rattle.frames.specs.Seen.{declared_seen}
+use Rattle.frames.specs.StackMap.{IsDeclared}
+use Rattle.frames.proofs.Declares.{declared_once}
+use Rattle.typecheck.specs.Mismatch.{LacksFrame, HasBadStackMap, CallsUnknown, CheckRefuses}
+use Rattle.typecheck.specs.Pass.{IsReady}
+use Rattle.typecheck.specs.Seen.{method_seen, passed}
+use Rattle.typecheck.proofs.PassAnswers.{ready_of, mismatch, falls_off_end, only_these}
 
--- an error of these
-abbrev Errs : {A : Type 0} → Result A Refusal → Type 0
-Errs x = (r : Refusal) → x ≡ Err r → IsOfTypes r
+-- one of the instructions calls an unknown member
+pub call_refused : (v : ClassView) (code items : List Placed) (k : ℕ) (d : Placed) (r : Refusal) → items ≡ code → k < length items → (r ≡ NoMemory) ⊎ ((r ≡ UnknownMember) × CallsUnknown v (get_or items k d).instruction)
+    → (r ≡ NoMemory) ⊎ ((r ≡ UnknownMember) × Any (λ p. CallsUnknown v p.instruction) code)
+call_refused v code items k d r same l (inl n) = inl n
+call_refused v code items k d r same l (inr unknown) = inr (unknown.0, subst (λ (xs : List Placed). Any (λ p. CallsUnknown v p.instruction) xs) same (k, get_or items k d, l, get_or_default items k (get_or items k d) d l, unknown.1))
 
-fits_or_not : {A : Type 0} (x : A) (place : ℕ) (b : Bool) → Errs (cond b (Ok x) (Err (mismatch_at place)))
-fits_or_not x place true r e = cc
-fits_or_not x place false r e = let same : mismatch_at place ≡ r = cc e in subst IsOfTypes same tt
+module _ (v : ClassView) (e : Environment) (code : List Placed) (tables : List (List ℕ)) where
+  abbrev Refuses : Refusal → Type 0
+  Refuses r = CheckRefuses v e code tables r
 
-entered_errs : (from : ℕ) (o d : Option Frame) → Errs (entered from o d)
-entered_errs from None None r e = let same : BadStackMap ≡ r = cc e in subst IsOfTypes same tt
-entered_errs from None (Some d) r e = cc
-entered_errs from (Some f) None r e = cc
-entered_errs from (Some f) (Some d) r e = fits_or_not d from (frame_fits f d) r e
+  -- the tables declare nothing
+  pub tables_refused : (r : Refusal) → (r ≢ NoMemory → (r ≡ BadStackMap) × ((ds : List (ℕ × Frame)) → IsDeclared v e code tables ds → ⊥)) → Refuses r
+  tables_refused NoMemory h = tt
+  tables_refused r h = let bad = h (λ n. cc n) in subst Refuses (sym bad.0) (inl bad.1)
 
-met_errs : (p : Placed) (g : Frame) (d : Option Frame) → Errs (met p g d)
-met_errs p g None r e = let same : BadStackMap ≡ r = cc e in subst IsOfTypes same tt
-met_errs p g (Some d) r e = fits_or_not (flows p g) p.place (frame_fits g d) r e
+  pub calls_refused : (r : Refusal) → (r ≡ NoMemory) ⊎ ((r ≡ UnknownMember) × Any (λ p. CallsUnknown v p.instruction) code) → Refuses r
+  calls_refused r (inl n) = subst Refuses (sym n) tt
+  calls_refused r (inr unknown) = subst Refuses (sym unknown.0) unknown.1
 
-branched_errs : (ds : List (ℕ × Frame)) (p : Placed) (g : Frame) (z : Option ℤ) → Errs (branched ds p g z)
-branched_errs ds p g None r e = cc
-branched_errs ds p g (Some z) r e = met_errs p g (target_frame ds z) r e
+  module _ (ds : List Declared) (declared : IsDeclared v e code tables (declared_seen ds)) where
+    -- a frame is lacking
+    pub frame_refused : LacksFrame (method_seen e code ds) → Refuses BadStackMap
+    frame_refused lacks = inr (declared_seen ds, declared, lacks)
 
-left_errs : (ds : List (ℕ × Frame)) (p : Placed) (o : Option Frame) → Errs (left ds p o)
-left_errs ds p None r e = let same : mismatch_at p.place ≡ r = cc e in subst IsOfTypes same tt
-left_errs ds p (Some g) r e = branched_errs ds p g (target_of p.instruction) r e
+    module _ (rises : RisesFrom 0 code) (whole : LacksFrame (method_seen e code ds) → ⊥) where
+      none_bad : HasBadStackMap v e code tables → ⊥
+      none_bad (inl none) = none (declared_seen ds) declared
+      none_bad (inr (others, is, lacks)) =
+          let same : others ≡ declared_seen ds = declared_once v e code tables others (declared_seen ds) is declared in
+          whole (subst (λ (xs : List (ℕ × Frame)). LacksFrame (record { environment = e; code = code; declared = xs })) same lacks)
 
-after_errs : (v : ClassView) (c : Environment) (ds : List (ℕ × Frame)) (p : Placed) (x : Result Frame Refusal) → Errs x → Errs (after v c ds p x)
-after_errs v c ds p (Err q) h r e = let same : q ≡ r = cc e in subst IsOfTypes same (h q refl)
-after_errs v c ds p (Ok f) h r e = left_errs ds p (transfer v c p.instruction f) r e
+      ready : IsReady (method_seen e code ds)
+      ready = ready_of v e code tables ds rises declared whole
 
-rest_errs : (x : Result (Option Frame) Refusal) (rest : Option Frame → Result (Unit {0}) Refusal) → Errs x → ((o : Option Frame) → Errs (rest o)) → Errs (then_passed x rest)
-rest_errs (Err q) rest h g r e = let same : q ≡ r = cc e in subst IsOfTypes same (h q refl)
-rest_errs (Ok o) rest h g r e = g o r e
-
-passed_errs : (v : ClassView) (c : Environment) (ds : List (ℕ × Frame)) (from : ℕ) (o : Option Frame) (code : List Placed) → Errs (passed v c ds from o code)
-passed_errs v c ds from None [] r e = cc
-passed_errs v c ds from (Some f) [] r e = let same : FallsOff ≡ r = cc e in subst IsOfTypes same tt
-passed_errs v c ds from o (p ∷ code) r e =
-    rest_errs (advanced v c ds p from o) (λ next. passed v c ds p.place next code) (after_errs v c ds p (entered from o (frame_in ds p.place)) (entered_errs from o (frame_in ds p.place))) (λ next. passed_errs v c ds p.place next code) r e
-
-or_memory : (r : Refusal) → (r ≢ NoMemory → IsOfTypes r) → IsOfTypes r
-or_memory NoMemory h = tt
-or_memory r h = h (λ e. cc)
-
-pub pass_refuses : (v : ClassView) (c : Environment) (ds : List (ℕ × Frame)) (from : ℕ) (o : Option Frame) (code : List Placed) (r : Refusal) → (r ≢ NoMemory → passed v c ds from o code ≡ Err r) → IsOfTypes r
-pass_refuses v c ds from o code r h = or_memory r (λ n. passed_errs v c ds from o code r (h n))
+      -- the pass fails
+      pub pass_refused : (r : Refusal) → (r ≢ NoMemory → passed v e (declared_seen ds) 0 (Some (first_frame e)) code ≡ Err r) → Refuses r
+      pass_refused NoMemory h = tt
+      pass_refused (TypeMismatch place) h =
+          let fails = mismatch v (method_seen e code ds) ready place (h (λ n. cc n)) in
+          (fails.0, (none_bad, (declared_seen ds, declared, fails.1)), fails.2)
+      pass_refused FallsOff h = falls_off_end v (method_seen e code ds) ready (h (λ n. cc n))
+      pass_refused r h = absurd (only_these v (method_seen e code ds) ready r (h (λ n. cc n)))

@@ -1,7 +1,7 @@
 -- What the parts of the check answer: the pass by its results.
 use Rattle.std.specs.Prelude.{ℕ, min, Bool, false, not, ◌&&◌, ◌||◌, List, [], ◌∷◌, Option, Some, None, is_some, Result, Ok, Err, ℤ, pos, negsuc, if◌then◌else◌}
 use Rattle.jtypes.specs.declared.refusal.Refusal.{Refusal}
-use Rattle.jtypes.specs.declared.refusal.Refusal.TheVariants.{NoMemory, UnknownMember, BadStackMap, TypeMismatch, FallsOff}
+use Rattle.jtypes.specs.declared.refusal.Refusal.TheVariants.{BadStackMap, TypeMismatch, FallsOff}
 use Rattle.jtypes.specs.declared.types.JType.{JType}
 use Rattle.jtypes.specs.Types.{assignable}
 use Rattle.classfile.specs.View.{ClassView}
@@ -89,12 +89,3 @@ then_passed (Ok flow) rest = rest flow
 abbrev pub passed : ClassView → Environment → List (ℕ × Frame) → ℕ → Option Frame → List Placed → Result (Unit {0}) Refusal
 passed v e ds from flow [] = ended flow
 passed v e ds from flow (p ∷ code) = then_passed (advanced v e ds p from flow) (λ next. passed v e ds p.place next code)
-
--- what may be refused where types are checked
-abbrev pub IsOfTypes : Refusal → Type 0
-IsOfTypes NoMemory = Unit {0}
-IsOfTypes BadStackMap = Unit {0}
-IsOfTypes (TypeMismatch place) = Unit {0}
-IsOfTypes FallsOff = Unit {0}
-IsOfTypes UnknownMember = Unit {0}
-IsOfTypes _ = ⊥

@@ -1,6 +1,6 @@
 //! Type checking of one method (JVMS §4.10.1).
 
-ghost use Rattle.std.specs.Prelude.{◌≡◌, ◌≢◌, ◌⊎◌, ℕ, List, [], map, min, is_some, option_copied, Some, IsSome, Ok, Err, IfOk, IfErr, IsTrue, IsFalse};
+ghost use Rattle.std.specs.Prelude.{◌≡◌, ◌≢◌, ◌⊎◌, ℕ, List, Any, map, is_some, option_copied, Some, IsSome, Ok, Err, IfOk, IfErr, IsTrue, IsFalse};
 ghost use Rattle.jtypes.specs.declared.refusal.Refusal.{Refusal};
 ghost use Rattle.decode.specs.Places.{at_place, target_of};
 ghost use Rattle.frames.specs.Frames.{frame_in, first_frame};
@@ -11,8 +11,8 @@ ghost use Rattle.frames.specs.StackMap.{IsDeclared};
 ghost use Rattle.typecheck.specs.Calls.{AreCallsOf, call_at};
 ghost use Rattle.typecheck.specs.DeclaredPlaces.{ArePlacesOf};
 ghost use Rattle.typecheck.specs.Typing.{IsWellTyped};
-ghost use Rattle.typecheck.specs.Mismatch.{FallsOffEnd, IsMismatch, LacksFrame};
-ghost use Rattle.typecheck.specs.Seen.{IsOfTypes, advanced, branched, entered, lacks_at, method_seen, mismatch_at, passed, target_frame};
+ghost use Rattle.typecheck.specs.Mismatch.{CallsUnknown, CheckRefuses, LacksFrame};
+ghost use Rattle.typecheck.specs.Seen.{advanced, branched, entered, lacks_at, method_seen, mismatch_at, passed, target_frame};
 
 use crate::assign::frame_assignable;
 use crate::{Called, Typed};
@@ -192,7 +192,7 @@ fn pass(
 /// The call of an instruction that is one, with what it reaches.
 fn called_at(alloc: Global, view: &ClassView<'_>, p: &Placed) -> Result<Option<Called>, Refusal>
     ensures ok { IfOk result (λ call. call ≡ call_at view.now p.now) }
-    ensures err { IfErr result (λ r. (r ≡ Refusal.NoMemory) ⊎ (r ≡ Refusal.UnknownMember)) }
+    ensures err { IfErr result (λ r. (r ≡ Refusal.NoMemory) ⊎ ((r ≡ Refusal.UnknownMember) × CallsUnknown view.now p.now.instruction)) }
 {
     let Instruction::Invoke(kind, i) = p.instruction else {
         return Ok(None);
@@ -209,7 +209,7 @@ fn called_at(alloc: Global, view: &ClassView<'_>, p: &Placed) -> Result<Option<C
 /// The calls of a code, with what they reach.
 fn calls_of(alloc: Global, view: &ClassView<'_>, code: &Code) -> Result<Vec<Called>, Refusal>
     ensures ok { IfOk result (λ calls. AreCallsOf view.now code.now calls.items) }
-    ensures err { IfErr result (λ r. (r ≡ Refusal.NoMemory) ⊎ (r ≡ Refusal.UnknownMember)) }
+    ensures err { IfErr result (λ r. (r ≡ Refusal.NoMemory) ⊎ ((r ≡ Refusal.UnknownMember) × Any (λ p. CallsUnknown view.now p.instruction) code.now)) }
 {
     let mut calls = Vec::new(alloc);
     for p in code.as_slice() {
@@ -246,12 +246,10 @@ pub fn check_method(
     ensures method { IfOk result (λ t. (t.number ≡ number) × (t.is_process ≡ is_process)) }
     ensures body { IfOk result (λ t. (t.environment ≡ environment) × (t.code ≡ code)) }
 
-    // The method with the frames that its tables declare is well typed; a mismatch that is answered is the first place
-    // that fails; and a method that is said to fall off its end does, or has no instruction.
+    // The method with the frames that its tables declare is well typed; and what is refused stands: its frames are bad, or
+    // they are not and the first place that fails is named, or it falls off its end, or it calls an unknown member.
     ensures typed { IfOk result (λ _. (ds : List (ℕ × Frame)) × IsDeclared view.now environment code (map (λ t. t.now) tables.now) ds × IsWellTyped view.now (record { environment = environment; code = code; declared = ds })) }
-    ensures mismatch { (place : ℕ) → result ≡ Err (Refusal.TypeMismatch place) → (ds : List (ℕ × Frame)) × IsDeclared view.now environment code (map (λ t. t.now) tables.now) ds × ((q : ℕ) × IsMismatch view.now (record { environment = environment; code = code; declared = ds }) q × (place ≡ min q 4294967295)) }
-    ensures falls { result ≡ Err Refusal.FallsOff → FallsOffEnd code ⊎ (code ≡ []) }
-    ensures refusal { IfErr result IsOfTypes }
+    ensures refused { IfErr result (CheckRefuses view.now environment code (map (λ t. t.now) tables.now)) }
 
     // An instruction stands at its start; its calls are answered, and the places of the frames that its tables declare.
     ensures starts { IfOk result (λ t. IsSome (at_place t.code 0)) }

@@ -44,7 +44,7 @@ module _ (bytes : List ℕ) (pool : List Slot) (p : Parts) (n : ℕ) (codes : Li
 
   module _ (b : declared.Bounds) (none : AreNotRecursive rows) (answer : (c : Class) (set : ℕ → Bool) → LeadsOn c set → AreRowsOf c set rows → IsAnswerFor c (Ok b)) where
     bounds_of_file : (c : Class) → IsClassOfFile pool p c → (j : ℕ) → IsProcessOf c j → AreBounds c j (bounds_in b)
-    bounds_of_file c class = answer c (members c) (class_leads_on pool p n codes shape rows are c class (instructions_stand pool p n codes shape rows are items are_found) none) (are_rows pool p n codes shape rows are c class)
+    bounds_of_file c class = answer c (members c) (class_leads_on pool p n codes shape rows are c class (instructions_stand pool p n codes shape items are_found) none) (are_rows pool p n codes shape rows are c class)
 
     pub has_bounds : (c : Class) (j : ℕ) → IsClassOf bytes c → IsProcessOf c j → AreBounds c j (bounds_in b)
     has_bounds c j of is = bounds_of_file c (of_file of.pool of.parts c of.file of.class) j is
@@ -84,7 +84,7 @@ module _ (bytes : List ℕ) (pool : List Slot) (p : Parts) (n : ℕ) (codes : Li
       is_accepted r (by_shape other q file s) = none_of_file bytes pool p codes n laid shape other q r file s
       is_accepted r (by_instructions other q file good s) =
           let same = the_file bytes pool other p q laid file in
-          instructions_stand pool p n codes shape rows are items are_found r (subst (λ (x : List Slot). InstructionsStand x p r) (sym same.0) (subst (λ (x : Parts). InstructionsStand other x r) (sym same.1) s))
+          instructions_stand pool p n codes shape items are_found r (subst (λ (x : List Slot). InstructionsStand x p r) (sym same.0) (subst (λ (x : Parts). InstructionsStand other x r) (sym same.1) s))
       is_accepted r (by_types other q file good ok s) =
           let same = the_file bytes pool other p q laid file in
           types_stand pool p n codes shape rows are lengths r (subst (λ (x : List Slot). TypesStand x p r) (sym same.0) (subst (λ (x : Parts). TypesStand other x r) (sym same.1) s))

@@ -1,11 +1,10 @@
 -- What is known of instructions and types that were judged.
 use Rattle.std.proofs.Common.{◌≡◌, ℕ, suc, ◌<◌, true, false, List, [], ◌∷◌, ◌++◌, length, get_or, Some, refl, sym, ap, ◌∙◌, subst, append_assoc, append-nil, arith}
 use Rattle.std.specs.Prelude.{Bool, Any, All, map, Result, Ok, Err, IfOk, IsSome, slice_get, option_map}
-use Rattle.std.specs.List.{AllZip}
-use Rattle.std.proofs.lemmas.Bool.{false≢true}
+use Rattle.std.proofs.lemmas.Bool.{false≢true, false_from_ne_true}
 use Rattle.std.proofs.lemmas.Option.{slice_get-map}
 use Rattle.jtypes.specs.declared.refusal.Refusal.{Refusal}
-use Rattle.jtypes.specs.declared.refusal.Refusal.TheVariants.{UnknownMember}
+use Rattle.jtypes.specs.declared.refusal.Refusal.TheVariants.{UnknownMember, BadDescriptor, NoBody, BadCode, ExceptionTable}
 use Rattle.constpool.specs.Lookup.{Slot}
 use Rattle.classfile.specs.declared.class_file.Member.{Member}
 use Rattle.classfile.specs.declared.class_file.Parts.{Parts}
@@ -23,12 +22,12 @@ use Rattle.typecheck.specs.Typing.{IsWellTyped}
 use Rattle.typecheck.specs.Calls.{AreCallsOf}
 use Rattle.typecheck.specs.DeclaredPlaces.{ArePlacesOf}
 use Rattle.typecheck.specs.declared.typed.Typed.{Typed}
-use Rattle.verify.specs.Shape.{HasCode}
-use Rattle.verify.specs.Shaping.{is_named_process}
+use Rattle.verify.specs.Shape.{HasCode, is_constructor}
+use Rattle.verify.specs.Shaping.{is_named_process, HasGoodShape, HasGoodMethod, MethodStands}
 use Rattle.verify.specs.Verdict.{is_known, InstructionStands, IsBody}
 use Rattle.verify.specs.Judging.{IsGoodCode, IsFoundIn, HasInstructionsOf, IsTypedRow, AreTyped, numbers_but}
 use Rattle.verify.specs.declared.instructions.Found.{Found}
-use Rattle.verify.proofs.Methods.{zip_back}
+use Rattle.verify.proofs.Methods.{any_from, zip_back}
 use Rattle.verify.proofs.Numbered.{map_more}
 
 -- ---- instructions
@@ -45,13 +44,38 @@ good_code v bytes code sequence none known = record { sequence = sequence; none_
 
 -- ---- types
 
+-- nothing is wrong with a method of a class whose shape is good
+good_method : (pool : List Slot) (p : Parts) (n : ℕ) (codes : List CodeParts) → HasGoodShape pool p codes n → (k : ℕ) (m : Member) (c : CodeParts) → slice_get p.methods k ≡ Some m → HasCode pool m c → HasGoodMethod pool p m c
+good_method pool p n codes shape k m c at has = record { has_code = has; none_stands = none }
+  where
+    none : (r : Refusal) → MethodStands pool p m r → ⊥
+    none BadDescriptor h = shape.none_stands BadDescriptor (any_from _ p.methods k m at h)
+    none NoBody h = shape.none_stands NoBody (any_from _ p.methods k m at h)
+    none BadCode h = shape.none_stands BadCode (any_from _ p.methods k m at h)
+    none ExceptionTable h = shape.none_stands ExceptionTable (any_from _ p.methods k m at h)
+    none r h = h
+
 -- what was found of a method's instructions, beside its member
-pub has_instructions : (pool : List Slot) (p : Parts) (codes : List CodeParts) (f : Found) (parts : CodeParts) → AllZip (HasCode pool) p.methods codes → IsFoundIn (view_of pool p) codes f → slice_get codes f.number ≡ Some parts → HasInstructionsOf pool p f.number parts f.code
-has_instructions pool p codes f parts zip found here =
+pub has_instructions : (pool : List Slot) (p : Parts) (n : ℕ) (codes : List CodeParts) (f : Found) (parts : CodeParts) → HasGoodShape pool p codes n → IsFoundIn (view_of pool p) codes f → slice_get codes f.number ≡ Some parts → (f.number ≡ n → ⊥) → HasInstructionsOf pool p f.number parts f.code
+has_instructions pool p n codes f parts shape found here not_it =
     let both : Some found.parts ≡ Some parts = sym found.there ∙ here in
     let same : found.parts ≡ parts = cc both in
-    let member = zip_back (HasCode pool) p.methods codes f.number parts zip here in
-    record { member = member.0; there = member.1; has_code = member.2; sequence = subst (λ (x : CodeParts). IsSequence pool 0 x.code f.code) same found.good.sequence }
+    let member = zip_back (HasCode pool) p.methods codes f.number parts shape.codes_are here in
+    record {
+      member = member.0;
+      there = member.1;
+      other = false_from_ne_true (is_constructor pool member.0) (λ e. not_it (shape.constructor_is.no_other f.number member.0 member.1 e));
+      shaped = good_method pool p n codes shape f.number member.0 parts member.1 member.2;
+      good = subst (λ (x : CodeParts). IsGoodCode (view_of pool p) x.code f.code) same found.good;
+    }
+
+-- what is judged is the method's body
+pub body_judged : (pool : List Slot) (p : Parts) (number : ℕ) (parts : CodeParts) (code : List Placed) → HasInstructionsOf pool p number parts code → (m : Member) → slice_get p.methods number ≡ Some m → (e : Environment) → method_signature (view_of pool p) (method_view pool m) ≡ Some e.signature → e.max_stack ≡ parts.max_stack → e.max_locals ≡ parts.max_locals
+    → (tables : List (List ℕ)) → tables ≡ tables_of pool parts → IsBody pool p m e code tables
+body_judged pool p number parts code h m there e signature stack locals tables are =
+    let both : Some h.member ≡ Some m = sym h.there ∙ there in
+    let same : h.member ≡ m = cc both in
+    record { parts = parts; has_code = subst (λ (x : Member). HasCode pool x parts) same h.shaped.has_code; signature = signature; max_stack = stack; max_locals = locals; sequence = h.good.sequence; tables_are = are }
 
 -- the member that a look-up gives is the method's
 pub same_view : (pool : List Slot) (p : Parts) (number : ℕ) (m : Member) (w : MethodView) → slice_get p.methods number ≡ Some m → Some w ≡ slice_get (view_of pool p).methods number → method_view pool m ≡ w
@@ -59,15 +83,12 @@ same_view pool p number m w there viewed =
     let both : Some (method_view pool m) ≡ Some w = sym (slice_get-map (method_view pool) p.methods number ∙ ap (option_map (method_view pool)) there) ∙ sym viewed in
     cc both
 
-pub row_judged : (pool : List Slot) (p : Parts) (number : ℕ) (parts : CodeParts) (code : List Placed) → HasInstructionsOf pool p number parts code → (m : Member) → slice_get p.methods number ≡ Some m → (e : Environment) → method_signature (view_of pool p) (method_view pool m) ≡ Some e.signature → e.max_stack ≡ parts.max_stack → e.max_locals ≡ parts.max_locals
-    → (tables : List (List ℕ)) → tables ≡ tables_of pool parts → (b : Bool) → b ≡ is_named_process pool m → (r : Result Typed Refusal) → IfOk r (λ t. (t.number ≡ number) × (t.is_process ≡ b)) → IfOk r (λ t. (t.environment ≡ e) × (t.code ≡ code))
+pub row_judged : (pool : List Slot) (p : Parts) (number : ℕ) (code : List Placed) (m : Member) → slice_get p.methods number ≡ Some m → (e : Environment) (tables : List (List ℕ)) → IsBody pool p m e code tables → (b : Bool) → b ≡ is_named_process pool m
+    → (r : Result Typed Refusal) → IfOk r (λ t. (t.number ≡ number) × (t.is_process ≡ b)) → IfOk r (λ t. (t.environment ≡ e) × (t.code ≡ code))
     → IfOk r (λ _. (ds : List (ℕ × Frame)) × IsDeclared (view_of pool p) e code tables ds × IsWellTyped (view_of pool p) (record { environment = e; code = code; declared = ds })) → IfOk r (λ t. IsSome (at_place t.code 0)) → IfOk r (λ t. AreCallsOf (view_of pool p) t.code t.calls.items)
     → IfOk r (λ t. (ds : List (ℕ × Frame)) × IsDeclared (view_of pool p) e code tables ds × ArePlacesOf ds t.declared.items) → IfOk r (IsTypedRow pool p)
-row_judged pool p number parts code h m there e signature stack locals tables are b process (Err r) method body typed starts calls places = tt
-row_judged pool p number parts code h m there e signature stack locals tables are b process (Ok t) method body typed starts calls places =
-    let both : Some h.member ≡ Some m = sym h.there ∙ there in
-    let same : h.member ≡ m = cc both in
-    let made : IsBody pool p m e code tables = record { parts = parts; has_code = subst (λ (x : Member). HasCode pool x parts) same h.has_code; signature = signature; max_stack = stack; max_locals = locals; sequence = h.sequence; tables_are = are } in
+row_judged pool p number code m there e tables made b process (Err r) method body typed starts calls places = tt
+row_judged pool p number code m there e tables made b process (Ok t) method body typed starts calls places =
     record {
       member = m;
       there = ap (slice_get p.methods) method.0 ∙ there;

@@ -1,4 +1,5 @@
 pub mod Texts
+mod Types
 pub mod Header
 pub mod Descriptors
 pub mod Readable

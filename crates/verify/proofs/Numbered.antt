@@ -80,6 +80,14 @@ at c (suc n) i l = go (cases_lt i (length (numbers_but c n))) (at c n i)
         let is = last.0 in
         record { below = omega (arith, here, is); other = λ e. last.2 (sym is ∙ sym here ∙ e) }
 
+-- a number of the row is not the one
+pub rest_other : (c n : ℕ) (front : List ℕ) (k : ℕ) (rest : List ℕ) → front ++ k ∷ rest ≡ numbers_but c n → k ≡ c → ⊥
+rest_other c n front k rest e is =
+    let whole : length (front ++ k ∷ rest) ≡ length front + length (k ∷ rest) = length-append front (k ∷ rest) in
+    let inside : length front < length (numbers_but c n) = omega (arith, whole, ap length e) in
+    let element : get_or (front ++ k ∷ rest) (length front) 0 ≡ k = at_right front (k ∷ rest) 0 (length front) (omega arith) in
+    (at c n (length front) inside).other (ap (λ (xs : List ℕ). get_or xs (length front) 0) (sym e) ∙ element ∙ is)
+
 rising : (c n i j : ℕ) → i < j → j < length (numbers_but c n) → get_or (numbers_but c n) i 0 < get_or (numbers_but c n) j 0
 rising c zero i j less l = absurd (omega (arith, l))
 rising c (suc n) i j less l = go (cases_lt j (length (numbers_but c n))) (rising c n i j less)

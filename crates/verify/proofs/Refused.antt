@@ -4,7 +4,7 @@ use Rattle.std.specs.Prelude.{slice_get, map, is_some, IsSome, Contains, Err, �
 use Rattle.std.proofs.lemmas.Bool.{and_from, eqb-true, false≢true, false_from_ne_true, eq-eqb}
 use Rattle.std.proofs.lemmas.Option.{slice_get-get_or}
 use Rattle.jtypes.specs.declared.refusal.Refusal.{Refusal}
-use Rattle.jtypes.specs.declared.refusal.Refusal.TheVariants.{NoMemory, UnknownMember, BadStackMap, TypeMismatch, FallsOff, NoProcess, Recursive, LengthNotConstant, StepLimit, WordLimit, FrameLimit}
+use Rattle.jtypes.specs.declared.refusal.Refusal.TheVariants.{NoMemory, UnknownMember, NoProcess, Recursive, LengthNotConstant, StepLimit, WordLimit, FrameLimit}
 use Rattle.jtypes.specs.Layout.{Stands}
 use Rattle.jtypes.specs.Lists.{same_bytes}
 use Rattle.constpool.specs.Lookup.{Slot}
@@ -24,7 +24,6 @@ use Rattle.typecheck.specs.Typing.{Class, IsProcessOf, process_from, number_of_p
 use Rattle.typecheck.specs.Calls.{callee_in, called_by}
 use Rattle.typecheck.specs.Mismatch.{LacksLength, HasLength, HasFrame}
 use Rattle.typecheck.specs.DeclaredPlaces.{ArePlacesRising}
-use Rattle.typecheck.specs.Seen.{IsOfTypes}
 use Rattle.typecheck.specs.declared.typed.Called.{Called}
 use Rattle.typecheck.specs.declared.typed.Typed.{Typed}
 use Rattle.bounds.specs.Lengths.{HaveLengths, OneLacksLength, LacksLengthIn}
@@ -33,9 +32,9 @@ use Rattle.bounds.specs.Rows.{AreRowsOf, AreAllRowsOf, AreNotRecursive, IsAnswer
 use Rattle.bounds.specs.Table.{LeadsOn}
 use Rattle.verify.specs.Shape.{HasCode, IsProcess, ShapeStands, is_constructor}
 use Rattle.verify.specs.Shaping.{HasGoodShape}
-use Rattle.verify.specs.Verdict.{is_known, IsClassFile, HasShape, HasInstructions, HasTypes, IsClassOfFile, InstructionStands, InstructionsStand, ClassStands, IsRefused, by_layout, by_shape, by_instructions, by_types, by_class}
+use Rattle.verify.specs.Verdict.{is_known, IsClassFile, HasShape, HasInstructions, HasTypes, IsClassOfFile, InstructionStands, InstructionsStand, TypesStand, ClassStands, IsRefused, by_layout, by_shape, by_instructions, by_types, by_class}
 use Rattle.verify.specs.Checked.{members}
-use Rattle.verify.specs.Judging.{AreTyped, AreFound, IsUnsure}
+use Rattle.verify.specs.Judging.{AreTyped, AreFound}
 use Rattle.verify.specs.declared.instructions.Found.{Found}
 use Rattle.verify.proofs.Texts.{same_refl}
 use Rattle.verify.proofs.Methods.{any_from, zip_back}
@@ -62,27 +61,23 @@ method_refused pool p n codes shape k parts at other r (inr s) =
     let not_one : is_constructor pool m.0 ≡ false = false_from_ne_true (is_constructor pool m.0) (λ e. other (shape.constructor_is.no_other k m.0 m.1 e)) in
     inr (any_from _ p.methods k m.0 m.1 (not_one, (parts, m.2, s)))
 
-pub types_unsure : (r : Refusal) → IsOfTypes r → IsUnsure r
-types_unsure NoMemory h = tt
-types_unsure UnknownMember h = tt
-types_unsure BadStackMap h = tt
-types_unsure (TypeMismatch place) h = tt
-types_unsure FallsOff h = tt
-types_unsure r h = absurd h
-
 -- ---- the whole
 
-pub layout_refused : (bytes : List ℕ) (r : Refusal) → (r ≢ NoMemory → Stands (class_file (length bytes)) bytes r) → IsUnsure r ⊎ IsRefused bytes r
-layout_refused bytes NoMemory h = inl tt
+pub layout_refused : (bytes : List ℕ) (r : Refusal) → (r ≢ NoMemory → Stands (class_file (length bytes)) bytes r) → (r ≡ NoMemory) ⊎ IsRefused bytes r
+layout_refused bytes NoMemory h = inl refl
 layout_refused bytes r h = inr (by_layout (h (λ e. cc)))
 
-pub shape_refused : (bytes : List ℕ) (pool : List Slot) (p : Parts) (r : Refusal) → IsClassFile bytes pool p → (r ≡ NoMemory) ⊎ ShapeStands pool p r → IsUnsure r ⊎ IsRefused bytes r
-shape_refused bytes pool p r file (inl e) = inl (subst IsUnsure (sym e) tt)
+pub shape_refused : (bytes : List ℕ) (pool : List Slot) (p : Parts) (r : Refusal) → IsClassFile bytes pool p → (r ≡ NoMemory) ⊎ ShapeStands pool p r → (r ≡ NoMemory) ⊎ IsRefused bytes r
+shape_refused bytes pool p r file (inl e) = inl e
 shape_refused bytes pool p r file (inr s) = inr (by_shape pool p file s)
 
-pub instructions_refused : (bytes : List ℕ) (pool : List Slot) (p : Parts) (n : ℕ) (codes : List CodeParts) (r : Refusal) → IsClassFile bytes pool p → HasGoodShape pool p codes n → (r ≡ NoMemory) ⊎ InstructionsStand pool p r → IsUnsure r ⊎ IsRefused bytes r
-instructions_refused bytes pool p n codes r file shape (inl e) = inl (subst IsUnsure (sym e) tt)
+pub instructions_refused : (bytes : List ℕ) (pool : List Slot) (p : Parts) (n : ℕ) (codes : List CodeParts) (r : Refusal) → IsClassFile bytes pool p → HasGoodShape pool p codes n → (r ≡ NoMemory) ⊎ InstructionsStand pool p r → (r ≡ NoMemory) ⊎ IsRefused bytes r
+instructions_refused bytes pool p n codes r file shape (inl e) = inl e
 instructions_refused bytes pool p n codes r file shape (inr s) = inr (by_instructions pool p file (record { none_stands = shape.none_stands }) s)
+
+pub types_refused : (bytes : List ℕ) (pool : List Slot) (p : Parts) (n : ℕ) (codes : List CodeParts) (items : List Found) (r : Refusal) → IsClassFile bytes pool p → HasGoodShape pool p codes n → AreFound (view_of pool p) codes n (length codes) items → (r ≡ NoMemory) ⊎ TypesStand pool p r → (r ≡ NoMemory) ⊎ IsRefused bytes r
+types_refused bytes pool p n codes items r file shape are_found (inl e) = inl e
+types_refused bytes pool p n codes items r file shape are_found (inr s) = inr (by_types pool p file (record { none_stands = shape.none_stands }) (record { none_stands = instructions_stand pool p n codes shape items are_found }) s)
 
 -- a frame is declared at each of the places
 frame_among : (ds : List (ℕ × Frame)) (q i d : ℕ) → i < length (map (λ (d : ℕ × Frame). d.0) ds) → get_or (map (λ (d : ℕ × Frame). d.0) ds) i d ≡ q → IsSome (frame_in ds q)
@@ -117,7 +112,7 @@ module _ (bytes : List ℕ) (pool : List Slot) (p : Parts) (n : ℕ) (codes : Li
   good_shape = record { none_stands = shape.none_stands }
 
   good_instructions : HasInstructions pool p
-  good_instructions = record { none_stands = instructions_stand pool p n codes shape rows are items are_found }
+  good_instructions = record { none_stands = instructions_stand pool p n codes shape items are_found }
 
   good_types : HaveLengths rows → HasTypes pool p
   good_types lengths = record { none_stands = types_stand pool p n codes shape rows are lengths }
@@ -180,7 +175,7 @@ module _ (bytes : List ℕ) (pool : List Slot) (p : Parts) (n : ℕ) (codes : Li
 
     module _ (none : AreNotRecursive rows) where
       on : LeadsOn c (members c)
-      on = class_leads_on pool p n codes shape rows are c class (instructions_stand pool p n codes shape rows are items are_found) none
+      on = class_leads_on pool p n codes shape rows are c class (instructions_stand pool p n codes shape items are_found) none
 
       -- a limit that is refused
       answered : (r : Refusal) → ((c : Class) (set : ℕ → Bool) → LeadsOn c set → AreRowsOf c set rows → IsAnswerFor c (Err r)) → IsLimit r → ClassStands c r
@@ -190,8 +185,8 @@ module _ (bytes : List ℕ) (pool : List Slot) (p : Parts) (n : ℕ) (codes : Li
       answered r answer h = absurd h
 
   pub bounds_refused : (r : Refusal) → IsOfBounds r → (r ≢ LengthNotConstant → HaveLengths rows) → (IsLimit r → AreNotRecursive rows) → (r ≡ Recursive → IsCircleIn rows) → (r ≡ LengthNotConstant → OneLacksLength rows) → (r ≡ NoProcess → (i : ℕ) (d : Typed) → i < length rows → (get_or rows i d).is_process ≡ false)
-      → ((c : Class) (set : ℕ → Bool) → LeadsOn c set → AreRowsOf c set rows → IsAnswerFor c (Err r)) → IsUnsure r ⊎ IsRefused bytes r
-  bounds_refused NoMemory of lengths limit circle lack process answer = inl tt
+      → ((c : Class) (set : ℕ → Bool) → LeadsOn c set → AreRowsOf c set rows → IsAnswerFor c (Err r)) → (r ≡ NoMemory) ⊎ IsRefused bytes r
+  bounds_refused NoMemory of lengths limit circle lack process answer = inl refl
   bounds_refused LengthNotConstant of lengths limit circle lack process answer = inr (length_stands (lack refl))
   bounds_refused NoProcess of lengths limit circle lack process answer =
       let c = class_exists pool p n codes shape rows are in

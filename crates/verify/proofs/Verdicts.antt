@@ -58,6 +58,32 @@ item_of [] i l = absurd (omega (arith, l))
 item_of (x ∷ xs) zero l = (x, λ d. refl)
 item_of (x ∷ xs) (suc i) l = item_of xs i (omega (arith, l))
 
+-- ---- the instructions
+
+module _ (pool : List Slot) (p : Parts) (n : ℕ) (codes : List CodeParts) (shape : HasGoodShape pool p codes n) (items : List Found) (are_found : AreFound (view_of pool p) codes n (length codes) items) where
+  pub instructions_stand : (r : Refusal) → InstructionsStand pool p r → ⊥
+  instructions_stand r any =
+      let k = any.0 in
+      let m = any.1 in
+      let h = any.4 in
+      let at : slice_get p.methods k ≡ Some m = slice_get-get_or p.methods k m any.2 ∙ ap (λ (x : Member). Some x) any.3 in
+      let i = found_of k m at h.0 in
+      let item = item_of items i.0 i.1 in
+      let f = are_found.each i.0 item.0 i.1 in
+      let there : slice_get codes k ≡ Some f.parts = ap (slice_get codes) (sym (i.2 item.0)) ∙ f.there in
+      let has = zip_at (HasCode pool) p.methods codes k m f.parts shape.codes_are at there in
+      let b = h.1 in
+      let same : b.0 ≡ f.parts = some_is_only pool m f.parts b.0 has (has_some pool m b.0 b.1) in
+      f.good.none_stands r (subst (λ (x : CodeParts). InstructionStands (view_of pool p) x.code r) same b.2)
+    where
+      found_of : (k : ℕ) (m : Member) → slice_get p.methods k ≡ Some m → is_constructor pool m ≡ false → (i : ℕ) × (i < length items) × ((d : Found) → (get_or items i d).number ≡ k)
+      found_of k m e other =
+          let below : k < length codes = (let inside = slice_get_within p.methods k m e in let count = zip_count (HasCode pool) p.methods codes shape.codes_are in omega (arith, inside, count)) in
+          each_has_one (λ (f : Found). f.number) (IsFoundIn (view_of pool p) codes) n (length codes) items are_found k below (λ same.
+          let both : Some m ≡ Some shape.constructor_is.has.0 = sym e ∙ ap (slice_get p.methods) same ∙ shape.constructor_is.is in
+          let it : m ≡ shape.constructor_is.has.0 = cc both in
+          false≢true (sym other ∙ ap (is_constructor pool) it ∙ shape.constructor_is.named))
+
 module _ (pool : List Slot) (p : Parts) (n : ℕ) (codes : List CodeParts) (shape : HasGoodShape pool p codes n) (rows : List Typed) (are : AreTyped pool p n (length codes) rows) where
   abbrev view : ClassView
   view = view_of pool p
@@ -120,32 +146,6 @@ module _ (pool : List Slot) (p : Parts) (n : ℕ) (codes : List CodeParts) (shap
         let same : t.member ≡ m = cc both in
         let one = one_body pool p m b.0 row.environment b.1 row.code b.2 t.tables b.3 (subst (λ (x : Member). IsBody pool p x row.environment row.code t.tables) same t.body) in
         row_stands i.0 item.0 i.1 r (subst (λ (ts : List (List ℕ)). BodyStands view row.environment row.code ts r) one.2 (subst (λ (c : List Placed). BodyStands view row.environment c b.2 r) one.1 (subst (λ (e : Environment). BodyStands view e b.1 b.2 r) one.0 b.4)))
-
-  -- ---- the instructions
-
-  module _ (items : List Found) (are_found : AreFound (view_of pool p) codes n (length codes) items) where
-    pub instructions_stand : (r : Refusal) → InstructionsStand pool p r → ⊥
-    instructions_stand r any =
-        let k = any.0 in
-        let m = any.1 in
-        let h = any.4 in
-        let at : slice_get p.methods k ≡ Some m = slice_get-get_or p.methods k m any.2 ∙ ap (λ (x : Member). Some x) any.3 in
-        let i = found_of k m at h.0 in
-        let item = item_of items i.0 i.1 in
-        let f = are_found.each i.0 item.0 i.1 in
-        let there : slice_get codes k ≡ Some f.parts = ap (slice_get codes) (sym (i.2 item.0)) ∙ f.there in
-        let has = zip_at (HasCode pool) p.methods codes k m f.parts shape.codes_are at there in
-        let b = h.1 in
-        let same : b.0 ≡ f.parts = some_is_only pool m f.parts b.0 has (has_some pool m b.0 b.1) in
-        f.good.none_stands r (subst (λ (x : CodeParts). InstructionStands view x.code r) same b.2)
-      where
-        found_of : (k : ℕ) (m : Member) → slice_get p.methods k ≡ Some m → is_constructor pool m ≡ false → (i : ℕ) × (i < length items) × ((d : Found) → (get_or items i d).number ≡ k)
-        found_of k m e other =
-            let below : k < length codes = (let inside = slice_get_within p.methods k m e in let count = zip_count (HasCode pool) p.methods codes shape.codes_are in omega (arith, inside, count)) in
-            each_has_one (λ (f : Found). f.number) (IsFoundIn (view_of pool p) codes) n (length codes) items are_found k below (λ same.
-            let both : Some m ≡ Some shape.constructor_is.has.0 = sym e ∙ ap (slice_get p.methods) same ∙ shape.constructor_is.is in
-            let it : m ≡ shape.constructor_is.has.0 = cc both in
-            false≢true (sym other ∙ ap (is_constructor pool) it ∙ shape.constructor_is.named))
 
   -- ---- the class
 

@@ -1,7 +1,6 @@
 -- What the functions that judge instructions and types answer.
-use Rattle.std.specs.Prelude.{◌≡◌, ℕ, zero, suc, ◌==◌, List, [], ◌∷◌, ◌++◌, map, All, Some, IsSome, slice_get, if◌then◌else◌}
+use Rattle.std.specs.Prelude.{◌≡◌, ℕ, false, zero, suc, ◌==◌, List, [], ◌∷◌, ◌++◌, map, All, Some, IsSome, slice_get, if◌then◌else◌}
 use Rattle.jtypes.specs.declared.refusal.Refusal.{Refusal}
-use Rattle.jtypes.specs.declared.refusal.Refusal.TheVariants.{NoMemory, UnknownMember, BadDescriptor, BadStackMap, TypeMismatch, FallsOff}
 use Rattle.constpool.specs.Lookup.{Slot}
 use Rattle.classfile.specs.declared.class_file.Member.{Member}
 use Rattle.classfile.specs.declared.class_file.Parts.{Parts}
@@ -17,8 +16,8 @@ use Rattle.typecheck.specs.Calls.{AreCallsOf}
 use Rattle.typecheck.specs.DeclaredPlaces.{ArePlacesOf}
 use Rattle.typecheck.specs.declared.typed.Typed.{Typed}
 use Rattle.verify.specs.declared.instructions.Found.{Found}
-use Rattle.verify.specs.Shape.{HasCode}
-use Rattle.verify.specs.Shaping.{is_named_process}
+use Rattle.verify.specs.Shape.{is_constructor}
+use Rattle.verify.specs.Shaping.{is_named_process, HasGoodMethod}
 use Rattle.verify.specs.Verdict.{InstructionStands, IsBody}
 
 -- ---- elements by the numbers of methods
@@ -49,24 +48,15 @@ pub record IsFoundIn (v : ClassView) (codes : List CodeParts) (f : Found) : Type
 abbrev pub AreFound : ClassView → List CodeParts → (c n : ℕ) → List Found → Type 0
 AreFound v codes c n found = AreNumbered (λ f. f.number) (IsFoundIn v codes) c n found
 
--- ---- refusals that aren't said to stand: for want of memory, of unknown members, and of types
-abbrev pub IsUnsure : Refusal → Type 0
-IsUnsure NoMemory = Unit {0}
-IsUnsure UnknownMember = Unit {0}
-IsUnsure BadDescriptor = Unit {0}
-IsUnsure BadStackMap = Unit {0}
-IsUnsure (TypeMismatch place) = Unit {0}
-IsUnsure FallsOff = Unit {0}
-IsUnsure _ = ⊥
-
 -- ---- types
 
--- a method's member has these parts, of which these are the instructions
+-- a method, not the constructor, whose shape is good has these parts, of which these are the instructions; nothing is wrong with them
 pub record HasInstructionsOf (pool : List Slot) (p : Parts) (number : ℕ) (parts : CodeParts) (code : List Placed) : Type 0 where
   pub member : Member
   pub there : slice_get p.methods number ≡ Some member
-  pub has_code : HasCode pool member parts
-  pub sequence : IsSequence pool 0 parts.code code
+  pub other : is_constructor pool member ≡ false
+  pub shaped : HasGoodMethod pool p member parts
+  pub good : IsGoodCode (view_of pool p) parts.code code
 
 -- a row is of the method with its number, which is well typed
 pub record IsTypedRow (pool : List Slot) (p : Parts) (t : Typed) : Type 0 where

@@ -8,10 +8,10 @@ ghost use Rattle.classfile.specs.declared.class_file.Parts.{Parts};
 ghost use Rattle.classfile.specs.Class.{class_file};
 ghost use Rattle.classfile.specs.View.{view_of};
 ghost use Rattle.bounds.specs.Limits.{IsWithinLimits};
-ghost use Rattle.std.specs.List.{AllZip};
-ghost use Rattle.verify.specs.Shape.{HasCode, ShapeStands};
-ghost use Rattle.verify.specs.Judging.{AreFound, AreTyped, HasInstructionsOf, IsTypedRow, IsUnsure};
-ghost use Rattle.verify.specs.Verdict.{IsAccepted, IsClassFile, IsClassOf, IsRefused};
+ghost use Rattle.verify.specs.Shape.{ShapeStands};
+ghost use Rattle.verify.specs.Shaping.{HasGoodShape};
+ghost use Rattle.verify.specs.Judging.{AreFound, AreTyped, HasInstructionsOf, IsTypedRow};
+ghost use Rattle.verify.specs.Verdict.{IsAccepted, IsClassFile, IsClassOf, IsRefused, TypesStand};
 ghost use Rattle.verify.specs.Judged.{IsJudgedAs, NumbersRise, row_in, process_row};
 ghost use Rattle.typecheck.specs.Typing.{Class, IsProcessOf};
 ghost use Rattle.bounds.specs.Paths.{AreBounds};
@@ -95,7 +95,7 @@ fn judge_method(
     requires { HasInstructionsOf class.now.pool class.now.parts number parts.now code }
     ensures number { IfOk result (λ t. t.number ≡ number) }
     ensures row { IfOk result (λ t. IsTypedRow class.now.pool class.now.parts t) }
-    ensures err { IfErr result IsUnsure }
+    ensures err { IfErr result (λ r. (r ≡ Refusal.NoMemory) ⊎ TypesStand class.now.pool class.now.parts r) }
 {
     let view = class.view();
     let Some(method) = view.method(number) else {
@@ -130,10 +130,10 @@ fn judge_types(
     found: Vec<Found>,
     constructor: usize,
 ) -> Result<Vec<Typed>, Refusal>
-    requires codes { AllZip (HasCode class.now.pool) class.now.parts.methods codes.now }
+    requires shape { HasGoodShape class.now.pool class.now.parts codes.now constructor }
     requires found { AreFound (view_of class.now.pool class.now.parts) codes.now constructor (length codes.now) found.items }
     ensures ok { IfOk result (λ rows. AreTyped class.now.pool class.now.parts constructor (length codes.now) rows.items) }
-    ensures err { IfErr result IsUnsure }
+    ensures err { IfErr result (λ r. (r ≡ Refusal.NoMemory) ⊎ TypesStand class.now.pool class.now.parts r) }
 {
     let mut methods = Vec::new(alloc);
     for Found { number, code } in found {
@@ -162,9 +162,8 @@ pub fn verify(alloc: Global, bytes: &[u8]) -> Result<Verified, Refusal>
     ensures shaped { IfOk result (λ v. (r : Refusal) → ShapeStands v.pool v.parts r → ⊥) }
     ensures limits { IfOk result (λ v. IsWithinLimits v.bounds) }
 
-    // A refusal that is answered stands. This isn't said of want of memory, of a descriptor, of instructions and members
-    // beyond those of today, and of types.
-    ensures refused { IfErr result (λ r. IsUnsure r ⊎ IsRefused bytes.now r) }
+    // A refusal that is answered stands, but for want of memory.
+    ensures refused { IfErr result (λ r. (r ≡ Refusal.NoMemory) ⊎ IsRefused bytes.now r) }
 
     // Where something refuses the layout, it is a refusal of the layout that is answered.
     ensures layout { (q : Refusal) → Stands (class_file (length bytes.now)) bytes.now q → IfErr result (λ r. (r ≡ Refusal.NoMemory) ⊎ Stands (class_file (length bytes.now)) bytes.now r) }

@@ -1,15 +1,14 @@
-use Rattle.std.proofs.Common.{rules, ◌≡◌, List, map, Some, Ok, Err, subst, ◌∙◌, ap}
-use Rattle.jtypes.specs.declared.refusal.Refusal.TheVariants.{TypeMismatch, FallsOff}
+use Rattle.std.proofs.Common.{◌≡◌, List, map, Some, Ok, subst}
 use Rattle.decode.specs.Reading.{RisesFrom}
 use Rattle.frames.specs.declared.table.Declared.{Declared}
 use Rattle.frames.specs.Frames.{first_frame}
 use Rattle.frames.specs.Seen.{declared_seen}
 use Rattle.typecheck.specs.Mismatch.{LacksFrame}
 use Rattle.typecheck.specs.Seen.{method_seen, passed}
-use Rattle.typecheck.proofs.PassAnswers.{ready_of, well_typed, mismatch, falls_off_end}
+use Rattle.typecheck.proofs.PassAnswers.{ready_of, well_typed}
 use Rattle.std.proofs.lemmas.Result.{err_from_is_err_and}
 use Rattle.typecheck.proofs.PlacesMade.{starts}
-use Rattle.typecheck.proofs.Refusals.{pass_refuses}
+use Rattle.typecheck.proofs.Refusals.{frame_refused, pass_refused}
 use Rattle.typecheck.proofs.check.check_method.Goals as goal
 
 pub returns-clause-typed : goal.returns-clause-typed
@@ -25,40 +24,29 @@ returns-clause-typed c =
     let passes = subst (λ (ds : List Declared). passed v e (declared_seen ds) 0 (Some (first_frame e)) code ≡ Ok tt) c.deref-2.ensures.value c.in_ok-pass.ensures.ok in
     (declared_seen items, found.ensures.declared, well_typed v (method_seen e code items) ready passes)
 
-pub returns-in_err-pass-clause-mismatch : goal.returns-in_err-pass-clause-mismatch
-returns-in_err-pass-clause-mismatch c = λ place f.
-    let v = c.args.view.now in
-    let e = c.args.environment in
-    let code = c.args.code in
-    let found = c.in_ok-declared in
-    let items = found.declared.items in
-    let rises = subst (RisesFrom 0) c.code.view_is c.code.invariant in
-    let whole = subst (λ (ds : List Declared). LacksFrame (method_seen e code ds) → ⊥) c.deref.ensures.value (c.lacks_frame.ensures.none c.if-lacks_frame.false e) in
-    let ready = ready_of v e code (map (λ t. t.now) c.args.tables.now) items rises found.ensures.declared whole in
-    let answer : c.in_err-pass.field-0.0 ≡ TypeMismatch place = search rules in
-    let passes = subst (λ (ds : List Declared). passed v e (declared_seen ds) 0 (Some (first_frame e)) code ≡ Err (TypeMismatch place)) c.deref-2.ensures.value (c.in_err-pass.ensures.err (λ n. cc (answer, n)) ∙ ap Err answer) in
-    (declared_seen items, found.ensures.declared, mismatch v (method_seen e code items) ready place passes)
-
-pub returns-in_err-pass-clause-falls : goal.returns-in_err-pass-clause-falls
-returns-in_err-pass-clause-falls c = λ f.
-    let v = c.args.view.now in
-    let e = c.args.environment in
-    let code = c.args.code in
-    let found = c.in_ok-declared in
-    let items = found.declared.items in
-    let rises = subst (RisesFrom 0) c.code.view_is c.code.invariant in
-    let whole = subst (λ (ds : List Declared). LacksFrame (method_seen e code ds) → ⊥) c.deref.ensures.value (c.lacks_frame.ensures.none c.if-lacks_frame.false e) in
-    let ready = ready_of v e code (map (λ t. t.now) c.args.tables.now) items rises found.ensures.declared whole in
-    let answer : c.in_err-pass.field-0.0 ≡ FallsOff = search rules in
-    let passes = subst (λ (ds : List Declared). passed v e (declared_seen ds) 0 (Some (first_frame e)) code ≡ Err FallsOff) c.deref-2.ensures.value (c.in_err-pass.ensures.err (λ n. cc (answer, n)) ∙ ap Err answer) in
-    falls_off_end v (method_seen e code items) ready passes
-
 pub returns-clause-starts : goal.returns-clause-starts
 returns-clause-starts c =
     let rises = subst (RisesFrom 0) c.code.view_is c.code.invariant in
     starts c.args.view.now c.args.environment (declared_seen c.deref-2.result.now) (first_frame c.args.environment) c.args.code rises c.in_ok-pass.ensures.ok
 
-pub returns-in_err-pass-clause-refusal : goal.returns-in_err-pass-clause-refusal
-returns-in_err-pass-clause-refusal c =
+pub returns-then-lacks_frame-clause-refused : goal.returns-then-lacks_frame-clause-refused
+returns-then-lacks_frame-clause-refused c =
+    let v = c.args.view.now in
+    let e = c.args.environment in
+    let code = c.args.code in
+    let found = c.in_ok-declared in
+    let lacks = subst (λ (ds : List Declared). LacksFrame (method_seen e code ds)) c.deref.ensures.value (c.lacks_frame.ensures.some c.if-lacks_frame.true e) in
+    frame_refused v e code (map (λ t. t.now) c.args.tables.now) found.declared.items found.ensures.declared lacks
+
+pub returns-in_err-pass-clause-refused : goal.returns-in_err-pass-clause-refused
+returns-in_err-pass-clause-refused c =
+    let v = c.args.view.now in
+    let e = c.args.environment in
+    let code = c.args.code in
+    let found = c.in_ok-declared in
+    let items = found.declared.items in
+    let rises = subst (RisesFrom 0) c.code.view_is c.code.invariant in
+    let whole = subst (λ (ds : List Declared). LacksFrame (method_seen e code ds) → ⊥) c.deref.ensures.value (c.lacks_frame.ensures.none c.if-lacks_frame.false e) in
+    let fails = rw c.deref-2.ensures.value at c.in_err-pass.ensures.err in
     let p = err_from_is_err_and c.from_residual-in_err-pass.result c.from_residual-in_err-pass.ensures.1 in
-    rw (p.1, p.2) (pass_refuses c.args.view.now c.args.environment (declared_seen c.deref-2.result.now) 0 (Some (first_frame c.args.environment)) c.args.code c.in_err-pass.field-0.0 c.in_err-pass.ensures.err)
+    rw (p.1, p.2) (pass_refused v e code (map (λ t. t.now) c.args.tables.now) items found.ensures.declared rises whole c.in_err-pass.field-0.0 fails)

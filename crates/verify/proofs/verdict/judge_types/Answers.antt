@@ -1,4 +1,4 @@
-use Rattle.std.proofs.Common.{sym, ap, ◌∙◌, ◌∷◌, [], Some, length, arith}
+use Rattle.std.proofs.Common.{List, map, ◌++◌, sym, ap, ◌∙◌, ◌∷◌, [], Some, length, arith}
 use Rattle.std.specs.Vec.Iter.{into_iter_items}
 use Rattle.std.proofs.lemmas.Option.{slice_get-get_or, slice_get_within}
 use Rattle.std.proofs.lemmas.List.Elements.{All-append}
@@ -6,7 +6,9 @@ use Rattle.classfile.specs.View.{view_of}
 use Rattle.classfile.specs.declared.class_file.CodeParts.{CodeParts}
 use Rattle.verify.specs.Judging.{IsFoundIn, IsTypedRow, numbers_but}
 use Rattle.verify.proofs.Judged.{has_instructions, first_of, rest_of, row_added, nothing_left, all_rows}
-use Rattle.verify.proofs.Numbered.{one_all}
+use Rattle.verify.proofs.Numbered.{one_all, rest_other}
+use Rattle.verify.specs.declared.instructions.Found.{Found}
+use Rattle.typecheck.specs.declared.typed.Typed.{Typed}
 use Rattle.verify.proofs.verdict.judge_types.Goals as goal
 
 pub judge_method-requires : goal.judge_method-requires
@@ -16,7 +18,9 @@ judge_method-requires c =
     let f = c.in-Some.field-0 in
     let parts = c.index-codes-number.result in
     let found = first_of (IsFoundIn (view_of pool p) c.args.codes.now) (into_iter_items c.loop-number.number-iterator) _ f c.loop-number.invariant.rest c.in-Some.ensures.steps.0 in
-    has_instructions pool p c.args.codes.now f parts c.requires.codes found (slice_get-get_or c.args.codes.now f.number parts (slice_get_within c.args.codes.now f.number found.parts found.there) ∙ ap (λ (x : CodeParts). Some x) (sym c.index-codes-number.is))
+    let numbers = ap (λ (l : List Found). map (λ (t : Typed). t.number) c.loop-number.methods.items ++ map (λ (f : Found). f.number) l) (sym c.in-Some.ensures.steps.0) ∙ c.loop-number.invariant.numbers in
+    let other = rest_other c.args.constructor (length c.args.codes.now) (map (λ (t : Typed). t.number) c.loop-number.methods.items) f.number _ numbers in
+    has_instructions pool p c.args.constructor c.args.codes.now f parts c.requires.shape found (slice_get-get_or c.args.codes.now f.number parts (slice_get_within c.args.codes.now f.number found.parts found.there) ∙ ap (λ (x : CodeParts). Some x) (sym c.index-codes-number.is)) other
 
 pub loop-number-preserved : goal.loop-number-preserved
 loop-number-preserved c =

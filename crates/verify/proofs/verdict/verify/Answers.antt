@@ -1,7 +1,7 @@
 use Rattle.std.proofs.Common.{length, ap, Err}
 use Rattle.jtypes.specs.declared.refusal.Refusal.{Refusal}
 use Rattle.verify.specs.Verdict.{IsClassFile}
-use Rattle.verify.proofs.Refused.{shape_refused, instructions_refused, bounds_refused}
+use Rattle.verify.proofs.Refused.{shape_refused, instructions_refused, types_refused, bounds_refused}
 use Rattle.std.proofs.lemmas.Result.{err_from_is_err_and}
 use Rattle.classfile.specs.View.{view_of}
 use Rattle.verify.specs.Judging.{AreFound, AreTyped}
@@ -96,6 +96,18 @@ returns-in_err-instructions-clause-refused c =
     let e = err_from_is_err_and c.from_residual-in_err-instructions.result c.from_residual-in_err-instructions.ensures.1 in
     let file : IsClassFile c.args.bytes.now c.in_ok-class.class.pool c.in_ok-class.class.parts = record { laid_out = c.in_ok-class.ensures.found; none_stands = c.in_ok-class.ensures.accepted } in
     rw (e.1, e.2) (instructions_refused c.args.bytes.now c.in_ok-class.class.pool c.in_ok-class.class.parts c.in_ok-shape.shape.constructor c.in_ok-shape.shape.codes.items c.in_err-instructions.field-0.0 file c.in_ok-shape.ensures c.in_err-instructions.ensures.err)
+
+pub returns-in_err-methods-clause-refused : goal.returns-in_err-methods-clause-refused
+returns-in_err-methods-clause-refused c =
+    let pool = c.in_ok-class.class.pool in
+    let p = c.in_ok-class.class.parts in
+    let n = c.in_ok-shape.shape.constructor in
+    let codes = c.in_ok-shape.shape.codes.items in
+    let items = c.in_ok-instructions.instructions.items in
+    let found : AreFound (view_of pool p) codes n (length codes) items = rw c.deref.ensures.value at c.in_ok-instructions.ensures.ok in
+    let file : IsClassFile c.args.bytes.now pool p = record { laid_out = c.in_ok-class.ensures.found; none_stands = c.in_ok-class.ensures.accepted } in
+    let e = err_from_is_err_and c.from_residual-in_err-methods.result c.from_residual-in_err-methods.ensures.1 in
+    rw (e.1, e.2) (types_refused c.args.bytes.now pool p n codes items c.in_err-methods.field-0.0 file c.in_ok-shape.ensures found c.in_err-methods.ensures.err)
 
 pub returns-in_err-bounds-clause-refused : goal.returns-in_err-bounds-clause-refused
 returns-in_err-bounds-clause-refused c =
