@@ -1,1 +1,4 @@
-pub mod Laws
+pub mod ArrayReads
+pub mod ArrayWrites
+pub mod Placing
+pub mod Words

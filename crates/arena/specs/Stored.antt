@@ -1,20 +1,57 @@
--- How an arena stores its arrays.
-use Rattle.std.specs.Prelude.{ℕ, ◌+◌, ◌≤◌, ◌<◌, ◌^◌, map}
-use Rattle.std.specs.Vec.{vec_len, vec_capacity}
+-- How an arena stores its arrays: each as its header and then its elements, one array behind the other.
+use Rattle.std.specs.Prelude.{◌≡◌, ℕ, zero, suc, ◌+◌, ◌-◌, ◌*◌, ◌/◌, ◌%◌, ◌^◌, ◌<◌, ◌≤◌, ◌==◌, if◌then◌else◌, List, [], ◌∷◌, ◌++◌, length, map, take, drop, ℤ, FitsSigned}
+use Rattle.std.specs.Int.{w64, cast_signed, cast_unsigned}
+use Rattle.jtypes.specs.declared.operations.ArrayKind.{ArrayKind}
+use Rattle.jtypes.specs.declared.operations.ArrayKind.TheVariants as array
+use Rattle.jtypes.specs.Values.{Array, Arrays}
 use Rattle.arena.specs.declared.arena.Arena.TheInside.{Inside}
 use Rattle.arena.specs.Held.{Held}
-use Rattle.arena.specs.Place.{array_at, FollowOneAnother}
+use Rattle.arena.specs.Placing.{FitsElement}
+
+-- a header: the length, and in the lowest bit the kind
+abbrev pub header_of : ArrayKind → ℕ → ℕ
+header_of array.Int n = n * 2
+header_of array.Long n = n * 2 + 1
+
+abbrev pub length_in : ℕ → ℕ
+length_in header = header / 2
+
+abbrev pub kind_in : ℕ → ArrayKind
+kind_in header = if header % 2 == 0 then array.Int else array.Long
+
+-- an array as words
+abbrev pub words_for : Array → List ℕ
+words_for a = header_of a.kind (length a.items) ∷ map (cast_unsigned w64) a.items
+
+-- arrays as words
+abbrev pub all_words : Arrays → List ℕ
+all_words [] = []
+all_words (a ∷ arrays) = words_for a ++ all_words arrays
+
+-- the arrays that words stand for, of which there are so many at most
+abbrev pub arrays_in : ℕ → List ℕ → Arrays
+arrays_in zero words = []
+arrays_in (suc n) [] = []
+arrays_in (suc n) (header ∷ words) = record { kind = kind_in header; items = map (cast_signed w64) (take (length_in header) words) } ∷ arrays_in n (drop (length_in header) words)
+
+abbrev pub arrays_of : Inside → Arrays
+arrays_of a = arrays_in (length a.words.items) a.words.items
 
 abbrev pub held_in : Inside → Held
-held_in a = record { arrays = map (array_at a.elements.items) a.placed.items; words_left = a.words_left }
+held_in a = record { arrays = arrays_of a; words_left = a.words.capacity - length a.words.items }
 
--- all words: a word for each array, those of the elements, and those that are left
-abbrev pub all_words : Inside → ℕ
-all_words a = vec_len a.placed + vec_len a.elements + a.words_left
+-- each number fits a word, and the kind of its array
+abbrev pub ElementsFit : ArrayKind → List ℤ → Type 0
+ElementsFit kind [] = Unit {0}
+ElementsFit kind (n ∷ items) = FitsSigned w64 n × FitsElement kind n × ElementsFit kind items
 
--- the elements are those of the arrays alone, and both vectors have room for all words
+abbrev pub AllElementsFit : Arrays → Type 0
+AllElementsFit [] = Unit {0}
+AllElementsFit (a ∷ arrays) = ElementsFit a.kind a.items × AllElementsFit arrays
+
+-- the words are those of the arrays alone, and they have room
 pub record IsStored (a : Inside) : Type 0 where
-  pub in_turn : FollowOneAnother 0 a.placed.items (vec_len a.elements)
-  pub few : all_words a < 2 ^ 32
-  pub room_for_arrays : all_words a ≤ vec_capacity a.placed
-  pub room_for_elements : all_words a ≤ vec_capacity a.elements
+  pub words : a.words.items ≡ all_words (arrays_of a)
+  pub elements : AllElementsFit (arrays_of a)
+  pub room : length a.words.items ≤ a.words.capacity
+  pub few : a.words.capacity < 2 ^ 32

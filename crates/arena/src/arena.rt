@@ -1,14 +1,16 @@
 //! The arrays of one invocation, in memory that is taken once.
 
-ghost use Rattle.std.specs.Prelude.{◌≡◌, ◌+◌, ◌<◌, ◌∷◌, ◌++◌, [], ◌↔◌, length, IsErr, IsTrue, IfOk, OnOk, OnErr, IfSome, is_some, slice_get, if◌then◌else◌};
+ghost use Rattle.std.specs.Prelude.{◌≡◌, ◌+◌, ◌<◌, ◌∷◌, ◌++◌, [], ◌↔◌, ℕ, ℤ, length, IsErr, IfOk, OnOk, OnErr, is_some, Some, slice_get, if◌then◌else◌};
 ghost use Rattle.std.specs.Option.{ok_or};
 ghost use Rattle.jtypes.specs.declared.types.JavaFault.TheVariants.{ArrayIndexOutOfBounds};
 ghost use Rattle.jtypes.specs.Lists.{change};
-ghost use Rattle.jtypes.specs.Values.{new_array, words_of, item_at};
+ghost use Rattle.jtypes.specs.Values.{Array, new_array, words_of, item_at};
 ghost use Rattle.arena.specs.Held.{Held, words_taken, with_element};
+ghost use Rattle.arena.specs.Placing.{place_of, element_place, IsArrayAt, AtArray, FitsElement};
 
-use crate::placed::Placed;
+use crate::header::{header_of, kind_in, length_in, unsigned};
 use jtypes::{ArrayId, ArrayKind, JavaFault};
+use rawwords::RawWords;
 use std::alloc::{AllocError, Global};
 use std::marker::Model;
 
@@ -19,12 +21,11 @@ pub struct WordsFull;
 /// The arrays of one invocation, which are given up together.
 ///
 /// The words of an arena are a bound of this project's own: an array takes one for each element,
-/// and one for itself. All memory is taken by `new`, so that no other call can want for any.
+/// and one for itself. All memory is taken by `new`, so that no other call can want for any. An
+/// array's id is the place of its first word, and is good until the next `reset`.
 #[derive(Drop)]
 pub struct Arena {
-    placed: Vec<Placed>,
-    elements: Vec<i64>,
-    words_left: u32,
+    words: RawWords,
 }
 
 impl Model for Arena {
@@ -44,91 +45,104 @@ impl Arena {
     pub fn new(alloc: Global, words: u32) -> Result<Arena, AllocError>
         ensures { IfOk result (λ arena. arena ≡ record { arrays = []; words_left = words }) }
     {
-        let placed = Vec::with_capacity(alloc, words as usize)?;
-        let elements = Vec::with_capacity(alloc, words as usize)?;
-        Ok(Arena {
-            placed,
-            elements,
-            words_left: words,
-        })
+        let words = RawWords::new(alloc, words)?;
+        Ok(Arena { words })
     }
 
-    /// Makes an array of zeros (JVMS 6.5, newarray), and answers its number.
+    /// Makes an array of zeros (JVMS 6.5, newarray), and answers the place where it begins.
     ///
     /// It is refused exactly where its `n + 1` words do not fit.
     pub fn alloc(&mut self, kind: ArrayKind, n: u32) -> Result<ArrayId, WordsFull>
         ensures refused { IsErr result ↔ (self.old.words_left < words_of n) }
-        ensures id { IfOk result (λ id. id ≡ length self.old.arrays) }
+        ensures id { IfOk result (λ id. id ≡ place_of self.new.arrays (length self.old.arrays)) }
+        ensures stands { IfOk result (λ id. IsArrayAt self.new.arrays (length self.old.arrays) id) }
         ensures arrays { OnOk result (self.new.arrays ≡ self.old.arrays ++ new_array kind n ∷ []) }
         ensures words { OnOk result (self.new.words_left + words_of n ≡ self.old.words_left) }
         ensures err { OnErr result (self.new ≡ self.old) }
     {
-        if n >= self.words_left {
+        let id = self.words.len();
+        if n >= self.words.capacity() - id {
             return Err(WordsFull);
         }
-        let id = self.placed.len();
-        let start = self.elements.len();
-        let placed = Placed {
-            kind,
-            start: start as u32,
-            count: n,
-        };
-        self.placed.push(placed).unwrap();
-        self.elements.resize(start + n as usize, 0).unwrap();
-        self.words_left -= n + 1;
-        Ok(id as u32)
-    }
-
-    /// Whether an array has this number.
-    pub fn holds(&self, id: ArrayId) -> bool
-        ensures { IsTrue result ↔ (id < length self.now.arrays) }
-    {
-        (id as usize) < self.placed.len()
+        self.words.append_zeros(n + 1);
+        self.words.set(id, header_of(kind, n));
+        Ok(id)
     }
 
     /// The element at an index, or the fault of an index outside (JVMS 6.5, iaload and laload).
+    #[inline]
     pub fn get(&self, id: ArrayId, index: i32) -> Result<i64, JavaFault>
-        requires { id < length self.now.arrays }
-        ensures { IfSome (slice_get self.now.arrays id) (λ a. result ≡ ok_or (item_at a.items index) ArrayIndexOutOfBounds) }
+        requires { (k : ℕ) × IsArrayAt self.now.arrays k id }
+        ensures item { AtArray self.now.arrays id
+            (λ k a. result ≡ ok_or (item_at a.items index) ArrayIndexOutOfBounds) }
+        ensures element { AtArray self.now.arrays id (λ k a. (n : ℤ) → result ≡ Ok n → FitsElement a.kind n) }
     {
-        match self.placed[id as usize].place_of(index) {
-            Some(place) => Ok(self.elements[place]),
+        match self.element_place(id, index) {
+            Some(place) => Ok(self.words.get(place).cast_signed()),
             None => Err(JavaFault::ArrayIndexOutOfBounds),
         }
     }
 
     /// Changes the element at an index, or answers the fault of an index outside (JVMS 6.5,
     /// iastore and lastore).
+    #[inline]
     pub fn set(&mut self, id: ArrayId, index: i32, value: i64) -> Result<(), JavaFault>
-        requires { id < length self.old.arrays }
-        ensures answer { IfSome (slice_get self.old.arrays id) (λ a. result ≡ (if is_some (item_at a.items index) then Ok tt else Err ArrayIndexOutOfBounds)) }
+        requires { (k : ℕ) × (a : Array) × IsArrayAt self.old.arrays k id × (slice_get self.old.arrays k ≡ Some a) × FitsElement a.kind value }
+        ensures answer { AtArray self.old.arrays id
+            (λ k a. result ≡ (if is_some (item_at a.items index) then Ok tt else Err ArrayIndexOutOfBounds)) }
         ensures count { length self.new.arrays ≡ length self.old.arrays }
-        ensures ok { OnOk result (self.new ≡ record self.old { arrays = change (with_element index value) self.old.arrays id }) }
+        ensures ok { AtArray self.old.arrays id
+            (λ k a. OnOk result (self.new.arrays ≡ change (with_element index value) self.old.arrays k)) }
         ensures err { OnErr result (self.new ≡ self.old) }
+        ensures words { self.new.words_left ≡ self.old.words_left }
     {
-        match self.placed[id as usize].place_of(index) {
+        match self.element_place(id, index) {
             Some(place) => {
-                self.elements[place] = value;
+                self.words.set(place, value.cast_unsigned());
                 Ok(())
             }
             None => Err(JavaFault::ArrayIndexOutOfBounds),
         }
     }
 
-    /// How many elements an array has (JVMS 6.5, arraylength).
-    pub fn length(&self, id: ArrayId) -> u32
-        requires { id < length self.now.arrays }
-        ensures { IfSome (slice_get self.now.arrays id) (λ a. result ≡ length a.items) }
+    /// The place of the element at an index, if the index lies inside.
+    #[inline]
+    fn element_place(&self, id: ArrayId, index: i32) -> Option<u32>
+        requires { (k : ℕ) × IsArrayAt self.now.arrays k id }
+        ensures { AtArray self.now.arrays id (λ k a. result ≡ element_place id a index) }
     {
-        self.placed[id as usize].count
+        let index = unsigned(index);
+        if index < length_in(self.words.get(id)) {
+            Some(id + 1 + index as u32)
+        } else {
+            None
+        }
+    }
+
+    /// How many elements an array has (JVMS 6.5, arraylength).
+    #[inline]
+    pub fn length(&self, id: ArrayId) -> u32
+        requires { (k : ℕ) × IsArrayAt self.now.arrays k id }
+        ensures count { AtArray self.now.arrays id (λ k a. result ≡ length a.items) }
+        ensures below { result < words_taken self.now.arrays }
+    {
+        length_in(self.words.get(id)) as u32
     }
 
     /// What the elements of an array are.
+    #[inline]
     pub fn kind(&self, id: ArrayId) -> ArrayKind
-        requires { id < length self.now.arrays }
-        ensures { IfSome (slice_get self.now.arrays id) (λ a. result ≡ a.kind) }
+        requires { (k : ℕ) × IsArrayAt self.now.arrays k id }
+        ensures { AtArray self.now.arrays id (λ k a. result ≡ a.kind) }
     {
-        self.placed[id as usize].kind
+        kind_in(self.words.get(id))
+    }
+
+    /// How many words are left for further arrays.
+    pub fn words_left(&self) -> u32
+        ensures { result ≡ self.now.words_left }
+    {
+        self.words.capacity() - self.words.len()
     }
 
     /// Gives up all arrays and keeps the memory, so that all words are left again.
@@ -136,8 +150,6 @@ impl Arena {
         ensures arrays { self.new.arrays ≡ [] }
         ensures words { self.new.words_left ≡ self.old.words_left + words_taken self.old.arrays }
     {
-        self.words_left += self.placed.len() as u32 + self.elements.len() as u32;
-        self.placed.clear();
-        self.elements.clear();
+        self.words.clear();
     }
 }

@@ -2,7 +2,7 @@
 #![tactic(auto)]
 
 mod arena;
-mod placed;
+mod header;
 #[cfg(test)]
 mod tests;
 

@@ -29,8 +29,8 @@ use Rattle.frames.specs.StackMap.{Listed, table, frames_from, declared_of}
 use Rattle.transfer.specs.Transfer.{transfer}
 use Rattle.typecheck.specs.Typing.{Method, Class, call_of, number_of_process}
 use Rattle.bounds.specs.Paths.{Cost, last_cost, after_one, after_call, words_at, step_limit, word_limit, slot_limit, depth_limit}
-use Rattle.verify.specs.Shape.{reserved_names, has_other_kind, is_constructor, slots_taken, object_init}
-use Rattle.verify.specs.Verdict.{is_known}
+use Rattle.verdict.specs.Shape.{reserved_names, has_other_kind, is_constructor, slots_taken, object_init}
+use Rattle.verdict.specs.Verdict.{is_known}
 use Rattle.examples.specs.Plain.{placed, all_read, environment_of, the_method, class_in}
 
 -- ---- layouts

@@ -20,8 +20,8 @@ use Rattle.frames.specs.declared.frame.Frame.{Frame}
 use Rattle.frames.specs.declared.frame.Environment.{Environment}
 use Rattle.frames.specs.StackMap.{table, frames_from, declared_of}
 use Rattle.typecheck.specs.Typing.{Method, Class}
-use Rattle.verify.specs.Machine.{Invocation, Final, start}
-use Rattle.verify.specs.Meaning.{run}
+use Rattle.verdict.specs.Machine.{Invocation, Final, start}
+use Rattle.verdict.specs.Meaning.{run}
 
 -- what a reading gave, if it took all the bytes
 abbrev pub all_read : {A : Type 0} → Result (A × List ℕ) Refusal → Option A

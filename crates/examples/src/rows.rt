@@ -3,9 +3,9 @@
 ghost use Rattle.std.specs.Prelude.{◌≡◌, ℕ, List};
 ghost use Rattle.jtypes.specs.declared.refusal.Refusal.{Refusal};
 ghost use Rattle.typecheck.specs.Typing.{Class};
-ghost use Rattle.verify.specs.Verdict.{IsRefused, IsAccepted, IsClassOf};
-ghost use Rattle.verify.specs.Promise.{TypeSoundness, AcceptedIsChecked, AcceptedIsOrdered};
-ghost use Rattle.verify.specs.Sound.{SoundnessOfClasses};
+ghost use Rattle.verdict.specs.Verdict.{IsRefused, IsAccepted, IsClassOf};
+ghost use Rattle.verdict.specs.Promise.{TypeSoundness, AcceptedIsChecked, AcceptedIsOrdered};
+ghost use Rattle.verdict.specs.Sound.{SoundnessOfClasses};
 ghost use Rattle.examples.specs.Plain.{class_of};
 ghost use Rattle.examples.specs.Judge.{judge};
 ghost use Rattle.examples.specs.Rows.{checked};

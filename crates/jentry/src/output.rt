@@ -4,8 +4,8 @@ ghost use Rattle.std.specs.Prelude.{◌≡◌};
 ghost use Rattle.jtypes.specs.Entry.{after_effect};
 
 use crate::files::FileFault;
-use jtypes::{Arg, Effect, Refusal};
-use machine::{Done, Ending};
+use jtypes::{Arg, Effect, Outcome, Refusal};
+use machine::Done;
 use std::alloc::{AllocError, Global};
 use thiserror::Error;
 use verify::Bounds;
@@ -20,8 +20,6 @@ pub const REFUSED: u8 = 2;
 pub const OTHER: u8 = 3;
 /// Of a run that throws.
 pub const THREW: u8 = 4;
-/// Of a run that meets a fault of the machine's own.
-pub const FAULT: u8 = 5;
 
 /// Why a command was not done.
 #[derive(Clone, Copy, Debug, PartialEq, Eq, Error)]
@@ -121,29 +119,21 @@ fn entry_text(alloc: Global, entry: Option<i64>) -> Result<String, AllocError> {
 }
 
 /// The first line of a run, and the status.
-fn outcome(alloc: Global, outcome: Ending) -> Result<Answer, AllocError> {
+fn outcome(alloc: Global, outcome: Outcome) -> Result<Answer, AllocError> {
     match outcome {
-        Ending::Returned(value) => {
+        Outcome::Returned(value) => {
             let text = result_text(alloc, value)?;
             Ok(Answer {
                 text: format!(in alloc; "result {text}\n")?,
                 status: OK,
             })
         }
-        Ending::Threw(fault) => {
+        Outcome::Threw(fault) => {
             let number = fault.number();
             let name = fault.name();
             Ok(Answer {
                 text: format!(in alloc; "threw {number} {name}\n")?,
                 status: THREW,
-            })
-        }
-        Ending::Fault(fault) => {
-            let number = fault.number();
-            let name = fault.name();
-            Ok(Answer {
-                text: format!(in alloc; "fault {number} {name}\n")?,
-                status: FAULT,
             })
         }
     }

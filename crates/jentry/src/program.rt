@@ -9,8 +9,8 @@ use std::alloc::{AllocError, Global};
 use std::io::{Read, Write};
 use verify::{Verified, verify};
 
-/// The bytes of a class file, judged.
-fn judge<'a>(
+/// The class of a file, verified.
+fn verified<'a>(
     alloc: Global,
     files: &impl Files,
     file: &'a str,
@@ -29,7 +29,7 @@ fn answer<'a>(
     files: &impl Files,
 ) -> Result<Answer, Failure<'a>> {
     match request {
-        Request::Check { file } => match judge(alloc, files, file)? {
+        Request::Check { file } => match verified(alloc, files, file)? {
             Ok(class) => Ok(accepted(alloc, class.bounds())?),
             Err(refusal) => Ok(refused(alloc, refusal)?),
         },
@@ -38,7 +38,7 @@ fn answer<'a>(
             key,
             before,
             args,
-        } => match judge(alloc, files, file)? {
+        } => match verified(alloc, files, file)? {
             Ok(class) => {
                 let mut workspace = Workspace::new(alloc)?;
                 let done = run(&class, *key, *before, args, &mut workspace);

@@ -1,6 +1,10 @@
-pub mod Cut
-pub mod Seen
-pub mod Answered
-pub mod Taken
-pub mod Turned
-pub mod Entered
+pub mod Holds
+pub mod Operated
+pub mod Plain
+pub mod Acts
+pub mod Ended
+pub mod Entering
+pub mod Turns
+pub mod Running
+pub mod Elements
+pub mod Replies

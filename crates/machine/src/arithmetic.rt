@@ -1,28 +1,21 @@
 //! Operations on ints and longs (JVMS §2.11.3, §2.11.4 and §6.5).
 
-ghost use Rattle.std.specs.Prelude.{◌≡◌, List, ◌∷◌, true, false};
-ghost use Rattle.std.specs.Int.{w32, w64};
+ghost use Rattle.std.specs.Prelude.{◌≡◌, ◌≢◌, ◌∷◌, ◌+◌, ℤ, List, Option, Some, None, pos};
+ghost use Rattle.std.specs.Int.{w8, w16, w32, w64, cast_signed, cast_unsigned, int_wrapping_neg};
+ghost use Rattle.std.specs.Prelude.{◌%◌, ◌^◌};
 ghost use Rattle.jtypes.specs.declared.types.Value.{Value};
-ghost use Rattle.jtypes.specs.Arithmetic.{binary, divided, shift, int_count, long_count, low_int, converted, order, operate};
-ghost use Rattle.typecheck.specs.Typing.{Class};
-ghost use Rattle.verify.specs.Machine.{Activation, after_answer};
-ghost use Rattle.machine.specs.Seen.{seen, top_of, callers_of, Told};
-ghost use Rattle.machine.specs.Answered.{answered, takes_one};
+ghost use Rattle.jtypes.specs.declared.types.Value.TheVariants.{Int, Long};
+ghost use Rattle.jtypes.specs.declared.operations.Operation.TheVariants.{OnInts, OnLongs, NegateInt, NegateLong, ShiftInt, ShiftLong, Convert, CompareLongs};
+ghost use Rattle.jtypes.specs.Values.{Arrays};
+ghost use Rattle.jtypes.specs.Arithmetic.{binary, divide, divided, shift, int_count, long_count, low_int, order};
+ghost use Rattle.verdict.specs.Machine.{Activation};
+ghost use Rattle.slots.specs.Reads.{Reads, AreSame};
+ghost use Rattle.machine.specs.Operated.{CanOperate, Operated, HasInts, HasLongs, Divides};
 
-use crate::Ending;
-use crate::machine::{Machine, STUCK};
-use crate::operands::Operands;
-use jtypes::{Binary, Conversion, Division, JavaFault, Operation, Shift, Value};
+use jtypes::{Binary, Conversion, Division, Shift};
+use slots::Slots;
 
-/// Why an operation has no result.
-#[derive(Clone, Copy, Debug)]
-pub enum Failure {
-    DividesByZero,
-    /// The operands are of other types.
-    HasNoMeaning,
-}
-
-fn on_ints(operation: Binary, a: i32, b: i32) -> i32
+fn int_of(operation: Binary, a: i32, b: i32) -> i32
     ensures { result ≡ binary w32 operation a b }
 {
     match operation {
@@ -35,7 +28,7 @@ fn on_ints(operation: Binary, a: i32, b: i32) -> i32
     }
 }
 
-fn on_longs(operation: Binary, a: i64, b: i64) -> i64
+fn long_of(operation: Binary, a: i64, b: i64) -> i64
     ensures { result ≡ binary w64 operation a b }
 {
     match operation {
@@ -49,7 +42,7 @@ fn on_longs(operation: Binary, a: i64, b: i64) -> i64
 }
 
 /// Shifts an int by the low 5 bits of a count.
-fn shift_int(direction: Shift, a: i32, count: i32) -> i32
+fn int_shifted(direction: Shift, a: i32, count: i32) -> i32
     ensures { result ≡ shift w32 direction a (int_count count) }
 {
     let bits = count.cast_unsigned() % 32;
@@ -61,7 +54,7 @@ fn shift_int(direction: Shift, a: i32, count: i32) -> i32
 }
 
 /// Shifts a long by the low 6 bits of a count.
-fn shift_long(direction: Shift, a: i64, count: i32) -> i64
+fn long_shifted(direction: Shift, a: i64, count: i32) -> i64
     ensures { result ≡ shift w64 direction a (long_count count) }
 {
     let bits = count.cast_unsigned() % 64;
@@ -79,26 +72,25 @@ fn low_int(a: i64) -> i32
     ((a.cast_unsigned() % (1 << 32)) as u32).cast_signed()
 }
 
-fn converted(conversion: Conversion, value: Value) -> Option<Value>
-    ensures { result ≡ converted conversion value }
+fn byte_of(a: i32) -> i32
+    ensures { result ≡ cast_signed w8 (cast_unsigned w32 a % 2 ^ 8) }
 {
-    match (conversion, value) {
-        (Conversion::IntToLong, Value::Int(a)) => Some(Value::Long(i64::from(a))),
-        (Conversion::LongToInt, Value::Long(a)) => Some(Value::Int(low_int(a))),
-        (Conversion::IntToByte, Value::Int(a)) => {
-            let low = (a.cast_unsigned() % (1 << 8)) as u8;
-            Some(Value::Int(i32::from(low.cast_signed())))
-        }
-        (Conversion::IntToChar, Value::Int(a)) => {
-            let low = (a.cast_unsigned() % (1 << 16)) as u16;
-            Some(Value::Int(i32::from(low)))
-        }
-        (Conversion::IntToShort, Value::Int(a)) => {
-            let low = (a.cast_unsigned() % (1 << 16)) as u16;
-            Some(Value::Int(i32::from(low.cast_signed())))
-        }
-        _ => None,
-    }
+    let low = (a.cast_unsigned() % (1 << 8)) as u8;
+    i32::from(low.cast_signed())
+}
+
+fn char_of(a: i32) -> i32
+    ensures { result ≡ pos (cast_unsigned w32 a % 2 ^ 16) }
+{
+    let low = (a.cast_unsigned() % (1 << 16)) as u16;
+    i32::from(low)
+}
+
+fn short_of(a: i32) -> i32
+    ensures { result ≡ cast_signed w16 (cast_unsigned w32 a % 2 ^ 16) }
+{
+    let low = (a.cast_unsigned() % (1 << 16)) as u16;
+    i32::from(low.cast_signed())
 }
 
 /// The order of two longs (JVMS §6.5, `lcmp`).
@@ -114,104 +106,161 @@ fn order(a: i64, b: i64) -> i32
     }
 }
 
-/// The least value divided by -1 is itself, with remainder 0.
-fn divide_ints(division: Division, a: i32, b: i32) -> Result<Value, Failure>
-    ensures { (rest : List Value) → divided w32 (λ n. Value.Int n) division a b rest ≡ answered result rest }
+pub fn on_ints(slots: &mut Slots, operation: Binary)
+    requires { CanOperate (OnInts operation) slots.old }
+    ensures operated { Operated (OnInts operation) slots.old slots.new }
+    ensures same { AreSame slots.old slots.new }
+{
+    let b = slots.pop_int();
+    let a = slots.pop_int();
+    slots.push_int(int_of(operation, a, b));
+}
+
+pub fn on_longs(slots: &mut Slots, operation: Binary)
+    requires { CanOperate (OnLongs operation) slots.old }
+    ensures operated { Operated (OnLongs operation) slots.old slots.new }
+    ensures same { AreSame slots.old slots.new }
+{
+    let b = slots.pop_long();
+    let a = slots.pop_long();
+    slots.push_long(long_of(operation, a, b));
+}
+
+pub fn negate_int(slots: &mut Slots)
+    requires { CanOperate NegateInt slots.old }
+    ensures operated { Operated NegateInt slots.old slots.new }
+    ensures same { AreSame slots.old slots.new }
+{
+    let a = slots.pop_int();
+    slots.push_int(a.wrapping_neg());
+}
+
+pub fn negate_long(slots: &mut Slots)
+    requires { CanOperate NegateLong slots.old }
+    ensures operated { Operated NegateLong slots.old slots.new }
+    ensures same { AreSame slots.old slots.new }
+{
+    let a = slots.pop_long();
+    slots.push_long(a.wrapping_neg());
+}
+
+pub fn shift_int(slots: &mut Slots, direction: Shift)
+    requires { CanOperate (ShiftInt direction) slots.old }
+    ensures operated { Operated (ShiftInt direction) slots.old slots.new }
+    ensures same { AreSame slots.old slots.new }
+{
+    let count = slots.pop_int();
+    let a = slots.pop_int();
+    slots.push_int(int_shifted(direction, a, count));
+}
+
+pub fn shift_long(slots: &mut Slots, direction: Shift)
+    requires { CanOperate (ShiftLong direction) slots.old }
+    ensures operated { Operated (ShiftLong direction) slots.old slots.new }
+    ensures same { AreSame slots.old slots.new }
+{
+    let count = slots.pop_int();
+    let a = slots.pop_long();
+    slots.push_long(long_shifted(direction, a, count));
+}
+
+pub fn compare_longs(slots: &mut Slots)
+    requires { CanOperate CompareLongs slots.old }
+    ensures operated { Operated CompareLongs slots.old slots.new }
+    ensures same { AreSame slots.old slots.new }
+{
+    let b = slots.pop_long();
+    let a = slots.pop_long();
+    slots.push_int(order(a, b));
+}
+
+pub fn convert(slots: &mut Slots, conversion: Conversion)
+    requires { CanOperate (Convert conversion) slots.old }
+    ensures operated { Operated (Convert conversion) slots.old slots.new }
+    ensures same { AreSame slots.old slots.new }
+{
+    match conversion {
+        Conversion::IntToLong => {
+            let a = slots.pop_int();
+            slots.push_long(i64::from(a));
+        }
+        Conversion::LongToInt => {
+            let a = slots.pop_long();
+            slots.push_int(low_int(a));
+        }
+        Conversion::IntToByte => {
+            let a = slots.pop_int();
+            slots.push_int(byte_of(a));
+        }
+        Conversion::IntToChar => {
+            let a = slots.pop_int();
+            slots.push_int(char_of(a));
+        }
+        Conversion::IntToShort => {
+            let a = slots.pop_int();
+            slots.push_int(short_of(a));
+        }
+    }
+}
+
+/// Toward zero, and none where the divisor is 0; the least value divided by -1 is itself, with remainder 0.
+fn int_divided(division: Division, a: i32, b: i32) -> Option<i32>
+    ensures none { result ≡ None → b ≡ pos 0 }
+    ensures some { (n : ℤ) → result ≡ Some n → (b ≢ pos 0) × (n ≡ divide w32 division a b) }
 {
     if b == 0 {
-        return Err(Failure::DividesByZero);
+        return None;
     }
-    Ok(Value::Int(match division {
+    Some(match division {
         Division::Quotient => a.wrapping_div(b),
         Division::Remainder => a.wrapping_rem(b),
-    }))
+    })
 }
 
-fn divide_longs(division: Division, a: i64, b: i64) -> Result<Value, Failure>
-    ensures { (rest : List Value) → divided w64 (λ n. Value.Long n) division a b rest ≡ answered result rest }
+/// Toward zero, and none where the divisor is 0; the least value divided by -1 is itself, with remainder 0.
+fn long_divided(division: Division, a: i64, b: i64) -> Option<i64>
+    ensures none { result ≡ None → b ≡ pos 0 }
+    ensures some { (n : ℤ) → result ≡ Some n → (b ≢ pos 0) × (n ≡ divide w64 division a b) }
 {
     if b == 0 {
-        return Err(Failure::DividesByZero);
+        return None;
     }
-    Ok(Value::Long(match division {
+    Some(match division {
         Division::Quotient => a.wrapping_div(b),
         Division::Remainder => a.wrapping_rem(b),
-    }))
+    })
 }
 
-/// What an operation on one operand puts.
-fn on_one(operation: Operation, a: Value) -> Result<Value, Failure>
-    requires { takes_one operation ≡ true }
-    ensures { (rest : List Value) → operate operation (a ∷ rest) ≡ answered result rest }
+/// Divides the lower one of two ints by the upper one; false where that is 0.
+pub fn divide_ints(slots: &mut Slots, division: Division) -> bool
+    requires { HasInts slots.old }
+    ensures divides { (arrays : Arrays) (ls : List (Option Value)) (a b : ℤ) (vs : List Value) (below : List Activation) → Reads arrays slots.old ls (Int b ∷ Int a ∷ vs) below → Divides arrays result slots.new ls (divided w32 (λ n. Int n) division a b vs) below }
+    ensures same { AreSame slots.old slots.new }
 {
-    match (operation, a) {
-        (Operation::NegateInt, Value::Int(a)) => Ok(Value::Int(a.wrapping_neg())),
-        (Operation::NegateLong, Value::Long(a)) => Ok(Value::Long(a.wrapping_neg())),
-        (Operation::Convert(conversion), a) => converted(conversion, a).ok_or(
-            Failure::HasNoMeaning,
-        ),
-        _ => Err(Failure::HasNoMeaning),
+    let b = slots.pop_int();
+    let a = slots.pop_int();
+    match int_divided(division, a, b) {
+        Some(n) => {
+            slots.push_int(n);
+            true
+        }
+        None => false,
     }
 }
 
-/// What an operation on two operands puts, of which the second was the top.
-fn on_two(operation: Operation, a: Value, b: Value) -> Result<Value, Failure>
-    requires { takes_one operation ≡ false }
-    ensures { (rest : List Value) → operate operation (b ∷ a ∷ rest) ≡ answered result rest }
+/// Divides the lower one of two longs by the upper one; false where that is 0.
+pub fn divide_longs(slots: &mut Slots, division: Division) -> bool
+    requires { HasLongs slots.old }
+    ensures divides { (arrays : Arrays) (ls : List (Option Value)) (a b : ℤ) (vs : List Value) (below : List Activation) → Reads arrays slots.old ls (Long b ∷ Long a ∷ vs) below → Divides arrays result slots.new ls (divided w64 (λ n. Long n) division a b vs) below }
+    ensures same { AreSame slots.old slots.new }
 {
-    match (operation, a, b) {
-        (Operation::OnInts(o), Value::Int(a), Value::Int(b)) => Ok(Value::Int(on_ints(o, a, b))),
-        (Operation::OnLongs(o), Value::Long(a), Value::Long(b)) => Ok(Value::Long(on_longs(
-            o, a, b,
-        ))),
-        (Operation::DivideInts(d), Value::Int(a), Value::Int(b)) => divide_ints(d, a, b),
-        (Operation::DivideLongs(d), Value::Long(a), Value::Long(b)) => divide_longs(d, a, b),
-        (Operation::ShiftInt(s), Value::Int(a), Value::Int(n)) => Ok(Value::Int(shift_int(
-            s, a, n,
-        ))),
-        (Operation::ShiftLong(s), Value::Long(a), Value::Int(n)) => Ok(Value::Long(shift_long(
-            s, a, n,
-        ))),
-        (Operation::CompareLongs, Value::Long(a), Value::Long(b)) => Ok(Value::Int(order(a, b))),
-        _ => Err(Failure::HasNoMeaning),
-    }
-}
-
-/// Whether an operation takes one operand; the others take two.
-fn is_unary(operation: Operation) -> bool
-    ensures { result ≡ takes_one operation }
-{
-    matches!(
-        operation,
-        Operation::NegateInt | Operation::NegateLong | Operation::Convert(_)
-    )
-}
-
-/// Takes the operands of an operation, and answers what it puts.
-fn answer(operands: &mut Operands, operation: Operation) -> Result<Value, Failure>
-    ensures answer { operate operation operands.old.0 ≡ answered result operands.new.0 }
-    ensures below { operands.new.1 ≡ operands.old.1 }
-{
-    let Some(top) = operands.pop() else {
-        return Err(Failure::HasNoMeaning);
-    };
-    if is_unary(operation) {
-        return on_one(operation, top);
-    }
-    match operands.pop() {
-        Some(second) => on_two(operation, second, top),
-        None => Err(Failure::HasNoMeaning),
-    }
-}
-
-/// An operation on the topmost operands.
-pub fn operate(machine: &mut Machine, operation: Operation) -> Result<(), Ending>
-    ensures told { (c : Class) (all : List Activation) → Told c (after_answer c (seen all machine.old) (top_of machine.old) (callers_of machine.old) (operate operation machine.old.operands.0)) result machine.new }
-    ensures before { machine.new.entry.before ≡ machine.old.entry.before }
-{
-    match answer(&mut machine.operands, operation) {
-        Ok(value) => machine.push(value),
-        Err(Failure::DividesByZero) => Err(Ending::Threw(JavaFault::Arithmetic)),
-        Err(Failure::HasNoMeaning) => Err(STUCK),
+    let b = slots.pop_long();
+    let a = slots.pop_long();
+    match long_divided(division, a, b) {
+        Some(n) => {
+            slots.push_long(n);
+            true
+        }
+        None => false,
     }
 }

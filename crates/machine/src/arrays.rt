@@ -1,217 +1,180 @@
-//! Instructions on arrays (JVMS §6.5).
+//! Arrays (JVMS §6.5, newarray, iaload to aaload, iastore, lastore and arraylength).
 
-ghost use Rattle.std.specs.Prelude.{◌≡◌, ◌∷◌, List, pos, IfSome, option_map, slice_get};
-ghost use Rattle.jtypes.specs.declared.types.Value.TheVariants.{Int};
+ghost use Rattle.std.specs.Prelude.{◌≡◌, ◌<◌, ◌^◌, ℕ, pos};
+ghost use Rattle.jtypes.specs.declared.types.Value.{Value};
 ghost use Rattle.jtypes.specs.Values.{value_of_arg, item_at};
-ghost use Rattle.typecheck.specs.Typing.{Class};
-ghost use Rattle.verify.specs.Machine.{Activation, make_array, load_reference, same_kind, element_value, load_from, load_item, number_of, store_to, store_item, measure, next_with};
-ghost use Rattle.machine.specs.Seen.{seen, top_of, callers_of, Told};
+ghost use Rattle.arena.specs.Placing.{FitsElement};
+ghost use Rattle.slots.specs.Reads.{AreSame};
+ghost use Rattle.machine.specs.Elements.{CanPushElement, PushesElement, CanPopElement, PopsElement};
+ghost use Rattle.machine.specs.Holds.{Keeps};
+ghost use Rattle.machine.specs.Acts.{CanTake, Takes, array_made, item_loaded, item_stored, argument_loaded, length_measured};
 
-use crate::Ending;
-use crate::machine::{Machine, OVER_WORDS, STUCK};
-use jtypes::{Arg, Args, ArrayId, ArrayKind, JavaFault, RefValue, Value};
+use crate::machine::Machine;
+use jtypes::{Arg, Args, ArrayKind, JavaFault, Outcome, RefValue};
+use slots::Slots;
 
-/// Makes an array of zeros, of as many elements as the top says.
-pub fn make_array(machine: &mut Machine, kind: ArrayKind) -> Result<(), Ending>
-    ensures told { (c : Class) (all : List Activation) → Told c (make_array c (seen all machine.old) (top_of machine.old) (callers_of machine.old) kind machine.old.operands.0) result machine.new }
-    ensures before { machine.new.entry.before ≡ machine.old.entry.before }
+/// The length that an int tells.
+fn size_of(count: i32) -> u32
+    requires { (n : ℕ) × (count ≡ pos n) }
+    ensures { (n : ℕ) → count ≡ pos n → result ≡ n }
 {
-    let Some(Value::Int(n)) = machine.operands.pop() else {
-        return Err(STUCK);
-    };
-    let Ok(count) = u32::try_from(n) else {
-        return Err(STUCK);
-    };
-    let Some(words) = machine.words.checked_add(count + 1) else {
-        return Err(OVER_WORDS);
-    };
-    match machine.arena.alloc(kind, count) {
+    count as u32
+}
+
+/// Makes an array of zeros. That there is room for it is known of the class.
+pub fn make_array(machine: &mut Machine, kind: ArrayKind) -> Result<(), Outcome>
+    requires { CanTake (array_made kind) machine.old }
+    ensures told { Takes (array_made kind) machine.old machine.new result }
+    ensures keeps { Keeps machine.old machine.new }
+{
+    let size = size_of(machine.slots.pop_int());
+    match machine.arena.alloc(kind, size) {
         Ok(id) => {
-            machine.words = words;
-            machine.push(Value::Ref(RefValue::Array(id)))
+            machine.slots.push_reference(RefValue::Array(id));
+            Ok(())
         }
-        Err(_) => Err(OVER_WORDS),
+        Err(_) => unreachable!(),
     }
 }
 
-fn value_of_arg(arg: Arg) -> Value
-    ensures { result ≡ value_of_arg arg }
+/// An element of an int array as an int.
+fn int_of(n: i64) -> i32
+    requires { FitsElement ArrayKind.Int n }
+    ensures { result ≡ n }
 {
-    match arg {
-        Arg::Null => Value::Ref(RefValue::Null),
-        Arg::Long(n) => Value::Ref(RefValue::Long(n)),
-        Arg::Integer(n) => Value::Ref(RefValue::Integer(n)),
-    }
-}
-
-/// The argument at an index, as a value.
-fn argument(args: &Args, index: i32) -> Option<Value>
-    ensures { result ≡ option_map value_of_arg (item_at args.now index) }
-{
-    let Ok(index) = usize::try_from(index) else {
-        return None;
-    };
-    match args.as_slice().get(index) {
-        Some(arg) => Some(value_of_arg(*arg)),
-        None => None,
-    }
-}
-
-/// Puts an argument of the invocation.
-#[tactic(auto, using(crate::proofs::Told::told_put))]
-pub fn load_reference(machine: &mut Machine) -> Result<(), Ending>
-    ensures told { (c : Class) (all : List Activation) → Told c (load_reference c (seen all machine.old) (top_of machine.old) (callers_of machine.old) machine.old.operands.0) result machine.new }
-    ensures before { machine.new.entry.before ≡ machine.old.entry.before }
-{
-    let Some(Value::Int(index)) = machine.operands.pop() else {
-        return Err(STUCK);
-    };
-    match machine.operands.pop() {
-        Some(Value::Ref(RefValue::Null)) => Err(Ending::Threw(JavaFault::NullPointer)),
-        Some(Value::Ref(RefValue::Args)) => match argument(&machine.args, index) {
-            Some(value) => machine.push(value),
-            None => Err(Ending::Threw(JavaFault::ArrayIndexOutOfBounds)),
-        },
-        _ => Err(STUCK),
-    }
-}
-
-fn same_kind(a: ArrayKind, b: ArrayKind) -> bool
-    ensures { result ≡ same_kind a b }
-{
-    match (a, b) {
-        (ArrayKind::Int, ArrayKind::Int) | (ArrayKind::Long, ArrayKind::Long) => true,
-        _ => false,
-    }
-}
-
-/// An element as a value; none where it is too large for an int.
-fn element_value(kind: ArrayKind, n: i64) -> Option<Value>
-    ensures { IfSome result (λ v. v ≡ element_value kind n) }
-{
-    match kind {
-        ArrayKind::Long => Some(Value::Long(n)),
-        ArrayKind::Int => match i32::try_from(n) {
-            Ok(n) => Some(Value::Int(n)),
-            Err(_) => None,
-        },
-    }
+    n as i32
 }
 
 /// Puts an element of an array.
-fn load_from(machine: &mut Machine, kind: ArrayKind, id: ArrayId, index: i32) -> Result<(), Ending>
-    ensures told { (c : Class) (all : List Activation) → Told c (load_from c (seen all machine.old) (top_of machine.old) (callers_of machine.old) kind index machine.old.operands.0 (slice_get machine.old.arena.arrays id)) result machine.new }
-    ensures before { machine.new.entry.before ≡ machine.old.entry.before }
+fn push_element(slots: &mut Slots, kind: ArrayKind, n: i64)
+    requires { CanPushElement kind n slots.old }
+    ensures pushes { PushesElement kind n slots.old slots.new }
+    ensures same { AreSame slots.old slots.new }
 {
-    if !machine.arena.holds(id) || !same_kind(kind, machine.arena.kind(id)) {
-        return Err(STUCK);
+    match kind {
+        ArrayKind::Int => slots.push_int(int_of(n)),
+        ArrayKind::Long => slots.push_long(n),
     }
-    match machine.arena.get(id, index) {
-        Ok(n) => match element_value(kind, n) {
-            Some(value) => machine.push(value),
-            None => Err(OVER_WORDS),
-        },
-        Err(_) => Err(Ending::Threw(JavaFault::ArrayIndexOutOfBounds)),
+}
+
+/// Takes a number for an element of an array.
+fn pop_element(slots: &mut Slots, kind: ArrayKind) -> i64
+    requires { CanPopElement kind slots.old }
+    ensures pops { PopsElement kind slots.old slots.new result }
+    ensures same { AreSame slots.old slots.new }
+{
+    match kind {
+        ArrayKind::Int => i64::from(slots.pop_int()),
+        ArrayKind::Long => slots.pop_long(),
     }
 }
 
 /// Puts the element at an index of an array.
-pub fn load_item(machine: &mut Machine, kind: ArrayKind) -> Result<(), Ending>
-    ensures told { (c : Class) (all : List Activation) → Told c (load_item c (seen all machine.old) (top_of machine.old) (callers_of machine.old) kind machine.old.operands.0) result machine.new }
-    ensures before { machine.new.entry.before ≡ machine.old.entry.before }
+pub fn load_item(machine: &mut Machine, kind: ArrayKind) -> Result<(), Outcome>
+    requires { CanTake (item_loaded kind) machine.old }
+    ensures told { Takes (item_loaded kind) machine.old machine.new result }
+    ensures keeps { Keeps machine.old machine.new }
 {
-    let Some(Value::Int(index)) = machine.operands.pop() else {
-        return Err(STUCK);
-    };
-    match machine.operands.pop() {
-        Some(Value::Ref(RefValue::Null)) => Err(Ending::Threw(JavaFault::NullPointer)),
-        Some(Value::Ref(RefValue::Array(id))) => load_from(machine, kind, id, index),
-        _ => Err(STUCK),
-    }
-}
-
-/// The number in a value of an array's element type.
-fn number_of(kind: ArrayKind, value: Value) -> Option<i64>
-    ensures { result ≡ number_of kind value }
-{
-    match (kind, value) {
-        (ArrayKind::Int, Value::Int(n)) => Some(n as i64),
-        (ArrayKind::Long, Value::Long(n)) => Some(n),
-        _ => None,
-    }
-}
-
-/// Changes an element of an array.
-fn store_to(
-    machine: &mut Machine,
-    kind: ArrayKind,
-    id: ArrayId,
-    index: i32,
-    number: i64,
-) -> Result<(), Ending>
-    ensures told { (c : Class) (all : List Activation) → Told c (store_to c (seen all machine.old) (top_of machine.old) (callers_of machine.old) kind id index number machine.old.operands.0 (slice_get machine.old.arena.arrays id)) result machine.new }
-    ensures before { machine.new.entry.before ≡ machine.old.entry.before }
-{
-    if !machine.arena.holds(id) || !same_kind(kind, machine.arena.kind(id)) {
-        return Err(STUCK);
-    }
-    match machine.arena.set(id, index, number) {
-        Ok(()) => Ok(()),
-        Err(_) => Err(Ending::Threw(JavaFault::ArrayIndexOutOfBounds)),
+    let index = machine.slots.pop_int();
+    match machine.slots.pop_reference() {
+        RefValue::Null => Err(Outcome::Threw(JavaFault::NullPointer)),
+        RefValue::Array(id) => match machine.arena.get(id, index) {
+            Ok(n) => {
+                push_element(&mut machine.slots, kind, n);
+                Ok(())
+            }
+            Err(fault) => Err(Outcome::Threw(fault)),
+        },
+        _ => unreachable!(),
     }
 }
 
 /// Changes the element at an index of an array.
-pub fn store_item(machine: &mut Machine, kind: ArrayKind) -> Result<(), Ending>
-    ensures told { (c : Class) (all : List Activation) → Told c (store_item c (seen all machine.old) (top_of machine.old) (callers_of machine.old) kind machine.old.operands.0) result machine.new }
-    ensures before { machine.new.entry.before ≡ machine.old.entry.before }
+pub fn store_item(machine: &mut Machine, kind: ArrayKind) -> Result<(), Outcome>
+    requires { CanTake (item_stored kind) machine.old }
+    ensures told { Takes (item_stored kind) machine.old machine.new result }
+    ensures keeps { Keeps machine.old machine.new }
 {
-    let Some(value) = machine.operands.pop() else {
-        return Err(STUCK);
-    };
-    let Some(number) = number_of(kind, value) else {
-        return Err(STUCK);
-    };
-    let Some(Value::Int(index)) = machine.operands.pop() else {
-        return Err(STUCK);
-    };
-    match machine.operands.pop() {
-        Some(Value::Ref(RefValue::Null)) => Err(Ending::Threw(JavaFault::NullPointer)),
-        Some(Value::Ref(RefValue::Array(id))) => store_to(machine, kind, id, index, number),
-        _ => Err(STUCK),
+    let n = pop_element(&mut machine.slots, kind);
+    let index = machine.slots.pop_int();
+    match machine.slots.pop_reference() {
+        RefValue::Null => Err(Outcome::Threw(JavaFault::NullPointer)),
+        RefValue::Array(id) => match machine.arena.set(id, index, n) {
+            Ok(()) => Ok(()),
+            Err(fault) => Err(Outcome::Threw(fault)),
+        },
+        _ => unreachable!(),
     }
 }
 
-/// Puts a count.
-fn put_count(machine: &mut Machine, count: usize) -> Result<(), Ending>
-    ensures told { (c : Class) (all : List Activation) → Told c (next_with c (seen all machine.old) (top_of machine.old) (callers_of machine.old) (Int (pos count) ∷ machine.old.operands.0)) result machine.new }
-    ensures before { machine.new.entry.before ≡ machine.old.entry.before }
+/// The argument at an index; an index outside has none.
+fn argument_at(args: &Args, index: i32) -> Option<Arg>
+    ensures { result ≡ item_at args.now index }
 {
-    match i32::try_from(count) {
-        Ok(count) => machine.push(Value::Int(count)),
-        Err(_) => Err(OVER_WORDS),
+    let arguments = args.as_slice();
+    match usize::try_from(index) {
+        Ok(index) => arguments.get(index).copied(),
+        Err(_) => None,
     }
+}
+
+/// An argument as a reference.
+fn reference_of(argument: Arg) -> RefValue
+    ensures { Value.Ref result ≡ value_of_arg argument }
+{
+    match argument {
+        Arg::Null => RefValue::Null,
+        Arg::Long(n) => RefValue::Long(n),
+        Arg::Integer(n) => RefValue::Integer(n),
+    }
+}
+
+/// Puts the argument at an index.
+pub fn load_argument(machine: &mut Machine) -> Result<(), Outcome>
+    requires { CanTake argument_loaded machine.old }
+    ensures told { Takes argument_loaded machine.old machine.new result }
+    ensures keeps { Keeps machine.old machine.new }
+{
+    let index = machine.slots.pop_int();
+    match machine.slots.pop_reference() {
+        RefValue::Null => Err(Outcome::Threw(JavaFault::NullPointer)),
+        RefValue::Args => match argument_at(&machine.args, index) {
+            Some(argument) => {
+                machine.slots.push_reference(reference_of(argument));
+                Ok(())
+            }
+            None => Err(Outcome::Threw(JavaFault::ArrayIndexOutOfBounds)),
+        },
+        _ => unreachable!(),
+    }
+}
+
+/// A length as an int.
+fn count_of(length: usize) -> i32
+    requires { length < 2 ^ 31 }
+    ensures { result ≡ pos length }
+{
+    length as i32
 }
 
 /// Puts the length of an array.
-#[tactic(auto, using(crate::proofs::Told::told_put, crate::proofs::Elements::measured))]
-pub fn measure(machine: &mut Machine) -> Result<(), Ending>
-    ensures told { (c : Class) (all : List Activation) → Told c (measure c (seen all machine.old) (top_of machine.old) (callers_of machine.old) machine.old.operands.0) result machine.new }
-    ensures before { machine.new.entry.before ≡ machine.old.entry.before }
+pub fn measure(machine: &mut Machine) -> Result<(), Outcome>
+    requires { CanTake length_measured machine.old }
+    ensures told { Takes length_measured machine.old machine.new result }
+    ensures keeps { Keeps machine.old machine.new }
 {
-    match machine.operands.pop() {
-        Some(Value::Ref(RefValue::Null)) => Err(Ending::Threw(JavaFault::NullPointer)),
-        Some(Value::Ref(RefValue::Args)) => {
-            let count = machine.args.as_slice().len();
-            put_count(machine, count)
+    match machine.slots.pop_reference() {
+        RefValue::Null => Err(Outcome::Threw(JavaFault::NullPointer)),
+        RefValue::Args => {
+            let count = count_of(machine.args.as_slice().len());
+            machine.slots.push_int(count);
+            Ok(())
         }
-        Some(Value::Ref(RefValue::Array(id))) => {
-            if !machine.arena.holds(id) {
-                return Err(STUCK);
-            }
-            let count = machine.arena.length(id);
-            put_count(machine, count as usize)
+        RefValue::Array(id) => {
+            let count = count_of(machine.arena.length(id) as usize);
+            machine.slots.push_int(count);
+            Ok(())
         }
-        _ => Err(STUCK),
+        _ => unreachable!(),
     }
 }

@@ -1,70 +1,59 @@
-//! Casts (JVMS §6.5, `checkcast` and `instanceof`).
+//! Casts (JVMS §6.5, checkcast and instanceof).
 
-ghost use Rattle.std.specs.Prelude.{List, ◌≡◌};
+ghost use Rattle.std.specs.Prelude.{◌≡◌};
+ghost use Rattle.jtypes.specs.declared.types.RefValue.{RefValue};
+ghost use Rattle.arena.specs.Placing.{IsReference};
+ghost use Rattle.jtypes.specs.declared.types.Value.{Value};
 ghost use Rattle.jtypes.specs.Library.{flag};
-ghost use Rattle.typecheck.specs.Typing.{Class};
-ghost use Rattle.verify.specs.Machine.{Activation, may_cast, cast, ask};
-ghost use Rattle.machine.specs.Seen.{seen, top_of, callers_of, Told};
+ghost use Rattle.verdict.specs.Machine.{may_cast};
+ghost use Rattle.machine.specs.Holds.{Keeps};
+ghost use Rattle.machine.specs.Acts.{CanTake, Takes, casted, asked};
 
-use crate::Ending;
-use crate::fits::fits;
-use crate::machine::{Machine, STUCK};
+use crate::machine::Machine;
 use arena::Arena;
-use jtypes::{JType, JavaFault, RefType, RefValue, Value};
+use jtypes::{JavaFault, Outcome, RefType, RefValue};
 use natives::passes;
 
-const ANY: JType = JType::Ref(RefType::Object);
-
-/// Null passes every cast.
-fn may_cast(arena: &Arena, value: RefValue, r: RefType) -> bool
-    ensures { result ≡ may_cast arena.now.arrays value r }
+/// Whether a reference may be cast: null, and what is of the type.
+fn may_cast(arena: &Arena, value: RefValue, target: RefType) -> bool
+    requires { (v : RefValue) × IsReference arena.now.arrays v value }
+    ensures { (v : RefValue) → IsReference arena.now.arrays v value → result ≡ may_cast arena.now.arrays v target }
 {
     match value {
         RefValue::Null => true,
-        _ => passes(arena, value, &r),
+        _ => passes(arena, value, &target),
     }
 }
 
 /// Leaves a reference where it may be cast.
-#[tactic(auto, using(crate::proofs::Told::told_put))]
-pub fn cast(machine: &mut Machine, r: Option<RefType>) -> Result<(), Ending>
-    ensures told { (c : Class) (all : List Activation) → Told c (cast c (seen all machine.old) (top_of machine.old) (callers_of machine.old) r machine.old.operands.0) result machine.new }
-    ensures before { machine.new.entry.before ≡ machine.old.entry.before }
+pub fn check_cast(machine: &mut Machine, target: RefType) -> Result<(), Outcome>
+    requires { CanTake (casted target) machine.old }
+    ensures told { Takes (casted target) machine.old machine.new result }
+    ensures keeps { Keeps machine.old machine.new }
 {
-    match (r, machine.operands.pop()) {
-        (Some(r), Some(Value::Ref(v))) => {
-            if !fits(&machine.arena, Value::Ref(v), ANY) {
-                return Err(STUCK);
-            }
-            if !may_cast(&machine.arena, v, r) {
-                return Err(Ending::Threw(JavaFault::ClassCast));
-            }
-            machine.push(Value::Ref(v))
-        }
-        _ => Err(STUCK),
+    let value = machine.slots.top_reference();
+    if may_cast(&machine.arena, value, target) {
+        Ok(())
+    } else {
+        Err(Outcome::Threw(JavaFault::ClassCast))
     }
 }
 
-fn flag(holds: bool) -> Value
-    ensures { result ≡ flag holds }
+/// 1 for what holds, else 0.
+fn flag(holds: bool) -> i32
+    ensures { Value.Int result ≡ flag holds }
 {
-    Value::Int(i32::from(holds))
+    i32::from(holds)
 }
 
 /// Tells whether a reference is of a type. Null is of none.
-#[tactic(auto, using(crate::proofs::Told::told_put))]
-pub fn ask(machine: &mut Machine, r: Option<RefType>) -> Result<(), Ending>
-    ensures told { (c : Class) (all : List Activation) → Told c (ask c (seen all machine.old) (top_of machine.old) (callers_of machine.old) r machine.old.operands.0) result machine.new }
-    ensures before { machine.new.entry.before ≡ machine.old.entry.before }
+pub fn instance_of(machine: &mut Machine, target: RefType) -> Result<(), Outcome>
+    requires { CanTake (asked target) machine.old }
+    ensures told { Takes (asked target) machine.old machine.new result }
+    ensures keeps { Keeps machine.old machine.new }
 {
-    match (r, machine.operands.pop()) {
-        (Some(r), Some(Value::Ref(v))) => {
-            if !fits(&machine.arena, Value::Ref(v), ANY) {
-                return Err(STUCK);
-            }
-            let is_one = passes(&machine.arena, v, &r);
-            machine.push(flag(is_one))
-        }
-        _ => Err(STUCK),
-    }
+    let value = machine.slots.pop_reference();
+    let is_one = passes(&machine.arena, value, &target);
+    machine.slots.push_int(flag(is_one));
+    Ok(())
 }

@@ -1,98 +1,128 @@
-//! The library calls.
+//! The library calls (JVMS §6.5, invokestatic, invokevirtual and invokeinterface).
 
-ghost use Rattle.std.specs.Prelude.{List, ◌≡◌, ◌≤◌, [], ◌∷◌, length, reverse, take, drop};
-ghost use Rattle.jtypes.specs.Lists.{result_list};
-ghost use Rattle.jtypes.specs.Values.{all_fit};
-ghost use Rattle.jtypes.specs.Library.{library};
-ghost use Rattle.typecheck.specs.Typing.{Class};
-ghost use Rattle.verify.specs.Machine.{Activation, after_reply};
-ghost use Rattle.machine.specs.Seen.{seen, top_of, callers_of, Told};
-ghost use Rattle.machine.specs.Taken.{taken_fit};
+ghost use Rattle.std.specs.Prelude.{Some};
+ghost use Rattle.slots.specs.Reads.{AreSame};
+ghost use Rattle.machine.specs.Holds.{Keeps};
+ghost use Rattle.machine.specs.Acts.{CanCallLibrary, CallsLibrary};
+ghost use Rattle.machine.specs.Replies.{CanPush, Pushes, CanAnswer, Answers, CanCallOn, CallsOn, IsInt, IsLong, AreInts, AreLongs, IsRef, AreRefs};
 
-use crate::Ending;
-use crate::fits::fits;
-use crate::machine::{Machine, OVER_WORDS, STUCK};
-use crate::operands::Operands;
-use crate::taken::are_taken;
-use arena::Arena;
-use jtypes::{JType, Native, Value};
-use natives::call;
+use crate::machine::Machine;
+use jtypes::{Native, Outcome, Value};
+use slots::Slots;
 
-/// Whether the topmost operands fit these types, of which the last one is the top's.
-#[tactic(auto, using(crate::proofs::Replies::fit_end))]
-pub fn are_fitting(arena: &Arena, operands: &Operands, params: &[JType]) -> bool
-    ensures { result ≡ taken_fit arena.now.arrays (reverse params.now) operands.now.0 }
+/// Puts a value.
+fn push(slots: &mut Slots, value: Value)
+    requires { CanPush (Some value) slots.old }
+    ensures pushes { Pushes (Some value) slots.old slots.new }
+    ensures same { AreSame slots.old slots.new }
 {
-    let count = params.len();
-    for i in 0..count {
-        let Some(value) = operands.peek(i) else {
-            return false;
-        };
-        if !fits(arena, value, params[count - 1 - i]) {
-            return false;
-        }
-    }
-    true
-}
-
-/// Whether a call's result fits what the descriptor says.
-fn is_result(arena: &Arena, value: Option<Value>, declared: Option<JType>) -> bool
-    ensures { result ≡ all_fit arena.now.arrays (result_list value) (result_list declared) }
-{
-    match (value, declared) {
-        (None, None) => true,
-        (Some(value), Some(t)) => fits(arena, value, t),
-        _ => false,
+    match value {
+        Value::Int(n) => slots.push_int(n),
+        Value::Long(n) => slots.push_long(n),
+        Value::Ref(r) => slots.push_reference(r),
     }
 }
 
-/// A library call of these values, the receiver first.
-fn reply(
-    machine: &mut Machine,
-    native: Native,
-    declared: Option<JType>,
-    values: &[Value],
-) -> Result<(), Ending>
-    ensures told { (c : Class) (all : List Activation) → Told c (after_reply c (seen all machine.old) (top_of machine.old) (callers_of machine.old) declared machine.old.operands.0 (library native machine.old.key machine.old.entry.current values.now)) result machine.new }
-    ensures before { machine.new.entry.before ≡ machine.old.entry.before }
+/// Puts what the library answers, if it answers a value.
+fn push_answer(slots: &mut Slots, answer: Option<Value>)
+    requires { CanPush answer slots.old }
+    ensures pushes { Pushes answer slots.old slots.new }
+    ensures same { AreSame slots.old slots.new }
 {
-    if !are_taken(native, values) {
-        return Err(STUCK);
-    }
-    let key = machine.key;
-    match call(native, key, &mut machine.entry, values) {
-        Ok(value) => {
-            if !is_result(&machine.arena, value, declared) {
-                return Err(STUCK);
-            }
-            machine.push_result(value)
-        }
-        Err(fault) => Err(Ending::Threw(fault)),
+    if let Some(value) = answer {
+        push(slots, value);
     }
 }
 
-/// A library call of so many of the topmost operands, of which the receiver lies lowest. None takes more than two.
-pub fn call_library(
-    machine: &mut Machine,
-    native: Native,
-    declared: Option<JType>,
-    count: usize,
-) -> Result<(), Ending>
-    requires { count ≤ length machine.old.operands.0 }
-    ensures told { (c : Class) (all : List Activation) → Told c (after_reply c (seen all machine.old) (top_of machine.old) (callers_of machine.old) declared (drop count machine.old.operands.0) (library native machine.old.key machine.old.entry.current (reverse (take count machine.old.operands.0)))) result machine.new }
-    ensures before { machine.new.entry.before ≡ machine.old.entry.before }
+/// Calls the library on values that were taken, the receiver first, and puts what it answers.
+fn answer(machine: &mut Machine, native: Native, values: &[Value]) -> Result<(), Outcome>
+    requires { CanAnswer native values.now machine.old }
+    ensures told { Answers native values.now machine.old machine.new result }
+    ensures keeps { Keeps machine.old machine.new }
 {
-    match count {
-        0 => reply(machine, native, declared, &[]),
-        1 => {
-            let only = machine.operands.pop().unwrap();
-            reply(machine, native, declared, &[only])
+    match natives::call(native, machine.key, &mut machine.entry, values) {
+        Ok(answer) => {
+            push_answer(&mut machine.slots, answer);
+            Ok(())
         }
-        2 => {
-            let second = machine.operands.pop().unwrap();
-            let first = machine.operands.pop().unwrap();
-            reply(machine, native, declared, &[first, second])
-        }
-        _ => Err(OVER_WORDS),
+        Err(fault) => Err(Outcome::Threw(fault)),
+    }
+}
+
+fn call_on_int(machine: &mut Machine, native: Native) -> Result<(), Outcome>
+    requires { CanCallOn native IsInt machine.old }
+    ensures told { CallsOn native IsInt machine.old machine.new result }
+    ensures keeps { Keeps machine.old machine.new }
+{
+    let a = machine.slots.pop_int();
+    answer(machine, native, &[Value::Int(a)])
+}
+
+fn call_on_long(machine: &mut Machine, native: Native) -> Result<(), Outcome>
+    requires { CanCallOn native IsLong machine.old }
+    ensures told { CallsOn native IsLong machine.old machine.new result }
+    ensures keeps { Keeps machine.old machine.new }
+{
+    let a = machine.slots.pop_long();
+    answer(machine, native, &[Value::Long(a)])
+}
+
+fn call_on_ints(machine: &mut Machine, native: Native) -> Result<(), Outcome>
+    requires { CanCallOn native AreInts machine.old }
+    ensures told { CallsOn native AreInts machine.old machine.new result }
+    ensures keeps { Keeps machine.old machine.new }
+{
+    let b = machine.slots.pop_int();
+    let a = machine.slots.pop_int();
+    answer(machine, native, &[Value::Int(a), Value::Int(b)])
+}
+
+fn call_on_longs(machine: &mut Machine, native: Native) -> Result<(), Outcome>
+    requires { CanCallOn native AreLongs machine.old }
+    ensures told { CallsOn native AreLongs machine.old machine.new result }
+    ensures keeps { Keeps machine.old machine.new }
+{
+    let b = machine.slots.pop_long();
+    let a = machine.slots.pop_long();
+    answer(machine, native, &[Value::Long(a), Value::Long(b)])
+}
+
+fn call_on_reference(machine: &mut Machine, native: Native) -> Result<(), Outcome>
+    requires { CanCallOn native IsRef machine.old }
+    ensures told { CallsOn native IsRef machine.old machine.new result }
+    ensures keeps { Keeps machine.old machine.new }
+{
+    let a = machine.slots.pop_reference();
+    answer(machine, native, &[Value::Ref(a)])
+}
+
+fn call_on_references(machine: &mut Machine, native: Native) -> Result<(), Outcome>
+    requires { CanCallOn native AreRefs machine.old }
+    ensures told { CallsOn native AreRefs machine.old machine.new result }
+    ensures keeps { Keeps machine.old machine.new }
+{
+    let b = machine.slots.pop_reference();
+    let a = machine.slots.pop_reference();
+    answer(machine, native, &[Value::Ref(a), Value::Ref(b)])
+}
+
+/// A library call. What it takes stands on the operands, the receiver lowest.
+pub fn call_library(machine: &mut Machine, native: Native) -> Result<(), Outcome>
+    requires { CanCallLibrary native machine.old }
+    ensures told { CallsLibrary native machine.old machine.new result }
+    ensures keeps { Keeps machine.old machine.new }
+{
+    match native {
+        Native::IntegerValueOf => call_on_int(machine, native),
+        Native::LongValueOf => call_on_long(machine, native),
+        Native::MaxOfInts | Native::MinOfInts => call_on_ints(machine, native),
+        Native::MaxOfLongs | Native::MinOfLongs => call_on_longs(machine, native),
+        Native::SetValue => call_on_references(machine, native),
+        Native::IntValue
+        | Native::LongValue
+        | Native::GetKey
+        | Native::GetValue
+        | Native::Exists
+        | Native::Remove => call_on_reference(machine, native),
     }
 }

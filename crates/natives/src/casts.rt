@@ -1,7 +1,9 @@
 //! Which references a cast passes.
 
 ghost use Rattle.std.specs.Prelude.{◌≡◌};
+ghost use Rattle.jtypes.specs.declared.types.RefValue.{RefValue};
 ghost use Rattle.jtypes.specs.Values.{passes, array_passes};
+ghost use Rattle.arena.specs.Placing.{IsReference};
 
 use arena::Arena;
 use jtypes::{ArrayKind, RefType, RefValue};
@@ -10,12 +12,14 @@ use jtypes::{ArrayKind, RefType, RefValue};
 /// 6.5, checkcast and instanceof).
 ///
 /// Null is of no class: `instanceof` is false of it, and `checkcast` is the caller's to decide.
+/// The reference is the arena's own, which knows an array by the place where it begins.
 pub fn passes(arena: &Arena, value: RefValue, target: &RefType) -> bool
-    ensures { result ≡ passes arena.now.arrays value target.now }
+    requires { (v : RefValue) × IsReference arena.now.arrays v value }
+    ensures { (v : RefValue) → IsReference arena.now.arrays v value → result ≡ passes arena.now.arrays v target.now }
 {
     match (value, *target) {
         (RefValue::Null, _) => false,
-        (RefValue::Array(id), target) => arena.holds(id) && array_passes(arena.kind(id), target),
+        (RefValue::Array(id), target) => array_passes(arena.kind(id), target),
         (_, RefType::Object) => true,
         (RefValue::Long(_), RefType::Long | RefType::Number) => true,
         (RefValue::Integer(_), RefType::Integer | RefType::Number) => true,

@@ -1,8 +1,11 @@
 //! Each library call and each cast once, with the extremes.
 
+ghost use Rattle.std.specs.Prelude.{ℕ};
+ghost use Rattle.arena.specs.Placing.{IsArrayAt, IsReference};
+
 use super::*;
 use arena::Arena;
-use jtypes::{ArrayKind, JavaFault, Native, RefType, RefValue, Value};
+use jtypes::{ArrayId, ArrayKind, JavaFault, Native, RefType, RefValue, Value};
 use mutentry::EntryState;
 use std::test::Fail;
 
@@ -124,40 +127,69 @@ fn another_receiver_of_an_interface_call_is_a_fault(rt: HostRuntime) {
     assert_eq!(rt; entry.get_value(), Some(7));
 }
 
+// Whether a reference passes that is the same in the definitions, as each but an array's is.
+fn passes_as(arena: &Arena, value: RefValue, target: RefType) -> bool
+    requires { IsReference arena.now.arrays value value }
+{
+    passes(arena, value, &target)
+}
+
+// Whether an array passes.
+fn array_passes_as(arena: &Arena, id: ArrayId, target: RefType) -> bool
+    requires { (k : ℕ) × IsArrayAt arena.now.arrays k id }
+{
+    passes(arena, RefValue::Array(id), &target)
+}
+
 #[test]
 fn a_cast_goes_by_the_class(rt: HostRuntime) -> Result<(), Fail> {
+    let arena = Arena::new(rt.alloc(), 0)?;
+    let long = RefValue::Long(1);
+    assert!(rt; passes_as(&arena, long, RefType::Long));
+    assert!(rt; passes_as(&arena, long, RefType::Number));
+    assert!(rt; passes_as(&arena, long, RefType::Object));
+    assert!(rt; !passes_as(&arena, long, RefType::Integer));
+    assert!(rt; !passes_as(&arena, long, RefType::This));
+    let integer = RefValue::Integer(1);
+    assert!(rt; passes_as(&arena, integer, RefType::Integer));
+    assert!(rt; passes_as(&arena, integer, RefType::Number));
+    assert!(rt; passes_as(&arena, integer, RefType::Object));
+    assert!(rt; !passes_as(&arena, integer, RefType::Long));
+    assert!(rt; !passes_as(&arena, integer, RefType::MutableEntry));
+    assert!(rt; !passes_as(&arena, RefValue::Null, RefType::Object));
+    Ok(())
+}
+
+#[test]
+fn what_a_call_is_given_is_cast(rt: HostRuntime) -> Result<(), Fail> {
+    let arena = Arena::new(rt.alloc(), 0)?;
+    let entry = RefValue::Entry;
+    assert!(rt; passes_as(&arena, entry, RefType::MutableEntry));
+    assert!(rt; passes_as(&arena, entry, RefType::CacheEntry));
+    assert!(rt; passes_as(&arena, entry, RefType::Object));
+    assert!(rt; !passes_as(&arena, entry, RefType::EntryProcessor));
+    let this = RefValue::This;
+    assert!(rt; passes_as(&arena, this, RefType::This));
+    assert!(rt; passes_as(&arena, this, RefType::EntryProcessor));
+    assert!(rt; passes_as(&arena, this, RefType::Object));
+    assert!(rt; !passes_as(&arena, this, RefType::CacheEntry));
+    let args = RefValue::Args;
+    assert!(rt; passes_as(&arena, args, RefType::ObjectArray));
+    assert!(rt; passes_as(&arena, args, RefType::Object));
+    assert!(rt; !passes_as(&arena, args, RefType::IntArray));
+    Ok(())
+}
+
+#[test]
+fn an_array_is_cast_by_its_kind(rt: HostRuntime) -> Result<(), Fail> {
     let mut arena = Arena::new(rt.alloc(), 2)?;
     let ints = arena.alloc(ArrayKind::Int, 0)?;
     let longs = arena.alloc(ArrayKind::Long, 0)?;
-    for (value, own, other) in [
-        (RefValue::Long(1), RefType::Long, RefType::Integer),
-        (RefValue::Long(1), RefType::Number, RefType::This),
-        (RefValue::Integer(1), RefType::Integer, RefType::Long),
-        (RefValue::Integer(1), RefType::Number, RefType::MutableEntry),
-        (
-            RefValue::Entry,
-            RefType::MutableEntry,
-            RefType::EntryProcessor,
-        ),
-        (RefValue::Entry, RefType::CacheEntry, RefType::This),
-        (RefValue::This, RefType::This, RefType::MutableEntry),
-        (RefValue::This, RefType::EntryProcessor, RefType::CacheEntry),
-        (RefValue::Args, RefType::ObjectArray, RefType::IntArray),
-        (RefValue::Array(ints), RefType::IntArray, RefType::LongArray),
-        (
-            RefValue::Array(longs),
-            RefType::LongArray,
-            RefType::ObjectArray,
-        ),
-    ] {
-        assert!(rt; passes(&arena, value, &own), "{value:?} to {own:?}");
-        assert!(rt;
-            passes(&arena, value, &RefType::Object),
-            "{value:?} to Object"
-        );
-        assert!(rt; !passes(&arena, value, &other), "{value:?} to {other:?}");
-    }
-    assert!(rt; !passes(&arena, RefValue::Null, &RefType::Object));
-    assert!(rt; !passes(&arena, RefValue::Array(u32::MAX), &RefType::Object));
+    assert!(rt; array_passes_as(&arena, ints, RefType::IntArray));
+    assert!(rt; array_passes_as(&arena, ints, RefType::Object));
+    assert!(rt; !array_passes_as(&arena, ints, RefType::LongArray));
+    assert!(rt; array_passes_as(&arena, longs, RefType::LongArray));
+    assert!(rt; array_passes_as(&arena, longs, RefType::Object));
+    assert!(rt; !array_passes_as(&arena, longs, RefType::ObjectArray));
     Ok(())
 }

@@ -27,13 +27,13 @@ use Rattle.frames.specs.declared.signatures.Signature.{Signature}
 use Rattle.frames.specs.declared.frame.Environment.{Environment}
 use Rattle.typecheck.specs.Typing.{Class, IsProcessOf, Method, instruction_at, declared_at}
 use Rattle.typecheck.specs.Mismatch.{HasLength, HasFrame, LacksLength}
-use Rattle.verify.specs.Shape.{reserved_names, reserved, AreDoubles, is_constructor, HasCode, HasBadCode, crowded, slots_taken}
-use Rattle.verify.specs.Verdict.{by_shape, IsAccepted, IsClassOf, IsMethodOf, HasShape, InstructionStands, InstructionsStand, by_instructions, HasInstructions, IsBody, BodyStands, TypesStand, by_types}
-use Rattle.verify.specs.Checked.{NoTop, IsMember, IsFormed}
+use Rattle.verdict.specs.Shape.{reserved_names, reserved, AreDoubles, is_constructor, HasCode, HasBadCode, crowded, slots_taken}
+use Rattle.verdict.specs.Verdict.{by_shape, IsAccepted, IsClassOf, IsMethodOf, HasShape, InstructionStands, InstructionsStand, by_instructions, HasInstructions, IsBody, BodyStands, TypesStand, by_types}
+use Rattle.verdict.specs.Checked.{NoTop, IsMember, IsFormed}
 use Rattle.decode.proofs.Consecutive.{sequence_is_consecutive}
-use Rattle.verify.proofs.Texts.{same_is}
-use Rattle.verify.proofs.Methods.{zip_back, zip_count, any_from}
-use Rattle.verify.proofs.OwnCalls.{process_found}
+use Rattle.verdict.proofs.Texts.{same_is}
+use Rattle.verdict.proofs.Methods.{zip_back, zip_count, any_from}
+use Rattle.verdict.proofs.OwnCalls.{process_found}
 use Rattle.jtypes.proofs.Fit.{then_some_parts}
 use Rattle.soundness.proofs.DeclaredFrames.{declared_has_no_top}
 

@@ -1,8 +1,8 @@
 -- An accepted class has ranks.
 use Rattle.jtypes.specs.declared.refusal.Refusal.TheVariants.{Recursive}
 use Rattle.bounds.proofs.Ranks.{not_recursive_has_ranks}
-use Rattle.verify.specs.Verdict.{by_shape, by_instructions, by_types, by_class, HasShape, HasInstructions, HasTypes}
-use Rattle.verify.specs.Promise.{AcceptedIsOrdered}
+use Rattle.verdict.specs.Verdict.{by_shape, by_instructions, by_types, by_class, HasShape, HasInstructions, HasTypes}
+use Rattle.verdict.specs.Promise.{AcceptedIsOrdered}
 
 pub accepted_has_ranks : AcceptedIsOrdered
 accepted_has_ranks bytes c ok of = not_recursive_has_ranks c (λ recursive. ok Recursive (by_class of.pool of.parts c of.file shape instructions types of.class recursive))

@@ -14,12 +14,12 @@ use Rattle.bounds.specs.Paths.{StandsAt}
 use Rattle.bounds.specs.Table.{bounds_of}
 use Rattle.bounds.proofs.Greatest.{tables_are_bounds}
 use Rattle.bounds.proofs.FilledTables.{each_has_table}
-use Rattle.verify.specs.Shape.{IsProcess}
-use Rattle.verify.specs.Verdict.{IsAccepted, IsClassOf, by_shape}
-use Rattle.verify.specs.Checked.{IsMember, IsChecked, is_other, members}
+use Rattle.verdict.specs.Shape.{IsProcess}
+use Rattle.verdict.specs.Verdict.{IsAccepted, IsClassOf, by_shape}
+use Rattle.verdict.specs.Checked.{IsMember, IsChecked, is_other, members}
 use Rattle.soundness.specs.Bounded.{CheckedLeadsOn, AcceptedHasBounds}
-use Rattle.verify.proofs.Texts.{same_is, same_refl}
-use Rattle.verify.proofs.OwnCalls.{none_is_process, process_found}
+use Rattle.verdict.proofs.Texts.{same_is, same_refl}
+use Rattle.verdict.proofs.OwnCalls.{none_is_process, process_found}
 use Rattle.soundness.proofs.Callees.{entry_of, method_at_number}
 use Rattle.soundness.proofs.GoodStates.{IsInside, has_frame, onward, enters_inside, enters_target}
 use Rattle.soundness.proofs.PathsExist.{own_call, starts_inside}

@@ -27,11 +27,11 @@ use Rattle.frames.specs.declared.members.Reached.TheVariants.{Library, Own}
 use Rattle.frames.specs.declared.members.Callee.{Callee}
 use Rattle.frames.specs.Members.{LibraryRow, library_rows, is_row_of, row_of, library_params, library_callee, numbered, pairs_with, callee_of, own_callee, member_at, found_callee, callee_at}
 use Rattle.typecheck.specs.Typing.{Method, Class, IsProcessOf}
-use Rattle.verify.specs.Shape.{reserved_names}
-use Rattle.verify.specs.Checked.{IsMember}
+use Rattle.verdict.specs.Shape.{reserved_names}
+use Rattle.verdict.specs.Checked.{IsMember}
 use Rattle.soundness.specs.Room.{IsCheckedButForRoom}
-use Rattle.verify.proofs.Texts.{same_is, same_refl}
-use Rattle.verify.proofs.OwnCalls.{not_init, number_found, process_found}
+use Rattle.verdict.proofs.Texts.{same_is, same_refl}
+use Rattle.verdict.proofs.OwnCalls.{not_init, number_found, process_found}
 
 -- ---- texts
 

@@ -18,7 +18,7 @@ use Rattle.frames.specs.declared.entries.Change.{Change}
 use Rattle.frames.specs.declared.entries.Change.TheVariants.{Same, OneItem, Chop, Append, Full}
 use Rattle.frames.specs.declared.entries.Entry.{Entry}
 use Rattle.frames.specs.StackMap.{object_type, class_item, stack_type, entry_of, one_item, one_item_extended, with_delta, append, full, entry, table, Listed, place_after, frame_of_change, then_rest, frames_from, declared_of, IsDeclared, without, with_table}
-use Rattle.verify.specs.Checked.{NoTop}
+use Rattle.verdict.specs.Checked.{NoTop}
 
 reversed_aux : (ts us : List JType) → NoTop ts → NoTop us → NoTop (reverse_aux ts us)
 reversed_aux [] us h k = k

@@ -11,8 +11,8 @@ use Rattle.frames.specs.declared.frame.Frame.{Frame}
 use Rattle.frames.specs.Signatures.{class_type, field_type, field_types, result_type, signature_of, method_signature}
 use Rattle.typecheck.specs.Typing.{IsTyping, IsProcessOf}
 use Rattle.bounds.specs.Paths.{Cost, Path, falls, ends, IsWithin, AreBounds, last_cost, after_one}
-use Rattle.verify.specs.Checked.{IsFormed, IsChecked}
-use Rattle.verify.specs.Sound.{IsSafe}
+use Rattle.verdict.specs.Checked.{IsFormed, IsChecked}
+use Rattle.verdict.specs.Sound.{IsSafe}
 use Rattle.soundness.specs.Example.{load_entry, give, process, signature, method, example, limits}
 use Rattle.soundness.proofs.SafeRuns.{type_soundness}
 use Rattle.soundness.proofs.StraightCode.{each_at, EachOutcome, outcome_at, from_last, from_before, typed_methods, only_member, only_instance}

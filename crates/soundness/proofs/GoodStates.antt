@@ -18,10 +18,10 @@ use Rattle.frames.specs.declared.frame.Frame.{Frame}
 use Rattle.frames.specs.Frames.{FrameAssignable}
 use Rattle.typecheck.specs.Typing.{Method, Class, instruction_at, declared_at, frame_of, frame_at, Enters, IsTyping}
 use Rattle.bounds.specs.Paths.{Cost, Path, Bounds, own_slots, last_cost, after_one, after_call}
-use Rattle.verify.specs.Checked.{NoTop, IsMember}
+use Rattle.verdict.specs.Checked.{NoTop, IsMember}
 use Rattle.soundness.specs.Room.{IsFormedButForRoom}
-use Rattle.verify.specs.Machine.{Activation, State, Next, Goes, Ends, goes_on}
-use Rattle.verify.specs.Sound.{slots_of_method, slots_of}
+use Rattle.verdict.specs.Machine.{Activation, State, Next, Goes, Ends, goes_on}
+use Rattle.verdict.specs.Sound.{slots_of_method, slots_of}
 
 pub none_top : (ts : List JType) → NoTop ts → NoneTop ts
 none_top [] h = tt

@@ -13,7 +13,7 @@ use Rattle.jtypes.specs.Lists.{change, change_before, padded}
 use Rattle.jtypes.proofs.Fit.{is_top, EachFit, SlotFits, EachSlotFits, fits_long, long_fits, only_if_some, only_if_true}
 use Rattle.jtypes.proofs.OperationsFit.{Took}
 use Rattle.transfer.specs.Transfer.{without_long, store_type}
-use Rattle.verify.specs.Machine.{without_long_value, store_value, split}
+use Rattle.verdict.specs.Machine.{without_long_value, store_value, split}
 
 -- ---- locals
 

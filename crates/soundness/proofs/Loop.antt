@@ -8,9 +8,9 @@ use Rattle.decode.specs.Places.{is_return, AreConsecutive}
 use Rattle.frames.specs.declared.frame.Frame.{Frame}
 use Rattle.typecheck.specs.Typing.{Method, Class, IsTyping, IsFlow, instruction_at}
 use Rattle.bounds.specs.Paths.{Bounds, Cost, Path, ends, jumps, falls, calls}
-use Rattle.verify.specs.Checked.{NoTop}
-use Rattle.verify.specs.Machine.{State, Goes, Ends, step, step_top, start_of, Reaches, here, onward}
-use Rattle.verify.specs.Sound.{IsSafe}
+use Rattle.verdict.specs.Checked.{NoTop}
+use Rattle.verdict.specs.Machine.{State, Goes, Ends, step, step_top, start_of, Reaches, here, onward}
+use Rattle.verdict.specs.Sound.{IsSafe}
 use Rattle.soundness.specs.Example.{process, signature}
 use Rattle.soundness.specs.Premises.{SoundnessOver}
 use Rattle.soundness.specs.OtherPremises.{SomeIsNeverSafe, IsCheckedButForDirection, HasPlainSignature, HasRoom, DeclaresNoTop, HasLengths}

@@ -14,8 +14,8 @@ use Rattle.decode.specs.Places.{target_of, AreConsecutive}
 use Rattle.frames.specs.declared.frame.Frame.{Frame}
 use Rattle.typecheck.specs.Typing.{Method, Class, IsTyping}
 use Rattle.bounds.specs.Paths.{Bounds, Cost, Path, IsWithin, last_cost, after_one}
-use Rattle.verify.specs.Machine.{Invocation, State, step, start_of, here, onward}
-use Rattle.verify.specs.Sound.{IsSafe}
+use Rattle.verdict.specs.Machine.{Invocation, State, step, start_of, here, onward}
+use Rattle.verdict.specs.Sound.{IsSafe}
 use Rattle.soundness.specs.Example.{process, signature}
 use Rattle.soundness.specs.Premises.{SoundnessOver}
 use Rattle.soundness.specs.OtherPremises.{SomeIsNeverSafe, IsCheckedButForLengths, HasPlainSignature, HasRoom, DeclaresNoTop, GoesForward}

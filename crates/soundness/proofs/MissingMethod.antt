@@ -22,9 +22,9 @@ use Rattle.transfer.specs.Transfer.{called, transfer}
 use Rattle.typecheck.specs.Typing.{Method, Class, IsProcessOf, IsTyping, IsWellTyped, instruction_at, own_of, call_of}
 use Rattle.bounds.specs.Recursion.{IsOrdered}
 use Rattle.bounds.specs.Paths.{Bounds, Cost, StandsAt, Path, ends, jumps, falls, calls}
-use Rattle.verify.specs.Checked.{IsMember, IsFormed}
-use Rattle.verify.specs.Machine.{State, step, invoke, with_place, activation_of, start_of, here}
-use Rattle.verify.specs.Sound.{IsSafe}
+use Rattle.verdict.specs.Checked.{IsMember, IsFormed}
+use Rattle.verdict.specs.Machine.{State, step, invoke, with_place, activation_of, start_of, here}
+use Rattle.verdict.specs.Sound.{IsSafe}
 use Rattle.soundness.specs.Example.{process, signature}
 use Rattle.soundness.specs.Premises.{SoundnessOver}
 use Rattle.soundness.specs.OtherPremises.{IsSigned, SomeIsNeverSafe, IsCheckedButForCount}

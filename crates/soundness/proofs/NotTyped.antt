@@ -8,9 +8,9 @@ use Rattle.decode.specs.declared.instruction.Placed.{Placed}
 use Rattle.decode.specs.Places.{target_of}
 use Rattle.typecheck.specs.Typing.{Method, Class}
 use Rattle.bounds.specs.Paths.{Bounds, Cost, Path, IsWithin, last_cost}
-use Rattle.verify.specs.Checked.{IsFormed}
-use Rattle.verify.specs.Machine.{State, start_of, here}
-use Rattle.verify.specs.Sound.{IsSafe}
+use Rattle.verdict.specs.Checked.{IsFormed}
+use Rattle.verdict.specs.Machine.{State, start_of, here}
+use Rattle.verdict.specs.Sound.{IsSafe}
 use Rattle.soundness.specs.Example.{process, signature}
 use Rattle.soundness.specs.Premises.{SoundnessOver}
 use Rattle.soundness.specs.OtherPremises.{SomeIsNeverSafe, IsCheckedButForTypes}

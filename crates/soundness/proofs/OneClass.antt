@@ -1,6 +1,9 @@
 -- The same bytes are at most one class.
 use Rattle.std.proofs.Common.{◌≡◌, ℕ, List, [], ◌∷◌, ◌++◌, Some, length, refl, sym, ap, ◌∙◌, subst}
+use Rattle.std.specs.Coded.{Coded, Coded-set, codes}
 use Rattle.std.specs.List.{AllZip}
+use Rattle.std.proofs.Math.Logic.{∥∥₁_elim, ∥∥₁_prop}
+use mathlib.Core.HLevel.{Σ_prop_path}
 use Rattle.jtypes.proofs.Laws.{laid_out_once}
 use Rattle.constpool.specs.Lookup.{Slot}
 use Rattle.classfile.specs.declared.class_file.Member.{Member}
@@ -16,8 +19,8 @@ use Rattle.frames.specs.declared.frame.Frame.{Frame}
 use Rattle.frames.specs.declared.signatures.Signature.{Signature}
 use Rattle.frames.specs.StackMap.{IsDeclared}
 use Rattle.typecheck.specs.Typing.{Method, Class}
-use Rattle.verify.specs.Shape.{HasCode}
-use Rattle.verify.specs.Verdict.{IsBody, IsMethodOf, IsClassOfFile}
+use Rattle.verdict.specs.Shape.{HasCode}
+use Rattle.verdict.specs.Verdict.{IsBody, IsMethodOf, IsClassOfFile}
 use Rattle.soundness.specs.Once.{EachClassIsOne}
 use Rattle.frames.proofs.Declares.{declared_once}
 
@@ -75,6 +78,17 @@ class_once pool p c other a b = go c.view other.view c.methods other.methods (a.
   where
     go : (v w : ClassView) (ms ns : List Method) → v ≡ w → ms ≡ ns → (let x : Class = record { view = v; methods = ms } in x ≡ record { view = w; methods = ns })
     go v w ms ns h k = rw (h, k) refl
+
+-- where a property is of one value at most, there is at most one value with it
+one_prop : {A : Type 0} {P : A → Type 0} → IsSet A → ((x y : A) → P x → P y → x ≡ y) → IsProp ((x : A) × ∥ P x ∥₁)
+one_prop set once x y = Σ_prop_path (λ _. ∥∥₁_prop) (∥∥₁_elim x.1 (set x.0 y.0) (λ p. ∥∥₁_elim y.1 (set x.0 y.0) (λ q. once x.0 y.0 p q)))
+
+class_code : Coded Class
+class_code = Prim.hlevel codes
+
+-- so the class is data that a pool and parts determine
+pub class_prop : (pool : List Slot) (p : Parts) → IsProp ((c : Class) × ∥ IsClassOfFile pool p c ∥₁)
+class_prop pool p = one_prop (Coded-set class_code) (class_once pool p)
 
 pub one_class : EachClassIsOne
 one_class bytes c other a b =

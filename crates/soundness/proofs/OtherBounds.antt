@@ -3,8 +3,8 @@ use Rattle.std.proofs.Common.{◌≡◌, refl, arith}
 use Rattle.std.specs.Prelude.{Some, slice_get}
 use Rattle.typecheck.specs.Typing.{Method}
 use Rattle.bounds.specs.Paths.{Cost, Path, ends, jumps, falls, calls}
-use Rattle.verify.specs.Machine.{start_of}
-use Rattle.verify.specs.Sound.{IsSafe}
+use Rattle.verdict.specs.Machine.{start_of}
+use Rattle.verdict.specs.Sound.{IsSafe}
 use Rattle.soundness.specs.Example.{method, example}
 use Rattle.soundness.specs.OtherPremises.{SoundnessWithoutBounds, SoundnessByAnyMethod}
 use Rattle.soundness.proofs.StraightCode.{plain_call}

@@ -11,9 +11,9 @@ use Rattle.frames.specs.declared.frame.Frame.{Frame}
 use Rattle.frames.specs.declared.signatures.Signature.{Signature}
 use Rattle.typecheck.specs.Typing.{Method, Class, IsTyping, IsWellTyped}
 use Rattle.bounds.specs.Paths.{Bounds, Cost, Path, IsWithin, last_cost}
-use Rattle.verify.specs.Checked.{IsFormed}
-use Rattle.verify.specs.Machine.{State, start_of, here}
-use Rattle.verify.specs.Sound.{IsSafe}
+use Rattle.verdict.specs.Checked.{IsFormed}
+use Rattle.verdict.specs.Machine.{State, start_of, here}
+use Rattle.verdict.specs.Sound.{IsSafe}
 use Rattle.soundness.specs.Example.{process}
 use Rattle.soundness.specs.Premises.{SoundnessOver}
 use Rattle.soundness.specs.OtherPremises.{SomeIsNeverSafe, IsCheckedButForSignatures, SignedIsPlain}

@@ -23,9 +23,9 @@ use Rattle.frames.specs.Members.{library_rows, callee_at}
 use Rattle.transfer.specs.Transfer.{called, transfer}
 use Rattle.typecheck.specs.Typing.{Method, Class, IsTyping, IsWellTyped, instruction_at, own_of, call_of}
 use Rattle.bounds.specs.Paths.{Bounds, Cost, StandsAt, Path, ends, jumps, falls, calls}
-use Rattle.verify.specs.Checked.{IsFormed}
-use Rattle.verify.specs.Machine.{Activation, State, Goes, step, step_top, invoke, start_of, Reaches, here, onward}
-use Rattle.verify.specs.Sound.{IsSafe}
+use Rattle.verdict.specs.Checked.{IsFormed}
+use Rattle.verdict.specs.Machine.{Activation, State, Goes, step, step_top, invoke, start_of, Reaches, here, onward}
+use Rattle.verdict.specs.Sound.{IsSafe}
 use Rattle.soundness.specs.Example.{process, signature}
 use Rattle.soundness.specs.Premises.{SoundnessOver}
 use Rattle.soundness.specs.OtherPremises.{SomeIsNeverSafe, IsCheckedButForRanks}

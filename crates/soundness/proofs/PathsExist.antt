@@ -16,10 +16,10 @@ use Rattle.frames.specs.Members.{callee_at}
 use Rattle.frames.specs.Frames.{first_frame}
 use Rattle.typecheck.specs.Typing.{Method, Class, instruction_at, own_number, own_of, call_of}
 use Rattle.bounds.specs.Paths.{Cost, Path, StandsAt, own_slots, last_cost, after_one, after_call, ends, jumps, falls, calls}
-use Rattle.verify.specs.Checked.{IsMember}
+use Rattle.verdict.specs.Checked.{IsMember}
 use Rattle.soundness.specs.Room.{IsCheckedButForRoom}
-use Rattle.verify.specs.Machine.{Activation}
-use Rattle.verify.specs.Sound.{slots_of_method}
+use Rattle.verdict.specs.Machine.{Activation}
+use Rattle.verdict.specs.Sound.{slots_of_method}
 use Rattle.soundness.proofs.Callees.{CalleeFits, callee_fits}
 use Rattle.soundness.proofs.GoodStates.{IsInside, has_frame, onward, enters_inside, enters_target, AllAwait, RestOf}
 

@@ -20,9 +20,9 @@ use Rattle.frames.specs.Signatures.{class_type, field_type, field_types, result_
 use Rattle.frames.specs.Members.{library_rows, callee_at}
 use Rattle.typecheck.specs.Typing.{Method, Class, IsTyping, call_of}
 use Rattle.bounds.specs.Paths.{Bounds, Cost, Path, IsWithin, last_cost, after_one}
-use Rattle.verify.specs.Checked.{IsFormed}
-use Rattle.verify.specs.Machine.{State, step, start_of, here, onward}
-use Rattle.verify.specs.Sound.{IsSafe}
+use Rattle.verdict.specs.Checked.{IsFormed}
+use Rattle.verdict.specs.Machine.{State, step, start_of, here, onward}
+use Rattle.verdict.specs.Sound.{IsSafe}
 use Rattle.soundness.specs.Premises.{SoundnessOver, IsCheckedButForName}
 use Rattle.soundness.proofs.StraightCode.{placed, process_with, plain_call, gone_to, each_at, EachOutcome, outcome_at, only_method, from_last, from_before, typed_methods, only_member, only_instance}
 use Rattle.std.proofs.Common.{ap}
@@ -32,7 +32,7 @@ use Rattle.jtypes.specs.declared.operations.Native.TheVariants as native
 use Rattle.frames.specs.declared.members.Reached.TheVariants.{Library}
 use Rattle.typecheck.specs.Typing.{own_of}
 use Rattle.transfer.specs.Transfer.{called, transfer}
-use Rattle.verify.specs.Machine.{invoke}
+use Rattle.verdict.specs.Machine.{invoke}
 
 abbrev zero : Placed
 zero = placed 0 1 (instruction.Push (pushed.Long (pos 0)))

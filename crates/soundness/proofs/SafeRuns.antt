@@ -11,13 +11,13 @@ use Rattle.jtypes.proofs.Fit.{EachFit}
 use Rattle.frames.specs.Frames.{first_frame}
 use Rattle.typecheck.specs.Typing.{Method, Class, IsProcessOf}
 use Rattle.bounds.specs.Paths.{Cost, Path, Bounds, IsWithin}
-use Rattle.verify.specs.Checked.{IsChecked}
+use Rattle.verdict.specs.Checked.{IsChecked}
 use Rattle.soundness.specs.Premises.{SoundnessOver}
 use Rattle.soundness.specs.Room.{IsCheckedButForRoom}
-use Rattle.verify.specs.Machine.{Invocation, State, Next, Goes, Ends, step, start_of, start, activation_of, Reaches, here, onward}
-use Rattle.verify.specs.Sound.{slots_of, StaysWithin, Finishes, SoundnessOfClasses}
+use Rattle.verdict.specs.Machine.{Invocation, State, Next, Goes, Ends, step, start_of, start, activation_of, Reaches, here, onward}
+use Rattle.verdict.specs.Sound.{slots_of, StaysWithin, Finishes, SoundnessOfClasses}
 use Rattle.soundness.proofs.Locals.{first_locals}
-use Rattle.verify.proofs.OwnCalls.{process_found}
+use Rattle.verdict.proofs.OwnCalls.{process_found}
 use Rattle.soundness.proofs.Callees.{entry_of, method_at_number}
 use Rattle.soundness.proofs.GoodStates.{IsAt, is_inside, IsGood, SafeNext, arrive, no_length_first, RestOf}
 use Rattle.soundness.proofs.PathsExist.{has_path, has_rest, path_slots, path_depth}

@@ -18,8 +18,8 @@ use Rattle.frames.specs.Signatures.{class_type, field_type, field_types, result_
 use Rattle.typecheck.specs.Typing.{Method, Class, IsTyping, instruction_at}
 use Rattle.typecheck.specs.Mismatch.{HasLength}
 use Rattle.bounds.specs.Paths.{Bounds, Cost, Path, IsWithin, last_cost, after_one}
-use Rattle.verify.specs.Machine.{State, step, start_of, here, onward}
-use Rattle.verify.specs.Sound.{IsSafe}
+use Rattle.verdict.specs.Machine.{State, step, start_of, here, onward}
+use Rattle.verdict.specs.Sound.{IsSafe}
 use Rattle.soundness.specs.Premises.{SoundnessOver, IsCheckedButForPlaces, IsFormedButForPlaces}
 use Rattle.soundness.proofs.StraightCode.{placed, process_with, plain_call, gone_to, each_at, EachOutcome, outcome_at, at_its_place, only_method, from_last, from_before, typed_methods, only_member, only_instance}
 

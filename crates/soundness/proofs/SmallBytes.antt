@@ -17,14 +17,14 @@ use Rattle.classfile.specs.Code.{plain_attribute, code_parts, parts_of_code, is_
 use Rattle.classfile.specs.View.{view_of, method_view, codes_of}
 use Rattle.frames.specs.Signatures.{class_type, field_type, field_types, result_type, signature_of, method_signature, is_abstract, is_native}
 use Rattle.frames.specs.declared.signatures.Signature.{Signature}
-use Rattle.verify.specs.Shape.{HasBadDescriptor, is_constructor, slots_taken}
-use Rattle.verify.specs.Shaping.{HasSlots, HasGoodMethod, ArePartsGood, AreNamesGood, HasGoodShape, IsOnlyAt, has_header, has_constructor_type, has_constructor_code}
-use Rattle.verify.specs.Verdict.{IsClassFile, HasShape}
-use Rattle.verify.proofs.Codes.{good_code}
-use Rattle.verify.proofs.Methods.{method_judged, codes_of_good}
-use Rattle.verify.proofs.Header.{good_header}
-use Rattle.verify.proofs.Constructor.{the_constructor}
-use Rattle.verify.proofs.Shapes.{good_shape}
+use Rattle.verdict.specs.Shape.{HasBadDescriptor, is_constructor, slots_taken}
+use Rattle.verdict.specs.Shaping.{HasSlots, HasGoodMethod, ArePartsGood, AreNamesGood, HasGoodShape, IsOnlyAt, has_header, has_constructor_type, has_constructor_code}
+use Rattle.verdict.specs.Verdict.{IsClassFile, HasShape}
+use Rattle.verdict.proofs.Codes.{good_code}
+use Rattle.verdict.proofs.Methods.{method_judged, codes_of_good}
+use Rattle.verdict.proofs.Header.{good_header}
+use Rattle.verdict.proofs.Constructor.{the_constructor}
+use Rattle.verdict.proofs.Shapes.{good_shape}
 use Rattle.soundness.specs.Example as example
 use Rattle.soundness.specs.Accepted.{small_bytes, small_pool, small_parts, constructor_member, process_member, constructor_content, process_content, constructor_signature}
 

@@ -15,9 +15,9 @@ use Rattle.frames.specs.Frames.{FrameAssignable}
 use Rattle.frames.specs.Signatures.{class_type, field_type, field_types, result_type, signature_of, method_signature}
 use Rattle.typecheck.specs.Typing.{Method, Class}
 use Rattle.bounds.specs.Paths.{Bounds}
-use Rattle.verify.specs.Checked.{NoTop}
-use Rattle.verify.specs.Machine.{State, start, here}
-use Rattle.verify.specs.Sound.{IsSafe}
+use Rattle.verdict.specs.Checked.{NoTop}
+use Rattle.verdict.specs.Machine.{State, start, here}
+use Rattle.verdict.specs.Sound.{IsSafe}
 use Rattle.soundness.specs.Example.{process, signature}
 use Rattle.soundness.specs.OtherPremises.{IsSigned}
 use Rattle.soundness.proofs.StraightCode.{one_at, only_method, plain_call}

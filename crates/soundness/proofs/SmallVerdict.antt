@@ -31,9 +31,9 @@ use Rattle.bounds.specs.Paths.{Cost, Path, StandsAt, AreBounds, IsWithin, SomePa
 use Rattle.bounds.specs.Recursion.{HasCall, IsOrdered, IsRecursive}
 use Rattle.bounds.specs.Table.{Costs, IsTable, LeadsOn, cost_by}
 use Rattle.bounds.proofs.Greatest.{tables_are_bounds}
-use Rattle.verify.specs.Shape.{is_constructor, HasCode, ShapeStands}
-use Rattle.verify.specs.Verdict.{is_known, InstructionStands, InstructionsStand, HasInstructions, IsBody, BodyStands, TypesStand, HasTypes, IsClassOfFile, ClassStands, BoundStands, by_layout, by_shape, by_instructions, by_types, by_class, IsAccepted, IsClassOf}
-use Rattle.verify.proofs.Methods.{any_at}
+use Rattle.verdict.specs.Shape.{is_constructor, HasCode, ShapeStands}
+use Rattle.verdict.specs.Verdict.{is_known, InstructionStands, InstructionsStand, HasInstructions, IsBody, BodyStands, TypesStand, HasTypes, IsClassOfFile, ClassStands, BoundStands, by_layout, by_shape, by_instructions, by_types, by_class, IsAccepted, IsClassOf}
+use Rattle.verdict.proofs.Methods.{any_at}
 use Rattle.soundness.specs.Example as example
 use Rattle.soundness.specs.Accepted.{small_bytes, small_pool, small_parts, constructor_member, process_member, constructor_code, constructor_method, small_class}
 use Rattle.soundness.proofs.StraightCode.{Each, each_at, at_its_place}

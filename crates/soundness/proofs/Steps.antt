@@ -56,7 +56,7 @@ use Rattle.transfer.proofs.RearrangedFit.{took, by_forms_fit}
 use Rattle.typecheck.specs.Typing.{Method, Class, instruction_at, IsFlow, own_number, own_of, call_of}
 use Rattle.bounds.specs.Paths.{Cost, Path, Bounds, StandsAt, length_of, words_at, last_cost, after_one, jumps, falls, calls, ends as ends_path}
 use Rattle.soundness.specs.Room.{IsFormedButForRoom, IsCheckedButForRoom}
-use Rattle.verify.specs.Machine.{Activation, State, ends, throws, goes_on, with_operands, with_place, next_with, jump_with, load, store, store_value, increment, value_of_pushed, after_answer, after_test, make_array, same_kind, element_value, number_of, push_item, load_from, load_item, with_element, store_to, store_number, store_item, load_reference, push_length, measure, may_cast, cast, ask, split, activation_of, is_on_null, enter, after_reply, reach, invoke, end_with, return_to, narrowed, return_value, return_void, act, act_at, step, step_top}
+use Rattle.verdict.specs.Machine.{Activation, State, ends, throws, goes_on, with_operands, with_place, next_with, jump_with, load, store, store_value, increment, value_of_pushed, after_answer, after_test, make_array, same_kind, element_value, number_of, push_item, load_from, load_item, with_element, store_to, store_number, store_item, load_reference, push_length, measure, may_cast, cast, ask, split, activation_of, is_on_null, enter, after_reply, reach, invoke, end_with, return_to, narrowed, return_value, return_void, act, act_at, step, step_top}
 use Rattle.soundness.proofs.Locals.{slot_at, slots_length, slots_store, slots_keep, first_locals, split_took}
 use Rattle.soundness.proofs.Callees.{IsOwn, CalleeFits, callee_fits}
 use Rattle.soundness.proofs.GoodStates.{none_top, alone, IsCounted, IsAt, is_inside, with_result, Awaits, AllAwait, all_await_kept, HasBudget, budget_on, budget_same, budget_call, budget_return, IsGood, SafeNext, goes_safe, arrive, enters_inside, enters_target, no_length, no_length_target, no_length_first, RestOf}

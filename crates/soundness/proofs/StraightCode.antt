@@ -12,8 +12,8 @@ use Rattle.bounds.specs.Paths.{Cost, StandsAt, Path, ends, jumps, falls, calls, 
 use Rattle.constpool.specs.Names.{process_name, process_descriptor}
 use Rattle.decode.specs.declared.instruction.Instruction.{Instruction}
 use Rattle.frames.specs.Signatures.{is_static, method_signature}
-use Rattle.verify.specs.Checked.{IsMember}
-use Rattle.verify.specs.Machine.{Invocation, State, Next, Goes}
+use Rattle.verdict.specs.Checked.{IsMember}
+use Rattle.verdict.specs.Machine.{Invocation, State, Next, Goes}
 use Rattle.soundness.specs.Premises.{HasTypedMethods}
 
 pub one_at : {A : Type 0} (x : A) (j : ℕ) (y : A) → slice_get (x ∷ []) j ≡ Some y → x ≡ y

@@ -14,13 +14,13 @@ use Rattle.typecheck.specs.Mismatch.{IsMismatch}
 use Rattle.typecheck.specs.Pass.{failure_of, IsReady}
 use Rattle.typecheck.proofs.DeclaredPlaces.{declared_stands}
 use Rattle.typecheck.proofs.Passes.{fails_at_mismatch, passes_typed}
-use Rattle.verify.specs.Shape.{is_constructor, empty}
-use Rattle.verify.specs.Verdict.{IsAccepted, IsClassOf, HasShape, HasInstructions, IsBody, BodyStands, TypesStand, by_shape, by_instructions, by_types}
-use Rattle.verify.specs.Checked.{IsMember}
-use Rattle.verify.specs.Promise.{TypeSoundness, AcceptedIsChecked}
+use Rattle.verdict.specs.Shape.{is_constructor, empty}
+use Rattle.verdict.specs.Verdict.{IsAccepted, IsClassOf, HasShape, HasInstructions, IsBody, BodyStands, TypesStand, by_shape, by_instructions, by_types}
+use Rattle.verdict.specs.Checked.{IsMember}
+use Rattle.verdict.specs.Promise.{TypeSoundness, AcceptedIsChecked}
 use Rattle.soundness.proofs.SafeRuns.{type_soundness}
 use Rattle.soundness.proofs.AcceptedRanks.{accepted_has_ranks}
-use Rattle.verify.proofs.Methods.{any_from}
+use Rattle.verdict.proofs.Methods.{any_from}
 use Rattle.decode.proofs.Consecutive.{sequence_is_consecutive}
 use Rattle.soundness.proofs.AcceptedClasses.{accepted_is_named, accepted_process_is_instance, accepted_count, accepted_signed, accepted_is_formed, InFile, in_file, one_contains}
 

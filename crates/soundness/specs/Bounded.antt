@@ -3,8 +3,8 @@ use Rattle.std.specs.Prelude.{ℕ, List}
 use Rattle.typecheck.specs.Typing.{Class, IsProcessOf}
 use Rattle.bounds.specs.Paths.{Bounds, AreBounds}
 use Rattle.bounds.specs.Table.{LeadsOn}
-use Rattle.verify.specs.Verdict.{IsAccepted, IsClassOf}
-use Rattle.verify.specs.Checked.{IsChecked, members}
+use Rattle.verdict.specs.Verdict.{IsAccepted, IsClassOf}
+use Rattle.verdict.specs.Checked.{IsChecked, members}
 
 -- in the methods of a checked class, but the constructor, each instruction leads on
 abbrev pub CheckedLeadsOn : Type 0

@@ -2,8 +2,8 @@
 use Rattle.std.specs.Prelude.{◌≡◌, ℕ, suc, Some}
 use Rattle.typecheck.specs.Typing.{Class, IsProcessOf}
 use Rattle.bounds.specs.Paths.{Bounds, Cost, Path, IsWithin}
-use Rattle.verify.specs.Checked.{IsChecked}
-use Rattle.verify.specs.Machine.{Invocation, State, Goes, step, start, Reaches}
+use Rattle.verdict.specs.Checked.{IsChecked}
+use Rattle.verdict.specs.Machine.{Invocation, State, Goes, step, start, Reaches}
 
 -- whatever the call, there is a state to start from
 abbrev pub EachCallStarts : Type 0

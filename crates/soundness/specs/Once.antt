@@ -1,7 +1,7 @@
 -- The class of given bytes is one.
 use Rattle.std.specs.Prelude.{◌≡◌, ℕ, List}
 use Rattle.typecheck.specs.Typing.{Class}
-use Rattle.verify.specs.Verdict.{IsClassOf}
+use Rattle.verdict.specs.Verdict.{IsClassOf}
 
 -- the same bytes are at most one class
 abbrev pub EachClassIsOne : Type 0

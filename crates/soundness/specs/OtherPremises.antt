@@ -12,8 +12,8 @@ use Rattle.frames.specs.declared.frame.Frame.{Frame}
 use Rattle.typecheck.specs.Typing.{Method, Class, IsWellTyped, IsProcessOf, instruction_at, declared_at}
 use Rattle.typecheck.specs.Mismatch.{HasLength}
 use Rattle.bounds.specs.Paths.{Bounds, Cost, Path, IsWithin}
-use Rattle.verify.specs.Checked.{NoTop, IsFormed, IsChecked}
-use Rattle.verify.specs.Sound.{IsSafe}
+use Rattle.verdict.specs.Checked.{NoTop, IsFormed, IsChecked}
+use Rattle.verdict.specs.Sound.{IsSafe}
 use Rattle.soundness.specs.Ordering.{HasRanks}
 use Rattle.soundness.specs.Premises.{HasTypedMethods, HasFreeName, HasInstanceProcess, AllMembers}
 

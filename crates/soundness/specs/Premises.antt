@@ -13,9 +13,9 @@ use Rattle.typecheck.specs.Typing.{Method, Class, IsWellTyped, IsProcessOf, inst
 use Rattle.typecheck.specs.Mismatch.{HasLength}
 use Rattle.bounds.specs.Recursion.{IsOrdered}
 use Rattle.bounds.specs.Paths.{Bounds, Cost, Path, IsWithin}
-use Rattle.verify.specs.Shape.{reserved_names}
-use Rattle.verify.specs.Checked.{NoTop, IsFormed, IsMember}
-use Rattle.verify.specs.Sound.{IsSafe}
+use Rattle.verdict.specs.Shape.{reserved_names}
+use Rattle.verdict.specs.Checked.{NoTop, IsFormed, IsMember}
+use Rattle.verdict.specs.Sound.{IsSafe}
 
 -- the law, of the classes of which P holds
 abbrev pub SoundnessOver : (Class → Type 0) → Type 0

@@ -11,8 +11,8 @@ use Rattle.frames.specs.declared.frame.Frame.{Frame}
 use Rattle.typecheck.specs.Typing.{Method, Class, IsWellTyped, IsProcessOf, instruction_at, declared_at}
 use Rattle.typecheck.specs.Mismatch.{HasLength}
 use Rattle.bounds.specs.Recursion.{IsOrdered}
-use Rattle.verify.specs.Shape.{reserved_names}
-use Rattle.verify.specs.Checked.{NoTop, IsMember}
+use Rattle.verdict.specs.Shape.{reserved_names}
+use Rattle.verdict.specs.Checked.{NoTop, IsMember}
 
 -- all that is asked of a method beside its typing, but that its parameters have room among its locals
 pub record IsFormedButForRoom (m : Method) : Type 0 where

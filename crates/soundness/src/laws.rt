@@ -2,11 +2,11 @@
 
 ghost use Rattle.typecheck.specs.Typing.{IsProcessOf};
 ghost use Rattle.bounds.specs.Paths.{AreBounds};
-ghost use Rattle.verify.specs.Checked.{IsChecked};
-ghost use Rattle.verify.specs.Verdict.{IsAccepted, IsClassOf};
+ghost use Rattle.verdict.specs.Checked.{IsChecked};
+ghost use Rattle.verdict.specs.Verdict.{IsAccepted, IsClassOf};
 ghost use Rattle.soundness.specs.Accepted.{small_bytes, small_class};
-ghost use Rattle.verify.specs.Sound.{IsSafe, SoundnessOfClasses};
-ghost use Rattle.verify.specs.Promise.{AcceptedIsChecked, AcceptedIsOrdered, TypeSoundness};
+ghost use Rattle.verdict.specs.Sound.{IsSafe, SoundnessOfClasses};
+ghost use Rattle.verdict.specs.Promise.{AcceptedIsChecked, AcceptedIsOrdered, TypeSoundness};
 ghost use Rattle.soundness.specs.Bounded.{AcceptedHasBounds, CheckedLeadsOn};
 ghost use Rattle.soundness.specs.Counting.{EachCallStarts, EachStepCounts};
 ghost use Rattle.soundness.specs.Example.{example, limits};

@@ -1,44 +1,69 @@
-use Rattle.std.proofs.Common.{◌≡◌, ◌∙◌, ap, sym, rules, refl, reverse, take, drop, [], ◌∷◌, List}
-use Rattle.jtypes.specs.declared.types.Value.{Value}
-use Rattle.jtypes.specs.Library.{Reply, library}
-use Rattle.machine.proofs.Replies.{told_reply}
+use Rattle.std.proofs.Common.{subst}
+use Rattle.machine.proofs.Replying.{HasShape, library_called, told_called, ints_shape, longs_shape, reference_shape}
 use Rattle.machine.proofs.library.call_library.Goals as goal
 
-pub returns-in-0-clause-told : goal.returns-in-0-clause-told
-returns-in-0-clause-told c = λ class all.
-    let now = c.args.machine.now in
-    let ops = now.operands.0 in
-    let by : List Value → Reply = λ vs. library c.args.native now.key now.entry.current vs in
-    told_reply class all now now.operands c.args.declared (drop c.args.count ops) (by []) (by (reverse (take c.args.count ops))) c.reply.result c.reply.new.machine refl (ap (λ n. drop n ops) (sym c.in-0.is)) (ap (λ n. by (reverse (take n ops))) (sym c.in-0.is)) (c.reply.ensures.told class all)
+pub call_on_int-requires : goal.call_on_int-requires
+call_on_int-requires c =
+    let (k, e, x, call, r) = c.requires in
+    let t = library_called k c.args.machine.now c.args.native e x call r in
+    (k, t.values, t.rest, subst (λ n. HasShape n t.values) c.in-IntegerValueOf.is t.shape, t.called)
 
-pub returns-in-1-clause-told : goal.returns-in-1-clause-told
-returns-in-1-clause-told c = λ class all.
-    let now = c.args.machine.now in
-    let ops = now.operands.0 in
-    let by : List Value → Reply = λ vs. library c.args.native now.key now.entry.current vs in
-    let only = c.unwrap-only.result in
-    let left = c.pop.new.self in
-    let popped : now.operands ≡ (only ∷ left.0, left.1) = search rules in
-    told_reply class all now left c.args.declared (drop c.args.count ops) (by (only ∷ [])) (by (reverse (take c.args.count ops))) c.reply-in-1.result c.reply-in-1.new.machine
-    (ap (λ (o : List Value × List (List Value)). o.1) (sym popped))
-    (ap (λ (o : List Value × List (List Value)). drop 1 o.0) (sym popped) ∙ ap (λ n. drop n ops) (sym c.in-1.is))
-    (ap (λ (o : List Value × List (List Value)). by (reverse (take 1 o.0))) (sym popped) ∙ ap (λ n. by (reverse (take n ops))) (sym c.in-1.is))
-    (c.reply-in-1.ensures.told class all)
+pub returns-in-IntegerValueOf-clause-told : goal.returns-in-IntegerValueOf-clause-told
+returns-in-IntegerValueOf-clause-told c k e x call r =
+    let t = library_called k c.args.machine.now c.args.native e x call r in
+    told_called k c.args.machine.now c.call_on_int.new.machine c.args.native c.call_on_int.result _ t (c.call_on_int.ensures.told k t.values t.rest (subst (λ n. HasShape n t.values) c.in-IntegerValueOf.is t.shape) t.called)
 
-pub returns-in-2-clause-told : goal.returns-in-2-clause-told
-returns-in-2-clause-told c = λ class all.
-    let now = c.args.machine.now in
-    let ops = now.operands.0 in
-    let by : List Value → Reply = λ vs. library c.args.native now.key now.entry.current vs in
-    let second = c.unwrap-second.result in
-    let first = c.unwrap-first.result in
-    let between = c.pop-in-2.new.self in
-    let left = c.pop-in-2-2.new.self in
-    let above : now.operands ≡ (second ∷ between.0, between.1) = search rules in
-    let below : between ≡ (first ∷ left.0, left.1) = search rules in
-    let popped : now.operands ≡ (second ∷ first ∷ left.0, left.1) = above ∙ ap (λ (o : List Value × List (List Value)). (second ∷ o.0, o.1)) below in
-    told_reply class all now left c.args.declared (drop c.args.count ops) (by (first ∷ second ∷ [])) (by (reverse (take c.args.count ops))) c.reply-in-2.result c.reply-in-2.new.machine
-    (ap (λ (o : List Value × List (List Value)). o.1) (sym popped))
-    (ap (λ (o : List Value × List (List Value)). drop 2 o.0) (sym popped) ∙ ap (λ n. drop n ops) (sym c.in-2.is))
-    (ap (λ (o : List Value × List (List Value)). by (reverse (take 2 o.0))) (sym popped) ∙ ap (λ n. by (reverse (take n ops))) (sym c.in-2.is))
-    (c.reply-in-2.ensures.told class all)
+pub call_on_long-requires : goal.call_on_long-requires
+call_on_long-requires c =
+    let (k, e, x, call, r) = c.requires in
+    let t = library_called k c.args.machine.now c.args.native e x call r in
+    (k, t.values, t.rest, subst (λ n. HasShape n t.values) c.in-LongValueOf.is t.shape, t.called)
+
+pub returns-in-LongValueOf-clause-told : goal.returns-in-LongValueOf-clause-told
+returns-in-LongValueOf-clause-told c k e x call r =
+    let t = library_called k c.args.machine.now c.args.native e x call r in
+    told_called k c.args.machine.now c.call_on_long.new.machine c.args.native c.call_on_long.result _ t (c.call_on_long.ensures.told k t.values t.rest (subst (λ n. HasShape n t.values) c.in-LongValueOf.is t.shape) t.called)
+
+pub call_on_references-requires : goal.call_on_references-requires
+call_on_references-requires c =
+    let (k, e, x, call, r) = c.requires in
+    let t = library_called k c.args.machine.now c.args.native e x call r in
+    (k, t.values, t.rest, subst (λ n. HasShape n t.values) c.in-SetValue.is t.shape, t.called)
+
+pub returns-in-SetValue-clause-told : goal.returns-in-SetValue-clause-told
+returns-in-SetValue-clause-told c k e x call r =
+    let t = library_called k c.args.machine.now c.args.native e x call r in
+    told_called k c.args.machine.now c.call_on_references.new.machine c.args.native c.call_on_references.result _ t (c.call_on_references.ensures.told k t.values t.rest (subst (λ n. HasShape n t.values) c.in-SetValue.is t.shape) t.called)
+
+pub call_on_ints-requires : goal.call_on_ints-requires
+call_on_ints-requires c =
+    let (k, e, x, call, r) = c.requires in
+    let t = library_called k c.args.machine.now c.args.native e x call r in
+    (k, t.values, t.rest, ints_shape c.args.native t.values c.in-MaxOfInts.is t.shape, t.called)
+
+pub returns-in-MaxOfInts-clause-told : goal.returns-in-MaxOfInts-clause-told
+returns-in-MaxOfInts-clause-told c k e x call r =
+    let t = library_called k c.args.machine.now c.args.native e x call r in
+    told_called k c.args.machine.now c.call_on_ints.new.machine c.args.native c.call_on_ints.result _ t (c.call_on_ints.ensures.told k t.values t.rest (ints_shape c.args.native t.values c.in-MaxOfInts.is t.shape) t.called)
+
+pub call_on_longs-requires : goal.call_on_longs-requires
+call_on_longs-requires c =
+    let (k, e, x, call, r) = c.requires in
+    let t = library_called k c.args.machine.now c.args.native e x call r in
+    (k, t.values, t.rest, longs_shape c.args.native t.values c.in-MaxOfLongs.is t.shape, t.called)
+
+pub returns-in-MaxOfLongs-clause-told : goal.returns-in-MaxOfLongs-clause-told
+returns-in-MaxOfLongs-clause-told c k e x call r =
+    let t = library_called k c.args.machine.now c.args.native e x call r in
+    told_called k c.args.machine.now c.call_on_longs.new.machine c.args.native c.call_on_longs.result _ t (c.call_on_longs.ensures.told k t.values t.rest (longs_shape c.args.native t.values c.in-MaxOfLongs.is t.shape) t.called)
+
+pub call_on_reference-requires : goal.call_on_reference-requires
+call_on_reference-requires c =
+    let (k, e, x, call, r) = c.requires in
+    let t = library_called k c.args.machine.now c.args.native e x call r in
+    (k, t.values, t.rest, reference_shape c.args.native t.values c.in-IntValue.is t.shape, t.called)
+
+pub returns-in-IntValue-clause-told : goal.returns-in-IntValue-clause-told
+returns-in-IntValue-clause-told c k e x call r =
+    let t = library_called k c.args.machine.now c.args.native e x call r in
+    told_called k c.args.machine.now c.call_on_reference.new.machine c.args.native c.call_on_reference.result _ t (c.call_on_reference.ensures.told k t.values t.rest (reference_shape c.args.native t.values c.in-IntValue.is t.shape) t.called)

@@ -1,22 +1,30 @@
-use Rattle.std.proofs.Common.{refl, ap, arith}
-use Rattle.arena.specs.Held.{Held}
-use Rattle.arena.proofs.Laws.{follows_push, pushed}
+use Rattle.std.proofs.Common.{◌≡◌, ◌∷◌, [], ◌++◌, ◌∙◌, ap, length, arith, add-one}
+use Rattle.jtypes.specs.Values.{new_array}
+use Rattle.arena.specs.Held.{words_taken}
+use Rattle.arena.proofs.Placing.{array_added}
+use Rattle.arena.proofs.Words.{length-all_words}
+use Rattle.arena.proofs.ArrayReads.{is_stored_as}
+use Rattle.arena.proofs.ArrayWrites.{IsWritten, array_pushed}
 use Rattle.arena.proofs.arena.Arena.alloc.Goals as goal
 
+written : (c : goal.After-set) → IsWritten c.set.new.self (c.args.self.now.arrays ++ new_array c.args.kind c.args.n ∷ [])
+written c =
+    let e = rw (c.append_zeros.ensures, c.len-id.ensures.count, c.header_of.ensures, add-one) at c.set.ensures in
+    array_pushed c.self.inside c.args.self.now c.set.new.self c.args.kind c.args.n c.self.invariant c.self.view_is e (omega (arith, c.self.invariant.room))
+
+place : (c : goal.After-set) → c.len-id.result ≡ words_taken c.args.self.now.arrays
+place c = c.len-id.ensures.count ∙ ap length (is_stored_as c.self.inside c.args.self.now c.self.invariant c.self.view_is) ∙ length-all_words c.args.self.now.arrays
+
 pub invariant_of-self : goal.invariant_of-self
-invariant_of-self c =
-    let items = rw c.unwrap.ensures at c.push.ensures.items in
-    let few = rw c.unwrap.ensures at c.push.ensures.len in
-    let long = rw c.unwrap-2.ensures at c.resize.ensures.len in
-    record {
-      in_turn = rw (items, long, c.len-start.ensures) (follows_push 0 c.self.inside.placed.items _ c.args.n _ c.self.invariant.in_turn refl refl);
-      few = omega (arith, few, long);
-      room_for_arrays = omega (arith, few, long, c.push.ensures.capacity, c.self.invariant.room_for_arrays);
-      room_for_elements = omega (arith, few, long, c.resize.ensures.capacity, c.self.invariant.room_for_elements);
-    }
+invariant_of-self c = (written c).stored
+
+pub returns-clause-id : goal.returns-clause-id
+returns-clause-id c =
+    rw ((written c).same, place c) (array_added c.args.self.now.arrays (new_array c.args.kind c.args.n)).place
+
+pub returns-clause-stands : goal.returns-clause-stands
+returns-clause-stands c =
+    rw ((written c).same, place c) (array_added c.args.self.now.arrays (new_array c.args.kind c.args.n))
 
 pub returns-clause-arrays : goal.returns-clause-arrays
-returns-clause-arrays c =
-    let items = rw c.unwrap.ensures at c.push.ensures.items in
-    let zeros = rw c.unwrap-2.ensures at c.resize.ensures.items in
-    pushed c.self.inside.elements.items _ c.self.inside.placed.items _ c.args.self.now.arrays _ c.len-start.result c.args.n c.args.kind (ap (λ (held : Held). held.arrays) c.self.view_is) c.self.invariant.in_turn c.self.inside.elements.ok.0 c.len-start.ensures items zeros
+returns-clause-arrays c = (written c).same

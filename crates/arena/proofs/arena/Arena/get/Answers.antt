@@ -1,25 +1,35 @@
-use Rattle.std.proofs.Common.{refl, sym, ◌∙◌, ap, arith, rules, SFits}
-use Rattle.std.specs.Int.{w32, w64}
+use Rattle.std.proofs.Common.{◌≡◌, ◌∙◌, refl, arith, rules, FitsSigned}
+use Rattle.std.specs.Int.{w32, w64, cast_signed}
 use Rattle.std.proofs.lemmas.Int.{to_z-of_z}
-use Rattle.arena.specs.Held.{Held}
-use Rattle.arena.proofs.Laws.{has_place, is_read, item_there, item_nowhere}
+use Rattle.arena.proofs.Words.{has_place, no_place}
+use Rattle.arena.proofs.ArrayReads.{is_read, some_read, element_read}
 use Rattle.arena.proofs.arena.Arena.get.Goals as goal
 
-pub index-requires-in-Some : goal.index-requires-in-Some
-index-requires-in-Some c =
-    let r = is_read c.self.inside.elements.items c.self.inside.placed.items c.args.self.now.arrays _ c.args.id c.index.result.now (ap (λ (held : Held). held.arrays) c.self.view_is) c.self.invariant.in_turn c.self.inside.elements.ok.0 c.requires c.index.ensures in
-    let h = has_place c.index.result.now c.args.index c.in-Some.place (sym (rw (to_z-of_z w32 c.args.index c.ranges.index) at c.place_of.ensures) ∙ c.in-Some.is) in
-    omega (arith, r.inside, h.inside, h.is_place, c.self.inside.elements.ok.0)
+pub get-requires : goal.get-requires
+get-requires c =
+    let r = some_read c.self.inside c.args.self.now c.args.id c.self.invariant c.self.view_is c.requires in
+    let h = has_place c.args.id r.array c.args.index c.in-Some.place (rw (to_z-of_z w32 c.args.index c.ranges.index) at (c.in-Some.ensures r.number r.array r.at r.is)) in
+    omega (arith, h.inside, h.is_place, r.read.within)
 
-pub returns-in-Some : goal.returns-in-Some
-returns-in-Some c =
-    let r = is_read c.self.inside.elements.items c.self.inside.placed.items c.args.self.now.arrays _ c.args.id c.index.result.now (ap (λ (held : Held). held.arrays) c.self.view_is) c.self.invariant.in_turn c.self.inside.elements.ok.0 c.requires c.index.ensures in
-    let h = has_place c.index.result.now c.args.index c.in-Some.place (sym (rw (to_z-of_z w32 c.args.index c.ranges.index) at c.place_of.ensures) ∙ c.in-Some.is) in
-    let t = item_there c.self.inside.elements.items c.index.result.now h.at c.index-in-Some.result.now h.inside r.inside in
-    let f : SFits w64 c.index-in-Some.result.now = search rules in
-    rw (r.array, h.is_index, t, ← h.is_place, ← c.index-in-Some.ensures) (simp to_z-of_z)
+pub returns-in-Some-clause-item : goal.returns-in-Some-clause-item
+returns-in-Some-clause-item c = λ k a at e.
+    let r = is_read c.self.inside c.args.self.now k c.args.id a c.self.invariant c.self.view_is at e in
+    let h = has_place c.args.id a c.args.index c.in-Some.place (rw (to_z-of_z w32 c.args.index c.ranges.index) at (c.in-Some.ensures k a at e)) in
+    let x = element_read c.self.inside.words.items c.args.id a c.args.index c.in-Some.place c.get.result r h c.get.ensures in
+    let f : FitsSigned w64 c.cast_signed.result = search rules in
+    let z = to_z-of_z w64 c.cast_signed.result f ∙ c.cast_signed.ensures in
+    rw (z, x.item) refl
 
-pub returns-in-None : goal.returns-in-None
-returns-in-None c =
-    let r = is_read c.self.inside.elements.items c.self.inside.placed.items c.args.self.now.arrays _ c.args.id c.index.result.now (ap (λ (held : Held). held.arrays) c.self.view_is) c.self.invariant.in_turn c.self.inside.elements.ok.0 c.requires c.index.ensures in
-    rw (r.array, item_nowhere c.self.inside.elements.items c.index.result.now c.args.index (sym (rw (to_z-of_z w32 c.args.index c.ranges.index) at c.place_of.ensures) ∙ c.in-None.is)) refl
+pub returns-in-Some-clause-element : goal.returns-in-Some-clause-element
+returns-in-Some-clause-element c = λ k a at e n is.
+    let r = is_read c.self.inside c.args.self.now k c.args.id a c.self.invariant c.self.view_is at e in
+    let h = has_place c.args.id a c.args.index c.in-Some.place (rw (to_z-of_z w32 c.args.index c.ranges.index) at (c.in-Some.ensures k a at e)) in
+    let x = element_read c.self.inside.words.items c.args.id a c.args.index c.in-Some.place c.get.result r h c.get.ensures in
+    let f : FitsSigned w64 c.cast_signed.result = search rules in
+    let z = to_z-of_z w64 c.cast_signed.result f ∙ c.cast_signed.ensures in
+    let y : n ≡ cast_signed w64 c.get.result = cc in
+    rw y x.fits
+
+pub returns-in-None-clause-item : goal.returns-in-None-clause-item
+returns-in-None-clause-item c = λ k a at e.
+    rw (no_place c.args.id a c.args.index (rw (to_z-of_z w32 c.args.index c.ranges.index) at (c.in-None.ensures k a at e))) refl

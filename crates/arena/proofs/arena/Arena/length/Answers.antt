@@ -1,9 +1,26 @@
-use Rattle.std.proofs.Common.{ap, sym}
-use Rattle.arena.specs.Held.{Held}
-use Rattle.arena.proofs.Laws.{is_read, length-array_at}
+use Rattle.std.proofs.Common.{◌∙◌, ap, arith}
+use Rattle.arena.specs.Stored.{length_in}
+use Rattle.arena.proofs.ArrayReads.{is_read, some_read}
 use Rattle.arena.proofs.arena.Arena.length.Goals as goal
 
-pub returns : goal.returns
-returns c =
-    let r = is_read c.self.inside.elements.items c.self.inside.placed.items c.args.self.now.arrays _ c.args.id c.index.result.now (ap (λ (held : Held). held.arrays) c.self.view_is) c.self.invariant.in_turn c.self.inside.elements.ok.0 c.requires c.index.ensures in
-    rw r.array (sym (length-array_at c.self.inside.elements.items c.index.result.now r.inside))
+pub get-requires : goal.get-requires
+get-requires c =
+    let r = some_read c.self.inside c.args.self.now c.args.id c.self.invariant c.self.view_is c.requires in
+    omega (arith, r.read.within)
+
+pub overflow_cast-result : goal.overflow_cast-result
+overflow_cast-result c =
+    let r = some_read c.self.inside c.args.self.now c.args.id c.self.invariant c.self.view_is c.requires in
+    let n = c.length_in.ensures ∙ ap length_in c.get.ensures ∙ r.read.count in
+    record { fits = omega (arith, n, r.read.within, c.self.invariant.room, c.self.invariant.few) }
+
+pub returns-clause-count : goal.returns-clause-count
+returns-clause-count c = λ k a at e.
+    let r = is_read c.self.inside c.args.self.now k c.args.id a c.self.invariant c.self.view_is at e in
+    c.length_in.ensures ∙ ap length_in c.get.ensures ∙ r.count
+
+pub returns-clause-below : goal.returns-clause-below
+returns-clause-below c =
+    let r = some_read c.self.inside c.args.self.now c.args.id c.self.invariant c.self.view_is c.requires in
+    let n = c.length_in.ensures ∙ ap length_in c.get.ensures ∙ r.read.count in
+    omega (arith, n, r.taken)

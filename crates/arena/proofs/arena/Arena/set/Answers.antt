@@ -1,30 +1,47 @@
-use Rattle.std.proofs.Common.{◌≡◌, refl, sym, ◌∙◌, ap, arith}
+use Rattle.std.proofs.Common.{refl, arith}
 use Rattle.std.specs.Int.{w32, w64}
 use Rattle.std.proofs.lemmas.Int.{to_z-of_z}
-use Rattle.arena.specs.Held.{Held}
-use Rattle.arena.proofs.Laws.{has_place, is_read, item_there, item_nowhere, changed}
+use Rattle.jtypes.specs.Lists.{change}
+use Rattle.arena.specs.Held.{with_element}
+use Rattle.arena.proofs.Placing.{length-change_element, one_array}
+use Rattle.arena.proofs.Words.{has_place, no_place}
+use Rattle.arena.proofs.ArrayReads.{is_read, element_read}
+use Rattle.arena.proofs.ArrayWrites.{IsWritten, array_written}
 use Rattle.arena.proofs.arena.Arena.set.Goals as goal
 
-pub index_mut-requires : goal.index_mut-requires
-index_mut-requires c =
-    let r = is_read c.self.inside.elements.items c.self.inside.placed.items c.args.self.now.arrays _ c.args.id c.index.result.now (ap (λ (held : Held). held.arrays) c.self.view_is) c.self.invariant.in_turn c.self.inside.elements.ok.0 c.requires c.index.ensures in
-    let h = has_place c.index.result.now c.args.index c.in-Some.place (sym (rw (to_z-of_z w32 c.args.index c.ranges.index) at c.place_of.ensures) ∙ c.in-Some.is) in
-    omega (arith, r.inside, h.inside, h.is_place, c.self.inside.elements.ok.0)
+pub set-requires : goal.set-requires
+set-requires c =
+    let a = c.requires.1 in
+    let r = is_read c.self.inside c.args.self.now c.requires.0 c.args.id a c.self.invariant c.self.view_is c.requires.2 c.requires.3 in
+    let h = has_place c.args.id a c.args.index c.in-Some.place (rw (to_z-of_z w32 c.args.index c.ranges.index) at (c.in-Some.ensures c.requires.0 a c.requires.2 c.requires.3)) in
+    omega (arith, h.inside, h.is_place, r.within)
+
+written : (c : goal.After-set) → IsWritten c.set.new.self (change (with_element c.args.index c.args.value) c.args.self.now.arrays c.requires.0)
+written c =
+    let a = c.requires.1 in
+    let h = has_place c.args.id a c.args.index c.in-Some.place (rw (to_z-of_z w32 c.args.index c.ranges.index) at (c.in-Some.ensures c.requires.0 a c.requires.2 c.requires.3)) in
+    let v = rw (to_z-of_z w64 c.args.value c.ranges.value) at c.cast_unsigned.ensures in
+    let e = rw v at c.set.ensures in
+    array_written c.self.inside c.args.self.now c.set.new.self c.requires.0 c.args.id c.in-Some.place a c.args.index c.args.value c.self.invariant c.self.view_is c.requires.2 c.requires.3 h c.ranges.value c.requires.4 e
+
+pub invariant_of-self : goal.invariant_of-self
+invariant_of-self c = (written c).stored
 
 pub returns-in-Some-clause-answer : goal.returns-in-Some-clause-answer
-returns-in-Some-clause-answer c =
-    let r = is_read c.self.inside.elements.items c.self.inside.placed.items c.args.self.now.arrays _ c.args.id c.index.result.now (ap (λ (held : Held). held.arrays) c.self.view_is) c.self.invariant.in_turn c.self.inside.elements.ok.0 c.requires c.index.ensures in
-    let h = has_place c.index.result.now c.args.index c.in-Some.place (sym (rw (to_z-of_z w32 c.args.index c.ranges.index) at c.place_of.ensures) ∙ c.in-Some.is) in
-    rw (r.array, h.is_index, item_there c.self.inside.elements.items c.index.result.now h.at c.args.value h.inside r.inside) refl
+returns-in-Some-clause-answer c = λ k a at e.
+    let r = is_read c.self.inside c.args.self.now k c.args.id a c.self.invariant c.self.view_is at e in
+    let h = has_place c.args.id a c.args.index c.in-Some.place (rw (to_z-of_z w32 c.args.index c.ranges.index) at (c.in-Some.ensures k a at e)) in
+    let x = element_read c.self.inside.words.items c.args.id a c.args.index c.in-Some.place _ r h refl in
+    rw x.item refl
+
+pub returns-in-Some-clause-count : goal.returns-in-Some-clause-count
+returns-in-Some-clause-count c =
+    rw (written c).same (length-change_element c.args.self.now.arrays c.requires.0 c.args.index c.args.value)
 
 pub returns-in-Some-clause-ok : goal.returns-in-Some-clause-ok
-returns-in-Some-clause-ok c =
-    let h = has_place c.index.result.now c.args.index c.in-Some.place (sym (rw (to_z-of_z w32 c.args.index c.ranges.index) at c.place_of.ensures) ∙ c.in-Some.is) in
-    let t = changed c.self.inside.elements.items c.self.inside.placed.items c.args.self.now.arrays _ c.args.id c.index.result.now c.args.index c.in-Some.place c.args.value (ap (λ (held : Held). held.arrays) c.self.view_is) c.self.invariant.in_turn c.requires c.index.ensures h in
-    let e : c.self.inside.words_left ≡ c.args.self.now.words_left = ap (λ (held : Held). held.words_left) c.self.view_is in
-    rw (to_z-of_z w64 c.args.value c.ranges.value, t, e) refl
+returns-in-Some-clause-ok c = λ k a at e.
+    rw (one_array c.args.self.now.arrays k c.requires.0 c.args.id at c.requires.2) (written c).same
 
 pub returns-in-None-clause-answer : goal.returns-in-None-clause-answer
-returns-in-None-clause-answer c =
-    let r = is_read c.self.inside.elements.items c.self.inside.placed.items c.args.self.now.arrays _ c.args.id c.index.result.now (ap (λ (held : Held). held.arrays) c.self.view_is) c.self.invariant.in_turn c.self.inside.elements.ok.0 c.requires c.index.ensures in
-    rw (r.array, item_nowhere c.self.inside.elements.items c.index.result.now c.args.index (sym (rw (to_z-of_z w32 c.args.index c.ranges.index) at c.place_of.ensures) ∙ c.in-None.is)) refl
+returns-in-None-clause-answer c = λ k a at e.
+    rw (no_place c.args.id a c.args.index (rw (to_z-of_z w32 c.args.index c.ranges.index) at (c.in-None.ensures k a at e))) refl

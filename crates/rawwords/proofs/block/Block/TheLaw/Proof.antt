@@ -1,0 +1,11 @@
+-- A `&` to a block reaches each word.
+use denote.Param.Shared.{copy_shared}
+use denote.Struct.Field.{RawPtr-field}
+use denote.Struct.Laws.{RawPtr-copy}
+use denote.Struct.Lending.{of_Lends}
+use Rattle.rawwords.specs.contracts.block.Block as C
+use Rattle.rawwords.proofs.block.Block.TheLaw.Statement.{statement}
+use Rattle.rawwords.proofs.Sharing.{block_lent_laws, Lends-block}
+
+pub shares : statement
+shares = of_Lends C.struct C.the_codes C.the_heap C.the_lent (λ d p. block_lent_laws d.at d.places) (copy_shared RawPtr-field RawPtr-copy, tt) (λ M 𝓤 𝓛 d p. Lends-block 𝓛 C.the_row.lives d.at d.places)

@@ -1,0 +1,9 @@
+pub mod Kept
+pub mod Stored
+pub mod Passing
+pub mod Beginning
+pub mod Leaving
+pub mod Arrays
+pub mod Receiver
+pub mod Formed
+pub mod Rearranged

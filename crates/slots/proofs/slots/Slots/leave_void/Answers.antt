@@ -1,0 +1,10 @@
+use Rattle.std.proofs.Common.{sym, []}
+use Rattle.slots.proofs.Leaving.{left}
+use Rattle.slots.proofs.slots.Slots.leave_void.Goals as goal
+
+pub returns-in-Some-clause-reads : goal.returns-in-Some-clause-reads
+returns-in-Some-clause-reads c arrays ls vs below r =
+    let e = c.in-Some.ensures.items in
+    let s = c.args.self.now in
+    left arrays s (record { words = s.words; kinds = s.kinds; callers = c.pop.new.self; base = c.in-Some.caller.base; top = s.base })
+    [] c.in-Some.caller.place ls vs below e.0 (sym e.1) (λ a rest caller. caller) r

@@ -1,0 +1,4 @@
+pub mod Standing
+pub mod Reads
+pub mod Leaving
+pub mod Picking

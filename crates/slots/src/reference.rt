@@ -1,0 +1,53 @@
+//! What a reference is.
+
+ghost use Rattle.std.specs.Prelude.{◌≡◌};
+ghost use Rattle.jtypes.specs.declared.types.RefValue.{RefValue};
+ghost use Rattle.jtypes.specs.declared.types.Value.TheVariants.{Ref};
+ghost use Rattle.jtypes.specs.Values.{Arrays};
+ghost use Rattle.arena.specs.Placing.{IsReference};
+ghost use Rattle.slots.specs.Standing.{IsWordOf, kind_of};
+
+use jtypes::RefValue;
+
+/// What a reference is; its number stands in a word beside it.
+#[derive(Clone, Copy, PartialEq, Eq, Debug)]
+pub enum Reference {
+    Null,
+    Long,
+    Integer,
+    Array,
+    Entry,
+    This,
+    Args,
+}
+
+/// The kind and the word of a reference; that of null, the entry, the class and the arguments tells nothing.
+pub fn parts_of(r: RefValue) -> (Reference, u64)
+    ensures { (arrays : Arrays) (v : RefValue) → IsReference arrays v r → (result.0 ≡ kind_of v) × IsWordOf arrays (Ref v) result.1 }
+{
+    match r {
+        RefValue::Null => (Reference::Null, 0),
+        RefValue::Long(n) => (Reference::Long, n.cast_unsigned()),
+        RefValue::Integer(n) => (Reference::Integer, u64::from(n.cast_unsigned())),
+        RefValue::Array(begin) => (Reference::Array, u64::from(begin)),
+        RefValue::Entry => (Reference::Entry, 0),
+        RefValue::This => (Reference::This, 0),
+        RefValue::Args => (Reference::Args, 0),
+    }
+}
+
+/// The reference of a kind, with its word.
+pub fn reference_of(kind: Reference, word: u64) -> RefValue
+    requires { (arrays : Arrays) × (v : RefValue) × (kind ≡ kind_of v) × IsWordOf arrays (Ref v) word }
+    ensures { (arrays : Arrays) (v : RefValue) → kind ≡ kind_of v → IsWordOf arrays (Ref v) word → IsReference arrays v result }
+{
+    match kind {
+        Reference::Null => RefValue::Null,
+        Reference::Long => RefValue::Long(word.cast_signed()),
+        Reference::Integer => RefValue::Integer((word as u32).cast_signed()),
+        Reference::Array => RefValue::Array(word as u32),
+        Reference::Entry => RefValue::Entry,
+        Reference::This => RefValue::This,
+        Reference::Args => RefValue::Args,
+    }
+}

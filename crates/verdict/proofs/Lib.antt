@@ -1,0 +1,20 @@
+pub mod Texts
+mod Types
+pub mod Header
+pub mod Descriptors
+pub mod Readable
+pub mod Codes
+pub mod Methods
+pub mod OnlyOne
+pub mod Constructor
+pub mod Names
+pub mod Shapes
+pub mod Numbered
+pub mod Judged
+pub mod ConstructorCode
+pub mod OwnCalls
+pub mod RowsOfClass
+pub mod Verdicts
+pub mod Accepted
+pub mod RowsFound
+pub mod Refused

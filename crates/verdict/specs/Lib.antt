@@ -1,0 +1,10 @@
+pub mod Shape
+pub mod Shaping
+pub mod Verdict
+pub mod Judging
+pub mod Checked
+pub mod Machine
+pub mod Meaning
+pub mod Sound
+pub mod Promise
+pub mod Judged

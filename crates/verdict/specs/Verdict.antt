@@ -1,0 +1,136 @@
+-- The verdict: which refusals stand in the bytes of a class.
+use Rattle.std.specs.Prelude.{◌≡◌, ℕ, Bool, true, List, length, Any, Some, IsFalse, is_some, ◌⊎◌}
+use Rattle.std.specs.List.{AllZip}
+use Rattle.jtypes.specs.declared.refusal.Refusal.{Refusal}
+use Rattle.jtypes.specs.declared.refusal.Refusal.TheVariants.{UnknownMember, BadStackMap, TypeMismatch, FallsOff, LengthNotConstant, Recursive, StepLimit, WordLimit, FrameLimit}
+use Rattle.jtypes.specs.Layout.{IsLaidOut, Stands}
+use Rattle.constpool.specs.Lookup.{Slot}
+use Rattle.classfile.specs.declared.class_file.Member.{Member}
+use Rattle.classfile.specs.declared.class_file.Parts.{Parts}
+use Rattle.classfile.specs.declared.class_file.CodeParts.{CodeParts}
+use Rattle.classfile.specs.Class.{class_file}
+use Rattle.classfile.specs.View.{ClassView, method_view, view_of, tables_of}
+use Rattle.decode.specs.declared.instruction.Instruction.{Instruction}
+use Rattle.decode.specs.declared.instruction.Instruction.TheVariants.{Invoke, CheckCast, InstanceOf}
+use Rattle.decode.specs.declared.instruction.Placed.{Placed}
+use Rattle.decode.specs.Code.{IsSequence}
+use Rattle.decode.specs.Places.{CodeStands}
+use Rattle.frames.specs.Signatures.{method_signature, constant_type}
+use Rattle.frames.specs.Members.{callee_at}
+use Rattle.frames.specs.declared.frame.Environment.{Environment}
+use Rattle.frames.specs.StackMap.{IsDeclared}
+use Rattle.typecheck.specs.Typing.{Method, Class, IsProcessOf}
+use Rattle.typecheck.specs.Mismatch.{HasBadStackMap, HasMismatch, FallsOffEnd, LacksLength}
+use Rattle.bounds.specs.Recursion.{IsRecursive}
+use Rattle.bounds.specs.Paths.{SomePathExceeds, step_limit, word_limit, slot_limit, depth_limit}
+use Rattle.verdict.specs.Shape.{is_constructor, HasCode, ShapeStands}
+
+-- ---- level A: the bytes are laid out as a class file
+
+-- the bytes are a class file with this pool and these parts, and nothing is wrong with its layout
+pub record IsClassFile (bytes : List ℕ) (pool : List Slot) (p : Parts) : Type 0 where
+  pub laid_out : IsLaidOut (class_file (length bytes)) bytes (pool, p)
+  pub none_stands : (r : Refusal) → Stands (class_file (length bytes)) bytes r → ⊥
+
+-- ---- level B: its shape
+
+pub record HasShape (pool : List Slot) (p : Parts) : Type 0 where
+  pub none_stands : (r : Refusal) → ShapeStands pool p r → ⊥
+
+-- ---- level C: the instructions of its methods but the constructor
+
+-- one of the methods, but the constructor
+abbrev pub SomeMethod : List Slot → Parts → (Member → Type 0) → Type 0
+SomeMethod pool p P = Any (λ m. IsFalse (is_constructor pool m) × P m) p.methods
+
+-- whether the member that an instruction names is known
+abbrev pub is_known : ClassView → Instruction → Bool
+is_known v (Invoke kind i) = is_some (callee_at v kind i)
+is_known v (CheckCast i) = is_some (constant_type v i)
+is_known v (InstanceOf i) = is_some (constant_type v i)
+is_known v _ = true
+
+-- an unknown member in a code that is read to its end
+abbrev pub NamesUnknown : ClassView → List ℕ → Type 0
+NamesUnknown v bytes = (code : List Placed) × IsSequence v.pool 0 bytes code × Any (λ p. IsFalse (is_known v p.instruction)) code
+
+-- a refusal of the level, in the bytes of a code
+abbrev pub InstructionStands : ClassView → List ℕ → Refusal → Type 0
+InstructionStands v bytes UnknownMember = NamesUnknown v bytes
+InstructionStands v bytes r = CodeStands v.pool bytes r
+
+abbrev pub InstructionsStand : List Slot → Parts → Refusal → Type 0
+InstructionsStand pool p r = SomeMethod pool p (λ m. (c : CodeParts) × HasCode pool m c × InstructionStands (view_of pool p) c.code r)
+
+pub record HasInstructions (pool : List Slot) (p : Parts) : Type 0 where
+  pub none_stands : (r : Refusal) → InstructionsStand pool p r → ⊥
+
+-- ---- level D: the types of those methods
+
+-- a method's environment, its instructions, and its tables of frames
+pub record IsBody (pool : List Slot) (p : Parts) (m : Member) (e : Environment) (code : List Placed) (tables : List (List ℕ)) : Type 0 where
+  pub parts : CodeParts
+  pub has_code : HasCode pool m parts
+  pub signature : method_signature (view_of pool p) (method_view pool m) ≡ Some e.signature
+  pub max_stack : e.max_stack ≡ parts.max_stack
+  pub max_locals : e.max_locals ≡ parts.max_locals
+  pub sequence : IsSequence pool 0 parts.code code
+  pub tables_are : tables ≡ tables_of pool parts
+
+abbrev pub BodyStands : ClassView → Environment → List Placed → List (List ℕ) → Refusal → Type 0
+BodyStands v e code tables BadStackMap = HasBadStackMap v e code tables
+BodyStands v e code tables (TypeMismatch place) = HasMismatch v e code tables place
+BodyStands v e code tables FallsOff = FallsOffEnd code
+BodyStands v e code tables LengthNotConstant = LacksLength v e code tables
+BodyStands v e code tables _ = ⊥
+
+abbrev pub TypesStand : List Slot → Parts → Refusal → Type 0
+TypesStand pool p r =
+    SomeMethod pool p (λ m. (e : Environment) × (code : List Placed) × (tables : List (List ℕ)) × IsBody pool p m e code tables × BodyStands (view_of pool p) e code tables r)
+
+pub record HasTypes (pool : List Slot) (p : Parts) : Type 0 where
+  pub none_stands : (r : Refusal) → TypesStand pool p r → ⊥
+
+-- ---- level E: recursion and bounds
+
+pub record IsMethodOf (pool : List Slot) (p : Parts) (m : Member) (method : Method) : Type 0 where
+  pub tables : List (List ℕ)
+  pub body : IsBody pool p m method.environment method.code tables
+  pub declared : IsDeclared (view_of pool p) method.environment method.code tables method.declared
+
+-- the class of a class file
+pub record IsClassOfFile (pool : List Slot) (p : Parts) (c : Class) : Type 0 where
+  pub view : c.view ≡ view_of pool p
+  pub methods : AllZip (IsMethodOf pool p) p.methods c.methods
+
+abbrev pub BoundStands : Class → ℕ → Refusal → Type 0
+BoundStands c j StepLimit = SomePathExceeds c j (λ k. k.steps) step_limit
+BoundStands c j WordLimit = SomePathExceeds c j (λ k. k.words) word_limit
+BoundStands c j FrameLimit = SomePathExceeds c j (λ k. k.slots) slot_limit ⊎ SomePathExceeds c j (λ k. k.depth) depth_limit
+BoundStands c j _ = ⊥
+
+abbrev pub ClassStands : Class → Refusal → Type 0
+ClassStands c Recursive = IsRecursive c
+ClassStands c r = (IsRecursive c → ⊥) × ((j : ℕ) × IsProcessOf c j × BoundStands c j r)
+
+-- ---- the verdict
+
+-- A refusal stands in the bytes: at its level, where none of an earlier level does.
+pub data IsRefused (bytes : List ℕ) (r : Refusal) : Type 0 where
+  by_layout : Stands (class_file (length bytes)) bytes r → IsRefused bytes r
+  by_shape : (pool : List Slot) (p : Parts) → IsClassFile bytes pool p → ShapeStands pool p r → IsRefused bytes r
+  by_instructions : (pool : List Slot) (p : Parts) → IsClassFile bytes pool p → HasShape pool p → InstructionsStand pool p r → IsRefused bytes r
+  by_types : (pool : List Slot) (p : Parts) → IsClassFile bytes pool p → HasShape pool p → HasInstructions pool p → TypesStand pool p r → IsRefused bytes r
+  by_class : (pool : List Slot) (p : Parts) (c : Class) → IsClassFile bytes pool p → HasShape pool p → HasInstructions pool p → HasTypes pool p
+      → IsClassOfFile pool p c → ClassStands c r → IsRefused bytes r
+
+-- a class is accepted where no refusal stands
+abbrev pub IsAccepted : List ℕ → Type 0
+IsAccepted bytes = (r : Refusal) → IsRefused bytes r → ⊥
+
+-- the class of these bytes
+pub record IsClassOf (bytes : List ℕ) (c : Class) : Type 0 where
+  pub pool : List Slot
+  pub parts : Parts
+  pub file : IsClassFile bytes pool parts
+  pub class : IsClassOfFile pool parts c

@@ -1,7 +1,0 @@
-use Rattle.std.proofs.Common.{take}
-use Rattle.verify.specs.Shape.{is_constructor}
-use Rattle.verify.proofs.OnlyOne.{FoundSoFar}
-use Rattle.verify.proofs.shape.only_constructor.Given as goal
-
-abbrev pub invariant-loop-number : goal.invariant-loop-number
-invariant-loop-number l = FoundSoFar (is_constructor l.class.pool) (take l.number l.methods) l.methods l.found

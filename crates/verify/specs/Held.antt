@@ -1,0 +1,21 @@
+-- What is known of a class that was accepted.
+use Rattle.std.specs.Prelude.{ℕ, List}
+use Rattle.typecheck.specs.Typing.{Class, IsProcessOf}
+use Rattle.bounds.specs.declared.limits.Bounds.{Bounds}
+use Rattle.bounds.specs.Limits.{IsWithinLimits}
+use Rattle.bounds.specs.Paths.{AreBounds}
+use Rattle.bounds.specs.Rows.{bounds_in}
+use Rattle.verdict.specs.Verdict.{IsAccepted, IsClassOf}
+use Rattle.linked.specs.declared.linked.LinkedClass.{LinkedClass}
+use Rattle.linked.specs.Linking.{IsLinked, IsEntry}
+use Rattle.linked.specs.Numbering.{index_of}
+
+-- the class was accepted by its bytes, has these bounds, and is linked so
+pub record Holds (c : Class) (limits : Bounds) (linked : LinkedClass) : Type 0 where
+  pub bytes : List ℕ
+  pub accepted : IsAccepted bytes
+  pub class : IsClassOf bytes c
+  pub bounds : (j : ℕ) → IsProcessOf c j → AreBounds c j (bounds_in limits)
+  pub within : IsWithinLimits limits
+  pub code : IsLinked c (index_of c) linked
+  pub entry : IsEntry c (index_of c) linked.process

@@ -1,0 +1,96 @@
+//! Verified classes.
+
+ghost use Rattle.std.specs.Prelude.{◌≡◌, ◌⊎◌, ℕ, IfOk, IfErr};
+ghost use Rattle.jtypes.specs.declared.refusal.Refusal.{Refusal};
+ghost use Rattle.typecheck.specs.Typing.{IsProcessOf};
+ghost use Rattle.bounds.specs.Limits.{IsWithinLimits};
+ghost use Rattle.bounds.specs.Paths.{AreBounds};
+ghost use Rattle.bounds.specs.Rows.{bounds_in};
+ghost use Rattle.verdict.specs.Verdict.{IsAccepted, IsClassOf, IsRefused};
+ghost use Rattle.verdict.specs.Sound.{IsSafe};
+ghost use Rattle.verdict.specs.Checked.{IsChecked};
+ghost use Rattle.linked.specs.Linking.{IsLinked, IsEntry};
+ghost use Rattle.linked.specs.Numbering.{index_of};
+ghost use Rattle.verify.specs.TheClass.{TheClass, TheClass-prop};
+
+use crate::link::link;
+use bounds::Bounds;
+use classfile::ClassFile;
+use jtypes::Refusal;
+use linked::LinkedClass;
+use soundness::{accepted_has_bounds, accepted_is_checked, accepted_is_ordered, type_soundness};
+use std::alloc::{AllocError, Global};
+use std::marker::Model;
+use verdict::judge;
+
+/// A class that was accepted, with its linked code. It is seen as the class itself, which its bytes are.
+#[derive(Debug, Drop)]
+pub struct Verified {
+    file: ClassFile,
+    bounds: Bounds,
+    linked: LinkedClass,
+    ghost class: { TheClass file.pool file.parts } by { TheClass-prop file.pool file.parts },
+}
+
+impl Model for Verified {
+    ghost use Rattle.typecheck.specs.Typing.{Class};
+    ghost use Rattle.verify.specs.Held.{Holds};
+
+    ghost Value = { Class };
+
+    ghost view = { λ a. a.class.0 };
+
+    ghost invariant = { λ a. Holds a.class.0 a.bounds a.linked };
+}
+
+/// Judges the bytes of a class (JVMS §4, §4.10.1), and links its instructions (JVMS §5.4).
+pub fn verify(alloc: Global, bytes: &[u8]) -> Result<Verified, Refusal>
+    ensures class { IfOk result (λ c. IsClassOf bytes.now c) }
+    ensures accepted { IfOk result (λ _. IsAccepted bytes.now) }
+    ensures refused { IfErr result (λ r. (r ≡ Refusal.NoMemory) ⊎ IsRefused bytes.now r) }
+{
+    accepted_is_ordered();
+    accepted_is_checked();
+    accepted_has_bounds();
+    let judged = judge(alloc, bytes)?;
+    let bounds = judged.bounds();
+    let linked = match link(alloc, &judged) {
+        Ok(linked) => linked,
+        Err(AllocError) => return Err(Refusal::NoMemory),
+    };
+    Ok(Verified {
+        file: judged.into_file(),
+        bounds,
+        linked,
+    })
+}
+
+impl Verified {
+    /// What an invocation takes at most. Whatever the call, the class never gets stuck and ends within these.
+    pub fn bounds(&self) -> Bounds
+        ensures limits { IsWithinLimits result }
+        ensures bounds { (j : ℕ) → IsProcessOf self.now j → AreBounds self.now j (bounds_in result) }
+        ensures safe { IsSafe self.now (bounds_in result) }
+    {
+        accepted_has_bounds();
+        type_soundness();
+        self.bounds
+    }
+
+    /// Its instructions, linked.
+    pub fn linked(&self) -> &LinkedClass
+        ensures code { IsLinked self.now (index_of self.now) result.now }
+        ensures process { IsEntry self.now (index_of self.now) result.now.process }
+    {
+        &self.linked
+    }
+}
+
+/// An accepted class is checked.
+pub fn is_checked(class: &Verified)
+    ensures { IsChecked class.now }
+{
+    accepted_is_ordered();
+    accepted_is_checked();
+    let _file = &class.file;
+}
