@@ -42,8 +42,14 @@ fn texts_of<'a>(alloc: Global, words: &'a [String]) -> Result<Vec<&'a str>, Allo
 
 /// Writes a line, and answers its status.
 fn write<W: Write>(output: &mut W, text: &str, status: u8) -> ExitCode {
-    let written = output.write_all(text.as_bytes()).and_then(|()| output.flush());
-    ExitCode::from(if written.is_ok() { status } else { Failure::CannotWrite.status() })
+    let written = output
+        .write_all(text.as_bytes())
+        .and_then(|()| output.flush());
+    ExitCode::from(if written.is_ok() {
+        status
+    } else {
+        Failure::CannotWrite.status()
+    })
 }
 
 fn main(rt: HostRuntime) -> ExitCode {

@@ -50,11 +50,21 @@ pub fn cost(alloc: Global, steps: u32, words: u32) -> Result<String, AllocError>
 
 /// What each invocation took, of so many steps, and each of its steps in the median round.
 pub fn of_runs(alloc: Global, times: Times, steps: u32) -> Result<String, AllocError> {
-    let each = if steps == 0 { 0 } else { times.median.saturating_mul(10) / u128::from(steps) };
+    let each = if steps == 0 {
+        0
+    } else {
+        times.median.saturating_mul(10) / u128::from(steps)
+    };
     let (least, median) = (times.least, times.median);
     format!(in alloc;
         "run {}.{} ns, at least {}.{} ns, {steps} steps, {}.{:02} ns a step\n",
-        median / 10, median % 10, least / 10, least % 10, each / 100, each % 100)
+        median / 10,
+        median % 10,
+        least / 10,
+        least % 10,
+        each / 100,
+        each % 100
+    )
 }
 
 /// What each verdict took.
@@ -63,5 +73,9 @@ pub fn of_verdicts(alloc: Global, times: Times, accepted: bool) -> Result<String
     let (least, median) = (times.least / 1000, times.median / 1000);
     format!(in alloc;
         "verify {}.{} us, at least {}.{} us, {verdict}\n",
-        median / 10, median % 10, least / 10, least % 10)
+        median / 10,
+        median % 10,
+        least / 10,
+        least % 10
+    )
 }
