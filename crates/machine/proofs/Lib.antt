@@ -3,6 +3,7 @@ pub mod Onward
 pub mod Leading
 pub mod Families
 pub mod Turning
+pub mod Gliding
 pub mod Quotients
 pub mod Bounded
 pub mod Begun

@@ -15,30 +15,34 @@ ghost use Rattle.machine.specs.Operated.{CanOperate, Operated, HasInts, HasLongs
 use jtypes::{Binary, Conversion, Division, Shift};
 use slots::Slots;
 
+/// All results are made and one is taken: that is faster than a jump that is hard to foretell.
 fn int_of(operation: Binary, a: i32, b: i32) -> i32
     ensures { result ≡ binary w32 operation a b }
 {
-    match operation {
-        Binary::Add => a.wrapping_add(b),
-        Binary::Subtract => a.wrapping_sub(b),
-        Binary::Multiply => a.wrapping_mul(b),
-        Binary::And => a & b,
-        Binary::Or => a | b,
-        Binary::Xor => a ^ b,
-    }
+    let results = [
+        a.wrapping_add(b),
+        a.wrapping_sub(b),
+        a.wrapping_mul(b),
+        a & b,
+        a | b,
+        a ^ b,
+    ];
+    results[operation as usize]
 }
 
+/// All results are made and one is taken, as in `int_of`.
 fn long_of(operation: Binary, a: i64, b: i64) -> i64
     ensures { result ≡ binary w64 operation a b }
 {
-    match operation {
-        Binary::Add => a.wrapping_add(b),
-        Binary::Subtract => a.wrapping_sub(b),
-        Binary::Multiply => a.wrapping_mul(b),
-        Binary::And => a & b,
-        Binary::Or => a | b,
-        Binary::Xor => a ^ b,
-    }
+    let results = [
+        a.wrapping_add(b),
+        a.wrapping_sub(b),
+        a.wrapping_mul(b),
+        a & b,
+        a | b,
+        a ^ b,
+    ];
+    results[operation as usize]
 }
 
 /// Shifts an int by the low 5 bits of a count.

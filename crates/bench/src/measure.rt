@@ -1,0 +1,106 @@
+//! Rounds of the same work, by the processor time of this thread.
+
+ghost use Rattle.std.specs.Prelude.{◌≡◌, ◌*◌, ◌/◌, ◌<◌};
+ghost use Rattle.std.specs.Duration.{as_nanos};
+
+use crate::line::Call;
+use crate::report::Failure;
+use machine::{Done, Workspace, run};
+use std::alloc::Global;
+use std::time::{CpuClock, Duration};
+use verify::{Verified, verify};
+
+/// How many rounds there are.
+const ROUNDS: usize = 9;
+
+/// What one piece of work takes, in tenths of a nanosecond, in the fastest round and in the median one.
+#[derive(Clone, Copy, Debug, PartialEq, Eq)]
+pub struct Times {
+    pub least: u128,
+    pub median: u128,
+}
+
+/// Tenths of a nanosecond for one of so many.
+pub fn tenths(time: Duration, count: u32) -> u128
+    requires { 0 < count }
+    ensures { result ≡ as_nanos time * 10 / count }
+{
+    time.as_nanos() * 10 / u128::from(count)
+}
+
+/// Runs a call so often, and answers the instructions of all of them.
+fn run_often(class: &Verified, call: &Call, count: u32, workspace: &mut Workspace) -> u64 {
+    let mut steps = 0u64;
+    for _ in 0..count {
+        let done = run(class, call.key, call.before, &call.args, workspace);
+        steps = steps.wrapping_add(u64::from(done.steps));
+    }
+    steps
+}
+
+/// Verifies a class so often, and answers how often it was accepted.
+fn verify_often(alloc: Global, bytes: &[u8], count: u32) -> u64 {
+    let mut accepted = 0u64;
+    for _ in 0..count {
+        if verify(alloc, bytes).is_ok() {
+            accepted = accepted.wrapping_add(1);
+        }
+    }
+    accepted
+}
+
+fn now(clock: &impl CpuClock) -> Result<Duration, Failure> {
+    match clock.thread_cpu_time() {
+        Ok(time) => Ok(time),
+        Err(_) => Err(Failure::NoClock),
+    }
+}
+
+/// The fastest and the median of the rounds, and what the rounds told, added up.
+fn rounds<F: FnMut(u32) -> u64>(
+    clock: &impl CpuClock,
+    count: u32,
+    mut work: F,
+) -> Result<(Times, u64), Failure>
+    requires counted { 0 < count }
+    requires callable { F.IsAlwaysCallable work }
+{
+    let mut times = [0u128; ROUNDS];
+    let mut told = 0u64;
+    for time in times.iter_mut() {
+        let begin = now(clock)?;
+        told = told.wrapping_add(work(count));
+        *time = tenths(now(clock)?.saturating_sub(begin), count);
+    }
+    times.sort_unstable();
+    let answer = Times {
+        least: times[0],
+        median: times[ROUNDS / 2],
+    };
+    Ok((answer, told))
+}
+
+/// What running a call takes, and the instructions that all runs took.
+pub fn runs(
+    clock: &impl CpuClock,
+    class: &Verified,
+    call: &Call,
+    count: u32,
+    workspace: &mut Workspace,
+) -> Result<(Times, u64), Failure>
+    requires { 0 < count }
+{
+    rounds(clock, count, |n| run_often(class, call, n, workspace))
+}
+
+/// What verifying takes, and how often the class was accepted.
+pub fn verdicts(
+    clock: &impl CpuClock,
+    alloc: Global,
+    bytes: &[u8],
+    count: u32,
+) -> Result<(Times, u64), Failure>
+    requires { 0 < count }
+{
+    rounds(clock, count, |n| verify_often(alloc, bytes, n))
+}

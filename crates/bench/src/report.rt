@@ -1,0 +1,81 @@
+//! What the program writes.
+
+use crate::measure::Times;
+use std::alloc::{AllocError, Global};
+
+/// Why nothing was measured.
+#[derive(Clone, Copy, Debug, PartialEq, Eq)]
+pub enum Failure {
+    BadCommandLine,
+    CannotRead,
+    Refused,
+    NoClock,
+    NoMemory,
+    CannotWrite,
+}
+
+impl From<AllocError> for Failure {
+    fn from(_e: AllocError) -> Self {
+        Failure::NoMemory
+    }
+}
+
+impl Failure {
+    pub fn status(self) -> u8 {
+        match self {
+            Failure::BadCommandLine => 1,
+            Failure::Refused => 2,
+            _ => 3,
+        }
+    }
+
+    pub fn text(self) -> &'static str {
+        match self {
+            Failure::BadCommandLine => {
+                "usage: bench run FILE COUNT KEY VALUE [ARGS..] | bench verify FILE COUNT\n"
+            }
+            Failure::CannotRead => "error: cannot read the file\n",
+            Failure::Refused => "error: the class is refused\n",
+            Failure::NoClock => "error: no clock\n",
+            Failure::NoMemory => "error: no memory\n",
+            Failure::CannotWrite => "error: cannot write\n",
+        }
+    }
+}
+
+/// What one invocation takes.
+pub fn cost(alloc: Global, steps: u32, words: u32) -> Result<String, AllocError> {
+    format!(in alloc; "steps {steps} words {words}\n")
+}
+
+/// What each invocation took, of so many steps, and each of its steps in the median round.
+pub fn of_runs(alloc: Global, times: Times, steps: u32) -> Result<String, AllocError> {
+    let each = if steps == 0 {
+        0
+    } else {
+        times.median.saturating_mul(10) / u128::from(steps)
+    };
+    let (least, median) = (times.least, times.median);
+    format!(in alloc;
+        "run {}.{} ns, at least {}.{} ns, {steps} steps, {}.{:02} ns a step\n",
+        median / 10,
+        median % 10,
+        least / 10,
+        least % 10,
+        each / 100,
+        each % 100
+    )
+}
+
+/// What each verdict took.
+pub fn of_verdicts(alloc: Global, times: Times, accepted: bool) -> Result<String, AllocError> {
+    let verdict = if accepted { "accepted" } else { "refused" };
+    let (least, median) = (times.least / 1000, times.median / 1000);
+    format!(in alloc;
+        "verify {}.{} us, at least {}.{} us, {verdict}\n",
+        median / 10,
+        median % 10,
+        least / 10,
+        least % 10
+    )
+}
