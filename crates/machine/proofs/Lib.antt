@@ -5,6 +5,7 @@ pub mod Families
 pub mod Turning
 pub mod Quotients
 pub mod Bounded
+pub mod Counted
 pub mod Begun
 pub mod Castings
 pub mod Referred
