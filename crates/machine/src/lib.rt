@@ -16,3 +16,6 @@ mod workspace;
 
 pub use done::{Done, Going};
 pub use workspace::{Workspace, one_state_runs, run};
+
+#[cfg(test)]
+mod tests;
