@@ -6,6 +6,7 @@ pub mod Turning
 pub mod Gliding
 pub mod Quotients
 pub mod Bounded
+pub mod Counted
 pub mod Begun
 pub mod Castings
 pub mod Referred

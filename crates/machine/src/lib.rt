@@ -15,4 +15,7 @@ mod returns;
 mod workspace;
 
 pub use done::{Done, Going};
-pub use workspace::{Workspace, run};
+pub use workspace::{Workspace, one_state_runs, run};
+
+#[cfg(test)]
+mod tests;

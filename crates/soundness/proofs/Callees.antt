@@ -96,11 +96,11 @@ row_fits own r sig params e f n o fits callee h =
     let same : new ≡ callee = cc both in
     subst (λ (x : Callee). (x.reached ≡ Library r.native) × NoneTop x.params × NoneTop (result_list x.result) × LibraryFits r.native x.params x.result) same (refl, n, o, fits)
 
-abbrev EachRow : (LibraryRow → Type 0) → List LibraryRow → Type 0
+abbrev pub EachRow : (LibraryRow → Type 0) → List LibraryRow → Type 0
 EachRow P [] = Unit {0}
 EachRow P (r ∷ rows) = P r × EachRow P rows
 
-found_row : (P : LibraryRow → Type 0) (rows : List LibraryRow) (kind : Invoke) (m : MemberRef) (r : LibraryRow) → EachRow P rows → row_of rows kind m ≡ Some r → P r
+pub found_row : (P : LibraryRow → Type 0) (rows : List LibraryRow) (kind : Invoke) (m : MemberRef) (r : LibraryRow) → EachRow P rows → row_of rows kind m ≡ Some r → P r
 found_row P [] kind m r h e = cc
 found_row P (x ∷ rows) kind m r h e = go (found_row P rows kind m r h.1) (is_row_of kind m x) e
   where

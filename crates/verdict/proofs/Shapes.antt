@@ -1,10 +1,10 @@
 -- The shape as a whole.
-use Rattle.std.proofs.Common.{◌≡◌, ◌≢◌, ℕ, List, [], length, refl, sym, ap, subst, ◌⊎◌, inl, inr}
+use Rattle.std.proofs.Common.{◌≡◌, ℕ, List, [], length, refl, sym, ap, subst, ◌⊎◌, inl, inr}
 use Rattle.std.specs.Prelude.{Any}
 use Rattle.std.specs.List.{AllZip}
 use Rattle.jtypes.specs.declared.refusal.Refusal.{Refusal}
 use Rattle.jtypes.specs.declared.refusal.Refusal.TheVariants.{NoMemory, BadDescriptor, BadHeader, ConstructorForm, ClassInitialiser, NoProcess, DuplicateMethod, NoBody, BadCode, ExceptionTable}
-use Rattle.jtypes.specs.Layout.{IsLaidOut, Stands}
+use Rattle.jtypes.specs.Layout.{IsLaidOut}
 use Rattle.jtypes.proofs.Laws.{laid_out_once}
 use Rattle.constpool.specs.Lookup.{Slot}
 use Rattle.classfile.specs.declared.class_file.Parts.{Parts}
@@ -13,7 +13,6 @@ use Rattle.classfile.specs.Class.{class_file}
 use Rattle.verdict.specs.Shape.{HasBadHeader, HasConstructor, ShapeStands}
 use Rattle.verdict.specs.Shaping.{HasGoodMethod, MethodStands, IsTheConstructor, AreNamesGood, NamesStand, HasGoodShape}
 use Rattle.verdict.specs.Verdict.{IsClassFile}
-use Rattle.verdict.proofs.Descriptors.{memory_or_not}
 use Rattle.verdict.proofs.Methods.{codes_of_good, good_methods}
 use Rattle.verdict.proofs.Names.{initialiser_is, no_initialiser, process_is, no_process, doubles_are, no_doubles}
 
@@ -72,16 +71,3 @@ pub none_of_file : (bytes : List ℕ) (a : List Slot) (b : Parts) (cs : List Cod
 none_of_file bytes a b cs n h good pool p q file stands =
     let same = the_file bytes a pool b p h file in
     good.none_stands q (subst (λ (x : List Slot). ShapeStands x b q) (sym same.0) (subst (λ (x : Parts). ShapeStands pool x q) (sym same.1) stands))
-
-pub shape_of_file : (bytes : List ℕ) (a : List Slot) (b : Parts) (r : Refusal) → IsLaidOut (class_file (length bytes)) bytes (a, b) → (r ≡ NoMemory) ⊎ ShapeStands a b r → (pool : List Slot) (p : Parts) → IsClassFile bytes pool p → (r ≡ NoMemory) ⊎ ShapeStands pool p r
-shape_of_file bytes a b r h (inl e) pool p file = inl e
-shape_of_file bytes a b r h (inr s) pool p file =
-    let same = the_file bytes a pool b p h file in
-    inr (subst (λ (x : Parts). ShapeStands pool x r) same.1 (subst (λ (x : List Slot). ShapeStands x b r) same.0 s))
-
-pub no_layout : (bytes : List ℕ) (r : Refusal) → (r ≢ NoMemory → Stands (class_file (length bytes)) bytes r) → (pool : List Slot) (p : Parts) → IsClassFile bytes pool p → (r ≡ NoMemory) ⊎ ShapeStands pool p r
-no_layout bytes r h pool p file = go (memory_or_not r)
-  where
-    go : (r ≡ NoMemory) ⊎ (r ≢ NoMemory) → (r ≡ NoMemory) ⊎ ShapeStands pool p r
-    go (inl e) = inl e
-    go (inr n) = absurd (file.none_stands r (h n))
