@@ -1,0 +1,10 @@
+//! The frames of the protocol: requests are read, and replies are written.
+#![tactic(auto)]
+
+mod definitions;
+mod reply;
+mod request;
+
+pub use definitions::all_definitions;
+pub use reply::{Denial, JobOutcome, Reply};
+pub use request::Request;
