@@ -24,3 +24,7 @@ CountsIdle old new = (new.failures ≡ old.failures) × IsOneMore old.idle new.i
 -- both counts stay
 abbrev pub StaysCounted : {T : Type 0} → Counting T → Counting T → Type 0
 StaysCounted old new = (new.failures ≡ old.failures) × (new.idle ≡ old.idle)
+
+-- a call failed, or a write of some bytes took none
+abbrev pub HasFailed : {T : Type 0} → Counting T → Counting T → Type 0
+HasFailed old new = HasRisen old.failures new.failures ⊎ HasRisen old.idle new.idle

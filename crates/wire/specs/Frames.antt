@@ -79,6 +79,10 @@ abbrev pub flag_text : Bool → List ℕ
 flag_text false = 0 ∷ []
 flag_text true = 1 ∷ []
 
+-- how many outcomes there are, and they
+abbrev pub results_text : List (ℤ × JobOutcome) → List ℕ
+results_text jobs = 7 ∷ big_bytes 2 (length jobs) ++ texts job_text jobs
+
 -- a reply's kind and body
 abbrev pub reply_text : Reply → List ℕ
 reply_text (Defined class steps words) = 1 ∷ big_bytes 4 class ++ big_bytes 4 steps ++ big_bytes 4 words
@@ -87,7 +91,7 @@ reply_text Done = 3 ∷ []
 reply_text (Value v) = 4 ∷ value_text v
 reply_text (Flag b) = 5 ∷ flag_text b
 reply_text (Result o) = 6 ∷ outcome_text o
-reply_text (Results jobs) = 7 ∷ big_bytes 2 (length jobs) ++ texts job_text jobs
+reply_text (Results jobs) = results_text jobs
 reply_text (reply.Denied d) = 8 ∷ denial_number d ∷ []
 reply_text reply.RoundEnd = 9 ∷ []
 

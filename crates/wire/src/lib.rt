@@ -4,9 +4,13 @@
 mod counted;
 mod definitions;
 mod reply;
+mod reply_texts;
 mod request;
+mod text;
+mod writing;
 
 pub use counted::Counted;
 pub use definitions::all_definitions;
 pub use reply::{Denial, JobOutcome, Reply};
 pub use request::Request;
+pub use writing::{WriteFailed, write_bytes, write_reply};
