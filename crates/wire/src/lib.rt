@@ -3,6 +3,7 @@
 
 mod counted;
 mod definitions;
+mod parsing;
 mod reply;
 mod reply_texts;
 mod request;
