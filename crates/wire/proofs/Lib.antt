@@ -3,4 +3,5 @@ pub mod Lists
 pub mod Numbers
 pub mod Read
 pub mod Streams
+pub mod Taken
 pub mod Texts

@@ -132,6 +132,14 @@ IsInRange (Invoke class key args) = (class < 2 ^ 32) × FitsSigned w64 key × Ar
 IsInRange (InvokeAll class keys args) = (class < 2 ^ 32) × (length keys < 2 ^ 16) × AllByRecursion (FitsSigned w64) keys × AreArgs args
 IsInRange request.RoundEnd = Unit {0}
 
+-- a request has this text
+pub record IsText (text : List ℕ) (r : Request) : Type 0 where
+  pub is : text ≡ request_text r
+  pub in_range : IsInRange r
+
+abbrev pub IsNoRequest : List ℕ → Type 0
+IsNoRequest text = (r : Request) → IsText text r → ⊥
+
 -- a request that has a frame
 pub record IsRequest (r : Request) : Type 0 where
   pub in_range : IsInRange r
@@ -170,7 +178,7 @@ pub data IsFaulty (bytes : List ℕ) : ReadFault → Type 0 where
   too_long : (n : ℕ) (rest : List ℕ) → bytes ≡ big_bytes 4 n ++ rest → n < 2 ^ 32 → longest < n → IsFaulty bytes TooLong
   empty : (rest : List ℕ) → bytes ≡ big_bytes 4 0 ++ rest → IsFaulty bytes Malformed
   cut_body : (n : ℕ) (rest : List ℕ) → bytes ≡ big_bytes 4 n ++ rest → 1 ≤ n → n ≤ longest → length rest < n → IsFaulty bytes Truncated
-  no_request : (text rest : List ℕ) → bytes ≡ frame text ++ rest → 1 ≤ length text → length text ≤ longest → ((r : Request) → IsInRange r → text ≡ request_text r → ⊥) → IsFaulty bytes Malformed
+  no_request : (text rest : List ℕ) → bytes ≡ frame text ++ rest → 1 ≤ length text → length text ≤ longest → IsNoRequest text → IsFaulty bytes Malformed
 
 abbrev pub IsFront : List ℕ → Front → Type 0
 IsFront bytes AtEnd = bytes ≡ []

@@ -3,7 +3,9 @@
 
 mod counted;
 mod definitions;
+mod fault;
 mod parsing;
+mod reading;
 mod reply;
 mod reply_texts;
 mod request;
@@ -12,6 +14,7 @@ mod writing;
 
 pub use counted::Counted;
 pub use definitions::all_definitions;
+pub use fault::WireFault;
 pub use reply::{Denial, JobOutcome, Reply};
 pub use request::Request;
 pub use writing::{WriteFailed, write_bytes, write_reply};
