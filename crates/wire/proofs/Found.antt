@@ -147,7 +147,7 @@ found_invoke text r h (class, a, b, parts, laid_class, (key, c, d, parts', laid_
     let whole : text ≡ big_bytes 4 class ++ long_text key ++ args_text args = behind text a b (big_bytes 4 class) parts n.0 ∙ ap (λ t. big_bytes 4 class ++ t) (behind b c d (long_text key) parts' k.0 ∙ ap (λ t. long_text key ++ t) f.0) in
     subst (λ (q : Request). IsTold 6 text q) (sym is) (ap (λ t. 6 ∷ t) whole, (omega (arith, n.1), k.1, f.1))
 
-found_keys : (class count : ℕ) (text : List ℕ) (r : Request) → class < 2 ^ 32 → count < 2 ^ 16 → AreBytes text → IsLaidOut (keys_and_arguments class count) text r
+pub found_keys : (class count : ℕ) (text : List ℕ) (r : Request) → class < 2 ^ 32 → count < 2 ^ 16 → AreBytes text → IsLaidOut (keys_and_arguments class count) text r
     → (7 ∷ big_bytes 4 class ++ big_bytes 2 count ++ text ≡ request_text r) × IsInRange r
 unfolding keys_and_arguments
 found_keys class count text r small few h (keys, front, back, parts, laid_keys, laid) =
@@ -166,7 +166,7 @@ found_key kind g text r told h laid =
     let f = found_long text z h inside in
     subst (λ (q : Request). IsTold kind text q) (sym is) (subst (λ (t : List ℕ). IsTold kind t (g z)) (sym f.0) (told z f.1))
 
-found_small : (kind : ℕ) (text : List ℕ) (r : Request) → AreBytes text → IsLaidOut (small kind) text r → IsTold kind text r
+pub found_small : (kind : ℕ) (text : List ℕ) (r : Request) → AreBytes text → IsLaidOut (small kind) text r → IsTold kind text r
 unfolding small
 found_small kind text r h laid =
     let eight = chosen (kind == 8) (known RoundEnd) (stopped BadOperand) in
@@ -197,7 +197,7 @@ found_small kind text r h laid =
     at : (n : ℕ) → (kind == n) ≡ true → IsTold n text r → IsTold kind text r
     at n is told = subst (λ k. IsTold k text r) (sym (eqb-true kind n is)) told
 
-alone_found : (l : Layout Request) (text : List ℕ) (r : Request) → IsLaidOut (alone l) text r → IsLaidOut l text r
+pub alone_found : (l : Layout Request) (text : List ℕ) (r : Request) → IsLaidOut (alone l) text r → IsLaidOut l text r
 unfolding alone
 alone_found l text r (q, front, back, parts, laid, (u, a, b, parts', is_end, (none, is))) =
     let rest : back ≡ [] = parts' ∙ ap (λ t. t ++ b) is_end ∙ none in

@@ -32,7 +32,7 @@ read_part q n text rest e =
     let b : drop n (text ++ rest) ≡ rest = drop_at text rest n e in
     rw (long_enough n text rest e, a, b) refl
 
-read_number : (n : ℕ) → Reads (number n) (λ k. big_bytes n k) (λ k. k < 256 ^ n)
+pub read_number : (n : ℕ) → Reads (number n) (λ k. big_bytes n k) (λ k. k < 256 ^ n)
 unfolding number
 read_number n k rest h =
     let back : big_number n (big_bytes n k) ≡ k = ap (big_number n) (sym (append-nil (big_bytes n k))) ∙ big_number-reads_back n k [] h in
@@ -86,13 +86,13 @@ read_invoke class key args h =
     let end : first arguments (args_text args) ≡ Ok (args, []) = at_end arguments args_text AreArgs read_arguments args h.2 in
     rw (read_number 4 class (long_text key ++ args_text args) (omega (arith, h.0)), read_long key (args_text args) h.1, end) refl
 
-read_keys : (class : ℕ) (keys : List ℤ) (args : List Arg) → IsInRange (InvokeAll class keys args) → first (keys_and_arguments class (length keys)) (texts long_text keys ++ args_text args) ≡ Ok (InvokeAll class keys args, [])
+pub read_keys : (class : ℕ) (keys : List ℤ) (args : List Arg) → IsInRange (InvokeAll class keys args) → first (keys_and_arguments class (length keys)) (texts long_text keys ++ args_text args) ≡ Ok (InvokeAll class keys args, [])
 unfolding keys_and_arguments
 read_keys class keys args h =
     let end : first arguments (args_text args) ≡ Ok (args, []) = at_end arguments args_text AreArgs read_arguments args h.3 in
     rw (read_many long long_text (FitsSigned w64) read_long keys (args_text args) h.2, end) refl
 
-read_alone : (l : Layout Request) (text : List ℕ) (r : Request) → first l text ≡ Ok (r, []) → first (alone l) text ≡ Ok (r, [])
+pub read_alone : (l : Layout Request) (text : List ℕ) (r : Request) → first l text ≡ Ok (r, []) → first (alone l) text ≡ Ok (r, [])
 unfolding alone
 read_alone l text r e = rw e refl
 
@@ -105,7 +105,7 @@ parts : (a b : ℕ) (xs ys : List ℕ) → a ∷ xs ≡ b ∷ ys → (a ≡ b) �
 parts a b xs ys e = (cc, cc)
 
 -- the body of each request but two is read as the request
-read_small : (r : Request) (kind : ℕ) (text : List ℕ) → IsInRange r → kind ∷ text ≡ request_text r → kind ≢ 1 → kind ≢ 7 → first (small kind) text ≡ Ok (r, [])
+pub read_small : (r : Request) (kind : ℕ) (text : List ℕ) → IsInRange r → kind ∷ text ≡ request_text r → kind ≢ 1 → kind ≢ 7 → first (small kind) text ≡ Ok (r, [])
 unfolding small
 read_small (Define bytes) kind text h e one seven = absurd (one cc)
 read_small (Put key value) kind text h e one seven = let (k, t) = parts kind 2 text _ e in rw (k, t) (read_put key value h.0 h.1)

@@ -1,6 +1,8 @@
 -- What a reading answers, by the bytes that it took and by those that are left.
-use Rattle.std.specs.Prelude.{◌≡◌, ℕ, ◌<◌, List, [], ◌++◌, length, Option, Some, None, Result, Ok, Err}
+use Rattle.std.specs.Prelude.{◌≡◌, ◌≢◌, ◌⊎◌, ℕ, ◌<◌, List, [], ◌++◌, length, Option, Some, None, Result, Ok, Err}
 use Rattle.std.specs.Io.KnownBytes.{IsAtEnd, Consumes}
+use Rattle.jtypes.specs.declared.refusal.Refusal.{Refusal}
+use Rattle.jtypes.specs.declared.refusal.Refusal.TheVariants as refusal
 use Rattle.wire.specs.declared.request.Request.{Request}
 use Rattle.wire.specs.declared.fault.WireFault.{WireFault}
 use Rattle.wire.specs.declared.fault.WireFault.TheVariants as fault
@@ -42,6 +44,10 @@ IsCutOrLacks n left bytes e = IsCut n left bytes e
 abbrev pub IsPassed : ℕ → Option (List ℕ) → List ℕ → WireFault → Type 0
 IsPassed n left bytes fault.Malformed = length bytes ≡ n
 IsPassed n left bytes e = IsCut n left bytes e
+
+-- what a refusal of a body's reading says of the frame
+abbrev pub IsFaultOf : Refusal → WireFault → Type 0
+IsFaultOf e f = ((e ≡ refusal.NoMemory) × (f ≡ fault.NoMemory)) ⊎ ((e ≢ refusal.NoMemory) × (f ≡ fault.Malformed))
 
 -- the request of a text, or why there is none
 abbrev pub Parses : List ℕ → Result Request WireFault → Type 0

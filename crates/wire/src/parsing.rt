@@ -1,10 +1,12 @@
 //! The bodies of requests.
 
-ghost use Rattle.std.specs.Prelude.{◌≡◌, ◌<◌, ◌≤◌, [], length};
+ghost use Rattle.std.specs.Prelude.{◌≡◌, ◌≢◌, ◌<◌, ◌≤◌, [], ◌∷◌, ◌++◌, length};
 ghost use Rattle.jtypes.specs.Layout.{Takes, Gives, first, many};
+ghost use Rattle.byteorder.specs.Endian.{big_bytes};
+ghost use Rattle.wire.specs.Reading.{Parses, IsFaultOf};
 ghost use Rattle.wire.specs.Bodies.{long, int, arg_of, argument, arguments, put, invoke, small, keys_and_arguments, alone};
 
-use crate::Request;
+use crate::{Request, WireFault};
 use jtypes::{Arg, Args, Cursor, Reader, Refusal, row};
 use std::alloc::Global;
 
@@ -164,4 +166,40 @@ fn all_keys(alloc: Global, class: u32, count: u16, rest: &[u8]) -> Result<Reques
     let request = read_keys_and_args(alloc, class, count, &mut cursor)?;
     cursor.end()?;
     Ok(request)
+}
+
+// A refused body has another form, unless memory is wanting.
+fn fault_of(refusal: Refusal) -> WireFault
+    ensures { IsFaultOf refusal result }
+{
+    match refusal {
+        Refusal::NoMemory => WireFault::NoMemory,
+        _ => WireFault::Malformed,
+    }
+}
+
+/// The request with this kind and body, which has a key at most.
+pub fn small_request(kind: u8, body: &[u8]) -> Result<Request, WireFault>
+    requires other { (kind ≢ 1) × (kind ≢ 7) }
+    ensures { Parses (kind ∷ body.now) result }
+{
+    match all_small(kind, body) {
+        Ok(request) => Ok(request),
+        Err(e) => Err(fault_of(e)),
+    }
+}
+
+/// The invocation of this class on so many keys, which the rest holds with the arguments.
+pub fn keys_request(
+    alloc: Global,
+    class: u32,
+    count: u16,
+    rest: &[u8],
+) -> Result<Request, WireFault>
+    ensures { Parses (7 ∷ big_bytes 4 class ++ big_bytes 2 count ++ rest.now) result }
+{
+    match all_keys(alloc, class, count, rest) {
+        Ok(request) => Ok(request),
+        Err(e) => Err(fault_of(e)),
+    }
 }
