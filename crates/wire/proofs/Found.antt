@@ -1,19 +1,19 @@
 -- What is laid out as a request's body is the text of a request.
-use Rattle.std.proofs.Common.{◌≡◌, ◌⊎◌, ℕ, zero, suc, ◌%◌, ◌^◌, ◌<◌, ◌≤◌, ℤ, FitsSigned, Bool, true, false, nat_lt, ◌==◌, List, [], ◌∷◌, ◌++◌, length, refl, sym, ap, ◌∙◌, arith, append-nil, append_assoc, subst, inl, inr}
+use Rattle.std.proofs.Common.{◌≡◌, ◌⊎◌, ℕ, zero, suc, ◌%◌, ◌^◌, ◌<◌, ℤ, FitsSigned, Bool, true, false, nat_lt, ◌==◌, List, [], ◌∷◌, ◌++◌, length, refl, sym, ap, ◌∙◌, arith, append-nil, subst, inl, inr}
 use Rattle.std.proofs.lemmas.Bool.{eqb-true, ltb-true}
 use Rattle.std.proofs.Math.Facts.{sfits_to_z, of_z-to_z}
 use Rattle.std.specs.List.{AllByRecursion}
 use Rattle.std.specs.Int.{w32, w64, cast_signed, cast_unsigned}
-use Rattle.byteorder.specs.Endian.{big_bytes, big_number}
+use Rattle.byteorder.specs.Endian.{big_bytes}
 use Rattle.jtypes.specs.declared.types.Arg.{Arg}
 use Rattle.jtypes.specs.declared.types.Arg.TheVariants as arg
 use Rattle.jtypes.specs.declared.refusal.Refusal.TheVariants.{BadOperand}
-use Rattle.jtypes.specs.Layout.{Layout, known, stopped, chosen, ended, number, many, needed, IsLaidOut, ◌>>=◌, ◌>>◌}
+use Rattle.jtypes.specs.Layout.{Layout, known, stopped, chosen, number, many, IsLaidOut, ◌>>=◌}
 use Rattle.wire.specs.declared.request.Request.{Request}
 use Rattle.wire.specs.declared.request.Request.TheVariants.{Put, Get, Remove, Contains, Invoke, InvokeAll, RoundEnd}
-use Rattle.wire.specs.Frames.{long_text, int_text, arg_text, texts, args_text, request_text, IsArg, AreArgs, IsInRange}
+use Rattle.wire.specs.Frames.{AreBytes, long_text, int_text, arg_text, texts, args_text, request_text, IsArg, AreArgs, IsInRange}
 use Rattle.wire.specs.Bodies.{long, int, arg_of, argument, arguments, put, invoke, small, keys_and_arguments, alone}
-use Rattle.wire.proofs.Numbers.{AreBytes, bytes_front, bytes_back, bytes_of_number, number_small}
+use Rattle.wire.proofs.Numbers.{bytes_front, bytes_back, bytes_of_number, number_small}
 
 -- a value laid out in bytes has this text, and this is known of it
 abbrev pub Finds : {A : Type 0} → Layout A → (A → List ℕ) → (A → Type 0) → Type 0
@@ -109,14 +109,14 @@ found_many {A = A} l f P finds (suc n) text xs h (x, front, back, parts, one, (y
     let a = finds front x (bytes_front front back bytes) one in
     let b = found_many l f P finds n middle ys (subst AreBytes back_is (bytes_back front back bytes)) more in
     subst (λ (zs : List A). (text ≡ texts f zs) × (length zs ≡ suc n) × AllByRecursion P zs) (sym is)
-        (behind text front back (f x) parts a.0 ∙ ap (λ t. f x ++ t) (back_is ∙ b.0), ap suc b.1, (a.1, b.2))
+    (behind text front back (f x) parts a.0 ∙ ap (λ t. f x ++ t) (back_is ∙ b.0), ap suc b.1, (a.1, b.2))
 
 found_arguments : Finds arguments args_text AreArgs
 unfolding arguments
 found_arguments text args h (count, front, back, parts, laid_count, (u, none, rest, parts', few, laid)) =
     let bytes = subst AreBytes parts h in
     let c = found_byte front count (bytes_front front back bytes) laid_count in
-    let (is_few, is_none, _) : (nat_lt count 9 ≡ true) × (none ≡ []) × (u ≡ tt) = elim (chosen_cases (nat_lt count 9) (known tt) (stopped BadOperand) none u few) [ | inl (b, (n, v)) ↦ (b, n, v) | inr (_, nothing) ↦ absurd nothing ] in
+    let (is_few, is_none, _) : (nat_lt count 9 ≡ true) × (none ≡ []) × (u ≡ tt) = elim (chosen_cases (nat_lt count 9) (known tt) (stopped BadOperand) none u few) [ inl (b, (n, v)) ↦ (b, n, v) | inr (_, nothing) ↦ absurd nothing ] in
     let back_is : back ≡ rest = parts' ∙ ap (λ t. t ++ rest) is_none in
     let m = found_many argument arg_text IsArg found_argument count rest args (subst AreBytes back_is (bytes_back front back bytes)) laid in
     let less = ltb-true count 9 is_few in

@@ -1,4 +1,5 @@
 pub mod Found
+pub mod Framed
 pub mod Lists
 pub mod Numbers
 pub mod Parsed

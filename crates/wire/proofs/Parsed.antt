@@ -11,11 +11,9 @@ use Rattle.jtypes.proofs.Laws.{whole_found, stands_from_fails, first_stands}
 use Rattle.wire.specs.declared.request.Request.{Request}
 use Rattle.wire.specs.declared.request.Request.TheVariants.{Define, Put, Get, Remove, Contains, Invoke, InvokeAll, RoundEnd}
 use Rattle.wire.specs.declared.fault.WireFault.{WireFault}
-use Rattle.wire.specs.declared.fault.WireFault.TheVariants as fault
-use Rattle.wire.specs.Frames.{long_text, arg_text, texts, args_text, request_text, IsText, IsNoRequest, AreArgs}
+use Rattle.wire.specs.Frames.{AreBytes, long_text, arg_text, texts, args_text, request_text, IsText, IsNoRequest, AreArgs}
 use Rattle.wire.specs.Bodies.{small, keys_and_arguments, alone}
 use Rattle.wire.specs.Reading.{Parses, IsFaultOf}
-use Rattle.wire.proofs.Numbers.{AreBytes}
 use Rattle.wire.proofs.Found.{found_small, found_keys, alone_found}
 use Rattle.wire.proofs.Read.{read_small, read_keys, read_alone, read_number}
 
@@ -89,11 +87,11 @@ pub keys_fail : (class count : ℕ) (rest : List ℕ) (e : Refusal) (f : WireFau
 keys_fail class count rest e f h k why given =
     let l = keys_and_arguments class count in
     parse_fails (keys_text class count rest) e f why (λ n r t.
-        let i = is_invoke_all class count rest r h k t in
-        let range = subst (λ (q : Request). IsText (keys_text class count rest) q) i.is t in
-        let found = read_keys class i.keys i.args range.in_range in
-        let found' : first l rest ≡ Ok (InvokeAll class i.keys i.args, []) = ap (λ n. first (keys_and_arguments class n) rest) (sym i.many) ∙ ap (λ t. first (keys_and_arguments class (length i.keys)) t) i.text ∙ found in
-        refused (alone l) rest e (InvokeAll class i.keys i.args) given n (read_alone l rest (InvokeAll class i.keys i.args) found'))
+    let i = is_invoke_all class count rest r h k t in
+    let range = subst (λ (q : Request). IsText (keys_text class count rest) q) i.is t in
+    let found = read_keys class i.keys i.args range.in_range in
+    let found' : first l rest ≡ Ok (InvokeAll class i.keys i.args, []) = ap (λ n. first (keys_and_arguments class n) rest) (sym i.many) ∙ ap (λ t. first (keys_and_arguments class (length i.keys)) t) i.text ∙ found in
+    refused (alone l) rest e (InvokeAll class i.keys i.args) given n (read_alone l rest (InvokeAll class i.keys i.args) found'))
 
 -- ---- lengths
 
@@ -134,7 +132,7 @@ other_length class count rest h k other r t =
     let all : length rest ≡ length (texts long_text i.keys) + (1 + length (texts arg_text i.args)) = ap length i.text ∙ length-append (texts long_text i.keys) (args_text i.args) ∙ ap (λ n. length (texts long_text i.keys) + n) (suc_is (length (texts arg_text i.args))) in
     let keys : length (texts long_text i.keys) ≡ 8 * count = keys_length i.keys ∙ ap (λ n. 8 * n) i.many in
     let args = args_length i.args in
-    elim other [ | inl short ↦ omega (arith, all, keys, short) | inr long ↦ omega (arith, all, keys, args, i.few.few, long) ]
+    elim other [ inl short ↦ omega (arith, all, keys, short) | inr long ↦ omega (arith, all, keys, args, i.few.few, long) ]
   where
     suc_is : (n : ℕ) → suc n ≡ 1 + n
     suc_is n = omega arith

@@ -1,10 +1,9 @@
 -- Bytes are written one after the other.
-use Rattle.std.proofs.Common.{◌≡◌, ℕ, ◌<◌, List, ◌++◌, Option, sym, ap, ◌∙◌, append_assoc, inl, inr, arith, ◌⊎◌, subst}
+use Rattle.std.proofs.Common.{◌≡◌, ℕ, List, ◌++◌, Option, sym, ap, ◌∙◌, append_assoc, inl, inr, subst}
 use Rattle.std.specs.Prelude.{Result, Ok, Err, OnOk, OnErr}
-use Rattle.std.specs.Io.KnownBytes.{Appends}
 use Rattle.std.proofs.KnownBytes.{Appends-trans}
 use Rattle.wire.specs.Counting.{Counting, HasRisen, StaysCounted, HasFailed}
-use Rattle.wire.specs.Streams.{AppendsPart, Wrote, WrotePart}
+use Rattle.wire.specs.Streams.{Wrote, WrotePart}
 
 -- a count that stayed and then rose has risen
 pub risen_later : (a b c : ℕ) → b ≡ a → HasRisen b c → HasRisen a c

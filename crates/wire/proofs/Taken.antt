@@ -1,5 +1,5 @@
 -- Bytes are taken one part after the other.
-use Rattle.std.proofs.Common.{◌≡◌, ℕ, ◌+◌, ◌<◌, ◌≤◌, List, [], ◌∷◌, ◌++◌, length, Option, Some, None, Result, Ok, Err, refl, sym, ap, ◌∙◌, subst, arith, append_assoc}
+use Rattle.std.proofs.Common.{◌≡◌, ℕ, ◌+◌, ◌≤◌, List, ◌++◌, length, Option, Result, Ok, Err, subst, arith, append_assoc}
 use Rattle.std.proofs.lemmas.List.{length-append}
 use Rattle.wire.specs.declared.request.Request.{Request}
 use Rattle.wire.specs.declared.fault.WireFault.{WireFault}
@@ -75,3 +75,7 @@ completes_more (Err Truncated) before front bytes m n left e h = (h.0, omega (ar
 completes_more (Err Malformed) before front bytes m n left e h = (subst IsNoRequest (append_assoc before front bytes) h.0, omega (arith, h.1, length-append front bytes))
 completes_more (Err Read) before front bytes m n left e h = h
 completes_more (Err NoMemory) before front bytes m n left e h = h
+
+-- the same where what is known of it is written otherwise
+pub completes_behind : (r : Result Request WireFault) (before front seen bytes : List ℕ) (m n : ℕ) (left : Option (List ℕ)) → seen ≡ before ++ front → length front + m ≡ n → Completes seen m left bytes r → Completes before n left (front ++ bytes) r
+completes_behind r before front seen bytes m n left is e h = completes_more r before front bytes m n left e (subst (λ t. Completes t m left bytes r) is h)

@@ -111,6 +111,10 @@ request_frame r = frame (request_text r)
 abbrev pub reply_frame : Reply → List ℕ
 reply_frame r = frame (reply_text r)
 
+-- each number is a byte's
+abbrev pub AreBytes : List ℕ → Type 0
+AreBytes xs = AllByRecursion (λ b. b < 256) xs
+
 -- the numbers of an argument lie in its type's range
 abbrev pub IsArg : Arg → Type 0
 IsArg arg.Null = Unit {0}
@@ -123,7 +127,7 @@ pub record AreArgs (args : List Arg) : Type 0 where
 
 -- the numbers of a request lie in their types' ranges
 abbrev pub IsInRange : Request → Type 0
-IsInRange (Define bytes) = AllByRecursion (λ b. b < 256) bytes
+IsInRange (Define bytes) = AreBytes bytes
 IsInRange (Put key value) = FitsSigned w64 key × FitsSigned w64 value
 IsInRange (Get key) = FitsSigned w64 key
 IsInRange (Remove key) = FitsSigned w64 key

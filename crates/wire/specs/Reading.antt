@@ -1,13 +1,14 @@
 -- What a reading answers, by the bytes that it took and by those that are left.
-use Rattle.std.specs.Prelude.{◌≡◌, ◌≢◌, ◌⊎◌, ℕ, ◌<◌, List, [], ◌++◌, length, Option, Some, None, Result, Ok, Err}
+use Rattle.std.specs.Prelude.{◌≡◌, ◌≢◌, ◌⊎◌, ℕ, ◌<◌, ◌^◌, List, [], ◌++◌, length, Option, Some, None, Result, Ok, Err}
 use Rattle.std.specs.Io.KnownBytes.{IsAtEnd, Consumes}
+use Rattle.byteorder.specs.Endian.{big_bytes}
 use Rattle.jtypes.specs.declared.refusal.Refusal.{Refusal}
 use Rattle.jtypes.specs.declared.refusal.Refusal.TheVariants as refusal
 use Rattle.wire.specs.declared.request.Request.{Request}
 use Rattle.wire.specs.declared.fault.WireFault.{WireFault}
 use Rattle.wire.specs.declared.fault.WireFault.TheVariants as fault
 use Rattle.wire.specs.Counting.{Counting, HasRisen, StaysCounted}
-use Rattle.wire.specs.Frames.{IsText, IsNoRequest, IsRead, IsFaulty, ReadFault, TooLong, Truncated, Malformed, Front, AtEnd, Whole, Faulty}
+use Rattle.wire.specs.Frames.{IsText, IsNoRequest, IsRead, IsFaulty, TooLong, Truncated, Malformed, Front, AtEnd, Whole, Faulty}
 
 abbrev pub wire_fault_number : WireFault → ℕ
 wire_fault_number fault.TooLong = 1
@@ -61,6 +62,11 @@ abbrev pub Completes : List ℕ → ℕ → Option (List ℕ) → List ℕ → R
 Completes before n left bytes (Ok r) = IsText (before ++ bytes) r × (length bytes ≡ n)
 Completes before n left bytes (Err fault.Malformed) = IsNoRequest (before ++ bytes) × (length bytes ≡ n)
 Completes before n left bytes (Err e) = IsCutOrLacks n left bytes e
+
+-- the length that a frame begins with, or the end
+abbrev pub HeadGives : Option (List ℕ) → (List ℕ → Type 0) → Option ℕ → Type 0
+HeadGives left Gave (Some n) = Gave (big_bytes 4 n) × (n < 2 ^ 32)
+HeadGives left Gave None = Gave [] × IsAtEnd left
 
 -- what the reading of a frame gives
 abbrev pub ReadGives : Option (List ℕ) → List ℕ → Result (Option Request) WireFault → Type 0

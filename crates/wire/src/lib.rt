@@ -15,6 +15,7 @@ mod writing;
 pub use counted::Counted;
 pub use definitions::all_definitions;
 pub use fault::WireFault;
+pub use reading::read_request;
 pub use reply::{Denial, JobOutcome, Reply};
 pub use request::Request;
 pub use writing::{WriteFailed, write_bytes, write_reply};

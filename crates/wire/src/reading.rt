@@ -1,14 +1,25 @@
 //! Requests are read.
 
-ghost use Rattle.std.specs.Prelude.{◌≡◌, ◌≢◌, ◌<◌, ◌≤◌, ◌^◌, ℕ, List, [], ◌∷◌, ◌++◌, length, take, IfOk, IfErr, OnOk};
+ghost use Rattle.std.specs.Prelude.{◌≡◌, ◌≢◌, ◌<◌, ◌≤◌, ◌^◌, ℕ, List, [], ◌∷◌, ◌++◌, length, take, IfOk, IfErr, OnOk, Err};
 ghost use Rattle.std.specs.Io.KnownBytes.{IsAtEnd};
 ghost use Rattle.byteorder.specs.Endian.{big_bytes};
-ghost use Rattle.wire.specs.Frames.{longest};
-ghost use Rattle.wire.specs.Reading.{Took, FaultCounts, ReadCounts, IsCut, IsCutOrLacks, IsPassed, Completes, ReadGives};
+ghost use Rattle.wire.specs.Frames.{AreBytes};
+ghost use Rattle.wire.specs.Reading.{Took, FaultCounts, ReadCounts, IsCut, IsCutOrLacks, IsPassed, Completes, HeadGives, ReadGives};
 
+use crate::parsing::{keys_request, small_request};
 use crate::{Counted, Request, WireFault};
+use byteorder::{BigEndian, ByteOrder};
+use jtypes::Items;
 use std::alloc::Global;
 use std::io::Read;
+
+/// The longest text of a request.
+const LONGEST: u32 = 131_072;
+
+// For proofs alone: the numbers of a slice of bytes are bytes.
+fn are_bytes(bytes: &[u8])
+    ensures { AreBytes bytes.now }
+{}
 
 // Reads until the buffer is full or the input ends, and answers how many bytes came.
 fn fill<R: Read>(reader: &mut Counted<R>, buf: &mut [u8]) -> Result<usize, WireFault>
@@ -80,4 +91,161 @@ fn pass_over<R: Read>(reader: &mut Counted<R>, count: usize) -> WireFault
         }
     }
     WireFault::Malformed
+}
+
+fn read_define<R: Read>(
+    alloc: Global,
+    reader: &mut Counted<R>,
+    count: usize,
+) -> Result<Request, WireFault>
+    ensures bytes { (bytes : List ℕ) × Took R.remaining reader.old reader.new bytes × Completes (1 ∷ []) count (R.remaining reader.new.inner) bytes result }
+    ensures counted { ReadCounts result reader.old reader.new }
+{
+    match read_bytes(alloc, reader, count) {
+        Ok(bytes) => {
+            are_bytes(bytes.as_slice());
+            Ok(Request::Define(Items::new(bytes)))
+        }
+        Err(e) => Err(e),
+    }
+}
+
+// A request that has a key at most.
+fn read_small<R: Read>(
+    reader: &mut Counted<R>,
+    kind: u8,
+    count: usize,
+) -> Result<Request, WireFault>
+    requires other { (kind ≢ 1) × (kind ≢ 7) }
+    requires small { count ≤ 85 }
+    ensures bytes { (bytes : List ℕ) × Took R.remaining reader.old reader.new bytes × Completes (kind ∷ []) count (R.remaining reader.new.inner) bytes result }
+    ensures counted { ReadCounts result reader.old reader.new }
+{
+    let mut body = [0u8; 85];
+    match read_part(reader, &mut body[..count]) {
+        Ok(()) => small_request(kind, &body[..count]),
+        Err(e) => Err(e),
+    }
+}
+
+// What follows the class and the count of an invocation on many keys.
+fn read_keys<R: Read>(
+    alloc: Global,
+    reader: &mut Counted<R>,
+    class: u32,
+    keys: u16,
+    count: usize,
+) -> Result<Request, WireFault>
+    ensures bytes { (bytes : List ℕ) × Took R.remaining reader.old reader.new bytes × Completes (7 ∷ big_bytes 4 class ++ big_bytes 2 keys) count (R.remaining reader.new.inner) bytes result }
+    ensures counted { ReadCounts result reader.old reader.new }
+{
+    let least = 8 * usize::from(keys) + 1;
+    if count < least || count > least + 72 {
+        return Err(pass_over(reader, count));
+    }
+    match read_bytes(alloc, reader, count) {
+        Ok(rest) => keys_request(alloc, class, keys, rest.as_slice()),
+        Err(e) => Err(e),
+    }
+}
+
+fn read_invoke_all<R: Read>(
+    alloc: Global,
+    reader: &mut Counted<R>,
+    count: usize,
+) -> Result<Request, WireFault>
+    ensures bytes { (bytes : List ℕ) × Took R.remaining reader.old reader.new bytes × Completes (7 ∷ []) count (R.remaining reader.new.inner) bytes result }
+    ensures counted { ReadCounts result reader.old reader.new }
+{
+    if count < 7 {
+        return Err(pass_over(reader, count));
+    }
+    let mut head = [0u8; 6];
+    match read_part(reader, &mut head) {
+        Ok(()) => {
+            are_bytes(&head);
+            let class = BigEndian::read_u32(&head);
+            let keys = BigEndian::read_u16(&head[4..]);
+            read_keys(alloc, reader, class, keys, count - 6)
+        }
+        Err(e) => Err(e),
+    }
+}
+
+// The rest of a request of this kind. It is judged by its length before memory is taken for it.
+fn read_body<R: Read>(
+    alloc: Global,
+    reader: &mut Counted<R>,
+    kind: u8,
+    count: usize,
+) -> Result<Request, WireFault>
+    ensures bytes { (bytes : List ℕ) × Took R.remaining reader.old reader.new bytes × Completes (kind ∷ []) count (R.remaining reader.new.inner) bytes result }
+    ensures counted { ReadCounts result reader.old reader.new }
+{
+    match kind {
+        1 => read_define(alloc, reader, count),
+        7 => read_invoke_all(alloc, reader, count),
+        _ if count <= 85 => read_small(reader, kind, count),
+        _ => Err(pass_over(reader, count)),
+    }
+}
+
+// A whole text, which has a kind at least.
+fn read_text<R: Read>(
+    alloc: Global,
+    reader: &mut Counted<R>,
+    length: usize,
+) -> Result<Request, WireFault>
+    requires { 0 < length }
+    ensures bytes { (bytes : List ℕ) × Took R.remaining reader.old reader.new bytes × Completes [] length (R.remaining reader.new.inner) bytes result }
+    ensures counted { ReadCounts result reader.old reader.new }
+{
+    let mut kind = [0u8; 1];
+    match read_part(reader, &mut kind) {
+        Ok(()) => read_body(alloc, reader, kind[0], length - 1),
+        Err(e) => Err(e),
+    }
+}
+
+// The length of the next frame; at the end of the input there is none.
+fn read_length<R: Read>(reader: &mut Counted<R>) -> Result<Option<u32>, WireFault>
+    ensures ok { IfOk result (λ o. HeadGives (R.remaining reader.new.inner) (Took R.remaining reader.old reader.new) o) }
+    ensures err { IfErr result (λ e. (bytes : List ℕ) × Took R.remaining reader.old reader.new bytes × ReadGives (R.remaining reader.new.inner) bytes (Err e)) }
+    ensures counted { ReadCounts result reader.old reader.new }
+{
+    let mut head = [0u8; 4];
+    match fill(reader, &mut head) {
+        Ok(0) => Ok(None),
+        Ok(n) if n < 4 => Err(WireFault::Truncated),
+        Ok(_) => {
+            are_bytes(&head);
+            Ok(Some(BigEndian::read_u32(&head)))
+        }
+        Err(e) => Err(e),
+    }
+}
+
+/// Reads one frame, and answers its request; at the end of the input there is none. A read that answers an error is not tried again.
+pub fn read_request<R: Read>(
+    alloc: Global,
+    reader: &mut Counted<R>,
+) -> Result<Option<Request>, WireFault>
+    ensures bytes { (bytes : List ℕ) × Took R.remaining reader.old reader.new bytes × ReadGives (R.remaining reader.new.inner) bytes result }
+    ensures counted { ReadCounts result reader.old reader.new }
+{
+    let length = match read_length(reader) {
+        Ok(Some(length)) => length,
+        Ok(None) => return Ok(None),
+        Err(e) => return Err(e),
+    };
+    if length == 0 {
+        return Err(WireFault::Malformed);
+    }
+    if length > LONGEST {
+        return Err(WireFault::TooLong);
+    }
+    match read_text(alloc, reader, length as usize) {
+        Ok(request) => Ok(Some(request)),
+        Err(e) => Err(e),
+    }
 }

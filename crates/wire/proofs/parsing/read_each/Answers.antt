@@ -1,9 +1,8 @@
-use Rattle.std.proofs.Common.{rules, ◌≡◌, ℕ, ◌+◌, ◌-◌, List, ◌++◌, ◌∷◌, [], Ok, length, take, slice_set, sym, ap, ◌∙◌, arith, add-one}
+use Rattle.std.proofs.Common.{rules, ◌≡◌, ℕ, ◌+◌, List, ◌++◌, ◌∷◌, [], length, take, slice_set, sym, ap, ◌∙◌, arith, add-one}
 use Rattle.std.proofs.Math.Seq.{take-suc-set}
 use Rattle.std.proofs.lemmas.Result.{err_from_is_err_and}
 use Rattle.jtypes.specs.declared.types.Arg.{Arg}
-use Rattle.jtypes.specs.Layout.{first, many}
-use Rattle.jtypes.proofs.Many.{with_front, goes_on, ends, is_done}
+use Rattle.jtypes.proofs.Many.{goes_on, ends, is_done}
 use Rattle.wire.specs.Bodies.{argument}
 use Rattle.wire.proofs.parsing.read_each.Goals as goal
 

@@ -1,5 +1,5 @@
 -- The arguments so far, and those that are still read, are the whole.
-use Rattle.std.proofs.Common.{◌≡◌, ◌-◌, ◌≤◌, length, take}
+use Rattle.std.proofs.Common.{◌≡◌, ◌-◌, length, take}
 use Rattle.jtypes.specs.Layout.{first, many}
 use Rattle.jtypes.proofs.Many.{with_front}
 use Rattle.wire.specs.Bodies.{argument}

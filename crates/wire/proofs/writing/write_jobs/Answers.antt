@@ -1,4 +1,4 @@
-use Rattle.std.proofs.Common.{◌≡◌, ◌+◌, ◌++◌, ◌∙◌, ℤ, pos, take, drop, get_or, sym}
+use Rattle.std.proofs.Common.{◌≡◌, ◌+◌, ◌∙◌, ℤ, pos, take, drop, get_or}
 use Rattle.jtypes.specs.declared.types.Arg.TheVariants.{Null}
 use Rattle.jtypes.specs.declared.types.Outcome.TheVariants.{Returned}
 use Rattle.wire.specs.declared.reply.JobOutcome.{JobOutcome}

@@ -1,4 +1,4 @@
-use Rattle.std.proofs.Common.{refl, arith, of_z, w64}
+use Rattle.std.proofs.Common.{refl, arith}
 use Rattle.byteorder.specs.Endian.{big_bytes}
 use Rattle.wire.proofs.Lists.{grown}
 use Rattle.wire.proofs.text.Text.u32.Goals as goal
