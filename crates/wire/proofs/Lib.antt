@@ -1,7 +1,9 @@
+pub mod Exact
 pub mod Found
 pub mod Framed
 pub mod Lists
 pub mod Numbers
+pub mod Once
 pub mod Parsed
 pub mod Read
 pub mod Streams

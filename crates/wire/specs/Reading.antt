@@ -78,6 +78,10 @@ ReadGives left bytes (Err fault.Malformed) = IsFaulty bytes Malformed
 ReadGives left bytes (Err fault.Read) = Unit {0}
 ReadGives left bytes (Err fault.NoMemory) = Unit {0}
 
+abbrev pub found : Result Request WireFault → Result (Option Request) WireFault
+found (Ok r) = Ok (Some r)
+found (Err e) = Err e
+
 -- the answer tells what stands at the front, unless memory was wanting or a read failed
 abbrev pub Tells : Front → Result (Option Request) WireFault → Type 0
 Tells f (Ok None) = f ≡ AtEnd

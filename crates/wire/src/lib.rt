@@ -4,6 +4,7 @@
 mod counted;
 mod definitions;
 mod fault;
+mod laws;
 mod parsing;
 mod reading;
 mod reply;
@@ -15,6 +16,7 @@ mod writing;
 pub use counted::Counted;
 pub use definitions::all_definitions;
 pub use fault::WireFault;
+pub use laws::one_front;
 pub use reading::read_request;
 pub use reply::{Denial, JobOutcome, Reply};
 pub use request::Request;

@@ -1,10 +1,10 @@
 //! Requests are read.
 
-ghost use Rattle.std.specs.Prelude.{◌≡◌, ◌≢◌, ◌<◌, ◌≤◌, ◌^◌, ℕ, List, [], ◌∷◌, ◌++◌, length, take, IfOk, IfErr, OnOk, Err};
+ghost use Rattle.std.specs.Prelude.{◌≡◌, ◌≢◌, ◌<◌, ◌≤◌, ◌^◌, ℕ, List, [], ◌∷◌, ◌++◌, length, take, IfSome, IfOk, IfErr, OnOk, Err};
 ghost use Rattle.std.specs.Io.KnownBytes.{IsAtEnd};
 ghost use Rattle.byteorder.specs.Endian.{big_bytes};
-ghost use Rattle.wire.specs.Frames.{AreBytes};
-ghost use Rattle.wire.specs.Reading.{Took, FaultCounts, ReadCounts, IsCut, IsCutOrLacks, IsPassed, Completes, HeadGives, ReadGives};
+ghost use Rattle.wire.specs.Frames.{AreBytes, Front, IsFront};
+ghost use Rattle.wire.specs.Reading.{Took, FaultCounts, ReadCounts, IsCut, IsCutOrLacks, IsPassed, Completes, HeadGives, ReadGives, Tells, found};
 
 use crate::parsing::{keys_request, small_request};
 use crate::{Counted, Request, WireFault};
@@ -225,27 +225,39 @@ fn read_length<R: Read>(reader: &mut Counted<R>) -> Result<Option<u32>, WireFaul
     }
 }
 
-/// Reads one frame, and answers its request; at the end of the input there is none. A read that answers an error is not tried again.
-pub fn read_request<R: Read>(
+// The rest of a frame whose length is known.
+fn read_frame<R: Read>(
     alloc: Global,
     reader: &mut Counted<R>,
-) -> Result<Option<Request>, WireFault>
-    ensures bytes { (bytes : List ℕ) × Took R.remaining reader.old reader.new bytes × ReadGives (R.remaining reader.new.inner) bytes result }
+    length: u32,
+) -> Result<Request, WireFault>
+    ensures bytes { (bytes : List ℕ) × Took R.remaining reader.old reader.new bytes × ReadGives (R.remaining reader.new.inner) (big_bytes 4 length ++ bytes) (found result) }
     ensures counted { ReadCounts result reader.old reader.new }
 {
-    let length = match read_length(reader) {
-        Ok(Some(length)) => length,
-        Ok(None) => return Ok(None),
-        Err(e) => return Err(e),
-    };
     if length == 0 {
         return Err(WireFault::Malformed);
     }
     if length > LONGEST {
         return Err(WireFault::TooLong);
     }
-    match read_text(alloc, reader, length as usize) {
-        Ok(request) => Ok(Some(request)),
+    read_text(alloc, reader, length as usize)
+}
+
+/// Reads one frame, and answers its request; at the end of the input there is none. A read that answers an error is not tried again, whatever the error.
+pub fn read_request<R: Read>(
+    alloc: Global,
+    reader: &mut Counted<R>,
+) -> Result<Option<Request>, WireFault>
+    ensures bytes { (bytes : List ℕ) × Took R.remaining reader.old reader.new bytes × ReadGives (R.remaining reader.new.inner) bytes result }
+    ensures exact { IfSome (R.remaining reader.old.inner) (λ input. (f : Front) → IsFront input f → Tells f result) }
+    ensures counted { ReadCounts result reader.old reader.new }
+{
+    match read_length(reader) {
+        Ok(None) => Ok(None),
+        Ok(Some(length)) => match read_frame(alloc, reader, length) {
+            Ok(request) => Ok(Some(request)),
+            Err(e) => Err(e),
+        },
         Err(e) => Err(e),
     }
 }
