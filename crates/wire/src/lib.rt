@@ -10,6 +10,8 @@ mod reading;
 mod reply;
 mod reply_texts;
 mod request;
+#[cfg(test)]
+mod tests;
 mod text;
 mod writing;
 
