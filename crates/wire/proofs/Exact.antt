@@ -1,11 +1,11 @@
 -- Of known bytes an answer tells what stands at their front.
-use Rattle.std.proofs.Common.{◌≡◌, ℕ, ◌≤◌, List, [], ◌++◌, length, Option, Some, None, Result, Ok, Err, IfSome, refl, sym, ap, ◌∙◌, subst, append_assoc, append-nil}
-use Rattle.std.specs.Io.KnownBytes.{Consumes, IsAtEnd}
+use Rattle.std.proofs.Common.{◌≡◌, ℕ, List, ◌++◌, Option, Some, None, Result, Ok, Err, IfSome, refl, sym, ap, ◌∙◌, subst, append_assoc, append-nil}
+use Rattle.std.specs.Io.KnownBytes.{Consumes}
 use Rattle.byteorder.specs.Endian.{big_bytes}
 use Rattle.wire.specs.declared.request.Request.{Request}
 use Rattle.wire.specs.declared.fault.WireFault.{WireFault}
 use Rattle.wire.specs.declared.fault.WireFault.TheVariants as fault
-use Rattle.wire.specs.Frames.{frame, request_frame, IsRead, IsFaulty, too_long, empty, no_request, Front, AtEnd, Whole, Faulty, TooLong, Truncated, Malformed, IsFront}
+use Rattle.wire.specs.Frames.{frame, request_frame, IsFaulty, too_long, empty, no_request, Front, AtEnd, Whole, Faulty, TooLong, Truncated, Malformed, IsFront}
 use Rattle.wire.specs.Reading.{ReadGives, Tells}
 use Rattle.wire.proofs.Once.{one_front}
 

@@ -1,14 +1,13 @@
 -- One thing at most stands at the front of bytes.
-use Rattle.std.proofs.Common.{◌≡◌, ◌≢◌, ◌⊎◌, ℕ, zero, suc, ◌+◌, ◌^◌, ◌<◌, ◌≤◌, Bool, true, false, nat_lt, ◌==◌, if◌then◌else◌, List, [], ◌∷◌, ◌++◌, length, Option, Some, None, Result, Ok, Err, IfSome, refl, sym, ap, ◌∙◌, subst, arith, append_assoc, append-nil, inl, inr}
+use Rattle.std.proofs.Common.{◌≡◌, ◌≢◌, ◌⊎◌, ℕ, ◌+◌, ◌^◌, ◌<◌, ◌≤◌, nat_lt, ◌==◌, if◌then◌else◌, List, [], ◌∷◌, ◌++◌, length, Result, Ok, refl, sym, ap, ◌∙◌, subst, arith, append_assoc, inl, inr}
 use Rattle.std.proofs.lemmas.List.{length-append}
-use Rattle.std.specs.Io.KnownBytes.{IsAtEnd}
 use Rattle.byteorder.specs.Endian.{big_bytes, big_number}
 use Rattle.byteorder.specs.Numbers.{big_number-reads_back}
 use Rattle.jtypes.specs.declared.refusal.Refusal.{Refusal}
 use Rattle.jtypes.specs.Layout.{first, number, and_then}
 use Rattle.wire.specs.declared.request.Request.{Request}
 use Rattle.wire.specs.declared.request.Request.TheVariants.{Define, Put, Get, Remove, Contains, Invoke, InvokeAll, RoundEnd}
-use Rattle.wire.specs.Frames.{longest, long_text, args_text, texts, request_text, request_frame, frame, IsText, IsNoRequest, IsRequest, IsRead, IsFaulty, cut_length, too_long, empty, cut_body, no_request, Front, AtEnd, Whole, Faulty, TooLong, Truncated, Malformed, IsFront}
+use Rattle.wire.specs.Frames.{longest, long_text, args_text, texts, request_text, IsText, IsNoRequest, cut_length, too_long, empty, cut_body, no_request, Front, AtEnd, Whole, Faulty, TooLong, Truncated, Malformed, IsFront}
 use Rattle.wire.specs.Bodies.{small, keys_and_arguments, alone}
 use Rattle.wire.proofs.Read.{read_small, read_keys, read_alone, read_number}
 use Rattle.wire.proofs.Parsed.{same_numbers}

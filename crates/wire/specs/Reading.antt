@@ -21,6 +21,10 @@ wire_fault_number fault.NoMemory = 5
 abbrev pub Took : {R : Type 0} → (R → Option (List ℕ)) → Counting R → Counting R → List ℕ → Type 0
 Took remaining old new bytes = Consumes (remaining old.inner) (remaining new.inner) bytes
 
+-- the reader gave some bytes, and this holds of what is left and of them
+abbrev pub TookSome : {R : Type 0} → (R → Option (List ℕ)) → Counting R → Counting R → (Option (List ℕ) → List ℕ → Type 0) → Type 0
+TookSome remaining old new P = (bytes : List ℕ) × Took remaining old new bytes × P (remaining new.inner) bytes
+
 -- a fault of the reader is told exactly where a read failed
 abbrev pub FaultCounts : {R : Type 0} → WireFault → Counting R → Counting R → Type 0
 FaultCounts fault.Read old new = HasRisen old.failures new.failures

@@ -1,10 +1,10 @@
 //! Requests are read.
 
-ghost use Rattle.std.specs.Prelude.{◌≡◌, ◌≢◌, ◌<◌, ◌≤◌, ◌^◌, ℕ, List, [], ◌∷◌, ◌++◌, length, take, IfSome, IfOk, IfErr, OnOk, Err};
+ghost use Rattle.std.specs.Prelude.{⊤, ◌≡◌, ◌≢◌, ◌<◌, ◌≤◌, ◌^◌, ℕ, List, [], ◌∷◌, ◌++◌, length, take, IfSome, IfOk, IfErr, OnOk, OnErr, Err};
 ghost use Rattle.std.specs.Io.KnownBytes.{IsAtEnd};
 ghost use Rattle.byteorder.specs.Endian.{big_bytes};
 ghost use Rattle.wire.specs.Frames.{AreBytes, Front, IsFront};
-ghost use Rattle.wire.specs.Reading.{Took, FaultCounts, ReadCounts, IsCut, IsCutOrLacks, IsPassed, Completes, HeadGives, ReadGives, Tells, found};
+ghost use Rattle.wire.specs.Reading.{Took, TookSome, FaultCounts, ReadCounts, IsCut, IsCutOrLacks, IsPassed, Completes, HeadGives, ReadGives, Tells, found};
 
 use crate::parsing::{keys_request, small_request};
 use crate::{Counted, Request, WireFault};
@@ -26,7 +26,8 @@ fn fill<R: Read>(reader: &mut Counted<R>, buf: &mut [u8]) -> Result<usize, WireF
     ensures within { IfOk result (λ n. n ≤ length buf.new) }
     ensures bytes { IfOk result (λ n. Took R.remaining reader.old reader.new (take n buf.new)) }
     ensures end { IfOk result (λ n. n < length buf.new → IsAtEnd (R.remaining reader.new.inner)) }
-    ensures err { IfErr result (λ e. (e ≡ WireFault.Read) × ((bytes : List ℕ) × Took R.remaining reader.old reader.new bytes)) }
+    ensures err { IfErr result (λ e. e ≡ WireFault.Read) }
+    ensures some { OnErr result (TookSome R.remaining reader.old reader.new (λ _ _. ⊤)) }
     ensures long { length buf.new ≡ length buf.old }
     ensures counted { ReadCounts result reader.old reader.new }
 {
@@ -44,7 +45,7 @@ fn fill<R: Read>(reader: &mut Counted<R>, buf: &mut [u8]) -> Result<usize, WireF
 // Fills the buffer.
 fn read_part<R: Read>(reader: &mut Counted<R>, buf: &mut [u8]) -> Result<(), WireFault>
     ensures ok { OnOk result (Took R.remaining reader.old reader.new buf.new) }
-    ensures err { IfErr result (λ e. (bytes : List ℕ) × Took R.remaining reader.old reader.new bytes × IsCut (length buf.old) (R.remaining reader.new.inner) bytes e) }
+    ensures err { IfErr result (λ e. TookSome R.remaining reader.old reader.new (λ left bytes. IsCut (length buf.old) left bytes e)) }
     ensures long { length buf.new ≡ length buf.old }
     ensures counted { ReadCounts result reader.old reader.new }
 {
@@ -63,7 +64,7 @@ fn read_bytes<R: Read>(
     count: usize,
 ) -> Result<Vec<u8>, WireFault>
     ensures ok { IfOk result (λ v. Took R.remaining reader.old reader.new v.items × (length v.items ≡ count)) }
-    ensures err { IfErr result (λ e. (bytes : List ℕ) × Took R.remaining reader.old reader.new bytes × IsCutOrLacks count (R.remaining reader.new.inner) bytes e) }
+    ensures err { IfErr result (λ e. TookSome R.remaining reader.old reader.new (λ left bytes. IsCutOrLacks count left bytes e)) }
     ensures counted { ReadCounts result reader.old reader.new }
 {
     let mut bytes = match vec![in alloc; 0; count] {
@@ -78,7 +79,7 @@ fn read_bytes<R: Read>(
 
 // Passes over the bytes that are left of a frame that no request has.
 fn pass_over<R: Read>(reader: &mut Counted<R>, count: usize) -> WireFault
-    ensures bytes { (bytes : List ℕ) × Took R.remaining reader.old reader.new bytes × IsPassed count (R.remaining reader.new.inner) bytes result }
+    ensures bytes { TookSome R.remaining reader.old reader.new (λ left bytes. IsPassed count left bytes result) }
     ensures counted { FaultCounts result reader.old reader.new }
 {
     let mut buf = [0u8; 512];
@@ -98,7 +99,7 @@ fn read_define<R: Read>(
     reader: &mut Counted<R>,
     count: usize,
 ) -> Result<Request, WireFault>
-    ensures bytes { (bytes : List ℕ) × Took R.remaining reader.old reader.new bytes × Completes (1 ∷ []) count (R.remaining reader.new.inner) bytes result }
+    ensures bytes { TookSome R.remaining reader.old reader.new (λ left bytes. Completes (1 ∷ []) count left bytes result) }
     ensures counted { ReadCounts result reader.old reader.new }
 {
     match read_bytes(alloc, reader, count) {
@@ -118,7 +119,7 @@ fn read_small<R: Read>(
 ) -> Result<Request, WireFault>
     requires other { (kind ≢ 1) × (kind ≢ 7) }
     requires small { count ≤ 85 }
-    ensures bytes { (bytes : List ℕ) × Took R.remaining reader.old reader.new bytes × Completes (kind ∷ []) count (R.remaining reader.new.inner) bytes result }
+    ensures bytes { TookSome R.remaining reader.old reader.new (λ left bytes. Completes (kind ∷ []) count left bytes result) }
     ensures counted { ReadCounts result reader.old reader.new }
 {
     let mut body = [0u8; 85];
@@ -136,7 +137,7 @@ fn read_keys<R: Read>(
     keys: u16,
     count: usize,
 ) -> Result<Request, WireFault>
-    ensures bytes { (bytes : List ℕ) × Took R.remaining reader.old reader.new bytes × Completes (7 ∷ big_bytes 4 class ++ big_bytes 2 keys) count (R.remaining reader.new.inner) bytes result }
+    ensures bytes { TookSome R.remaining reader.old reader.new (λ left bytes. Completes (7 ∷ big_bytes 4 class ++ big_bytes 2 keys) count left bytes result) }
     ensures counted { ReadCounts result reader.old reader.new }
 {
     let least = 8 * usize::from(keys) + 1;
@@ -154,7 +155,7 @@ fn read_invoke_all<R: Read>(
     reader: &mut Counted<R>,
     count: usize,
 ) -> Result<Request, WireFault>
-    ensures bytes { (bytes : List ℕ) × Took R.remaining reader.old reader.new bytes × Completes (7 ∷ []) count (R.remaining reader.new.inner) bytes result }
+    ensures bytes { TookSome R.remaining reader.old reader.new (λ left bytes. Completes (7 ∷ []) count left bytes result) }
     ensures counted { ReadCounts result reader.old reader.new }
 {
     if count < 7 {
@@ -179,7 +180,7 @@ fn read_body<R: Read>(
     kind: u8,
     count: usize,
 ) -> Result<Request, WireFault>
-    ensures bytes { (bytes : List ℕ) × Took R.remaining reader.old reader.new bytes × Completes (kind ∷ []) count (R.remaining reader.new.inner) bytes result }
+    ensures bytes { TookSome R.remaining reader.old reader.new (λ left bytes. Completes (kind ∷ []) count left bytes result) }
     ensures counted { ReadCounts result reader.old reader.new }
 {
     match kind {
@@ -197,7 +198,7 @@ fn read_text<R: Read>(
     length: usize,
 ) -> Result<Request, WireFault>
     requires { 0 < length }
-    ensures bytes { (bytes : List ℕ) × Took R.remaining reader.old reader.new bytes × Completes [] length (R.remaining reader.new.inner) bytes result }
+    ensures bytes { TookSome R.remaining reader.old reader.new (λ left bytes. Completes [] length left bytes result) }
     ensures counted { ReadCounts result reader.old reader.new }
 {
     let mut kind = [0u8; 1];
@@ -210,7 +211,7 @@ fn read_text<R: Read>(
 // The length of the next frame; at the end of the input there is none.
 fn read_length<R: Read>(reader: &mut Counted<R>) -> Result<Option<u32>, WireFault>
     ensures ok { IfOk result (λ o. HeadGives (R.remaining reader.new.inner) (Took R.remaining reader.old reader.new) o) }
-    ensures err { IfErr result (λ e. (bytes : List ℕ) × Took R.remaining reader.old reader.new bytes × ReadGives (R.remaining reader.new.inner) bytes (Err e)) }
+    ensures err { IfErr result (λ e. TookSome R.remaining reader.old reader.new (λ left bytes. ReadGives left bytes (Err e))) }
     ensures counted { ReadCounts result reader.old reader.new }
 {
     let mut head = [0u8; 4];
@@ -231,7 +232,7 @@ fn read_frame<R: Read>(
     reader: &mut Counted<R>,
     length: u32,
 ) -> Result<Request, WireFault>
-    ensures bytes { (bytes : List ℕ) × Took R.remaining reader.old reader.new bytes × ReadGives (R.remaining reader.new.inner) (big_bytes 4 length ++ bytes) (found result) }
+    ensures bytes { TookSome R.remaining reader.old reader.new (λ left bytes. ReadGives left (big_bytes 4 length ++ bytes) (found result)) }
     ensures counted { ReadCounts result reader.old reader.new }
 {
     if length == 0 {
@@ -248,7 +249,7 @@ pub fn read_request<R: Read>(
     alloc: Global,
     reader: &mut Counted<R>,
 ) -> Result<Option<Request>, WireFault>
-    ensures bytes { (bytes : List ℕ) × Took R.remaining reader.old reader.new bytes × ReadGives (R.remaining reader.new.inner) bytes result }
+    ensures bytes { TookSome R.remaining reader.old reader.new (λ left bytes. ReadGives left bytes result) }
     ensures exact { IfSome (R.remaining reader.old.inner) (λ input. (f : Front) → IsFront input f → Tells f result) }
     ensures counted { ReadCounts result reader.old reader.new }
 {

@@ -1,4 +1,4 @@
-use Rattle.std.proofs.Common.{◌≡◌, ℕ, [], ◌++◌, sym, ap, ◌∙◌, arith, append-nil}
+use Rattle.std.proofs.Common.{ℕ, [], ◌++◌, sym, ap, ◌∙◌, arith, append-nil}
 use Rattle.std.proofs.KnownBytes.{Consumes-nil}
 use Rattle.byteorder.specs.Endian.{big_bytes}
 use Rattle.wire.specs.Frames.{empty, too_long}
