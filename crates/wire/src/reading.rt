@@ -16,6 +16,9 @@ use std::io::Read;
 /// The longest text of a request.
 const LONGEST: u32 = 131_072;
 
+/// The longest body of a request that has a key at most: a class, a key and eight longs.
+const SMALL: usize = 85;
+
 // For proofs alone: the numbers of a slice of bytes are bytes.
 fn are_bytes(bytes: &[u8])
     ensures { AreBytes bytes.now }
@@ -122,7 +125,7 @@ fn read_small<R: Read>(
     ensures bytes { TookSome R.remaining reader.old reader.new (λ left bytes. Completes (kind ∷ []) count left bytes result) }
     ensures counted { ReadCounts result reader.old reader.new }
 {
-    let mut body = [0u8; 85];
+    let mut body = [0u8; SMALL];
     match read_part(reader, &mut body[..count]) {
         Ok(()) => small_request(kind, &body[..count]),
         Err(e) => Err(e),
@@ -186,7 +189,7 @@ fn read_body<R: Read>(
     match kind {
         1 => read_define(alloc, reader, count),
         7 => read_invoke_all(alloc, reader, count),
-        _ if count <= 85 => read_small(reader, kind, count),
+        _ if count <= SMALL => read_small(reader, kind, count),
         _ => Err(pass_over(reader, count)),
     }
 }

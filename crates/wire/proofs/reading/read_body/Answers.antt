@@ -8,4 +8,4 @@ returns-in_default-2-clause-bytes g c =
     let one : c.args.kind ≢ 1 = search rules in
     let seven : c.args.kind ≢ 7 = search rules in
     let (bytes, took, passed) = c.pass_over.ensures.bytes in
-    (bytes, took, passed_completes c.pass_over.result (c.args.kind ∷ []) bytes c.args.count _ (λ e. long_body c.args.kind bytes one seven (omega (arith, e, c.if-count-le85.false))) passed)
+    (bytes, took, passed_completes c.pass_over.result (c.args.kind ∷ []) bytes c.args.count _ (λ e. long_body c.args.kind bytes one seven (omega (arith, e, c.if-count-le-SMALL.false))) passed)
