@@ -1,0 +1,11 @@
+pub mod Exact
+pub mod Found
+pub mod Framed
+pub mod Lists
+pub mod Numbers
+pub mod Once
+pub mod Parsed
+pub mod Read
+pub mod Streams
+pub mod Taken
+pub mod Texts

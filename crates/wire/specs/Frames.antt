@@ -1,0 +1,190 @@
+-- The frames of the protocol: a frame is the text of a request or of a reply behind its length, all numbers with the highest byte first.
+use Rattle.std.specs.Prelude.{◌≡◌, ℕ, ◌<◌, ◌≤◌, ◌^◌, ℤ, FitsSigned, Bool, true, false, List, [], ◌∷◌, ◌++◌, length, Option, Some, None}
+use Rattle.std.specs.List.{AllByRecursion}
+use Rattle.std.specs.Int.{w32, w64, cast_unsigned}
+use Rattle.byteorder.specs.Endian.{big_bytes}
+use Rattle.jtypes.specs.declared.types.Arg.{Arg}
+use Rattle.jtypes.specs.declared.types.Arg.TheVariants as arg
+use Rattle.jtypes.specs.declared.types.Outcome.{Outcome}
+use Rattle.jtypes.specs.declared.types.Outcome.TheVariants.{Returned, Threw}
+use Rattle.jtypes.specs.Refusals.{number, detail, fault_number}
+use Rattle.wire.specs.declared.request.Request.{Request}
+use Rattle.wire.specs.declared.request.Request.TheVariants.{Define, Put, Get, Remove, Contains, Invoke, InvokeAll}
+use Rattle.wire.specs.declared.request.Request.TheVariants as request
+use Rattle.wire.specs.declared.reply.Denial.{Denial}
+use Rattle.wire.specs.declared.reply.Denial.TheVariants.{UnknownClass, JournalFull, NoMemory, TooManyClasses, TooManyJobs}
+use Rattle.wire.specs.declared.reply.JobOutcome.{JobOutcome}
+use Rattle.wire.specs.declared.reply.JobOutcome.TheVariants.{Ended}
+use Rattle.wire.specs.declared.reply.JobOutcome.TheVariants as job
+use Rattle.wire.specs.declared.reply.Reply.{Reply}
+use Rattle.wire.specs.declared.reply.Reply.TheVariants.{Defined, Refused, Done, Value, Flag, Result, Results}
+use Rattle.wire.specs.declared.reply.Reply.TheVariants as reply
+
+-- ---- texts
+
+abbrev pub long_text : ℤ → List ℕ
+long_text n = big_bytes 8 (cast_unsigned w64 n)
+
+abbrev pub int_text : ℤ → List ℕ
+int_text n = big_bytes 4 (cast_unsigned w32 n)
+
+abbrev pub arg_text : Arg → List ℕ
+arg_text arg.Null = 0 ∷ []
+arg_text (arg.Long n) = 1 ∷ long_text n
+arg_text (arg.Integer n) = 2 ∷ int_text n
+
+-- the texts of several things, one behind the other
+abbrev pub texts : {A : Type 0} → (A → List ℕ) → List A → List ℕ
+texts f [] = []
+texts f (x ∷ xs) = f x ++ texts f xs
+
+abbrev pub args_text : List Arg → List ℕ
+args_text args = length args ∷ texts arg_text args
+
+-- a request's kind and body
+abbrev pub request_text : Request → List ℕ
+request_text (Define bytes) = 1 ∷ bytes
+request_text (Put key value) = 2 ∷ long_text key ++ long_text value
+request_text (Get key) = 3 ∷ long_text key
+request_text (Remove key) = 4 ∷ long_text key
+request_text (Contains key) = 5 ∷ long_text key
+request_text (Invoke class key args) = 6 ∷ big_bytes 4 class ++ long_text key ++ args_text args
+request_text (InvokeAll class keys args) = 7 ∷ big_bytes 4 class ++ big_bytes 2 (length keys) ++ texts long_text keys ++ args_text args
+request_text request.RoundEnd = 8 ∷ []
+
+abbrev pub denial_number : Denial → ℕ
+denial_number UnknownClass = 1
+denial_number JournalFull = 2
+denial_number NoMemory = 3
+denial_number TooManyClasses = 4
+denial_number TooManyJobs = 5
+
+abbrev pub outcome_text : Outcome → List ℕ
+outcome_text (Returned a) = 0 ∷ arg_text a
+outcome_text (Threw fault) = 1 ∷ fault_number fault ∷ []
+
+abbrev pub job_outcome_text : JobOutcome → List ℕ
+job_outcome_text (Ended o) = outcome_text o
+job_outcome_text (job.Denied d) = 2 ∷ denial_number d ∷ []
+
+-- a key and what its invocation came to
+abbrev pub job_text : ℤ × JobOutcome → List ℕ
+job_text j = long_text j.0 ++ job_outcome_text j.1
+
+abbrev pub value_text : Option ℤ → List ℕ
+value_text None = 0 ∷ []
+value_text (Some n) = 1 ∷ long_text n
+
+abbrev pub flag_text : Bool → List ℕ
+flag_text false = 0 ∷ []
+flag_text true = 1 ∷ []
+
+-- how many outcomes there are, and they
+abbrev pub results_text : List (ℤ × JobOutcome) → List ℕ
+results_text jobs = 7 ∷ big_bytes 2 (length jobs) ++ texts job_text jobs
+
+-- a reply's kind and body
+abbrev pub reply_text : Reply → List ℕ
+reply_text (Defined class steps words) = 1 ∷ big_bytes 4 class ++ big_bytes 4 steps ++ big_bytes 4 words
+reply_text (Refused refusal) = 2 ∷ number refusal ∷ big_bytes 4 (detail refusal)
+reply_text Done = 3 ∷ []
+reply_text (Value v) = 4 ∷ value_text v
+reply_text (Flag b) = 5 ∷ flag_text b
+reply_text (Result o) = 6 ∷ outcome_text o
+reply_text (Results jobs) = results_text jobs
+reply_text (reply.Denied d) = 8 ∷ denial_number d ∷ []
+reply_text reply.RoundEnd = 9 ∷ []
+
+-- ---- frames
+
+-- the longest text of a request
+abbrev pub longest : ℕ
+longest = 131_072
+
+-- the length of what follows, and that
+abbrev pub frame : List ℕ → List ℕ
+frame text = big_bytes 4 (length text) ++ text
+
+abbrev pub request_frame : Request → List ℕ
+request_frame r = frame (request_text r)
+
+abbrev pub reply_frame : Reply → List ℕ
+reply_frame r = frame (reply_text r)
+
+-- each number is a byte's
+abbrev pub AreBytes : List ℕ → Type 0
+AreBytes xs = AllByRecursion (λ b. b < 256) xs
+
+-- the numbers of an argument lie in its type's range
+abbrev pub IsArg : Arg → Type 0
+IsArg arg.Null = Unit {0}
+IsArg (arg.Long n) = FitsSigned w64 n
+IsArg (arg.Integer n) = FitsSigned w32 n
+
+pub record AreArgs (args : List Arg) : Type 0 where
+  pub few : length args ≤ 8
+  pub each : AllByRecursion IsArg args
+
+-- the numbers of a request lie in their types' ranges
+abbrev pub IsInRange : Request → Type 0
+IsInRange (Define bytes) = AreBytes bytes
+IsInRange (Put key value) = FitsSigned w64 key × FitsSigned w64 value
+IsInRange (Get key) = FitsSigned w64 key
+IsInRange (Remove key) = FitsSigned w64 key
+IsInRange (Contains key) = FitsSigned w64 key
+IsInRange (Invoke class key args) = (class < 2 ^ 32) × FitsSigned w64 key × AreArgs args
+IsInRange (InvokeAll class keys args) = (class < 2 ^ 32) × (length keys < 2 ^ 16) × AllByRecursion (FitsSigned w64) keys × AreArgs args
+IsInRange request.RoundEnd = Unit {0}
+
+-- a request has this text
+pub record IsText (text : List ℕ) (r : Request) : Type 0 where
+  pub is : text ≡ request_text r
+  pub in_range : IsInRange r
+
+abbrev pub IsNoRequest : List ℕ → Type 0
+IsNoRequest text = (r : Request) → IsText text r → ⊥
+
+-- a request that has a frame
+pub record IsRequest (r : Request) : Type 0 where
+  pub in_range : IsInRange r
+  pub short : length (request_text r) ≤ longest
+
+-- the most outcomes of a reply
+abbrev pub most_outcomes : ℕ
+most_outcomes = 4096
+
+-- a reply that has a frame
+abbrev pub IsReply : Reply → Type 0
+IsReply (Results jobs) = length jobs ≤ most_outcomes
+IsReply _ = Unit {0}
+
+-- ---- what stands at the front of bytes
+
+pub data ReadFault : Type 0 where
+  TooLong : ReadFault
+  Truncated : ReadFault
+  Malformed : ReadFault
+
+-- the end, a whole frame and what follows it, or no frame
+pub data Front : Type 0 where
+  AtEnd : Front
+  Whole : Request → (rest : List ℕ) → Front
+  Faulty : ReadFault → Front
+
+-- the bytes begin with the frame of this request
+pub record IsRead (bytes : List ℕ) (r : Request) (rest : List ℕ) : Type 0 where
+  pub parts : bytes ≡ request_frame r ++ rest
+  pub request : IsRequest r
+
+-- no request is read, and why; a frame that is cut is Truncated, whatever its body
+pub data IsFaulty (bytes : List ℕ) : ReadFault → Type 0 where
+  cut_length : 0 < length bytes → length bytes < 4 → IsFaulty bytes Truncated
+  too_long : (n : ℕ) (rest : List ℕ) → bytes ≡ big_bytes 4 n ++ rest → n < 2 ^ 32 → longest < n → IsFaulty bytes TooLong
+  empty : (rest : List ℕ) → bytes ≡ big_bytes 4 0 ++ rest → IsFaulty bytes Malformed
+  cut_body : (n : ℕ) (rest : List ℕ) → bytes ≡ big_bytes 4 n ++ rest → 1 ≤ n → n ≤ longest → length rest < n → IsFaulty bytes Truncated
+  no_request : (text rest : List ℕ) → bytes ≡ frame text ++ rest → 1 ≤ length text → length text ≤ longest → IsNoRequest text → IsFaulty bytes Malformed
+
+abbrev pub IsFront : List ℕ → Front → Type 0
+IsFront bytes AtEnd = bytes ≡ []
+IsFront bytes (Whole r rest) = IsRead bytes r rest
+IsFront bytes (Faulty f) = IsFaulty bytes f

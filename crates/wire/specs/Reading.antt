@@ -1,0 +1,97 @@
+-- What a reading answers, by the bytes that it took and by those that are left.
+use Rattle.std.specs.Prelude.{◌≡◌, ◌≢◌, ◌⊎◌, ℕ, ◌<◌, ◌^◌, List, [], ◌++◌, length, Option, Some, None, Result, Ok, Err}
+use Rattle.std.specs.Io.KnownBytes.{IsAtEnd, Consumes}
+use Rattle.byteorder.specs.Endian.{big_bytes}
+use Rattle.jtypes.specs.declared.refusal.Refusal.{Refusal}
+use Rattle.jtypes.specs.declared.refusal.Refusal.TheVariants as refusal
+use Rattle.wire.specs.declared.request.Request.{Request}
+use Rattle.wire.specs.declared.fault.WireFault.{WireFault}
+use Rattle.wire.specs.declared.fault.WireFault.TheVariants as fault
+use Rattle.wire.specs.Counting.{Counting, HasRisen, StaysCounted}
+use Rattle.wire.specs.Frames.{IsText, IsNoRequest, IsRead, IsFaulty, TooLong, Truncated, Malformed, Front, AtEnd, Whole, Faulty}
+
+abbrev pub wire_fault_number : WireFault → ℕ
+wire_fault_number fault.TooLong = 1
+wire_fault_number fault.Truncated = 2
+wire_fault_number fault.Malformed = 3
+wire_fault_number fault.Read = 4
+wire_fault_number fault.NoMemory = 5
+
+-- the reader gave these bytes
+abbrev pub Took : {R : Type 0} → (R → Option (List ℕ)) → Counting R → Counting R → List ℕ → Type 0
+Took remaining old new bytes = Consumes (remaining old.inner) (remaining new.inner) bytes
+
+-- the reader gave some bytes, and this holds of what is left and of them
+abbrev pub TookSome : {R : Type 0} → (R → Option (List ℕ)) → Counting R → Counting R → (Option (List ℕ) → List ℕ → Type 0) → Type 0
+TookSome remaining old new P = (bytes : List ℕ) × Took remaining old new bytes × P (remaining new.inner) bytes
+
+-- a fault of the reader is told exactly where a read failed
+abbrev pub FaultCounts : {R : Type 0} → WireFault → Counting R → Counting R → Type 0
+FaultCounts fault.Read old new = HasRisen old.failures new.failures
+FaultCounts _ old new = StaysCounted old new
+
+abbrev pub ReadCounts : {R A : Type 0} → Result A WireFault → Counting R → Counting R → Type 0
+ReadCounts (Ok x) old new = StaysCounted old new
+ReadCounts (Err e) old new = FaultCounts e old new
+
+-- why no part of so many bytes was read
+abbrev pub IsCut : ℕ → Option (List ℕ) → List ℕ → WireFault → Type 0
+IsCut n left bytes fault.Truncated = IsAtEnd left × (length bytes < n)
+IsCut n left bytes fault.Read = Unit {0}
+IsCut n left bytes _ = ⊥
+
+-- the same where memory may be wanting
+abbrev pub IsCutOrLacks : ℕ → Option (List ℕ) → List ℕ → WireFault → Type 0
+IsCutOrLacks n left bytes fault.NoMemory = Unit {0}
+IsCutOrLacks n left bytes e = IsCut n left bytes e
+
+-- the fault of a frame of which so many bytes were passed over
+abbrev pub IsPassed : ℕ → Option (List ℕ) → List ℕ → WireFault → Type 0
+IsPassed n left bytes fault.Malformed = length bytes ≡ n
+IsPassed n left bytes e = IsCut n left bytes e
+
+-- what a refusal of a body's reading says of the frame
+abbrev pub IsFaultOf : Refusal → WireFault → Type 0
+IsFaultOf e f = ((e ≡ refusal.NoMemory) × (f ≡ fault.NoMemory)) ⊎ ((e ≢ refusal.NoMemory) × (f ≡ fault.Malformed))
+
+-- the request of a text, or why there is none
+abbrev pub Parses : List ℕ → Result Request WireFault → Type 0
+Parses text (Ok r) = IsText text r
+Parses text (Err fault.Malformed) = IsNoRequest text
+Parses text (Err fault.NoMemory) = Unit {0}
+Parses text (Err _) = ⊥
+
+-- the request of which some bytes stand before, or why there is none; so many bytes are to follow
+abbrev pub Completes : List ℕ → ℕ → Option (List ℕ) → List ℕ → Result Request WireFault → Type 0
+Completes before n left bytes (Ok r) = IsText (before ++ bytes) r × (length bytes ≡ n)
+Completes before n left bytes (Err fault.Malformed) = IsNoRequest (before ++ bytes) × (length bytes ≡ n)
+Completes before n left bytes (Err e) = IsCutOrLacks n left bytes e
+
+-- the length that a frame begins with, or the end
+abbrev pub HeadGives : Option (List ℕ) → (List ℕ → Type 0) → Option ℕ → Type 0
+HeadGives left Gave (Some n) = Gave (big_bytes 4 n) × (n < 2 ^ 32)
+HeadGives left Gave None = Gave [] × IsAtEnd left
+
+-- what the reading of a frame gives
+abbrev pub ReadGives : Option (List ℕ) → List ℕ → Result (Option Request) WireFault → Type 0
+ReadGives left bytes (Ok (Some r)) = IsRead bytes r []
+ReadGives left bytes (Ok None) = (bytes ≡ []) × IsAtEnd left
+ReadGives left bytes (Err fault.TooLong) = IsFaulty bytes TooLong
+ReadGives left bytes (Err fault.Truncated) = IsFaulty bytes Truncated × IsAtEnd left
+ReadGives left bytes (Err fault.Malformed) = IsFaulty bytes Malformed
+ReadGives left bytes (Err fault.Read) = Unit {0}
+ReadGives left bytes (Err fault.NoMemory) = Unit {0}
+
+abbrev pub found : Result Request WireFault → Result (Option Request) WireFault
+found (Ok r) = Ok (Some r)
+found (Err e) = Err e
+
+-- the answer tells what stands at the front, unless memory was wanting or a read failed
+abbrev pub Tells : Front → Result (Option Request) WireFault → Type 0
+Tells f (Ok None) = f ≡ AtEnd
+Tells f (Ok (Some r)) = (rest : List ℕ) × (f ≡ Whole r rest)
+Tells f (Err fault.TooLong) = f ≡ Faulty TooLong
+Tells f (Err fault.Truncated) = f ≡ Faulty Truncated
+Tells f (Err fault.Malformed) = f ≡ Faulty Malformed
+Tells f (Err fault.Read) = Unit {0}
+Tells f (Err fault.NoMemory) = Unit {0}

@@ -1,0 +1,126 @@
+//! A reader or a writer whose failures are counted.
+
+use std::io;
+use std::io::{Read, Write};
+use std::marker::Model;
+
+/// Passes calls on to a reader or a writer, and counts those that fail. An error of any kind counts.
+#[derive(Drop)]
+pub struct Counted<T> {
+    inner: T,
+    failures: u64,
+    idle: u64,
+}
+
+impl<T> Model for Counted<T> {
+    ghost use Rattle.wire.specs.Counting.{Counting};
+
+    ghost Value = { Counting T };
+
+    ghost view = { λ c. record { inner = c.inner; failures = c.failures; idle = c.idle } };
+}
+
+impl<T> Counted<T> {
+    ghost use Rattle.std.specs.Prelude.{◌≡◌};
+
+    /// Nothing has failed yet.
+    pub fn new(inner: T) -> Counted<T>
+        ensures inner { result.inner ≡ inner }
+        ensures none { (result.failures ≡ 0) × (result.idle ≡ 0) }
+    {
+        Counted {
+            inner,
+            failures: 0,
+            idle: 0,
+        }
+    }
+
+    /// How many calls answered an error; at the greatest value it stays.
+    pub fn failures(&self) -> u64
+        ensures { result ≡ self.now.failures }
+    {
+        self.failures
+    }
+
+    /// How many writes of some bytes took none of them; at the greatest value it stays.
+    pub fn idle(&self) -> u64
+        ensures { result ≡ self.now.idle }
+    {
+        self.idle
+    }
+
+    /// The reader or the writer.
+    pub fn into_inner(self) -> T
+        ensures { result ≡ self.inner }
+    {
+        self.inner
+    }
+}
+
+impl<T: Read> Read for Counted<T> {
+    ghost use Rattle.std.specs.Prelude.{OnOk, OnErr};
+    ghost use Rattle.std.specs.Io.{ReadsAtMost};
+    ghost use Rattle.std.specs.Io.KnownBytes.{ReadConsumes};
+    ghost use Rattle.wire.specs.Counting.{CountsFailure, StaysCounted};
+
+    ghost remaining = { λ c. T.remaining c.inner };
+
+    fn read(&mut self, buf: &mut [u8]) -> io::Result<usize>
+        ensures bound { ReadsAtMost result buf.new }
+        ensures bytes { ReadConsumes (T.remaining self.old.inner) (T.remaining self.new.inner) result buf.new }
+        ensures counted { OnErr result (CountsFailure self.old self.new) }
+        ensures kept { OnOk result (StaysCounted self.old self.new) }
+    {
+        match self.inner.read(buf) {
+            Ok(n) => Ok(n),
+            Err(e) => {
+                self.failures = self.failures.saturating_add(1);
+                Err(e)
+            }
+        }
+    }
+}
+
+impl<T: Write> Write for Counted<T> {
+    ghost use Rattle.std.specs.Prelude.{◌≡◌, ◌⊎◌, ◌<◌, length, IfOk, OnOk, OnErr};
+    ghost use Rattle.std.specs.Io.{WritesAtMost};
+    ghost use Rattle.std.specs.Io.KnownBytes.{WriteAppends, Keeps};
+    ghost use Rattle.wire.specs.Counting.{CountsFailure, CountsIdle, StaysCounted};
+
+    ghost contents = { λ c. T.contents c.inner };
+
+    fn write(&mut self, buf: &[u8]) -> io::Result<usize>
+        ensures bound { WritesAtMost result buf.now }
+        ensures bytes { WriteAppends (T.contents self.old.inner) (T.contents self.new.inner) result buf.now }
+        ensures counted { OnErr result (CountsFailure self.old self.new) }
+        ensures idle { IfOk result (λ n. n ≡ 0 → 0 < length buf.now → CountsIdle self.old self.new) }
+        ensures kept { IfOk result (λ n. (0 < n) ⊎ (length buf.now ≡ 0) → StaysCounted self.old self.new) }
+    {
+        match self.inner.write(buf) {
+            Ok(n) => {
+                if n == 0 && !buf.is_empty() {
+                    self.idle = self.idle.saturating_add(1);
+                }
+                Ok(n)
+            }
+            Err(e) => {
+                self.failures = self.failures.saturating_add(1);
+                Err(e)
+            }
+        }
+    }
+
+    fn flush(&mut self) -> io::Result<()>
+        ensures bytes { Keeps (T.contents self.old.inner) (T.contents self.new.inner) }
+        ensures counted { OnErr result (CountsFailure self.old self.new) }
+        ensures kept { OnOk result (StaysCounted self.old self.new) }
+    {
+        match self.inner.flush() {
+            Ok(()) => Ok(()),
+            Err(e) => {
+                self.failures = self.failures.saturating_add(1);
+                Err(e)
+            }
+        }
+    }
+}

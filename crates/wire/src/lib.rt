@@ -1,0 +1,25 @@
+//! The frames of the protocol: requests are read, and replies are written.
+#![tactic(auto)]
+
+mod counted;
+mod definitions;
+mod fault;
+mod laws;
+mod parsing;
+mod reading;
+mod reply;
+mod reply_texts;
+mod request;
+#[cfg(test)]
+mod tests;
+mod text;
+mod writing;
+
+pub use counted::Counted;
+pub use definitions::all_definitions;
+pub use fault::WireFault;
+pub use laws::one_front;
+pub use reading::read_request;
+pub use reply::{Denial, JobOutcome, Reply};
+pub use request::Request;
+pub use writing::{WriteFailed, write_bytes, write_reply};

@@ -1,0 +1,267 @@
+//! Requests are read.
+
+ghost use Rattle.std.specs.Prelude.{⊤, ◌≡◌, ◌≢◌, ◌<◌, ◌≤◌, ◌^◌, ℕ, List, [], ◌∷◌, ◌++◌, length, take, IfSome, IfOk, IfErr, OnOk, OnErr, Err};
+ghost use Rattle.std.specs.Io.KnownBytes.{IsAtEnd};
+ghost use Rattle.byteorder.specs.Endian.{big_bytes};
+ghost use Rattle.wire.specs.Frames.{AreBytes, Front, IsFront};
+ghost use Rattle.wire.specs.Reading.{Took, TookSome, FaultCounts, ReadCounts, IsCut, IsCutOrLacks, IsPassed, Completes, HeadGives, ReadGives, Tells, found};
+
+use crate::parsing::{keys_request, small_request};
+use crate::{Counted, Request, WireFault};
+use byteorder::{BigEndian, ByteOrder};
+use jtypes::Items;
+use std::alloc::Global;
+use std::io::Read;
+
+/// The longest text of a request.
+const LONGEST: u32 = 131_072;
+
+/// The longest body of a request that has a key at most: a class, a key and eight longs.
+const SMALL: usize = 85;
+
+// For proofs alone: the numbers of a slice of bytes are bytes.
+fn are_bytes(bytes: &[u8])
+    ensures { AreBytes bytes.now }
+{}
+
+// Reads until the buffer is full or the input ends, and answers how many bytes came.
+fn fill<R: Read>(reader: &mut Counted<R>, buf: &mut [u8]) -> Result<usize, WireFault>
+    ensures within { IfOk result (λ n. n ≤ length buf.new) }
+    ensures bytes { IfOk result (λ n. Took R.remaining reader.old reader.new (take n buf.new)) }
+    ensures end { IfOk result (λ n. n < length buf.new → IsAtEnd (R.remaining reader.new.inner)) }
+    ensures err { IfErr result (λ e. e ≡ WireFault.Read) }
+    ensures some { OnErr result (TookSome R.remaining reader.old reader.new (λ _ _. ⊤)) }
+    ensures long { length buf.new ≡ length buf.old }
+    ensures counted { ReadCounts result reader.old reader.new }
+{
+    let mut at = 0;
+    while at < buf.len() {
+        match reader.read(&mut buf[at..]) {
+            Ok(0) => return Ok(at),
+            Ok(n) => at += n,
+            Err(_) => return Err(WireFault::Read),
+        }
+    }
+    Ok(at)
+}
+
+// Fills the buffer.
+fn read_part<R: Read>(reader: &mut Counted<R>, buf: &mut [u8]) -> Result<(), WireFault>
+    ensures ok { OnOk result (Took R.remaining reader.old reader.new buf.new) }
+    ensures err { IfErr result (λ e. TookSome R.remaining reader.old reader.new (λ left bytes. IsCut (length buf.old) left bytes e)) }
+    ensures long { length buf.new ≡ length buf.old }
+    ensures counted { ReadCounts result reader.old reader.new }
+{
+    let count = buf.len();
+    match fill(reader, buf) {
+        Ok(n) if n < count => Err(WireFault::Truncated),
+        Ok(_) => Ok(()),
+        Err(e) => Err(e),
+    }
+}
+
+// So many bytes.
+fn read_bytes<R: Read>(
+    alloc: Global,
+    reader: &mut Counted<R>,
+    count: usize,
+) -> Result<Vec<u8>, WireFault>
+    ensures ok { IfOk result (λ v. Took R.remaining reader.old reader.new v.items × (length v.items ≡ count)) }
+    ensures err { IfErr result (λ e. TookSome R.remaining reader.old reader.new (λ left bytes. IsCutOrLacks count left bytes e)) }
+    ensures counted { ReadCounts result reader.old reader.new }
+{
+    let mut bytes = match vec![in alloc; 0; count] {
+        Ok(bytes) => bytes,
+        Err(_) => return Err(WireFault::NoMemory),
+    };
+    match read_part(reader, bytes.as_mut_slice()) {
+        Ok(()) => Ok(bytes),
+        Err(e) => Err(e),
+    }
+}
+
+// Passes over the bytes that are left of a frame that no request has.
+fn pass_over<R: Read>(reader: &mut Counted<R>, count: usize) -> WireFault
+    ensures bytes { TookSome R.remaining reader.old reader.new (λ left bytes. IsPassed count left bytes result) }
+    ensures counted { FaultCounts result reader.old reader.new }
+{
+    let mut buf = [0u8; 512];
+    let mut left = count;
+    while left > 0 {
+        let size = left.min(buf.len());
+        match read_part(reader, &mut buf[..size]) {
+            Ok(()) => left -= size,
+            Err(e) => return e,
+        }
+    }
+    WireFault::Malformed
+}
+
+fn read_define<R: Read>(
+    alloc: Global,
+    reader: &mut Counted<R>,
+    count: usize,
+) -> Result<Request, WireFault>
+    ensures bytes { TookSome R.remaining reader.old reader.new (λ left bytes. Completes (1 ∷ []) count left bytes result) }
+    ensures counted { ReadCounts result reader.old reader.new }
+{
+    match read_bytes(alloc, reader, count) {
+        Ok(bytes) => {
+            are_bytes(bytes.as_slice());
+            Ok(Request::Define(Items::new(bytes)))
+        }
+        Err(e) => Err(e),
+    }
+}
+
+// A request that has a key at most.
+fn read_small<R: Read>(
+    reader: &mut Counted<R>,
+    kind: u8,
+    count: usize,
+) -> Result<Request, WireFault>
+    requires other { (kind ≢ 1) × (kind ≢ 7) }
+    requires small { count ≤ 85 }
+    ensures bytes { TookSome R.remaining reader.old reader.new (λ left bytes. Completes (kind ∷ []) count left bytes result) }
+    ensures counted { ReadCounts result reader.old reader.new }
+{
+    let mut body = [0u8; SMALL];
+    match read_part(reader, &mut body[..count]) {
+        Ok(()) => small_request(kind, &body[..count]),
+        Err(e) => Err(e),
+    }
+}
+
+// What follows the class and the count of an invocation on many keys.
+fn read_keys<R: Read>(
+    alloc: Global,
+    reader: &mut Counted<R>,
+    class: u32,
+    keys: u16,
+    count: usize,
+) -> Result<Request, WireFault>
+    ensures bytes { TookSome R.remaining reader.old reader.new (λ left bytes. Completes (7 ∷ big_bytes 4 class ++ big_bytes 2 keys) count left bytes result) }
+    ensures counted { ReadCounts result reader.old reader.new }
+{
+    let least = 8 * usize::from(keys) + 1;
+    if count < least || count > least + 72 {
+        return Err(pass_over(reader, count));
+    }
+    match read_bytes(alloc, reader, count) {
+        Ok(rest) => keys_request(alloc, class, keys, rest.as_slice()),
+        Err(e) => Err(e),
+    }
+}
+
+fn read_invoke_all<R: Read>(
+    alloc: Global,
+    reader: &mut Counted<R>,
+    count: usize,
+) -> Result<Request, WireFault>
+    ensures bytes { TookSome R.remaining reader.old reader.new (λ left bytes. Completes (7 ∷ []) count left bytes result) }
+    ensures counted { ReadCounts result reader.old reader.new }
+{
+    if count < 7 {
+        return Err(pass_over(reader, count));
+    }
+    let mut head = [0u8; 6];
+    match read_part(reader, &mut head) {
+        Ok(()) => {
+            are_bytes(&head);
+            let class = BigEndian::read_u32(&head);
+            let keys = BigEndian::read_u16(&head[4..]);
+            read_keys(alloc, reader, class, keys, count - 6)
+        }
+        Err(e) => Err(e),
+    }
+}
+
+// The rest of a request of this kind. It is judged by its length before memory is taken for it.
+fn read_body<R: Read>(
+    alloc: Global,
+    reader: &mut Counted<R>,
+    kind: u8,
+    count: usize,
+) -> Result<Request, WireFault>
+    ensures bytes { TookSome R.remaining reader.old reader.new (λ left bytes. Completes (kind ∷ []) count left bytes result) }
+    ensures counted { ReadCounts result reader.old reader.new }
+{
+    match kind {
+        1 => read_define(alloc, reader, count),
+        7 => read_invoke_all(alloc, reader, count),
+        _ if count <= SMALL => read_small(reader, kind, count),
+        _ => Err(pass_over(reader, count)),
+    }
+}
+
+// A whole text, which has a kind at least.
+fn read_text<R: Read>(
+    alloc: Global,
+    reader: &mut Counted<R>,
+    length: usize,
+) -> Result<Request, WireFault>
+    requires { 0 < length }
+    ensures bytes { TookSome R.remaining reader.old reader.new (λ left bytes. Completes [] length left bytes result) }
+    ensures counted { ReadCounts result reader.old reader.new }
+{
+    let mut kind = [0u8; 1];
+    match read_part(reader, &mut kind) {
+        Ok(()) => read_body(alloc, reader, kind[0], length - 1),
+        Err(e) => Err(e),
+    }
+}
+
+// The length of the next frame; at the end of the input there is none.
+fn read_length<R: Read>(reader: &mut Counted<R>) -> Result<Option<u32>, WireFault>
+    ensures ok { IfOk result (λ o. HeadGives (R.remaining reader.new.inner) (Took R.remaining reader.old reader.new) o) }
+    ensures err { IfErr result (λ e. TookSome R.remaining reader.old reader.new (λ left bytes. ReadGives left bytes (Err e))) }
+    ensures counted { ReadCounts result reader.old reader.new }
+{
+    let mut head = [0u8; 4];
+    match fill(reader, &mut head) {
+        Ok(0) => Ok(None),
+        Ok(n) if n < 4 => Err(WireFault::Truncated),
+        Ok(_) => {
+            are_bytes(&head);
+            Ok(Some(BigEndian::read_u32(&head)))
+        }
+        Err(e) => Err(e),
+    }
+}
+
+// The rest of a frame whose length is known.
+fn read_frame<R: Read>(
+    alloc: Global,
+    reader: &mut Counted<R>,
+    length: u32,
+) -> Result<Request, WireFault>
+    ensures bytes { TookSome R.remaining reader.old reader.new (λ left bytes. ReadGives left (big_bytes 4 length ++ bytes) (found result)) }
+    ensures counted { ReadCounts result reader.old reader.new }
+{
+    if length == 0 {
+        return Err(WireFault::Malformed);
+    }
+    if length > LONGEST {
+        return Err(WireFault::TooLong);
+    }
+    read_text(alloc, reader, length as usize)
+}
+
+/// Reads one frame, and answers its request; at the end of the input there is none. A read that answers an error is not tried again, whatever the error.
+pub fn read_request<R: Read>(
+    alloc: Global,
+    reader: &mut Counted<R>,
+) -> Result<Option<Request>, WireFault>
+    ensures bytes { TookSome R.remaining reader.old reader.new (λ left bytes. ReadGives left bytes result) }
+    ensures exact { IfSome (R.remaining reader.old.inner) (λ input. (f : Front) → IsFront input f → Tells f result) }
+    ensures counted { ReadCounts result reader.old reader.new }
+{
+    match read_length(reader) {
+        Ok(None) => Ok(None),
+        Ok(Some(length)) => match read_frame(alloc, reader, length) {
+            Ok(request) => Ok(Some(request)),
+            Err(e) => Err(e),
+        },
+        Err(e) => Err(e),
+    }
+}

@@ -1,0 +1,97 @@
+//! Short texts.
+
+ghost use Rattle.std.specs.Prelude.{◌≡◌, ◌+◌, ◌<◌, ◌≤◌, [], ◌∷◌, ◌++◌, length};
+ghost use Rattle.byteorder.specs.Endian.{big_bytes};
+ghost use Rattle.wire.specs.Frames.{long_text, int_text};
+
+use byteorder::{BigEndian, ByteOrder};
+use std::marker::Model;
+
+/// A text of at most 18 bytes, as long as a key with its outcome is. It grows at its end.
+#[derive(Drop)]
+pub struct Text {
+    bytes: [u8; 18],
+    len: usize,
+}
+
+impl Model for Text {
+    ghost use Rattle.std.specs.Prelude.{List, ℕ, ◌≤◌, take};
+
+    ghost Value = { List ℕ };
+
+    ghost view = { λ t. take t.len t.bytes };
+
+    ghost invariant = { λ t. t.len ≤ 18 };
+}
+
+impl Text {
+    pub fn new() -> Text
+        ensures { result ≡ [] }
+    {
+        Text {
+            bytes: [0; 18],
+            len: 0,
+        }
+    }
+
+    pub fn byte(&mut self, n: u8)
+        requires { length self.old < 18 }
+        ensures { self.new ≡ self.old ++ n ∷ [] }
+    {
+        self.bytes[self.len] = n;
+        self.len += 1;
+    }
+
+    pub fn u16(&mut self, n: u16)
+        requires { length self.old + 2 ≤ 18 }
+        ensures { self.new ≡ self.old ++ big_bytes 2 n }
+    {
+        BigEndian::write_u16(&mut self.bytes[self.len..], n);
+        self.len += 2;
+    }
+
+    pub fn u32(&mut self, n: u32)
+        requires { length self.old + 4 ≤ 18 }
+        ensures { self.new ≡ self.old ++ big_bytes 4 n }
+    {
+        BigEndian::write_u32(&mut self.bytes[self.len..], n);
+        self.len += 4;
+    }
+
+    fn u64(&mut self, n: u64)
+        requires { length self.old + 8 ≤ 18 }
+        ensures { self.new ≡ self.old ++ big_bytes 8 n }
+    {
+        BigEndian::write_u64(&mut self.bytes[self.len..], n);
+        self.len += 8;
+    }
+
+    pub fn int(&mut self, n: i32)
+        requires { length self.old + 4 ≤ 18 }
+        ensures { self.new ≡ self.old ++ int_text n }
+    {
+        self.u32(n.cast_unsigned());
+    }
+
+    pub fn long(&mut self, n: i64)
+        requires { length self.old + 8 ≤ 18 }
+        ensures { self.new ≡ self.old ++ long_text n }
+    {
+        self.u64(n.cast_unsigned());
+    }
+
+    /// How many bytes there are, 18 at most.
+    pub fn len(&self) -> u32
+        ensures len { result ≡ length self.now }
+        ensures small { result ≤ 18 }
+    {
+        self.len as u32
+    }
+
+    pub fn as_slice(&self) -> &[u8]
+        ensures bytes { result.now ≡ self.now }
+        ensures small { length self.now ≤ 18 }
+    {
+        &self.bytes[..self.len]
+    }
+}

@@ -1,0 +1,124 @@
+//! Replies are written.
+
+ghost use Rattle.std.specs.Prelude.{◌≡◌, ◌*◌, ◌<◌, ◌≤◌, ◌^◌, ◌++◌, length, OnOk, OnErr};
+ghost use Rattle.wire.specs.Frames.{frame, texts, job_text, reply_frame, results_text, IsReply, most_outcomes};
+ghost use Rattle.wire.specs.Streams.{Wrote, WrotePart};
+
+use crate::reply_texts::{defined_text, job_text, refused_text, result_text, value_text};
+use crate::text::Text;
+use crate::{Counted, JobOutcome, Reply};
+use std::io::Write;
+
+/// A write or a flush answered an error, or a write took no byte.
+#[derive(Clone, Copy, PartialEq, Eq, Debug)]
+pub struct WriteFailed;
+
+/// Writes all the bytes. Where that fails, a beginning of them is written.
+pub fn write_bytes<W: Write>(writer: &mut Counted<W>, bytes: &[u8]) -> Result<(), WriteFailed>
+    ensures ok { OnOk result (Wrote W.contents writer.old writer.new bytes.now) }
+    ensures err { OnErr result (WrotePart W.contents writer.old writer.new bytes.now) }
+{
+    let mut rest = bytes;
+    while !rest.is_empty() {
+        match writer.write(rest) {
+            Ok(0) => return Err(WriteFailed),
+            Ok(n) => rest = &rest[n..],
+            Err(_) => return Err(WriteFailed),
+        }
+    }
+    Ok(())
+}
+
+/// Writes the frame of a reply, which the writer may hold back until it is flushed. Where that fails, a beginning of the frame is written.
+pub fn write_reply<W: Write>(writer: &mut Counted<W>, reply: &Reply) -> Result<(), WriteFailed>
+    requires { IsReply reply.now }
+    ensures ok { OnOk result (Wrote W.contents writer.old writer.new (reply_frame reply.now)) }
+    ensures err { OnErr result (WrotePart W.contents writer.old writer.new (reply_frame reply.now)) }
+{
+    match reply {
+        Reply::Defined {
+            class,
+            steps,
+            words,
+        } => write_text(writer, &defined_text(*class, *steps, *words)),
+        Reply::Refused(refusal) => write_text(writer, &refused_text(*refusal)),
+        Reply::Done => write_frame(writer, &[3]),
+        Reply::Value(None) => write_frame(writer, &[4, 0]),
+        Reply::Value(Some(n)) => write_text(writer, &value_text(*n)),
+        Reply::Flag(flag) => write_frame(writer, &[5, u8::from(*flag)]),
+        Reply::Result(outcome) => write_text(writer, &result_text(*outcome)),
+        Reply::Results(jobs) => write_results(writer, jobs.as_slice()),
+        Reply::Denied(denial) => write_frame(writer, &[8, denial.number()]),
+        Reply::RoundEnd => write_frame(writer, &[9]),
+    }
+}
+
+fn write_text<W: Write>(writer: &mut Counted<W>, text: &Text) -> Result<(), WriteFailed>
+    ensures ok { OnOk result (Wrote W.contents writer.old writer.new (frame text.now)) }
+    ensures err { OnErr result (WrotePart W.contents writer.old writer.new (frame text.now)) }
+{
+    write_frame(writer, text.as_slice())
+}
+
+fn write_frame<W: Write>(writer: &mut Counted<W>, text: &[u8]) -> Result<(), WriteFailed>
+    requires { length text.now < 2 ^ 32 }
+    ensures ok { OnOk result (Wrote W.contents writer.old writer.new (frame text.now)) }
+    ensures err { OnErr result (WrotePart W.contents writer.old writer.new (frame text.now)) }
+{
+    let mut head = Text::new();
+    head.u32(text.len() as u32);
+    write_bytes(writer, head.as_slice())?;
+    write_bytes(writer, text)
+}
+
+fn write_results<W: Write>(
+    writer: &mut Counted<W>,
+    jobs: &[(i64, JobOutcome)],
+) -> Result<(), WriteFailed>
+    requires { length jobs.now ≤ most_outcomes }
+    ensures ok { OnOk result (Wrote W.contents writer.old writer.new (frame (results_text jobs.now))) }
+    ensures err { OnErr result (WrotePart W.contents writer.old writer.new (frame (results_text jobs.now))) }
+{
+    let head = results_head(jobs);
+    write_bytes(writer, head.as_slice())?;
+    write_jobs(writer, jobs)
+}
+
+// What stands before the outcomes: the frame's length, the kind and the count.
+fn results_head(jobs: &[(i64, JobOutcome)]) -> Text
+    requires { length jobs.now ≤ most_outcomes }
+    ensures { result ++ texts job_text jobs.now ≡ frame (results_text jobs.now) }
+{
+    let mut head = Text::new();
+    head.u32(3 + length_of(jobs));
+    head.byte(7);
+    head.u16(jobs.len() as u16);
+    head
+}
+
+// The length of the outcomes' texts.
+fn length_of(jobs: &[(i64, JobOutcome)]) -> u32
+    requires { length jobs.now ≤ most_outcomes }
+    ensures value { result ≡ length (texts job_text jobs.now) }
+    ensures small { result ≤ 18 * most_outcomes }
+{
+    let mut total = 0;
+    for job in jobs {
+        total += job_text(job).len();
+    }
+    total
+}
+
+fn write_jobs<W: Write>(
+    writer: &mut Counted<W>,
+    jobs: &[(i64, JobOutcome)],
+) -> Result<(), WriteFailed>
+    ensures ok { OnOk result (Wrote W.contents writer.old writer.new (texts job_text jobs.now)) }
+    ensures err { OnErr result (WrotePart W.contents writer.old writer.new (texts job_text jobs.now)) }
+{
+    for job in jobs {
+        let text = job_text(job);
+        write_bytes(writer, text.as_slice())?;
+    }
+    Ok(())
+}
