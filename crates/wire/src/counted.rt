@@ -22,6 +22,7 @@ impl<T> Model for Counted<T> {
 
 impl<T> Counted<T> {
     ghost use Rattle.std.specs.Prelude.{◌≡◌};
+    ghost use Rattle.wire.specs.Counting.{CountsFailure};
 
     /// Nothing has failed yet.
     pub fn new(inner: T) -> Counted<T>
@@ -49,6 +50,13 @@ impl<T> Counted<T> {
         self.idle
     }
 
+    fn count_failure(&mut self)
+        ensures inner { self.new.inner ≡ self.old.inner }
+        ensures counted { CountsFailure self.old self.new }
+    {
+        self.failures = self.failures.saturating_add(1);
+    }
+
     /// The reader or the writer.
     pub fn into_inner(self) -> T
         ensures { result ≡ self.inner }
@@ -74,7 +82,7 @@ impl<T: Read> Read for Counted<T> {
         match self.inner.read(buf) {
             Ok(n) => Ok(n),
             Err(e) => {
-                self.failures = self.failures.saturating_add(1);
+                self.count_failure();
                 Err(e)
             }
         }
@@ -104,7 +112,7 @@ impl<T: Write> Write for Counted<T> {
                 Ok(n)
             }
             Err(e) => {
-                self.failures = self.failures.saturating_add(1);
+                self.count_failure();
                 Err(e)
             }
         }
@@ -118,7 +126,7 @@ impl<T: Write> Write for Counted<T> {
         match self.inner.flush() {
             Ok(()) => Ok(()),
             Err(e) => {
-                self.failures = self.failures.saturating_add(1);
+                self.count_failure();
                 Err(e)
             }
         }
