@@ -1,0 +1,4 @@
+pub mod Sound
+pub mod Stored
+pub mod Ends
+pub mod Keeps

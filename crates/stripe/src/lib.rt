@@ -1,0 +1,15 @@
+//! One stripe of a cache: its entries, the call that is open on it, and the history of its calls.
+#![tactic(auto)]
+
+mod args;
+mod call;
+mod key;
+mod refusal;
+mod stripe;
+mod table;
+
+pub use args::ArgRow;
+pub use call::{Call, Record, Reply};
+pub use key::stripe_of;
+pub use refusal::{BeginRefusal, OpenRefusal};
+pub use stripe::Stripe;
