@@ -36,6 +36,7 @@ sound_begun s table c h none of room is before =
     let has : may_make call ≡ true → IsSome (map.get table (key_of call)) = λ makes. subst (λ (m : Stored). IsSome (map.get m (key_of call))) (sym is) (held_stored s.table call makes) in
     let opened : IsOpen (kept (with_call s table c)) c = record { room = fits; of = of; before = found; held = has } in
     record {
+      inside = h.inside;
       few = h.few;
       room = h.room;
       of = h.of;
@@ -64,6 +65,7 @@ module _ (s : Inside) (c : OpenCall) (r : RecordKept) (h : IsSound s) (some : s.
   sound_committed table records is more room =
       let one : length records.items ≡ length s.records.items + 1 = omega (arith, ap length more, length-append s.records.items (r ∷ [])) in
       record {
+        inside = h.inside;
         few = omega (arith, one, (h.going c some).room, length-map s.records.items record_of);
         room = omega (arith, h.room, room);
         of = subst (λ rs. All (λ (x : Record). IsOf (kept s) (key_of x.call)) rs) (sym (ap (map record_of) more ∙ map_more s.records.items r)) (are_of_more (kept s) (record_of r) h.of of_record);

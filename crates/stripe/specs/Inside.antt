@@ -18,6 +18,7 @@ pub record IsOpen (s : Kept) (c : OpenCall) : Type 0 where
   pub held : may_make (begun_of c).call ≡ true → IsSome (stored.get s.stored (key_of (begun_of c).call))
 
 pub record IsSound (s : Inside) : Type 0 where
+  pub inside : s.place < s.stripes
   pub few : length s.records.items ≤ s.journal
   pub room : s.journal ≤ vec_capacity s.records
   pub of : AreOf (kept s)

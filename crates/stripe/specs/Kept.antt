@@ -72,6 +72,11 @@ pub record IsRecord (b : Begun) (before : Entry) (r : Record) : Type 0 where
 abbrev pub committed : Kept → Record → Kept
 committed s r = record s { stored = left s.stored (key_of r.call) r.after; records = s.records ++ r ∷ []; running = None }
 
+-- a call that began and ended: its record, and what it left
+pub record IsMade (s : Kept) (b : Begun) (r : Record) (new : Kept) : Type 0 where
+  pub told : IsRecord b (entry_of s (key_of b.call)) r
+  pub left : new ≡ committed s r
+
 -- ---- what is true of every stripe
 
 -- each record is of a key of this stripe

@@ -5,11 +5,18 @@ mod args;
 mod call;
 mod key;
 mod refusal;
+mod rest;
 mod stripe;
 mod table;
+mod tables;
 
 pub use args::ArgRow;
 pub use call::{Call, Record, Reply};
 pub use key::stripe_of;
 pub use refusal::{BeginRefusal, OpenRefusal};
+pub use rest::Rest;
 pub use stripe::Stripe;
+pub use tables::Tables;
+
+#[cfg(test)]
+mod tests;

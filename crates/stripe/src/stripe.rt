@@ -45,7 +45,7 @@ impl<'a> Stripe<'a> {
     ghost use Rattle.stripe.specs.declared.refusal.BeginRefusal.TheVariants.{JournalFull, NoMemory};
     ghost use Rattle.stripe.specs.History.{Begun, Entries, Get, Put, Remove, Contains, key_of};
     ghost use Rattle.stripe.specs.Stored.{HasValues};
-    ghost use Rattle.stripe.specs.Kept.{IsOf, AreOf, IsKept, IsHeld, CanCommit, IsRecord, is_absent, entry_of, begun, committed};
+    ghost use Rattle.stripe.specs.Kept.{IsOf, AreOf, IsKept, IsHeld, CanCommit, IsEnd, IsMade, IsRecord, is_absent, entry_of, begun, committed};
     ghost use Rattle.stripe.specs.Seen.{call_of, record_of};
 
     /// The calls that were made on the stripe, in their order.
@@ -112,5 +112,83 @@ impl<'a> Stripe<'a> {
         self.records.push_reserved(record);
         self.running = None;
         record
+    }
+
+    /// Makes a call that isn't an invocation: it begins and ends at once.
+    fn make(&mut self, caller: u8, number: u32, call: Call<'a>) -> Result<Record<'a>, BeginRefusal>
+        requires idle { self.old.running ≡ None }
+        requires of { IsOf self.old (key_of (call_of call)) }
+        requires plain { IsEnd (entry_of self.old (key_of (call_of call))) (call_of call) None }
+        ensures ok { IfOk result (λ r. IsMade self.old (record { caller = caller; number = number; call = call_of call.entry }) (record_of r) self.new) }
+        ensures err { OnErr result (self.new ≡ self.old) }
+        ensures full { (result ≡ Err JournalFull) ↔ (length self.old.records ≡ self.old.journal) }
+        ensures memory { result ≡ Err NoMemory → IsTrue (is_absent self.old.stored (call_of call.entry)) }
+        ensures kept { (opening : Entries) → IsKept opening self.old → IsKept opening self.new }
+    {
+        self.begin(caller, number, call)?;
+        Ok(self.commit(None))
+    }
+
+    /// `get` (JSR 107, `Cache`), of this caller and number.
+    pub fn get(&mut self, caller: u8, number: u32, key: i64) -> Result<Record<'a>, BeginRefusal>
+        requires idle { self.old.running ≡ None }
+        requires of { IsOf self.old key }
+        ensures ok { IfOk result (λ r. IsMade self.old (record { caller = caller; number = number; call = Get key }) (record_of r) self.new) }
+        ensures err { OnErr result (self.new ≡ self.old) }
+        ensures full { (result ≡ Err JournalFull) ↔ (length self.old.records ≡ self.old.journal) }
+        ensures memory { ¬ (result ≡ Err NoMemory) }
+        ensures kept { (opening : Entries) → IsKept opening self.old → IsKept opening self.new }
+    {
+        self.make(caller, number, Call::Get { key })
+    }
+
+    /// `put` (JSR 107, `Cache`), of this caller and number.
+    pub fn put(
+        &mut self,
+        caller: u8,
+        number: u32,
+        key: i64,
+        value: i64,
+    ) -> Result<Record<'a>, BeginRefusal>
+        requires idle { self.old.running ≡ None }
+        requires of { IsOf self.old key }
+        ensures ok { IfOk result (λ r. IsMade self.old (record { caller = caller; number = number; call = Put key value }) (record_of r) self.new) }
+        ensures err { OnErr result (self.new ≡ self.old) }
+        ensures full { (result ≡ Err JournalFull) ↔ (length self.old.records ≡ self.old.journal) }
+        ensures memory { result ≡ Err NoMemory → IsTrue (is_absent self.old.stored (Put key value)) }
+        ensures kept { (opening : Entries) → IsKept opening self.old → IsKept opening self.new }
+    {
+        self.make(caller, number, Call::Put { key, value })
+    }
+
+    /// `remove` (JSR 107, `Cache`), of this caller and number.
+    pub fn remove(&mut self, caller: u8, number: u32, key: i64) -> Result<Record<'a>, BeginRefusal>
+        requires idle { self.old.running ≡ None }
+        requires of { IsOf self.old key }
+        ensures ok { IfOk result (λ r. IsMade self.old (record { caller = caller; number = number; call = Remove key }) (record_of r) self.new) }
+        ensures err { OnErr result (self.new ≡ self.old) }
+        ensures full { (result ≡ Err JournalFull) ↔ (length self.old.records ≡ self.old.journal) }
+        ensures memory { ¬ (result ≡ Err NoMemory) }
+        ensures kept { (opening : Entries) → IsKept opening self.old → IsKept opening self.new }
+    {
+        self.make(caller, number, Call::Remove { key })
+    }
+
+    /// `containsKey` (JSR 107, `Cache`), of this caller and number.
+    pub fn contains(
+        &mut self,
+        caller: u8,
+        number: u32,
+        key: i64,
+    ) -> Result<Record<'a>, BeginRefusal>
+        requires idle { self.old.running ≡ None }
+        requires of { IsOf self.old key }
+        ensures ok { IfOk result (λ r. IsMade self.old (record { caller = caller; number = number; call = Contains key }) (record_of r) self.new) }
+        ensures err { OnErr result (self.new ≡ self.old) }
+        ensures full { (result ≡ Err JournalFull) ↔ (length self.old.records ≡ self.old.journal) }
+        ensures memory { ¬ (result ≡ Err NoMemory) }
+        ensures kept { (opening : Entries) → IsKept opening self.old → IsKept opening self.new }
+    {
+        self.make(caller, number, Call::Contains { key })
     }
 }
