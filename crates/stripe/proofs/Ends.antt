@@ -23,8 +23,8 @@ is_record b p q is answers =
 pub is_record_of : (b : OpenCall) (call : Call) → call_of b.call ≡ call → (p q : Reply × Entry) → p ≡ q → Answers b.before call q.0 q.1 → IsRecord (begun_of b) b.before (record_of (told b p))
 is_record_of b call is p q told_is answers = is_record b p q told_is (subst (λ (x : Call). Answers b.before x q.0 q.1) (sym is) answers)
 
-pub invocation_answers : (c : Class) (k : ℤ) (args : List Arg) (before after : Entry) (call : Call) (done : Option Done) (d : Done) → call ≡ Invoke c k args → done ≡ Some d → IsEnd before call done
+pub invocation_answers : (c : Class) (k : ℤ) (args : List Arg) (before after : Entry) (call : Call) (ended : Option Done) (d : Done) → call ≡ Invoke c k args → ended ≡ Some d → IsEnd before call ended
     → after ≡ after_effect d.effect before → ((b now : Entry) → after_effect (effect b now) b ≡ now) → Answers before (Invoke c k args) (Result d.outcome) after
-invocation_answers c k args before after call done d is some ends left leads =
+invocation_answers c k args before after call ended d is some ends left leads =
     let m = subst (λ (x : Call). IsEnd before x (Some d)) is (subst (λ (o : Option Done). IsEnd before call o) some ends) in
     (m.final, m.means, ap Result m.told.outcome, left ∙ ap (λ e. after_effect e before) m.told.effect ∙ leads before m.final.entry)

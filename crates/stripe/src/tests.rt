@@ -21,6 +21,14 @@ fn bytes_of(alloc: Global, name: &str) -> Result<Vec<u8>, AllocError> {
     Ok(rows::class_named(alloc, name)?.unwrap_or(Vec::new(alloc)))
 }
 
+/// The class with these bytes. That it is refused is told as want of memory, so a test fails.
+fn verified(alloc: Global, bytes: Vec<u8>) -> Result<Verified, AllocError> {
+    match verify(alloc, &bytes) {
+        Ok(class) => Ok(class),
+        Err(_) => Err(AllocError),
+    }
+}
+
 /// Whether a call on a key may begin.
 fn is_ready(stripe: &Stripe<'_>, key: i64) -> bool
     ensures idle { IsTrue result → stripe.now.running ≡ None }
@@ -83,6 +91,51 @@ fn finished(alloc: Global, rest: Rest<'_>) -> Result<Option<(Tables, Vec<usize>)
         counts.push(history.len())?;
     }
     Ok(Some((tables, counts)))
+}
+
+/// The last of so many stripes, the others, and what takes them back.
+fn last_stripe<'a>(
+    alloc: Global,
+    stripes: usize,
+    journal: usize,
+) -> Option<(Stripe<'a>, Vec<Stripe<'a>>, Rest<'a>)> {
+    let Ok(tables) = Tables::new(alloc, stripes) else {
+        return None;
+    };
+    let Ok((mut split, rest)) = tables.split(alloc, journal) else {
+        return None;
+    };
+    let Some(last) = split.pop() else {
+        return None;
+    };
+    Some((last, split, rest))
+}
+
+/// Makes calls on one stripe, one after the other; what they were told, and the entry of a key at the end.
+fn made_all(
+    alloc: Global,
+    calls: &[Call<'_>],
+    key: i64,
+) -> Result<(Vec<Told>, Option<i64>), AllocError> {
+    let mut workspace = Workspace::new(alloc)?;
+    let mut told = Vec::new(alloc);
+    let Some((mut stripe, _split, mut rest)) = last_stripe(alloc, 1, 16) else {
+        return Ok((told, None));
+    };
+    for call in calls {
+        let number = stripe.history().len() as u32;
+        told.push(made(&mut stripe, number, *call, &mut workspace))?;
+    }
+    give_back(&mut rest, stripe);
+    match finished(alloc, rest)? {
+        Some((tables, _counts)) => Ok((told, tables.entry(key))),
+        None => Ok((told, None)),
+    }
+}
+
+/// An invocation returned this Long.
+fn returned(n: i64) -> Reply {
+    Reply::Result(Outcome::Returned(Arg::Long(n)))
 }
 
 /// An invocation of a class on a key.
@@ -158,63 +211,49 @@ fn counts_outside_are_refused(rt: HostRuntime) -> Result<(), Fail> {
 fn calls_on_one_key(rt: HostRuntime) -> Result<(), Fail> {
     let alloc = rt.alloc();
     let mut workspace = Workspace::new(alloc)?;
-    let Ok(tables) = Tables::new(alloc, 2) else {
-        panic!(rt; "no tables");
-    };
-    let Ok((mut split, mut rest)) = tables.split(alloc, 8) else {
+    let Some((mut odd, _split, _rest)) = last_stripe(alloc, 2, 8) else {
         panic!(rt; "no stripes");
     };
-    let Some(mut odd) = split.pop() else {
-        panic!(rt; "no second stripe");
-    };
     let key = -7;
-    assert_eq!(rt;
-        made(&mut odd, 0, Call::Put { key, value: 5 }, &mut workspace),
-        Some((Reply::Done, Some(5)))
-    );
-    assert_eq!(rt;
-        made(&mut odd, 1, Call::Get { key }, &mut workspace),
-        Some((Reply::Value(Some(5)), Some(5)))
-    );
-    assert_eq!(rt;
-        made(&mut odd, 2, Call::Contains { key }, &mut workspace),
-        Some((Reply::Flag(true), Some(5)))
-    );
-    assert_eq!(rt;
-        made(&mut odd, 3, Call::Put { key: 1, value: 6 }, &mut workspace),
-        Some((Reply::Done, Some(6)))
-    );
-    assert_eq!(rt;
-        made(&mut odd, 4, Call::Remove { key }, &mut workspace),
-        Some((Reply::Flag(true), None))
-    );
-    assert_eq!(rt;
-        made(&mut odd, 5, Call::Get { key }, &mut workspace),
-        Some((Reply::Value(None), None))
-    );
-    assert_eq!(rt;
-        made(&mut odd, 6, Call::Contains { key }, &mut workspace),
-        Some((Reply::Flag(false), None))
-    );
-    assert_eq!(rt;
-        made(&mut odd, 7, Call::Remove { key }, &mut workspace),
-        Some((Reply::Flag(false), None))
-    );
-    // The history is full, and the entries stay.
-    assert_eq!(rt;
-        made(&mut odd, 8, Call::Put { key: 1, value: 7 }, &mut workspace),
-        None
-    );
-    // A key of the other stripe.
-    assert_eq!(rt;
-        made(&mut odd, 8, Call::Get { key: 2 }, &mut workspace),
-        None
-    );
+    let put = made(&mut odd, 0, Call::Put { key, value: 5 }, &mut workspace);
+    assert_eq!(rt; put, Some((Reply::Done, Some(5))));
+    let got = made(&mut odd, 1, Call::Get { key }, &mut workspace);
+    assert_eq!(rt; got, Some((Reply::Value(Some(5)), Some(5))));
+    let there = made(&mut odd, 2, Call::Contains { key }, &mut workspace);
+    assert_eq!(rt; there, Some((Reply::Flag(true), Some(5))));
+    let other = made(&mut odd, 3, Call::Put { key: 1, value: 6 }, &mut workspace);
+    assert_eq!(rt; other, Some((Reply::Done, Some(6))));
+    let removed = made(&mut odd, 4, Call::Remove { key }, &mut workspace);
+    assert_eq!(rt; removed, Some((Reply::Flag(true), None)));
+    let got = made(&mut odd, 5, Call::Get { key }, &mut workspace);
+    assert_eq!(rt; got, Some((Reply::Value(None), None)));
+    let there = made(&mut odd, 6, Call::Contains { key }, &mut workspace);
+    assert_eq!(rt; there, Some((Reply::Flag(false), None)));
+    let removed = made(&mut odd, 7, Call::Remove { key }, &mut workspace);
+    assert_eq!(rt; removed, Some((Reply::Flag(false), None)));
     assert_eq!(rt; odd.history().len(), 8);
     let Some(last) = odd.history().last() else {
         panic!(rt; "no record");
     };
     assert_eq!(rt; (last.caller, last.number, last.call.key()), (7, 7, key));
+    Ok(())
+}
+
+#[test]
+fn stripes_come_back(rt: HostRuntime) -> Result<(), Fail> {
+    let alloc = rt.alloc();
+    let mut workspace = Workspace::new(alloc)?;
+    let Some((mut odd, mut split, mut rest)) = last_stripe(alloc, 2, 1) else {
+        panic!(rt; "no stripes");
+    };
+    let put = made(&mut odd, 0, Call::Put { key: 1, value: 6 }, &mut workspace);
+    assert_eq!(rt; put, Some((Reply::Done, Some(6))));
+    // The history is full, and the entries stay.
+    let refused = made(&mut odd, 1, Call::Put { key: 1, value: 7 }, &mut workspace);
+    assert_eq!(rt; refused, None);
+    // A key of the other stripe.
+    let other = made(&mut odd, 1, Call::Get { key: 2 }, &mut workspace);
+    assert_eq!(rt; other, None);
     if let Some(even) = split.pop() {
         give_back(&mut rest, even);
     }
@@ -222,9 +261,9 @@ fn calls_on_one_key(rt: HostRuntime) -> Result<(), Fail> {
     let Some((tables, counts)) = finished(alloc, rest)? else {
         panic!(rt; "not all are back");
     };
-    assert!(rt; counts.as_slice() == [0, 8].as_slice());
+    assert!(rt; counts.as_slice() == [0, 1].as_slice());
     assert_eq!(rt; tables.entry(1), Some(6));
-    assert_eq!(rt; tables.entry(key), None);
+    assert_eq!(rt; tables.entry(-7), None);
     assert_eq!(rt; tables.entry(2), None);
     Ok(())
 }
@@ -272,76 +311,59 @@ fn plain_calls_are_made_at_once(rt: HostRuntime) -> Result<(), Fail> {
 }
 
 #[test]
-fn invocations_leave_their_entries(rt: HostRuntime) -> Result<(), Fail> {
+fn an_exception_changes_nothing(rt: HostRuntime) -> Result<(), Fail> {
     let alloc = rt.alloc();
-    let mut workspace = Workspace::new(alloc)?;
     let Some(args) = Args::of(&[Arg::Long(1)]) else {
         panic!(rt; "too many arguments");
     };
-    let Ok(plus) = verify(alloc, &rows::plus(alloc)?) else {
-        panic!(rt; "plus is refused");
-    };
-    let Ok(counter) = verify(alloc, &rows::counter(alloc)?) else {
-        panic!(rt; "counter is refused");
-    };
-    let Ok(set_remove) = verify(alloc, &bytes_of(alloc, "SetRemove")?) else {
-        panic!(rt; "set_remove is refused");
-    };
-    let Ok(tables) = Tables::new(alloc, 1) else {
-        panic!(rt; "no tables");
-    };
-    let Ok((mut split, mut rest)) = tables.split(alloc, 16) else {
-        panic!(rt; "no stripes");
-    };
-    let Some(mut stripe) = split.pop() else {
-        panic!(rt; "no stripe");
-    };
-    let returned = |n: i64| Reply::Result(Outcome::Returned(Arg::Long(n)));
     let none = Args::none();
-    // An exception on an absent key leaves no entry, and one on an entry leaves it.
+    let plus = verified(alloc, rows::plus(alloc)?)?;
+    let counter = verified(alloc, rows::counter(alloc)?)?;
+    let calls = [
+        invoke(&plus, 7, &none),
+        invoke(&counter, 7, &args),
+        invoke(&counter, 7, &none),
+        invoke(&plus, 7, &none),
+        invoke(&plus, -1, &none),
+    ];
+    let (told, entry) = made_all(alloc, &calls, -1)?;
     let null = Reply::Result(Outcome::Threw(JavaFault::NullPointer));
-    assert_eq!(rt;
-        made(&mut stripe, 0, invoke(&plus, 7, &none), &mut workspace),
-        Some((null, None))
-    );
-    assert_eq!(rt;
-        made(&mut stripe, 1, invoke(&counter, 7, &args), &mut workspace),
-        Some((returned(1), Some(1)))
-    );
     let outside = Reply::Result(Outcome::Threw(JavaFault::ArrayIndexOutOfBounds));
-    assert_eq!(rt;
-        made(&mut stripe, 2, invoke(&counter, 7, &none), &mut workspace),
-        Some((outside, Some(1)))
+    assert!(rt;
+        told.as_slice()
+            == [
+                Some((null, None)),
+                Some((returned(1), Some(1))),
+                Some((outside, Some(1))),
+                Some((returned(2), Some(2))),
+                Some((null, None)),
+            ]
+            .as_slice()
     );
-    assert_eq!(rt;
-        made(&mut stripe, 3, invoke(&plus, 7, &none), &mut workspace),
-        Some((returned(2), Some(2)))
+    assert_eq!(rt; entry, None);
+    Ok(())
+}
+
+#[test]
+fn a_set_entry_is_removed(rt: HostRuntime) -> Result<(), Fail> {
+    let alloc = rt.alloc();
+    let none = Args::none();
+    let set_remove = verified(alloc, bytes_of(alloc, "SetRemove")?)?;
+    let calls = [
+        invoke(&set_remove, 7, &none),
+        Call::Put { key: 7, value: 5 },
+        invoke(&set_remove, 7, &none),
+    ];
+    let (told, entry) = made_all(alloc, &calls, 7)?;
+    assert!(rt;
+        told.as_slice()
+            == [
+                Some((returned(2), None)),
+                Some((Reply::Done, Some(5))),
+                Some((returned(3), None)),
+            ]
+            .as_slice()
     );
-    // Set and remove: an absent entry stays absent, and an entry goes.
-    assert_eq!(rt;
-        made(
-            &mut stripe,
-            4,
-            invoke(&set_remove, -1, &none),
-            &mut workspace
-        ),
-        Some((returned(2), None))
-    );
-    assert_eq!(rt;
-        made(
-            &mut stripe,
-            5,
-            invoke(&set_remove, 7, &none),
-            &mut workspace
-        ),
-        Some((returned(3), None))
-    );
-    assert_eq!(rt; stripe.history().len(), 6);
-    give_back(&mut rest, stripe);
-    let Some((tables, _)) = finished(alloc, rest)? else {
-        panic!(rt; "not all are back");
-    };
-    assert_eq!(rt; tables.entry(7), None);
-    assert_eq!(rt; tables.entry(-1), None);
+    assert_eq!(rt; entry, None);
     Ok(())
 }
