@@ -1,0 +1,94 @@
+-- A stripe, as contracts see it.
+use Rattle.std.specs.Prelude.{◌≡◌, ℕ, ℤ, Bool, true, false, List, [], ◌∷◌, ◌++◌, All, Option, Some, None, is_some, not, ◌&&◌, if◌then◌else◌}
+use Rattle.std.specs.FinMap as map
+use Rattle.jtypes.specs.Entry.{Entry}
+use Rattle.machine.specs.declared.done.Done.{Done}
+use Rattle.machine.specs.Running.{IsMeant}
+use Rattle.stripe.specs.History.{Call, Invoke, Get, Put, Remove, Contains, Begun, Record, Entries, key_of, entries_after, invocation, Answers, IsLegal, stripe_of}
+use Rattle.stripe.specs.Stored.{Stored, entry_in, left}
+
+-- of how many stripes it is one, and which; what it stores; its history, and how many records that may have; the open call
+pub record Kept : Type 0 where
+  pub stripes : ℕ
+  pub place : ℕ
+  pub stored : Stored
+  pub records : List Record
+  pub journal : ℕ
+  pub running : Option Begun
+
+-- a stripe without a history
+abbrev pub fresh : ℕ → ℕ → ℕ → Stored → Kept
+fresh stripes journal place stored = record { stripes = stripes; place = place; stored = stored; records = []; journal = journal; running = None }
+
+-- a key of this stripe
+abbrev pub IsOf : Kept → ℤ → Type 0
+IsOf s k = stripe_of s.stripes k ≡ s.place
+
+abbrev pub entry_of : Kept → Entries
+entry_of s = entry_in s.stored
+
+-- ---- how a call begins
+
+-- whether a call may make an entry
+abbrev pub may_make : Call → Bool
+may_make (Invoke c k args) = true
+may_make (Put k v) = true
+may_make _ = false
+
+-- whether a call has to have a place made for its entry
+abbrev pub is_absent : Stored → Call → Bool
+is_absent m call = may_make call && not (is_some (map.get m (key_of call)))
+
+-- the key of a call that may make an entry is stored, without a value if there is none
+abbrev pub held : Stored → Call → Stored
+held m call = if is_absent m call then map.insert m (key_of call) None else m
+
+abbrev pub begun : Kept → Begun → Kept
+begun s b = record s { stored = held s.stored b.call; running = Some b }
+
+-- ---- how it ends
+
+-- what an invocation ends with; another call ends with nothing
+abbrev pub IsEnd : Entry → Call → Option Done → Type 0
+IsEnd before (Invoke c k args) (Some d) = IsMeant c (invocation k args before) d
+IsEnd before (Invoke c k args) None = ⊥
+IsEnd before _ (Some d) = ⊥
+IsEnd before _ None = Unit {0}
+
+-- a call is open that ends so
+pub record CanCommit (s : Kept) (done : Option Done) : Type 0 where
+  pub begun : Begun
+  pub running : s.running ≡ Some begun
+  pub ends : IsEnd (entry_of s (key_of begun.call)) begun.call done
+
+-- this is the record of a call that found this entry
+pub record IsRecord (b : Begun) (before : Entry) (r : Record) : Type 0 where
+  pub caller : r.caller ≡ b.caller
+  pub number : r.number ≡ b.number
+  pub call : r.call ≡ b.call
+  pub answers : Answers before b.call r.reply r.after
+
+-- a record more, whose entry is left, and no call open
+abbrev pub committed : Kept → Record → Kept
+committed s r = record s { stored = left s.stored (key_of r.call) r.after; records = s.records ++ r ∷ []; running = None }
+
+-- a call that began and ended: its record, and what it left
+pub record IsMade (s : Kept) (b : Begun) (r : Record) (new : Kept) : Type 0 where
+  pub told : IsRecord b (entry_of s (key_of b.call)) r
+  pub left : new ≡ committed s r
+
+-- ---- what is true of every stripe
+
+-- each record is of a key of this stripe
+abbrev pub AreOf : Kept → Type 0
+AreOf s = All (λ (r : Record). IsOf s (key_of r.call)) s.records
+
+-- the open call may make an entry, and this is its key
+abbrev pub IsHeld : Option Begun → ℤ → Type 0
+IsHeld None k = ⊥
+IsHeld (Some b) k = (may_make b.call ≡ true) × (k ≡ key_of b.call)
+
+-- the history is legal from these entries, and what is stored is what it leaves of them
+pub record IsKept (opening : Entries) (s : Kept) : Type 0 where
+  pub legal : IsLegal opening s.records
+  pub left : (k : ℤ) → IsOf s k → entry_of s k ≡ entries_after opening s.records k

@@ -1,0 +1,9 @@
+pub mod History
+pub mod Inside
+pub mod Kept
+pub mod Return
+pub mod Room
+pub mod Rows
+pub mod Seen
+pub mod Stored
+pub mod Tables

@@ -1,0 +1,64 @@
+//! Stripes that come back.
+
+ghost use Rattle.std.specs.Prelude.{◌≡◌, None, length, map};
+
+use crate::call::Record;
+use crate::stripe::Stripe;
+use crate::table::Table;
+use crate::tables::Tables;
+use std::marker::Model;
+
+/// What takes the stripes of a split back, one after the other. All of its room was taken by `Tables::split`.
+#[derive(Drop)]
+pub struct Rest<'a> {
+    pub(crate) stripes: usize,
+    pub(crate) tables: Vec<Table>,
+    pub(crate) histories: Vec<Vec<Record<'a>>>,
+}
+
+impl<'a> Model for Rest<'a> {
+    ghost use Rattle.std.specs.Coded.{codes};
+    ghost use Rattle.stripe.specs.Stored.{stored_code};
+    ghost use Rattle.stripe.specs.Tables.{Back};
+
+    ghost Value = { Back };
+
+    ghost coded = { Prim.hlevel (codes, stored_code) };
+
+    ghost use Rattle.stripe.specs.Return.{IsReturn, back};
+
+    ghost view = { back };
+
+    ghost invariant = { IsReturn };
+}
+
+impl<'a> Rest<'a> {
+    ghost use Rattle.std.specs.Prelude.{◌≡◌, None, length, map};
+    ghost use Rattle.stripe.specs.Seen.{record_of};
+    ghost use Rattle.stripe.specs.Tables.{IsNext, added};
+
+    /// Takes the next stripe back. No call is open on it.
+    pub fn add(&mut self, stripe: Stripe<'a>)
+        requires next { IsNext self.old stripe }
+        requires idle { stripe.running ≡ None }
+        ensures { self.new ≡ added self.old stripe.entry }
+    {
+        let Stripe { table, records, .. } = stripe;
+        self.tables.push_reserved(table);
+        self.histories.push_reserved(records);
+    }
+
+    /// The entries and the histories of all stripes, which are back.
+    pub fn finish(self) -> (Tables, Vec<Vec<Record<'a>>>)
+        requires { length self.tables ≡ self.stripes }
+        ensures tables { result.0 ≡ self.entry.tables }
+        ensures histories { map (λ h. map record_of h.items) result.1.items ≡ self.entry.histories }
+    {
+        let Rest {
+            tables,
+            histories,
+            ..
+        } = self;
+        (Tables { tables }, histories)
+    }
+}
