@@ -111,7 +111,7 @@ fn last_stripe<'a>(
     Some((last, split, rest))
 }
 
-/// Makes calls on one stripe, one after the other; what they were told, and the entry of a key at the end.
+/// Makes calls on one stripe, one after the other, each with number 0; what they were told, and the entry of a key at the end.
 fn made_all(
     alloc: Global,
     calls: &[Call<'_>],
@@ -123,8 +123,7 @@ fn made_all(
         return Ok((told, None));
     };
     for call in calls {
-        let number = stripe.history().len() as u32;
-        told.push(made(&mut stripe, number, *call, &mut workspace))?;
+        told.push(made(&mut stripe, 0, *call, &mut workspace))?;
     }
     give_back(&mut rest, stripe);
     match finished(alloc, rest)? {
