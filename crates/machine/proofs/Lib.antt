@@ -3,9 +3,9 @@ pub mod Onward
 pub mod Leading
 pub mod Families
 pub mod Turning
-pub mod Gliding
 pub mod Quotients
 pub mod Bounded
+pub mod Hopping
 pub mod Counted
 pub mod Begun
 pub mod Castings

@@ -7,7 +7,7 @@ ghost use Rattle.arena.specs.Placing.{FitsElement};
 ghost use Rattle.slots.specs.Reads.{AreSame};
 ghost use Rattle.machine.specs.Elements.{CanPushElement, PushesElement, CanPopElement, PopsElement};
 ghost use Rattle.machine.specs.Holds.{Keeps};
-ghost use Rattle.machine.specs.Acts.{CanTake, Takes, array_made, item_loaded, item_stored, argument_loaded, length_measured};
+ghost use Rattle.machine.specs.Acts.{CanTake, Takes, CanTakeAnywhere, TakesAnywhere, array_made, item_loaded, item_stored, argument_loaded, length_measured};
 
 use crate::machine::Machine;
 use jtypes::{Arg, Args, ArrayKind, JavaFault, Outcome, RefValue};
@@ -46,6 +46,7 @@ fn int_of(n: i64) -> i32
 }
 
 /// Puts an element of an array.
+#[inline(always)]
 fn push_element(slots: &mut Slots, kind: ArrayKind, n: i64)
     requires { CanPushElement kind n slots.old }
     ensures pushes { PushesElement kind n slots.old slots.new }
@@ -58,6 +59,7 @@ fn push_element(slots: &mut Slots, kind: ArrayKind, n: i64)
 }
 
 /// Takes a number for an element of an array.
+#[inline(always)]
 fn pop_element(slots: &mut Slots, kind: ArrayKind) -> i64
     requires { CanPopElement kind slots.old }
     ensures pops { PopsElement kind slots.old slots.new result }
@@ -70,40 +72,40 @@ fn pop_element(slots: &mut Slots, kind: ArrayKind) -> i64
 }
 
 /// Puts the element at an index of an array.
+#[inline(always)]
 pub fn load_item(machine: &mut Machine, kind: ArrayKind) -> Result<(), Outcome>
-    requires { CanTake (item_loaded kind) machine.old }
-    ensures told { Takes (item_loaded kind) machine.old machine.new result }
+    requires { CanTakeAnywhere (item_loaded kind) machine.old }
+    ensures told { TakesAnywhere (item_loaded kind) machine.old machine.new result }
     ensures keeps { Keeps machine.old machine.new }
 {
     let index = machine.slots.pop_int();
-    match machine.slots.pop_reference() {
-        RefValue::Null => Err(Outcome::Threw(JavaFault::NullPointer)),
-        RefValue::Array(id) => match machine.arena.get(id, index) {
+    match machine.slots.pop_array() {
+        None => Err(Outcome::Threw(JavaFault::NullPointer)),
+        Some(id) => match machine.arena.get(id, index) {
             Ok(n) => {
                 push_element(&mut machine.slots, kind, n);
                 Ok(())
             }
             Err(fault) => Err(Outcome::Threw(fault)),
         },
-        _ => unreachable!(),
     }
 }
 
 /// Changes the element at an index of an array.
+#[inline(always)]
 pub fn store_item(machine: &mut Machine, kind: ArrayKind) -> Result<(), Outcome>
-    requires { CanTake (item_stored kind) machine.old }
-    ensures told { Takes (item_stored kind) machine.old machine.new result }
+    requires { CanTakeAnywhere (item_stored kind) machine.old }
+    ensures told { TakesAnywhere (item_stored kind) machine.old machine.new result }
     ensures keeps { Keeps machine.old machine.new }
 {
     let n = pop_element(&mut machine.slots, kind);
     let index = machine.slots.pop_int();
-    match machine.slots.pop_reference() {
-        RefValue::Null => Err(Outcome::Threw(JavaFault::NullPointer)),
-        RefValue::Array(id) => match machine.arena.set(id, index, n) {
+    match machine.slots.pop_array() {
+        None => Err(Outcome::Threw(JavaFault::NullPointer)),
+        Some(id) => match machine.arena.set(id, index, n) {
             Ok(()) => Ok(()),
             Err(fault) => Err(Outcome::Threw(fault)),
         },
-        _ => unreachable!(),
     }
 }
 

@@ -8,6 +8,7 @@ mod branches;
 mod calls;
 mod casts;
 mod done;
+mod hop;
 mod library;
 mod machine;
 mod plain;

@@ -5,9 +5,9 @@ ghost use Rattle.jtypes.specs.declared.types.RefValue.{RefValue};
 ghost use Rattle.jtypes.specs.declared.types.Value.TheVariants.{Ref};
 ghost use Rattle.jtypes.specs.Values.{Arrays};
 ghost use Rattle.arena.specs.Placing.{IsReference};
-ghost use Rattle.slots.specs.Standing.{IsWordOf, kind_of};
+ghost use Rattle.slots.specs.Standing.{IsWordOf, IsArrayOrNull, array_or_null, kind_of};
 
-use jtypes::RefValue;
+use jtypes::{ArrayId, RefValue};
 
 /// What a reference is; its number stands in a word beside it.
 #[derive(Clone, Copy, PartialEq, Eq, Debug)]
@@ -49,5 +49,16 @@ pub fn reference_of(kind: Reference, word: u64) -> RefValue
         Reference::Entry => RefValue::Entry,
         Reference::This => RefValue::This,
         Reference::Args => RefValue::Args,
+    }
+}
+
+/// The word where an array begins, of a reference's kind and word; none of null.
+pub fn array_of(kind: Reference, word: u64) -> Option<ArrayId>
+    requires { (arrays : Arrays) × (v : RefValue) × IsArrayOrNull v × (kind ≡ kind_of v) × IsWordOf arrays (Ref v) word }
+    ensures { (arrays : Arrays) (v : RefValue) → IsArrayOrNull v → kind ≡ kind_of v → IsWordOf arrays (Ref v) word → IsReference arrays v (array_or_null result) }
+{
+    match kind {
+        Reference::Null => None,
+        _ => Some(word as u32),
     }
 }
