@@ -7,7 +7,7 @@ ghost use Rattle.arena.specs.Placing.{FitsElement};
 ghost use Rattle.slots.specs.Reads.{AreSame};
 ghost use Rattle.machine.specs.Elements.{CanPushElement, PushesElement, CanPopElement, PopsElement};
 ghost use Rattle.machine.specs.Holds.{Keeps};
-ghost use Rattle.machine.specs.Acts.{CanTake, Takes, CanTakeAnywhere, TakesAnywhere, array_made, item_loaded, item_stored, argument_loaded, length_measured};
+ghost use Rattle.machine.specs.Acts.{CanTake, Takes, CanTakeAnywhere, TakesAnywhere, threw, array_made, item_loaded, item_stored, argument_loaded, length_measured};
 
 use crate::machine::Machine;
 use jtypes::{Arg, Args, ArrayKind, JavaFault, Outcome, RefValue};
@@ -73,38 +73,38 @@ fn pop_element(slots: &mut Slots, kind: ArrayKind) -> i64
 
 /// Puts the element at an index of an array.
 #[inline(always)]
-pub fn load_item(machine: &mut Machine, kind: ArrayKind) -> Result<(), Outcome>
+pub fn load_item(machine: &mut Machine, kind: ArrayKind) -> Result<(), JavaFault>
     requires { CanTakeAnywhere (item_loaded kind) machine.old }
-    ensures told { TakesAnywhere (item_loaded kind) machine.old machine.new result }
+    ensures told { TakesAnywhere (item_loaded kind) machine.old machine.new (threw result) }
     ensures keeps { Keeps machine.old machine.new }
 {
     let index = machine.slots.pop_int();
     match machine.slots.pop_array() {
-        None => Err(Outcome::Threw(JavaFault::NullPointer)),
+        None => Err(JavaFault::NullPointer),
         Some(id) => match machine.arena.get(id, index) {
             Ok(n) => {
                 push_element(&mut machine.slots, kind, n);
                 Ok(())
             }
-            Err(fault) => Err(Outcome::Threw(fault)),
+            Err(fault) => Err(fault),
         },
     }
 }
 
 /// Changes the element at an index of an array.
 #[inline(always)]
-pub fn store_item(machine: &mut Machine, kind: ArrayKind) -> Result<(), Outcome>
+pub fn store_item(machine: &mut Machine, kind: ArrayKind) -> Result<(), JavaFault>
     requires { CanTakeAnywhere (item_stored kind) machine.old }
-    ensures told { TakesAnywhere (item_stored kind) machine.old machine.new result }
+    ensures told { TakesAnywhere (item_stored kind) machine.old machine.new (threw result) }
     ensures keeps { Keeps machine.old machine.new }
 {
     let n = pop_element(&mut machine.slots, kind);
     let index = machine.slots.pop_int();
     match machine.slots.pop_array() {
-        None => Err(Outcome::Threw(JavaFault::NullPointer)),
+        None => Err(JavaFault::NullPointer),
         Some(id) => match machine.arena.set(id, index, n) {
             Ok(()) => Ok(()),
-            Err(fault) => Err(Outcome::Threw(fault)),
+            Err(fault) => Err(fault),
         },
     }
 }
