@@ -6,7 +6,7 @@ use rowclasses as rows;
 use std::alloc::{AllocError, Global};
 use std::process::Abort;
 use std::test::Fail;
-use stripe::{ArgRow, BeginRefusal, Call, OpenRefusal, Record, Reply, Tables};
+use stripe::{ArgRow, BeginRefusal, Call, OpenRefusal, Record, Reply, Tables, stripe_of};
 use verify::{Verified, verify};
 
 /// The class with these bytes. That it is refused is told as want of memory, so a test fails.
@@ -59,12 +59,25 @@ fn plain_calls<'a>(
     calls: &[Call<'a>],
 ) -> Result<World<'a>, AllocError> {
     let mut world = opened(alloc, stripes, calls.len())?;
+    if stripes == 0 || stripes > 64 {
+        return Err(AllocError);
+    }
     for call in calls {
         assert_eq!(rt; world.apply(start(*call)), Applied::Done);
-        let stripe = call.key().rem_euclid(stripes as i64) as usize;
+        let stripe = stripe_of(stripes, call.key());
         assert_eq!(rt; world.apply(Event::Finish { stripe }), Applied::Done);
     }
     Ok(world)
+}
+
+/// How many records a stripe has, and the number and the key of the last one; none for another stripe, or without a record.
+fn told(world: &World<'_>, stripe: usize) -> Option<(usize, u32, i64)> {
+    if stripe >= world.stripes() {
+        return None;
+    }
+    let records = world.history(stripe);
+    let last = records.last()?;
+    Some((records.len(), last.number, last.call.key()))
 }
 
 #[test]
@@ -240,11 +253,9 @@ fn histories_are_by_stripe(rt: HostRuntime) -> Result<(), Fail> {
     ];
     let world = plain_calls(&rt, alloc, 2, &calls)?;
     assert!(rt; world.is_idle());
-    assert_eq!(rt; (world.history(0).len(), world.history(1).len()), (1, 2));
-    let Some(last) = world.history(1).last() else {
-        panic!(rt; "no record");
-    };
-    assert_eq!(rt; (last.number, last.call.key()), (2, -1));
+    assert_eq!(rt; world.stripes(), 2);
+    assert_eq!(rt; told(&world, 0), Some((1, 1, 2)));
+    assert_eq!(rt; told(&world, 1), Some((2, 2, -1)));
     Ok(())
 }
 

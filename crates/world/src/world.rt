@@ -174,6 +174,13 @@ impl<'a> World<'a> {
         let _seats = &self.seats;
     }
 
+    /// How many stripes there are.
+    pub fn stripes(&self) -> usize
+        ensures { result ≡ length self.now.opening }
+    {
+        self.seats.len()
+    }
+
     /// The finished calls of a stripe, in their order: its history.
     pub fn history(&self, stripe: usize) -> &[Record<'a>]
         requires { stripe < length self.now.opening }
