@@ -11,12 +11,12 @@ mod table;
 mod tables;
 
 pub use args::ArgRow;
-pub use call::{Call, Record, Reply};
+pub use call::{Call, OpenCall, Record, Reply};
 pub use key::stripe_of;
 pub use refusal::{BeginRefusal, OpenRefusal};
 pub use rest::Rest;
 pub use stripe::Stripe;
-pub use tables::Tables;
+pub use tables::{MOST_RECORDS, Tables};
 
 #[cfg(test)]
 mod tests;

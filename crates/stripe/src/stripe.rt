@@ -1,6 +1,6 @@
 //! A stripe.
 
-ghost use Rattle.std.specs.Prelude.{◌≡◌, ◌↔◌, ℕ, ℤ, ◌≤◌, length, map, None, Some, Err, IfOk, OnOk, OnErr, IsTrue};
+ghost use Rattle.std.specs.Prelude.{◌≡◌, ◌↔◌, ℕ, ℤ, ◌<◌, ◌≤◌, length, map, option_map, None, Some, Err, IfSome, IfOk, OnOk, OnErr, IsTrue};
 ghost use Rattle.std.specs.FinMap as stored;
 
 use crate::call::{Call, OpenCall, Record};
@@ -40,13 +40,13 @@ impl<'a> Model for Stripe<'a> {
 }
 
 impl<'a> Stripe<'a> {
-    ghost use Rattle.std.specs.Prelude.{◌≡◌, ◌↔◌, ℕ, ℤ, ◌≤◌, length, map, None, Some, Err, IfOk, OnOk, OnErr, IsTrue};
+    ghost use Rattle.std.specs.Prelude.{◌≡◌, ◌↔◌, ℕ, ℤ, ◌<◌, ◌≤◌, length, map, option_map, None, Some, Err, IfSome, IfOk, OnOk, OnErr, IsTrue};
     ghost use Rattle.std.specs.FinMap as stored;
     ghost use Rattle.stripe.specs.declared.refusal.BeginRefusal.TheVariants.{JournalFull, NoMemory};
     ghost use Rattle.stripe.specs.History.{Begun, Entries, Get, Put, Remove, Contains, key_of};
     ghost use Rattle.stripe.specs.Stored.{HasValues};
     ghost use Rattle.stripe.specs.Kept.{IsOf, AreOf, IsKept, IsHeld, CanCommit, IsEnd, IsMade, IsRecord, is_absent, entry_of, begun, committed};
-    ghost use Rattle.stripe.specs.Seen.{call_of, record_of};
+    ghost use Rattle.stripe.specs.Seen.{call_of, begun_of, record_of};
 
     /// The calls that were made on the stripe, in their order.
     pub fn history(&self) -> &[Record<'a>]
@@ -63,6 +63,23 @@ impl<'a> Stripe<'a> {
         ensures idle { self.now.running ≡ None → HasValues self.now.stored }
     {
         let _table = &self.table;
+    }
+
+    /// The call that is open, with the entry that it found.
+    pub fn open(&self) -> Option<OpenCall<'a>>
+        ensures running { option_map begun_of result ≡ self.now.running }
+        ensures before { IfSome result (λ c. c.before ≡ entry_of self.now (key_of (call_of c.call))) }
+        ensures of { IfSome result (λ c. IsOf self.now (key_of (call_of c.call))) }
+        ensures room { IfSome result (λ _. length self.now.records < self.now.journal) }
+    {
+        self.running
+    }
+
+    /// The entry of a key of the stripe.
+    pub fn entry(&self, key: i64) -> Option<i64>
+        ensures { result ≡ entry_of self.now key }
+    {
+        self.table.entry(key)
     }
 
     /// Begins a call, and answers the entry that it finds. An Invoke or a Put that finds none has a place made for one.

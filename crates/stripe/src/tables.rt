@@ -17,7 +17,7 @@ use std::alloc::{AllocError, Global};
 use std::marker::Model;
 
 /// The most records of a history.
-const MOST_RECORDS: usize = 4096;
+pub const MOST_RECORDS: usize = 4096;
 
 /// The entries of a cache, in as many tables as it has stripes.
 #[derive(Drop)]
@@ -65,6 +65,14 @@ impl Tables {
         }
         let tables = empty_tables(alloc, stripes)?;
         Ok(Tables { tables })
+    }
+
+    /// How many stripes there are.
+    pub fn stripes(&self) -> usize
+        ensures stripes { result ≡ length self.now }
+        ensures count { IsCount result }
+    {
+        self.tables.len()
     }
 
     /// The entry of a key.

@@ -179,6 +179,7 @@ fn counts_outside_are_refused(rt: HostRuntime) -> Result<(), Fail> {
         let Ok(mut tables) = Tables::new(alloc, stripes) else {
             panic!(rt; "no tables");
         };
+        assert_eq!(rt; tables.stripes(), stripes);
         for journal in [0, 4097, usize::MAX] {
             match tables.split(alloc, journal) {
                 Ok(_) => panic!(rt; "split with a bad count"),
@@ -230,6 +231,8 @@ fn calls_on_one_key(rt: HostRuntime) -> Result<(), Fail> {
     assert_eq!(rt; there, Some((Reply::Flag(false), None)));
     let removed = made(&mut odd, 7, Call::Remove { key }, &mut workspace);
     assert_eq!(rt; removed, Some((Reply::Flag(false), None)));
+    assert_eq!(rt; odd.entry(1), Some(6));
+    assert_eq!(rt; odd.entry(key), None);
     assert_eq!(rt; odd.history().len(), 8);
     let Some(last) = odd.history().last() else {
         panic!(rt; "no record");
@@ -264,6 +267,28 @@ fn stripes_come_back(rt: HostRuntime) -> Result<(), Fail> {
     assert_eq!(rt; tables.entry(1), Some(6));
     assert_eq!(rt; tables.entry(-7), None);
     assert_eq!(rt; tables.entry(2), None);
+    Ok(())
+}
+
+#[test]
+fn an_open_call_is_told(rt: HostRuntime) -> Result<(), Fail> {
+    let alloc = rt.alloc();
+    let Some((mut stripe, _split, _rest)) = last_stripe(alloc, 1, 2) else {
+        panic!(rt; "no stripe");
+    };
+    assert!(rt; stripe.open().is_none());
+    if !is_ready(&stripe, 5) {
+        panic!(rt; "not ready");
+    }
+    let begun = stripe.begin(3, 9, Call::Put { key: 5, value: 6 });
+    assert_eq!(rt; begun, Ok(None));
+    let Some(open) = stripe.open() else {
+        panic!(rt; "no call is open");
+    };
+    assert_eq!(rt;
+        (open.caller, open.number, open.call.key(), open.before),
+        (3, 9, 5, None)
+    );
     Ok(())
 }
 

@@ -1,0 +1,203 @@
+-- How far calls are.
+use Rattle.std.proofs.Common.{rules, arith, ◌≡◌, ℕ, zero, suc, ◌+◌, ◌<◌, ◌≤◌, ℤ, Bool, true, false, not, cond, ◌⊎◌, inl, inr, List, Option, Some, None, is_some, IsSome, option_map, option_and_then, refl, sym, ap, subst, ◌∙◌, true≢false}
+use Rattle.jtypes.specs.declared.types.Arg.{Arg}
+use Rattle.jtypes.specs.Entry.{Entry, effect, after_effect}
+use Rattle.jtypes.specs.Lists.{◌>>=◌}
+use Rattle.typecheck.specs.Typing.{Class, Method, number_of_process}
+use Rattle.verdict.specs.Machine.{Invocation, State, Final, Next, Goes, Ends, start, start_of, step, Reaches, here, onward}
+use Rattle.verdict.specs.Meaning.{Means}
+use Rattle.std.specs.List.{slice_get}
+use Rattle.machine.specs.declared.machine.Machine.{Machine}
+use Rattle.machine.specs.declared.done.Done.{Done}
+use Rattle.machine.specs.declared.done.Going.TheVariants as going
+use Rattle.machine.specs.Running.{IsRunning, IsStarted, IsMeant, IsFinal, Follows}
+use Rattle.stripe.specs.declared.call.Reply.{Reply}
+use Rattle.stripe.specs.declared.call.Reply.TheVariants as reply
+use Rattle.stripe.specs.History.{Call, Invoke, Get, Put, Remove, Contains, Begun, Record, Answers, key_of, invocation}
+use Rattle.stripe.specs.Kept.{IsEnd}
+use Rattle.world.proofs.Places.{nat_split, trichotomy}
+use Rattle.world.specs.World.{Progress, Working, Settled, Running, running_call, progress_of, progress_after, begun}
+use Rattle.world.specs.Refused.{works, is_final}
+use Rattle.world.specs.Seated.{turned}
+use Rattle.world.specs.Going.{goes_to, state_after, state_in, progress_in, is_ended, IsUnderWay, IsGoing}
+
+-- ---- states, step by step
+
+-- the state before the first step has none
+pub start_zero : (c : Class) (call : Invocation) (s : State) → start c call ≡ Some s → s.steps ≡ 0
+start_zero c call s e = by (number_of_process c) e
+  where
+    inner : (j : ℕ) (o : Option Method) → option_map (λ m. start_of j m call) o ≡ Some s → s.steps ≡ 0
+    inner j None e = absurd (cc)
+    inner j (Some m) e = let same : start_of j m call ≡ s = cc e in sym (ap (λ (s : State). s.steps) same)
+
+    by : (o : Option ℕ) → (o >>= λ j. option_map (λ m. start_of j m call) (slice_get c.methods j)) ≡ Some s → s.steps ≡ 0
+    by None e = absurd (cc)
+    by (Some j) e = inner j (slice_get c.methods j) e
+
+pub first_state : (c : Class) (call : Invocation) (s : State) → start c call ≡ Some s → state_in c call 0 ≡ Some s
+unfolding state_after
+first_state c call s e = ap (option_and_then (state_after 0 c)) e
+
+pub next_state : (c : Class) (call : Invocation) (n : ℕ) (s t : State) → state_in c call n ≡ Some s → step c s ≡ Some (Goes t) → state_in c call (suc n) ≡ Some t
+unfolding state_after
+next_state c call n s t e goes = by (start c call) e
+  where
+    by : (o : Option State) → option_and_then (state_after n c) o ≡ Some s → option_and_then (state_after (suc n) c) o ≡ Some t
+    by None e = absurd (cc)
+    by (Some b) e = ap (option_and_then (λ t. goes_to (step c t))) e ∙ ap goes_to goes
+
+-- ---- a call has one end
+
+module _ (c : Class) (begin : State) where
+  reached_after : (s : State) → Reaches c begin s → (n : ℕ) × (state_after n c begin ≡ Some s)
+  unfolding state_after
+  reached_after s here = (0, refl)
+  reached_after s (onward {t} r e) =
+      let p = reached_after t r in
+      (suc p.0, ap (option_and_then (λ t. goes_to (step c t))) p.1 ∙ ap goes_to e)
+
+  none_later : (n m : ℕ) → state_after n c begin ≡ None → n ≤ m → state_after m c begin ≡ None
+  unfolding state_after
+  none_later n zero e le = let same : n ≡ 0 = omega arith in subst (λ k. state_after k c begin ≡ None) same e
+  none_later n (suc m) e le = elim (split) [
+    | inl lt ↦ ap (option_and_then (λ t. goes_to (step c t))) (none_later n m e lt)
+    | inr same ↦ subst (λ k. state_after k c begin ≡ None) same e
+  ]
+    where
+      split : (n ≤ m) ⊎ (n ≡ suc m)
+      split = nat_split n m le
+
+  ended_none : (n : ℕ) (s : State) (f : Final) → state_after n c begin ≡ Some s → step c s ≡ Some (Ends f) → state_after (suc n) c begin ≡ None
+  unfolding state_after
+  ended_none n s f e ends = ap (option_and_then (λ t. goes_to (step c t))) e ∙ ap goes_to ends
+
+  no_later : (n m : ℕ) (s t : State) (f : Final) → state_after n c begin ≡ Some s → step c s ≡ Some (Ends f) → state_after m c begin ≡ Some t → suc n ≤ m → ⊥
+  no_later n m s t f e ends k le = absurd (no_some (sym k ∙ none_later (suc n) m (ended_none n s f e ends) le))
+    where
+      no_some : Some t ≡ None → ⊥
+      no_some q = absurd (cc)
+
+  one_end : (s t : State) (f g : Final) → Reaches c begin s → step c s ≡ Some (Ends f) → Reaches c begin t → step c t ≡ Some (Ends g) → f ≡ g
+  one_end s t f g r e q k =
+      let a = reached_after s r in
+      let b = reached_after t q in
+      elim (trichotomy a.0 b.0) [
+        | inl lt ↦ absurd (no_later a.0 b.0 s t f a.1 e b.1 lt)
+        | inr rest ↦ elim rest [
+          | inl same ↦ ends_same (sym a.1 ∙ ap (λ n. state_after n c begin) same ∙ b.1)
+          | inr gt ↦ absurd (no_later b.0 a.0 t s g b.1 k a.1 gt)
+        ]
+      ]
+    where
+      ends_same : Some s ≡ Some t → f ≡ g
+      ends_same w =
+          let st : s ≡ t = cc w in
+          let both : Some (Ends f) ≡ Some (Ends g) = sym e ∙ ap (step c) st ∙ k in
+          cc both
+
+pub one_meaning : (c : Class) (call : Invocation) (f g : Final) → Means c call f → Means c call g → f ≡ g
+one_meaning c call f g h k =
+    let both : Some k.begin ≡ Some h.begin = sym k.starts ∙ h.starts in
+    let same : k.begin ≡ h.begin = cc both in
+    one_end c h.begin h.last k.last f g h.reached h.ends (subst (λ b. Reaches c b k.last) same k.reached) k.ends
+
+-- ---- the call that runs
+
+pub going_some : (before : Entry) (call : Call) (ended : Option Done) (m : Machine) → IsGoing before call ended m → (q : Progress) × (progress_in before m.steps call ended ≡ Some q)
+going_some before (Invoke c k args) (Some d) m h = (Settled (reply.Result d.outcome) (after_effect d.effect before), refl)
+going_some before (Invoke c k args) None m h = (Working c h.state, ap (option_map (λ s. Working c s)) h.is)
+going_some before (Get k) None m h = (Settled (reply.Value before) before, refl)
+going_some before (Put k v) None m h = (Settled reply.Done (Some v), refl)
+going_some before (Remove k) None m h = (Settled (reply.Flag (is_some before)) None, refl)
+going_some before (Contains k) None m h = (Settled (reply.Flag (is_some before)) before, refl)
+going_some before (Get k) (Some d) m h = absurd h
+going_some before (Put k v) (Some d) m h = absurd h
+going_some before (Remove k) (Some d) m h = absurd h
+going_some before (Contains k) (Some d) m h = absurd h
+
+-- the call that runs, as far as it is
+abbrev pub call_in : ℕ → ℕ → Entry → Call → Option Done → Machine → Option Running
+call_in caller number before call ended m = option_map (running_call caller number call) (progress_in before m.steps call ended)
+
+module _ (caller number : ℕ) (before : Entry) where
+  pub works_going : (call : Call) (ended : Option Done) (m : Machine) → IsGoing before call ended m → works (Some (call_in caller number before call ended m)) ≡ not (is_ended call ended)
+  works_going (Invoke c k args) (Some d) m h = refl
+  works_going (Invoke c k args) None m h = ap (λ o. works (Some (option_map (running_call caller number (Invoke c k args)) (option_map (λ s. Working c s) o)))) h.is
+  works_going (Get k) None m h = refl
+  works_going (Put k v) None m h = refl
+  works_going (Remove k) None m h = refl
+  works_going (Contains k) None m h = refl
+  works_going (Get k) (Some d) m h = absurd h
+  works_going (Put k v) (Some d) m h = absurd h
+  works_going (Remove k) (Some d) m h = absurd h
+  works_going (Contains k) (Some d) m h = absurd h
+
+  pub final_going : (call : Call) (ended : Option Done) (m : Machine) → IsGoing before call ended m → is_final (Some (call_in caller number before call ended m)) ≡ is_ended call ended
+  final_going (Invoke c k args) (Some d) m h = refl
+  final_going (Invoke c k args) None m h = ap (λ o. is_final (Some (option_map (running_call caller number (Invoke c k args)) (option_map (λ s. Working c s) o)))) h.is
+  final_going (Get k) None m h = refl
+  final_going (Put k v) None m h = refl
+  final_going (Remove k) None m h = refl
+  final_going (Contains k) None m h = refl
+  final_going (Get k) (Some d) m h = absurd h
+  final_going (Put k v) (Some d) m h = absurd h
+  final_going (Remove k) (Some d) m h = absurd h
+  final_going (Contains k) (Some d) m h = absurd h
+
+  pub turned_ended : (call : Call) (ended : Option Done) (m : Machine) → is_ended call ended ≡ true → turned (call_in caller number before call ended m) ≡ call_in caller number before call ended m
+  turned_ended (Invoke c k args) (Some d) m e = refl
+  turned_ended (Invoke c k args) None m e = absurd (true≢false (sym e))
+  turned_ended (Get k) ended m e = refl
+  turned_ended (Put k v) ended m e = refl
+  turned_ended (Remove k) ended m e = refl
+  turned_ended (Contains k) ended m e = refl
+
+  -- a step goes on, or ends
+  pub turned_goes : (c : Class) (k : ℤ) (args : List Arg) (m new : Machine) (h : IsUnderWay c (invocation k args before) m) (t : State) → step c h.state ≡ Some (Goes t) → new.steps ≡ suc m.steps
+      → turned (call_in caller number before (Invoke c k args) None m) ≡ call_in caller number before (Invoke c k args) None new
+  turned_goes c k args m new h t goes counts =
+      ap (λ o. turned (option_map (running_call caller number (Invoke c k args)) (option_map (λ s. Working c s) o))) h.is
+      ∙ ap (λ n. Some (running_call caller number (Invoke c k args) (progress_after c h.state n))) goes
+      ∙ sym (ap (λ o. option_map (running_call caller number (Invoke c k args)) (option_map (λ s. Working c s) o))
+      (ap (state_in c (invocation k args before)) counts ∙ next_state c (invocation k args before) m.steps h.state t h.is goes))
+
+  pub turned_ends : (c : Class) (k : ℤ) (args : List Arg) (m new : Machine) (h : IsUnderWay c (invocation k args before) m) (d : Done) (f : Final) → step c h.state ≡ Some (Ends f) → IsFinal d before f
+      → ((b now : Entry) → after_effect (effect b now) b ≡ now)
+      → turned (call_in caller number before (Invoke c k args) None m) ≡ call_in caller number before (Invoke c k args) (Some d) new
+  turned_ends c k args m new h d f ends told leads =
+      ap (λ o. turned (option_map (running_call caller number (Invoke c k args)) (option_map (λ s. Working c s) o))) h.is
+      ∙ ap (λ n. Some (running_call caller number (Invoke c k args) (progress_after c h.state n))) ends
+      ∙ ap (λ o. Some (running_call caller number (Invoke c k args) (Settled (reply.Result o) f.entry))) (sym told.outcome)
+      ∙ ap (λ e. Some (running_call caller number (Invoke c k args) (Settled (reply.Result d.outcome) e))) (sym (ap (λ x. after_effect x before) told.effect ∙ leads before f.entry))
+
+-- a call that is final has an end
+pub going_end : (before : Entry) (call : Call) (ended : Option Done) (m : Machine) → IsGoing before call ended m → is_ended call ended ≡ true → IsEnd before call ended
+going_end before (Invoke c k args) (Some d) m h e = h
+going_end before (Invoke c k args) None m h e = absurd (true≢false (sym e))
+going_end before (Get k) None m h e = tt
+going_end before (Put k v) None m h e = tt
+going_end before (Remove k) None m h e = tt
+going_end before (Contains k) None m h e = tt
+going_end before (Get k) (Some d) m h e = absurd h
+going_end before (Put k v) (Some d) m h e = absurd h
+going_end before (Remove k) (Some d) m h e = absurd h
+going_end before (Contains k) (Some d) m h e = absurd h
+
+-- what a call that is final answers is its progress
+pub ended_progress : (before : Entry) (call : Call) (ended : Option Done) (m : Machine) (r : Reply) (after : Entry) → IsGoing before call ended m → is_ended call ended ≡ true → Answers before call r after
+    → ((b now : Entry) → after_effect (effect b now) b ≡ now) → progress_in before m.steps call ended ≡ Some (Settled r after)
+ended_progress before (Invoke c k args) (Some d) m r after h e answers leads =
+    let same : h.final ≡ answers.0 = one_meaning c (invocation k args before) h.final answers.0 h.means answers.1 in
+    let outcome : reply.Result d.outcome ≡ r = ap reply.Result (h.told.outcome ∙ ap (λ (f : Final). f.outcome) same) ∙ sym answers.2 in
+    let entry : after_effect d.effect before ≡ after = ap (λ x. after_effect x before) h.told.effect ∙ leads before h.final.entry ∙ ap (λ (f : Final). f.entry) same ∙ sym answers.3 in
+    ap (λ x. Some (Settled x (after_effect d.effect before))) outcome ∙ ap (λ x. Some (Settled r x)) entry
+ended_progress before (Invoke c k args) None m r after h e answers leads = absurd (true≢false (sym e))
+ended_progress before (Get k) None m r after h e answers leads = ap (λ x. Some (Settled x before)) (sym answers.0) ∙ ap (λ x. Some (Settled r x)) (sym answers.1)
+ended_progress before (Put k v) None m r after h e answers leads = ap (λ x. Some (Settled x (Some v))) (sym answers.0) ∙ ap (λ x. Some (Settled r x)) (sym answers.1)
+ended_progress before (Remove k) None m r after h e answers leads = ap (λ x. Some (Settled x None)) (sym answers.0) ∙ ap (λ x. Some (Settled r x)) (sym answers.1)
+ended_progress before (Contains k) None m r after h e answers leads = ap (λ x. Some (Settled x before)) (sym answers.0) ∙ ap (λ x. Some (Settled r x)) (sym answers.1)
+ended_progress before (Get k) (Some d) m r after h e answers leads = absurd h
+ended_progress before (Put k v) (Some d) m r after h e answers leads = absurd h
+ended_progress before (Remove k) (Some d) m r after h e answers leads = absurd h
+ended_progress before (Contains k) (Some d) m r after h e answers leads = absurd h

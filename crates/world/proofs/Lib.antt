@@ -1,0 +1,9 @@
+pub mod Places
+pub mod Histories
+pub mod Calls
+pub mod Seats
+pub mod Steady
+pub mod Ending
+pub mod Applying
+pub mod Runs
+pub mod Opening

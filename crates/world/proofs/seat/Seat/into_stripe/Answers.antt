@@ -1,0 +1,8 @@
+use Rattle.std.proofs.Common.{rules, arith, ◌≡◌, ◌<◌, ◌≤◌, ℕ, suc, length, map, Option, Some, None, IsSome, IsTrue, true, false, not, cond, w64, refl, sym, ap, subst, ◌∙◌}
+use Rattle.world.specs.Seated.{Seated}
+use Rattle.world.proofs.Seats.{none_runs}
+use Rattle.world.proofs.seat.Seat.into_stripe.Goals as goal
+
+pub returns-clause-idle : goal.returns-clause-idle
+returns-clause-idle c e =
+    none_runs c.self.inside.stripe c.self.inside.workspace c.self.inside.done c.self.invariant (ap (λ (x : Seated). x.running) c.self.view_is ∙ e)

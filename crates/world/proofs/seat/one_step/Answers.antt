@@ -1,0 +1,11 @@
+use Rattle.std.proofs.Common.{rules, arith, ◌≡◌, ◌<◌, ◌≤◌, ℕ, suc, length, map, Option, Some, None, IsSome, IsTrue, true, false, not, cond, w64, refl, sym, ap, subst, ◌∙◌}
+use Rattle.bounds.specs.Rows.{bounds_in}
+use Rattle.machine.specs.Running.{Follows}
+use Rattle.world.proofs.seat.one_step.Goals as goal
+
+pub returns-clause-counts : goal.returns-clause-counts
+returns-clause-counts c s h goes =
+    let f = subst (λ r. Follows c.args.class.now s r c.step.new.self) goes (c.step.ensures s h) in
+    let e = c.linked-linked.ensures.process in
+    let more = c.starts_and_counts.ensures.counts c.args.class.now e.number (bounds_in c.bounds-bounds.result) c.is_checked.ensures e.process (c.bounds-bounds.ensures.bounds e.number e.process).none_exceeds s.call h.begin s f.0 h.starts h.reached f.1 in
+    sym f.3.state.at.rest.steps ∙ more ∙ ap suc h.state.at.rest.steps

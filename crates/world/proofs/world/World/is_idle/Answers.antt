@@ -1,0 +1,16 @@
+use Rattle.std.proofs.Common.{rules, arith, ◌≡◌, ◌<◌, ◌≤◌, ◌+◌, ◌*◌, ◌++◌, ◌∷◌, [], ℕ, ℤ, suc, length, List, map, take, All, Option, Some, None, IsSome, IsTrue, true, false, not, cond, vec_len, vec_capacity, slice_get, slice_set, slice_index, w64, refl, sym, ap, subst, ◌∙◌, append_assoc, add-one}
+use Rattle.std.proofs.lemmas.Option.{slice_get_read}
+use Rattle.world.specs.World.{World}
+use Rattle.world.specs.Seated.{AreIdle}
+use Rattle.world.specs.Refused.{NoneRuns}
+use Rattle.world.specs.Inside.{parts, world_of}
+use Rattle.world.proofs.Opening.{idle_none, none_idle}
+use Rattle.world.proofs.world.World.is_idle.Goals as goal
+
+pub returns : goal.returns
+returns c =
+    let p = parts c.self.inside in
+    subst (λ (w : World). (IsTrue c.are_idle.result → NoneRuns w) × (NoneRuns w → IsTrue c.are_idle.result)) c.self.view_is (
+      λ t. idle_none p (subst AreIdle c.deref.ensures.value (c.are_idle.ensures.0 t)),
+      λ n. c.are_idle.ensures.1 (subst AreIdle (sym c.deref.ensures.value) (none_idle p n)),
+    )

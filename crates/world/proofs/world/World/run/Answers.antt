@@ -1,0 +1,42 @@
+use Rattle.std.proofs.Common.{rules, arith, ◌≡◌, ◌<◌, ◌≤◌, ◌+◌, ◌*◌, ◌++◌, ◌∷◌, [], ℕ, ℤ, suc, length, List, map, take, All, Option, Some, None, IsSome, IsTrue, true, false, not, cond, vec_len, vec_capacity, slice_get, slice_set, slice_index, w64, refl, sym, ap, subst, ◌∙◌, append_assoc, add-one}
+use Rattle.std.proofs.lemmas.Option.{slice_get_read}
+use Rattle.std.proofs.lemmas.List.{take-map}
+use Rattle.stripe.specs.declared.refusal.BeginRefusal.TheVariants.{JournalFull}
+use Rattle.world.specs.declared.event.Applied.TheVariants.{Done, Refused}
+use Rattle.world.specs.World.{World, apply, run}
+use Rattle.world.specs.Seen.{event_of}
+use Rattle.world.specs.Refused.{is_start_on_full, HaveRoom, IsRefusable}
+use Rattle.world.proofs.Places.{map_get}
+use Rattle.world.proofs.Runs.{run_more, room_more, take_one, refusable, not_true}
+use Rattle.world.proofs.world.World.run.Goals as goal
+
+pub returns-in-Refused-clause-stopped : goal.returns-in-Refused-clause-stopped
+returns-in-Refused-clause-stopped c =
+    let events = c.args.events.now in
+    let i = c.loop-place.place in
+    let e = c.index-events-place.result in
+    let there : slice_get events i ≡ Some e = slice_get_read events (length events) i e refl (omega arith) c.index-events-place.is in
+    let same : c.apply.new.self ≡ c.loop-place.self = c.in-Refused.ensures.same not_done in
+    record {
+      event = event_of e;
+      there = map_get event_of events i e there;
+      before = same ∙ c.loop-place.invariant.0 ∙ ap (run c.args.self.now) (sym (take-map event_of i events));
+      room = subst (HaveRoom c.args.self.now) (sym (take-map event_of i events)) c.loop-place.invariant.1;
+      refused = subst (λ (w : World). IsRefusable w (event_of e) c.in-Refused.refusal) (sym same) (refusable c.loop-place.self (event_of e) c.in-Refused.refusal c.in-Refused.ensures.full.0 c.in-Refused.ensures.memory);
+    }
+  where
+    not_done : Refused c.in-Refused.refusal ≡ Done → ⊥
+    not_done q = absurd (cc)
+
+pub loop-place-preserved : goal.loop-place-preserved
+loop-place-preserved c =
+    let events = c.args.events.now in
+    let i = c.loop-place.place in
+    let e = c.index-events-place.result in
+    let there : slice_get events i ≡ Some e = slice_get_read events (length events) i e refl (omega arith) c.index-events-place.is in
+    let more : map event_of (take (i + 1) events) ≡ map event_of (take i events) ++ event_of e ∷ [] = ap (λ n. map event_of (take n events)) (add-one i) ∙ take_one event_of events i e there in
+    let w = c.args.self.now in
+    let room : is_start_on_full c.loop-place.self (event_of e) ≡ false = not_true (is_start_on_full c.loop-place.self (event_of e)) (λ q. c.in_default.not-Refused JournalFull (c.apply.ensures.full.1 q)) in (
+      c.apply.ensures.world (λ r q. c.in_default.not-Refused r q) ∙ ap (λ (v : World). apply v (event_of e)) c.loop-place.invariant.0 ∙ sym (run_more w (map event_of (take i events)) (event_of e)) ∙ ap (run w) (sym more),
+      subst (HaveRoom w) (sym more) (room_more w (map event_of (take i events)) (event_of e) c.loop-place.invariant.1 (ap (λ (v : World). is_start_on_full v (event_of e)) (sym c.loop-place.invariant.0) ∙ room)),
+    )

@@ -1,0 +1,74 @@
+-- What is true of every world.
+use Rattle.std.specs.Prelude.{◌≡◌, ℕ, ◌+◌, ◌-◌, ◌*◌, ◌<◌, ◌≤◌, ℤ, List, length, map, vec_capacity, Option, Some, None, IsSome, slice_get, slice_index, sum_by}
+use Rattle.stripe.specs.History.{Record, key_of, IsLegal}
+use Rattle.stripe.specs.Seen.{record_of}
+use Rattle.stripe.specs.Stored.{Stored}
+use Rattle.stripe.specs.Kept.{Kept, IsOf, entry_of}
+use Rattle.stripe.specs.Tables.{Back, IsCount, IsJournal, none_back}
+use Rattle.world.specs.declared.world.World.TheInside.{Inside}
+use Rattle.world.specs.World.{World, Running, opening_entries, entries_now, history_of, starts_of}
+use Rattle.world.specs.Seated.{Seated}
+
+-- the parts of a world; `reserved` is how many finished calls there is room for, and `starts` counts each caller's starts
+pub record Parts : Type 0 where
+  pub opening : List Stored
+  pub journal : ℕ
+  pub seats : List Seated
+  pub finished : List Record
+  pub reserved : ℕ
+  pub starts : List ℕ
+  pub rest : Back
+
+abbrev pub parts : Inside → Parts
+parts s = record {
+  opening = s.opening.value;
+  journal = s.journal;
+  seats = s.seats.items;
+  finished = map record_of s.finished.items;
+  reserved = vec_capacity s.finished;
+  starts = s.starts;
+  rest = s.rest;
+}
+
+abbrev pub running_on : Seated → Option Running
+running_on x = x.running
+
+abbrev pub world_of : Parts → World
+world_of p = record { opening = p.opening; journal = p.journal; running = map running_on p.seats; finished = p.finished }
+
+abbrev pub world : Inside → World
+world s = world_of (parts s)
+
+-- the seat at this place: its stripe's history is that stripe's part of the finished calls, and what it stores is what they leave; the call that runs has room for its record, and is of a key of the stripe
+pub record IsAt (w : World) (i : ℕ) (x : Seated) : Type 0 where
+  pub stripes : x.stripe.stripes ≡ length w.opening
+  pub place : x.stripe.place ≡ i
+  pub journal : x.stripe.journal ≡ w.journal
+  pub records : x.stripe.records ≡ history_of w i
+  pub few : length x.stripe.records ≤ w.journal
+  pub left : (k : ℤ) → IsOf x.stripe k → entry_of x.stripe k ≡ entries_now w k
+  pub room : IsSome x.running → length x.stripe.records < w.journal
+  pub of : (r : Running) → x.running ≡ Some r → IsOf x.stripe (key_of r.call)
+
+-- each stripe has its seat
+abbrev pub AreSeats : World → List Seated → Type 0
+AreSeats w xs = (i : ℕ) (x : Seated) → slice_get xs i ≡ Some x → IsAt w i x
+
+-- how many records a stripe's history has room for
+abbrev pub room_of : Seated → ℕ
+room_of x = x.stripe.journal - length x.stripe.records
+
+pub record IsSteady (p : Parts) : Type 0 where
+  pub count : IsCount (length p.opening)
+  pub journal : IsJournal p.journal
+  pub same : length p.seats ≡ length p.opening
+  pub seats : AreSeats (world_of p) p.seats
+  pub legal : IsLegal (opening_entries (world_of p)) p.finished
+  pub room : length p.finished + sum_by room_of p.seats ≡ length p.seats * p.journal
+  pub reserved : length p.seats * p.journal ≤ p.reserved
+  pub numbers : (caller : ℕ) → caller < 256 → slice_index p.starts caller ≡ starts_of (world_of p) caller
+  pub callers : length p.starts ≡ 256
+  pub rest : p.rest ≡ none_back (length p.opening)
+
+abbrev pub IsSound : Inside → Type 0
+IsSound s = IsSteady (parts s)

@@ -1,0 +1,87 @@
+-- Which events are possible, and what may refuse a possible start.
+use Rattle.std.specs.Prelude.{◌≡◌, ◌↔◌, ℕ, ◌<◌, ◌==◌, ◌&&◌, not, ℤ, Bool, true, false, IsTrue, List, [], ◌∷◌, Option, Some, None, is_some, slice_get, length, take}
+use Rattle.world.specs.declared.event.Applied.{Applied}
+use Rattle.world.specs.declared.event.Applied.TheVariants.{Done, Ignored, Refused}
+use Rattle.stripe.specs.declared.refusal.BeginRefusal.{BeginRefusal}
+use Rattle.stripe.specs.declared.refusal.BeginRefusal.TheVariants.{JournalFull, NoMemory}
+use Rattle.stripe.specs.History.{Call, key_of}
+use Rattle.stripe.specs.Kept.{may_make}
+use Rattle.world.specs.World.{World, Running, Progress, Working, Settled, Event, Start, Step, Finish, entries_now, stripe_in, history_of, apply, run}
+
+abbrev pub is_working : Progress → Bool
+is_working (Working c s) = true
+is_working (Settled reply after) = false
+
+-- a call runs on the stripe, and it isn't final; or it is final; or no call runs on it
+abbrev pub works : Option (Option Running) → Bool
+works (Some (Some r)) = is_working r.progress
+works _ = false
+
+abbrev pub is_final : Option (Option Running) → Bool
+is_final (Some (Some r)) = not (is_working r.progress)
+is_final _ = false
+
+abbrev pub is_idle : Option (Option Running) → Bool
+is_idle (Some None) = true
+is_idle _ = false
+
+-- a start is possible where no call runs on the key's stripe, a step where one runs that isn't final, a finish where it is final
+abbrev pub is_possible : World → Event → Bool
+is_possible w (Start caller call) = is_idle (slice_get w.running (stripe_in w call))
+is_possible w (Step i) = works (slice_get w.running i)
+is_possible w (Finish i) = is_final (slice_get w.running i)
+
+-- the stripe's history has as many records as it may have
+abbrev pub is_full : World → ℕ → Bool
+is_full w i = length (history_of w i) == w.journal
+
+-- a possible start on a full history
+abbrev pub is_start_on_full : World → Event → Bool
+is_start_on_full w (Start caller call) = is_possible w (Start caller call) && is_full w (stripe_in w call)
+is_start_on_full w _ = false
+
+-- a possible start of a call that may make an entry, on a key without one
+abbrev pub is_start_on_absent : World → Event → Bool
+is_start_on_absent w (Start caller call) = is_possible w (Start caller call) && (may_make call && not (is_some (entries_now w (key_of call))))
+is_start_on_absent w _ = false
+
+-- what a refused event is
+abbrev pub IsRefusable : World → Event → BeginRefusal → Type 0
+IsRefusable w e JournalFull = IsTrue (is_start_on_full w e)
+IsRefusable w e NoMemory = IsTrue (is_start_on_absent w e)
+
+-- no event stands on a full history
+abbrev pub HaveRoom : World → List Event → Type 0
+HaveRoom w [] = Unit {0}
+HaveRoom w (e ∷ events) = (is_start_on_full w e ≡ false) × HaveRoom (apply w e) events
+
+-- the events before this place were done or not possible, and the one at the place is refused
+pub record IsStopped (w : World) (events : List Event) (place : ℕ) (refusal : BeginRefusal) (new : World) : Type 0 where
+  pub event : Event
+  pub there : slice_get events place ≡ Some event
+  pub before : new ≡ run w (take place events)
+  pub room : HaveRoom w (take place events)
+  pub refused : IsRefusable new event refusal
+
+-- a call on this key runs
+pub record Runs (w : World) (k : ℤ) : Type 0 where
+  pub stripe : ℕ
+  pub running : Running
+  pub there : slice_get w.running stripe ≡ Some (Some running)
+  pub key : key_of running.call ≡ k
+
+-- what became of an event
+pub record IsApplied (w : World) (e : Event) (a : Applied) (new : World) : Type 0 where
+  pub world : ((r : BeginRefusal) → ¬ (a ≡ Refused r)) → new ≡ apply w e
+  pub same : ¬ (a ≡ Done) → new ≡ w
+  pub ignored : (a ≡ Ignored) ↔ (is_possible w e ≡ false)
+  pub full : (a ≡ Refused JournalFull) ↔ IsTrue (is_start_on_full w e)
+  pub memory : a ≡ Refused NoMemory → IsTrue (is_start_on_absent w e)
+
+-- no key's entry changes while a call on it runs
+abbrev pub KeepsEntries : World → World → Type 0
+KeepsEntries old new = (k : ℤ) → Runs old k → Runs new k → entries_now new k ≡ entries_now old k
+
+-- no call runs
+abbrev pub NoneRuns : World → Type 0
+NoneRuns w = (i : ℕ) (r : Running) → ¬ (slice_get w.running i ≡ Some (Some r))

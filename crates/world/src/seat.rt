@@ -1,0 +1,194 @@
+//! A stripe with the call that runs on it.
+
+ghost use Rattle.std.specs.Prelude.{◌≡◌, ◌↔◌, IfSome, IfNone, IsSome, IsTrue, None, Some, map, length, suc, false, if◌then◌else◌};
+ghost use Rattle.verdict.specs.Machine.{State};
+ghost use Rattle.machine.specs.Running.{IsRunning, Follows};
+ghost use Rattle.stripe.specs.Seen.{call_of};
+ghost use Rattle.world.specs.Going.{is_ended};
+ghost use Rattle.world.specs.Seated.{AreIdle};
+
+use crate::event::Applied;
+use machine::{Done, Going, Workspace};
+use mutentry::effect_leads_from_before_to_now;
+use soundness::starts_and_counts;
+use std::marker::Model;
+use stripe::{Call, Record, Stripe};
+use verify::{Verified, is_checked};
+
+/// A stripe, the workspace of its calls, and how the invocation that runs on it ended, if it has.
+#[derive(Drop)]
+pub struct Seat<'a> {
+    stripe: Stripe<'a>,
+    workspace: Workspace,
+    done: Option<Done>,
+}
+
+impl<'a> Model for Seat<'a> {
+    ghost use Rattle.std.specs.Coded.{codes};
+    ghost use Rattle.stripe.specs.Stored.{stored_code};
+    ghost use Rattle.world.specs.Seated.{Seated};
+
+    ghost Value = { Seated };
+
+    ghost coded = { Prim.hlevel (codes, stored_code) };
+
+    ghost use Rattle.world.specs.Seating.{IsSound, seated};
+
+    ghost view = { seated };
+
+    ghost invariant = { IsSound };
+}
+
+/// Whether a call is final, by how its invocation ended.
+fn is_ended(call: &Call<'_>, done: &Option<Done>) -> bool
+    ensures { result ≡ is_ended (call_of call.now) done.now }
+{
+    match call {
+        Call::Invoke { .. } => done.is_some(),
+        Call::Get { .. } => true,
+        Call::Put { .. } => true,
+        Call::Remove { .. } => true,
+        Call::Contains { .. } => true,
+    }
+}
+
+/// One instruction of an invocation of the class.
+fn one_step(workspace: &mut Workspace, class: &Verified) -> Going
+    requires { (s : State) × IsRunning class.now s workspace.old }
+    ensures follows { (s : State) → IsRunning class.now s workspace.old → Follows class.now s result workspace.new }
+    ensures counts { (s : State) → IsRunning class.now s workspace.old → result ≡ Going.Going → workspace.new.steps ≡ suc workspace.old.steps }
+{
+    is_checked(class);
+    starts_and_counts();
+    let _bounds = class.bounds();
+    let _linked = class.linked();
+    workspace.step(class)
+}
+
+impl<'a> Seat<'a> {
+    ghost use Rattle.std.specs.Prelude.{◌≡◌, ◌↔◌, IfSome, IfNone, IsSome, IsTrue, None, Some, map, length, false, if◌then◌else◌};
+    ghost use Rattle.stripe.specs.declared.refusal.BeginRefusal.TheVariants.{JournalFull, NoMemory};
+    ghost use Rattle.stripe.specs.History.{key_of};
+    ghost use Rattle.stripe.specs.Kept.{IsOf, entry_of, is_absent};
+    ghost use Rattle.stripe.specs.Seen.{call_of, record_of};
+    ghost use Rattle.world.specs.Refused.{works, is_final};
+    ghost use Rattle.world.specs.Seated.{IsBegun, IsEnded, turned};
+
+    /// A stripe on which no call runs.
+    pub fn new(stripe: Stripe<'a>, workspace: Workspace) -> Seat<'a>
+        requires { stripe.running ≡ None }
+        ensures stripe { result.stripe ≡ stripe.entry }
+        ensures idle { result.running ≡ None }
+    {
+        Seat {
+            stripe,
+            workspace,
+            done: None,
+        }
+    }
+
+    /// Begins a call, if none runs.
+    pub fn start(&mut self, caller: u8, number: u32, call: Call<'a>) -> Applied
+        requires { IsOf self.old.stripe (key_of (call_of call)) }
+        ensures ignored { (result ≡ Applied.Ignored) ↔ IsSome self.old.running }
+        ensures done { result ≡ Applied.Done → IsBegun self.old (record { caller = caller; number = number; call = call_of call.entry }) self.new }
+        ensures same { ¬ (result ≡ Applied.Done) → self.new ≡ self.old }
+        ensures full { (result ≡ Applied.Refused JournalFull) ↔ ((self.old.running ≡ None) × (length self.old.stripe.records ≡ self.old.stripe.journal)) }
+        ensures memory { result ≡ Applied.Refused NoMemory → IsTrue (is_absent self.old.stripe.stored (call_of call.entry)) }
+    {
+        if self.stripe.open().is_some() {
+            return Applied::Ignored;
+        }
+        match self.stripe.begin(caller, number, call) {
+            Ok(before) => {
+                self.done = None;
+                if let Call::Invoke { class, key, args } = call {
+                    self.workspace.start(class, key, before, &args.args());
+                }
+                Applied::Done
+            }
+            Err(refusal) => Applied::Refused(refusal),
+        }
+    }
+
+    /// One instruction of the call that runs, if it isn't final.
+    pub fn step(&mut self) -> Applied
+        ensures answer { result ≡ (if works (Some self.old.running) then Applied.Done else Applied.Ignored) }
+        ensures stripe { self.new.stripe ≡ self.old.stripe }
+        ensures running { self.new.running ≡ turned self.old.running }
+    {
+        effect_leads_from_before_to_now();
+        let Some(open) = self.stripe.open() else {
+            return Applied::Ignored;
+        };
+        if is_ended(&open.call, &self.done) {
+            return Applied::Ignored;
+        }
+        let Call::Invoke { class, .. } = open.call else {
+            unreachable!()
+        };
+        match one_step(&mut self.workspace, class) {
+            Going::Going => {}
+            Going::Ended(done) => self.done = Some(done),
+        }
+        Applied::Done
+    }
+
+    /// Ends the call that runs, if it is final.
+    pub fn finish(&mut self) -> Option<Record<'a>>
+        ensures ended { IfSome result (λ r. IsEnded self.old (record_of r) self.new) }
+        ensures same { IfNone result (self.new ≡ self.old) }
+        ensures running { IfNone result (is_final (Some self.old.running) ≡ false) }
+    {
+        effect_leads_from_before_to_now();
+        let open = self.stripe.open()?;
+        if !is_ended(&open.call, &self.done) {
+            return None;
+        }
+        let record = self.stripe.commit(self.done);
+        self.done = None;
+        Some(record)
+    }
+
+    /// Whether no call runs.
+    pub fn is_idle(&self) -> bool
+        ensures { IsTrue result ↔ (self.now.running ≡ None) }
+    {
+        self.stripe.open().is_none()
+    }
+
+    /// The stripe again.
+    pub fn into_stripe(self) -> Stripe<'a>
+        ensures stripe { result ≡ self.entry.stripe }
+        ensures idle { self.entry.running ≡ None → result.running ≡ None }
+    {
+        let Seat { stripe, .. } = self;
+        stripe
+    }
+
+    /// The records of the stripe.
+    pub fn history(&self) -> &[Record<'a>]
+        ensures { map record_of result.now ≡ self.now.stripe.records }
+    {
+        self.stripe.history()
+    }
+
+    /// The entry of a key of the stripe.
+    pub fn entry(&self, key: i64) -> Option<i64>
+        ensures { result ≡ entry_of self.now.stripe key }
+    {
+        self.stripe.entry(key)
+    }
+}
+
+/// Whether no call runs on any of these seats.
+pub fn are_idle(seats: &[Seat<'_>]) -> bool
+    ensures { IsTrue result ↔ AreIdle seats.now }
+{
+    for seat in seats {
+        if !seat.is_idle() {
+            return false;
+        }
+    }
+    true
+}

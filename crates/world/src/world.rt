@@ -1,0 +1,226 @@
+//! A world of calls.
+
+ghost use Rattle.std.specs.Prelude.{◌≡◌, ◌↔◌, ℕ, ℤ, ◌<◌, ◌≤◌, length, map, slice_index, take, false, IsTrue, Err, IfOk, IfErr, OnOk};
+
+use crate::event::{Applied, Event};
+use crate::room::{give_back, room_for, seated};
+use crate::seat::{Seat, are_idle};
+use std::alloc::Global;
+use std::marker::Model;
+use std::snapshot::Snapshot;
+use stripe::{BeginRefusal, Call, MOST_RECORDS, OpenRefusal, Record, Rest, Tables, stripe_of};
+
+/// How many callers there may be: a caller is known by a byte.
+const CALLERS: usize = 256;
+
+/// No caller has started a call.
+fn no_starts() -> [u32; CALLERS]
+    ensures callers { length result ≡ 256 }
+    ensures none { (caller : ℕ) → slice_index result caller ≡ 0 }
+{
+    [0; CALLERS]
+}
+
+/// The stripes of a cache with the calls that run on them, one a stripe, and the calls that are finished.
+#[derive(Drop)]
+pub struct World<'a> {
+    seats: Vec<Seat<'a>>,
+    finished: Vec<Record<'a>>,
+    starts: [u32; CALLERS],
+    journal: usize,
+    rest: Rest<'a>,
+    opening: Snapshot<Tables>,
+}
+
+impl<'a> Model for World<'a> {
+    ghost use Rattle.std.specs.Coded.{codes};
+    ghost use Rattle.stripe.specs.Stored.{stored_code};
+    ghost use Rattle.world.specs.World as definition;
+
+    ghost Value = { definition.World };
+
+    ghost coded = { Prim.hlevel (codes, stored_code) };
+
+    ghost use Rattle.world.specs.Inside.{IsSound, world};
+
+    ghost view = { world };
+
+    ghost invariant = { IsSound };
+}
+
+impl<'a> World<'a> {
+    ghost use Rattle.std.specs.Prelude.{◌≡◌, ◌↔◌, ℕ, ℤ, ◌<◌, ◌≤◌, length, map, take, false, IsTrue, Err, IfOk, IfErr, OnOk};
+    ghost use Rattle.stripe.specs.declared.refusal.BeginRefusal.{BeginRefusal};
+    ghost use Rattle.stripe.specs.declared.refusal.BeginRefusal.TheVariants.{JournalFull, NoMemory};
+    ghost use Rattle.stripe.specs.declared.refusal.OpenRefusal.TheVariants.{BadCount};
+    ghost use Rattle.stripe.specs.History.{IsLegal};
+    ghost use Rattle.stripe.specs.Seen.{call_of, record_of};
+    ghost use Rattle.stripe.specs.Stored.{entry_among};
+    ghost use Rattle.stripe.specs.Tables.{IsJournal};
+    ghost use Rattle.world.specs.World.{Start, Step, Finish, opened, opening_entries, entries_now, history_of, apply, run};
+    ghost use Rattle.world.specs.Seen.{event_of};
+    ghost use Rattle.world.specs.Refused.{is_possible, is_start_on_full, is_start_on_absent, IsApplied, KeepsEntries, HaveRoom, IsStopped, NoneRuns};
+
+    /// A world on these tables, in which no call has started; each stripe may have so many records, 1 to 4,096. Or the tables
+    /// again.
+    pub fn new(
+        alloc: Global,
+        tables: Tables,
+        journal: usize,
+    ) -> Result<World<'a>, (OpenRefusal, Tables)>
+        ensures opened { IfOk result (λ w. w ≡ opened tables journal) }
+        ensures count { IfErr result (λ e. (e.0 ≡ BadCount) ↔ (¬ IsJournal journal)) }
+        ensures journal { OnOk result (IsJournal journal) }
+        ensures given { IfErr result (λ e. e.1 ≡ tables) }
+    {
+        if journal == 0 || journal > MOST_RECORDS {
+            return Err((OpenRefusal::BadCount, tables));
+        }
+        let stripes = tables.stripes();
+        let Ok(room) = room_for(alloc, stripes, journal) else {
+            return Err((OpenRefusal::NoMemory, tables));
+        };
+        let opening = Snapshot::of(&tables);
+        let (split, rest) = tables.split(alloc, journal)?;
+        Ok(World {
+            seats: seated(split, room.workspaces, room.seats),
+            finished: room.finished,
+            starts: no_starts(),
+            journal,
+            rest,
+            opening,
+        })
+    }
+
+    /// What an event does, if it is possible.
+    ///
+    /// What is refused for want of room or memory is no event of the definitions: it changes nothing.
+    pub fn apply(&mut self, event: Event<'a>) -> Applied
+        ensures world { ((r : BeginRefusal) → ¬ (result ≡ Applied.Refused r)) → self.new ≡ apply self.old (event_of event.entry) }
+        ensures same { ¬ (result ≡ Applied.Done) → self.new ≡ self.old }
+        ensures ignored { (result ≡ Applied.Ignored) ↔ (is_possible self.old (event_of event.entry) ≡ false) }
+        ensures full { (result ≡ Applied.Refused JournalFull) ↔ IsTrue (is_start_on_full self.old (event_of event.entry)) }
+        ensures memory { result ≡ Applied.Refused NoMemory → IsTrue (is_start_on_absent self.old (event_of event.entry)) }
+        ensures held { KeepsEntries self.old self.new }
+    {
+        match event {
+            Event::Start { caller, call } => self.start(caller, call),
+            Event::Step { stripe } => self.step(stripe),
+            Event::Finish { stripe } => self.finish(stripe),
+        }
+    }
+
+    /// Starts a call, if none runs on its stripe.
+    fn start(&mut self, caller: u8, call: Call<'a>) -> Applied
+        ensures applied { IsApplied self.old (Start caller (call_of call.entry)) result self.new }
+        ensures held { KeepsEntries self.old self.new }
+    {
+        let place = stripe_of(self.seats.len(), call.key());
+        let number = self.starts[caller as usize];
+        let seat = &mut self.seats[place];
+        let applied = seat.start(caller, number, call);
+        if let Applied::Done = applied {
+            self.starts[caller as usize] = number + 1;
+        }
+        applied
+    }
+
+    /// One instruction of the call that runs on a stripe.
+    fn step(&mut self, stripe: usize) -> Applied
+        ensures applied { IsApplied self.old (Step stripe) result self.new }
+        ensures held { KeepsEntries self.old self.new }
+    {
+        if stripe >= self.seats.len() {
+            return Applied::Ignored;
+        }
+        let seat = &mut self.seats[stripe];
+        seat.step()
+    }
+
+    /// Writes down the call that runs on a stripe, if it is final.
+    fn finish(&mut self, stripe: usize) -> Applied
+        ensures applied { IsApplied self.old (Finish stripe) result self.new }
+        ensures held { KeepsEntries self.old self.new }
+    {
+        if stripe >= self.seats.len() {
+            return Applied::Ignored;
+        }
+        let seat = &mut self.seats[stripe];
+        let Some(record) = seat.finish() else {
+            return Applied::Ignored;
+        };
+        self.finished.push_reserved(record);
+        Applied::Done
+    }
+
+    /// What these events do, one after the other, up to the first that is refused; of that one its place, from 0.
+    pub fn run(&mut self, events: &[Event<'a>]) -> Result<(), (usize, BeginRefusal)>
+        ensures ok { OnOk result (self.new ≡ run self.old (map event_of events.now)) }
+        ensures room { OnOk result (HaveRoom self.old (map event_of events.now)) }
+        ensures stopped { IfErr result (λ e. IsStopped self.old (map event_of events.now) e.0 e.1 self.new) }
+    {
+        for (place, event) in events.iter().enumerate() {
+            if let Applied::Refused(refusal) = self.apply(*event) {
+                return Err((place, refusal));
+            }
+        }
+        Ok(())
+    }
+
+    /// The finished calls are a legal history from the opening entries: each answers on the entry that those before it leave.
+    pub fn is_legal(&self)
+        ensures { IsLegal (opening_entries self.now) self.now.finished }
+    {
+        let _seats = &self.seats;
+    }
+
+    /// How many stripes there are.
+    pub fn stripes(&self) -> usize
+        ensures { result ≡ length self.now.opening }
+    {
+        self.seats.len()
+    }
+
+    /// The finished calls of a stripe, in their order: its history.
+    pub fn history(&self, stripe: usize) -> &[Record<'a>]
+        requires { stripe < length self.now.opening }
+        ensures history { map record_of result.now ≡ history_of self.now stripe }
+        ensures few { length result.now ≤ self.now.journal }
+    {
+        let seat = &self.seats[stripe];
+        seat.history()
+    }
+
+    /// The entry of a key after the finished calls.
+    pub fn entry(&self, key: i64) -> Option<i64>
+        ensures { result ≡ entries_now self.now key }
+    {
+        let place = stripe_of(self.seats.len(), key);
+        let seat = &self.seats[place];
+        seat.entry(key)
+    }
+
+    /// Whether no call runs.
+    pub fn is_idle(&self) -> bool
+        ensures { IsTrue result ↔ NoneRuns self.now }
+    {
+        are_idle(&self.seats)
+    }
+
+    /// The entries, and the finished calls in their order. No call runs.
+    pub fn close(self) -> (Tables, Vec<Record<'a>>)
+        requires { NoneRuns self }
+        ensures finished { map record_of result.1.items ≡ self.entry.finished }
+        ensures legal { IsLegal (opening_entries self.entry) self.entry.finished }
+        ensures left { (k : ℤ) → entry_among result.0 k ≡ entries_now self.entry k }
+        ensures stripes { length result.0 ≡ length self.entry.opening }
+    {
+        let World {
+            seats,
+            finished,
+            rest,
+            ..
+        } = self;
+        (give_back(seats, rest), finished)
+    }
+}
