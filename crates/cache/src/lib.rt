@@ -17,3 +17,6 @@ pub use gate::{Gate, NoGate};
 pub use receipt::Receipt;
 pub use refusal::InvokeRefusal;
 pub use seat::Seat;
+
+#[cfg(test)]
+mod tests;
