@@ -93,6 +93,7 @@ impl Tables {
         ensures rest { IfOk result (λ r. r.1 ≡ none_back (length self)) }
         ensures count { IfErr result (λ e. (e.0 ≡ BadCount) ↔ (¬ IsJournal journal)) }
         ensures journal { OnOk result (IsJournal journal) }
+        ensures tables { OnOk result (IsCount (length self)) }
         ensures given { IfErr result (λ e. e.1 ≡ self) }
     {
         if journal == 0 || journal > MOST_RECORDS {

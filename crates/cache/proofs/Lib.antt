@@ -1,0 +1,9 @@
+mod Puts
+mod Counts
+mod Books
+mod Keeps
+mod Moves
+mod Cuts
+mod Starts
+mod Backs
+mod Settled

@@ -1,0 +1,157 @@
+use Rattle.std.proofs.Common.{rules, refl, ap, sym, subst, ◌∙◌, ◌≡◌, ◌≤◌, ◌<◌, ◌++◌, [], ◌∷◌, List, ℕ, ℤ, length, map, Err, true, set, arith, length-append, length-set}
+use Rattle.std.proofs.lemmas.Grind.{common_steps}
+use Rattle.std.proofs.lemmas.List.{length-map, map-append}
+use Rattle.stripe.specs.History.{Begun, Record, key_of, stripe_of}
+use Rattle.stripe.specs.Kept.{Kept, IsEnd, begun, committed}
+use Rattle.stripe.specs.Seen.{call_of, record_of}
+use Rattle.jtypes.specs.Entry.{Entry}
+use Rattle.cache.specs.Receipts.{Receipt, receipt_of, receipts_of, receipt_behind}
+use Rattle.cache.specs.declared.receipt.Receipt.{Receipt as ReceiptKept}
+use Rattle.cache.specs.Views.{Part, part, seat_view}
+use Rattle.cache.specs.Opened.{Opened, Sitting, with_receipt}
+use Rattle.cache.specs.Plays.{Sat}
+use Rattle.cache.proofs.cache.Cache.locked.Goals as goal
+
+pub overflow_cast-number : goal.overflow_cast-number
+overflow_cast-number g c =
+    let s = c.seat.inside in
+    let p : Part = part s.caller (receipts_of s.receipts.items) s.full in
+    let t = c.take.ensures.taken s.made p c.seat.invariant.known in
+    let few : length (receipts_of s.receipts.items) ≤ 262144 = t.free.receipts p refl in
+    let same : c.len-number.result ≡ length s.receipts.items = let e = ap (λ (l : List ReceiptKept). length l) c.reserve.ensures.items in grind (arith, common_steps) in
+    omega (arith, few, same, length-map s.receipts.items receipt_of)
+
+pub begin-requires-clause-held : goal.begin-requires-clause-held
+begin-requires-clause-held g c =
+    let s = c.seat.inside in
+    let t = c.take.ensures.taken s.made (part s.caller (receipts_of s.receipts.items) s.full) c.seat.invariant.known in
+    let key : ℤ = key_of (call_of c.args.call) in
+    let index : c.place_of-index.result ≡ stripe_of c.self.inside.stripes key = c.place_of-index.ensures.place in
+    let count = t.free.stripes ∙ c.self.invariant.board.slots ∙ sym c.self.invariant.stripes in
+    record {
+      stripe = t.stripe;
+      is = ap (λ (m : Sat). m.1) t.is;
+      idle = t.free.idle;
+      of = ap (λ (n : ℕ). stripe_of n key) count ∙ sym index ∙ sym t.free.place;
+    }
+
+pub commit-place-requires-clause-held : goal.commit-place-requires-clause-held
+commit-place-requires-clause-held g c =
+    let s = c.seat.inside in
+    let t = c.take.ensures.taken s.made (part s.caller (receipts_of s.receipts.items) s.full) c.seat.invariant.known in
+    let b : Begun = record { caller = s.caller; number = c.len-number.result; call = call_of c.args.call } in
+    let u = c.in-Ok.ensures.ok t.stripe (ap (λ (m : Sat). m.1) t.is) in
+    let ends = c.requires.ends c.in-Ok.before c.end.result c.end.ensures in
+    (begun t.stripe b, u.is, record { begun = b; running = refl; ends = subst (λ (e : Entry). IsEnd e (call_of c.args.call) c.end.result) (u.found ∙ sym (u.same (key_of b.call))) ends })
+
+pub tell-requires-clause-held : goal.tell-requires-clause-held
+tell-requires-clause-held g c =
+    let s = c.seat.inside in
+    let p : Part = part s.caller (receipts_of s.receipts.items) s.full in
+    let t = c.take.ensures.taken s.made p c.seat.invariant.known in
+    let b : Begun = record { caller = s.caller; number = c.len-number.result; call = call_of c.args.call } in
+    let u = c.in-Ok.ensures.ok t.stripe (ap (λ (m : Sat). m.1) t.is) in
+    let r : Record = record_of c.commit-place.result.0 in
+    let w = c.commit-place.ensures.committed (begun t.stripe b) b u.is refl in
+    let view = c.commit-place.ensures.view ∙ c.begin.ensures.view ∙ ap (λ (m : Sat). m.0) t.is in
+    let same : c.len-number.result ≡ length s.receipts.items = let e = ap (λ (l : List ReceiptKept). length l) c.reserve.ensures.items in grind (arith, common_steps) in
+    record {
+      made = s.made;
+      part = p;
+      before = t.stripe;
+      stripe = committed (begun t.stripe b) r;
+      one = r;
+      is = λ k. (view k, w.is k);
+      later = record { stripes = refl; place = refl; journal = refl; idle = refl; kept = λ opening h. w.kept opening (u.kept opening h) };
+      more = refl;
+      few = let whole = u.room in let few = t.free.few in omega (arith, few, whole, length-append t.stripe.records (r ∷ []));
+      caller = w.made.caller;
+      number = w.made.number ∙ same ∙ sym (length-map s.receipts.items receipt_of);
+    }
+
+pub invariant_of-seat-in-Ok : goal.invariant_of-seat-in-Ok
+invariant_of-seat-in-Ok g c =
+    let s = c.seat.inside in
+    let p : Part = part s.caller (receipts_of s.receipts.items) s.full in
+    let t = c.take.ensures.taken s.made p c.seat.invariant.known in
+    let b : Begun = record { caller = s.caller; number = c.len-number.result; call = call_of c.args.call } in
+    let u = c.in-Ok.ensures.ok t.stripe (ap (λ (m : Sat). m.1) t.is) in
+    let r0 = c.commit-place.result.0 in
+    let r : Record = record_of r0 in
+    let w = c.commit-place.ensures.committed (begun t.stripe b) b u.is refl in
+    let view = c.commit-place.ensures.view ∙ c.begin.ensures.view ∙ ap (λ (m : Sat). m.0) t.is in
+    let given = c.tell.ensures.given s.made p t.stripe (committed (begun t.stripe b) r) r (λ k. (view k, w.is k)) refl in
+    let x : ReceiptKept = record { stripe = c.place_of-index.result; place = c.commit-place.result.1; call = r0.call; reply = r0.reply } in
+    let items : c.push_reserved.new.self.items ≡ s.receipts.items ++ x ∷ [] = c.push_reserved.ensures.items ∙ ap (λ (l : List ReceiptKept). l ++ x ∷ []) c.reserve.ensures.items in
+    let all : receipts_of c.push_reserved.new.self.items ≡ receipts_of s.receipts.items ++ receipt_behind c.place_of-index.result t.stripe.records r ∷ []
+    = ap receipts_of items ∙ map-append receipt_of s.receipts.items (x ∷ []) ∙ ap (λ (q : ℕ). receipts_of s.receipts.items ++ record { stripe = c.place_of-index.result; place = q; call = r.call; reply = r.reply } ∷ []) w.place_is in
+    record { known = given ∙ ap (λ (l : List Receipt). (seat_view s.made (part s.caller l s.full), [])) (sym all); full = c.seat.invariant.full }
+
+pub returns-in-Ok-clause-ok : goal.returns-in-Ok-clause-ok
+returns-in-Ok-clause-ok g c =
+    let s = c.seat.inside in
+    let p : Part = part s.caller (receipts_of s.receipts.items) s.full in
+    let t = c.take.ensures.taken s.made p c.seat.invariant.known in
+    let b : Begun = record { caller = s.caller; number = c.len-number.result; call = call_of c.args.call } in
+    let u = c.in-Ok.ensures.ok t.stripe (ap (λ (m : Sat). m.1) t.is) in
+    let r0 = c.commit-place.result.0 in
+    let r : Record = record_of r0 in
+    let w = c.commit-place.ensures.committed (begun t.stripe b) b u.is refl in
+    let one : Receipt = receipt_behind c.place_of-index.result t.stripe.records r in
+    let x : ReceiptKept = record { stripe = c.place_of-index.result; place = c.commit-place.result.1; call = r0.call; reply = r0.reply } in
+    let items : c.push_reserved.new.self.items ≡ s.receipts.items ++ x ∷ [] = c.push_reserved.ensures.items ∙ ap (λ (l : List ReceiptKept). l ++ x ∷ []) c.reserve.ensures.items in
+    let all : receipts_of c.push_reserved.new.self.items ≡ receipts_of s.receipts.items ++ one ∷ []
+    = ap receipts_of items ∙ map-append receipt_of s.receipts.items (x ∷ []) ∙ ap (λ (q : ℕ). receipts_of s.receipts.items ++ record { stripe = c.place_of-index.result; place = q; call = r.call; reply = r.reply } ∷ []) w.place_is in
+    let table = c.tell.ensures.table ∙ c.commit-place.ensures.table ∙ c.begin.ensures.table ∙ c.take.ensures.table in
+    let key : ℤ = key_of (call_of c.args.call) in
+    let index : c.place_of-index.result ≡ stripe_of c.self.inside.stripes key = c.place_of-index.ensures.place in
+    record {
+      receipt = one;
+      call_is = w.made.call;
+      reply_is = refl;
+      stripe_is = index ∙ ap (λ (n : ℕ). stripe_of n key) (c.self.invariant.stripes ∙ ap (λ (d : Opened). length d.tables) c.self.view_is);
+      left = (λ k. record { table = table k; caller = s.caller; made = s.made; receipts = all k; full = s.full }) ∙ ap (λ (y : Sitting). with_receipt y one) c.seat.view_is;
+    }
+
+pub give_full-requires-clause-held : goal.give_full-requires-clause-held
+give_full-requires-clause-held g c =
+    let s = c.seat.inside in
+    let p : Part = part s.caller (receipts_of s.receipts.items) s.full in
+    let t = c.take.ensures.taken s.made p c.seat.invariant.known in
+    let view = c.begin.ensures.view ∙ ap (λ (m : Sat). m.0) t.is in
+    let kept = c.in-Err-JournalFull.ensures.err ∙ ap (λ (m : Sat). m.1) t.is in
+    record {
+      held = record { made = s.made; part = p; stripe = t.stripe; is = λ k. (view k, kept k); idle = t.free.idle };
+      whole = c.begin.ensures.full (c.in-Err-JournalFull.is ∙ ap Err c.in-Err-JournalFull.field-0-is) t.stripe (ap (λ (m : Sat). m.1) t.is);
+    }
+
+pub invariant_of-seat-in-Err-JournalFull : goal.invariant_of-seat-in-Err-JournalFull
+invariant_of-seat-in-Err-JournalFull g c =
+    let s = c.seat.inside in
+    let p : Part = part s.caller (receipts_of s.receipts.items) s.full in
+    let t = c.take.ensures.taken s.made p c.seat.invariant.known in
+    let view = c.begin.ensures.view ∙ ap (λ (m : Sat). m.0) t.is in
+    record {
+      known = c.give_full.ensures.given s.made p t.stripe view ∙ ap (λ (l : List ReceiptKept). (seat_view s.made (part s.caller (receipts_of l) (set s.full c.place_of-index.result true)), [])) (sym c.reserve.ensures.items);
+      full = length-set s.full c.place_of-index.result true ∙ c.seat.invariant.full;
+    }
+
+pub give_back-requires-clause-held : goal.give_back-requires-clause-held
+give_back-requires-clause-held g c =
+    let s = c.seat.inside in
+    let p : Part = part s.caller (receipts_of s.receipts.items) s.full in
+    let t = c.take.ensures.taken s.made p c.seat.invariant.known in
+    let view = c.begin.ensures.view ∙ ap (λ (m : Sat). m.0) t.is in
+    let kept = c.in-Err-NoMemory.ensures.err ∙ ap (λ (m : Sat). m.1) t.is in
+    record { made = s.made; part = p; stripe = t.stripe; is = λ k. (view k, kept k); idle = t.free.idle }
+
+pub invariant_of-seat-in-Err-NoMemory : goal.invariant_of-seat-in-Err-NoMemory
+invariant_of-seat-in-Err-NoMemory g c =
+    let s = c.seat.inside in
+    let p : Part = part s.caller (receipts_of s.receipts.items) s.full in
+    let t = c.take.ensures.taken s.made p c.seat.invariant.known in
+    let view = c.begin.ensures.view ∙ ap (λ (m : Sat). m.0) t.is in
+    record {
+      known = c.give_back.ensures.given s.made p t.stripe view ∙ ap (λ (l : List ReceiptKept). (seat_view s.made (part s.caller (receipts_of l) s.full), [])) (sym c.reserve.ensures.items);
+      full = c.seat.invariant.full;
+    }

@@ -1,0 +1,7 @@
+use Rattle.std.proofs.Common.{rules, ◌≡◌, ◌≢◌, ◌∷◌, [], List, ℕ, length, get_or, Some, None, refl, ap, sym, subst, ◌∙◌}
+use Rattle.atomic_table.specs.Table.{rest}
+use Rattle.stripe.specs.Kept.{Kept, IsOf}
+use Rattle.cache.proofs.steps.begin.Goals as goal
+
+pub slot_mut-requires : goal.slot_mut-requires
+slot_mut-requires c = let h = c.requires.held in (c.requires.table, (h.stripe, h.is ∙ (λ t. (c.args.index, h.stripe) ∷ sym (ap rest h.is) t)))

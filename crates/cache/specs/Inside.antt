@@ -1,0 +1,36 @@
+-- What is true of every cache and of every seat.
+use Rattle.std.specs.Prelude.{◌≡◌, ◌<◌, ◌≤◌, [], length, vec_capacity}
+use Rattle.atomic_table.specs.Seated.{TableId}
+use Rattle.stripe.specs.Tables.{IsCount, IsJournal, none_back}
+use Rattle.cache.specs.Receipts.{receipts_of}
+use Rattle.cache.specs.Views.{part, seat_view}
+use Rattle.cache.specs.Opened.{Opened, Sitting}
+use Rattle.cache.specs.declared.known.Terms.{Terms}
+use Rattle.cache.specs.declared.cache.Cache.TheInside.{Inside}
+use Rattle.cache.specs.declared.seat.Seat.TheInside.{Inside as InSeat}
+
+-- a table of the stripes of a cache: a word and a slot for each
+pub record IsBoard (id : TableId) (k : Terms) : Type 0 where
+  pub words : id.words ≡ length k.tables.value
+  pub slots : id.slots ≡ length k.tables.value
+  pub count : IsCount (length k.tables.value)
+  pub journal : IsJournal k.journal
+
+abbrev pub opened : Inside → Opened
+opened s = record { table = s.table.shared.table_id; registry = s.registry.now; tables = s.table.shared.key.tables.value; journal = s.table.shared.key.journal; seats = s.seats }
+
+pub record IsCache (s : Inside) : Type 0 where
+  pub board : IsBoard s.table.shared.table_id s.table.shared.key
+  pub stripes : s.stripes ≡ length s.table.shared.key.tables.value
+  pub some_seat : 0 < s.seats
+  pub rest : s.rest ≡ none_back s.stripes
+  pub receipts : s.receipts.items ≡ []
+  pub room : s.seats ≤ vec_capacity s.receipts
+
+abbrev pub sitting : InSeat → Sitting
+sitting s = record { table = s.pass.table_id; caller = s.caller; made = s.made; receipts = receipts_of s.receipts.items; full = s.full }
+
+-- what the locks know of the seat is what it has
+pub record IsSeated (s : InSeat) : Type 0 where
+  pub known : s.pass.me ≡ (seat_view s.made (part s.caller (receipts_of s.receipts.items) s.full), [])
+  pub full : length s.full ≡ 64

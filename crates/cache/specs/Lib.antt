@@ -1,0 +1,10 @@
+pub mod Accounts
+pub mod Closing
+pub mod Ends
+pub mod Guarded
+pub mod Inside
+pub mod Opened
+pub mod Plays
+pub mod Receipts
+pub mod Steps
+pub mod Views

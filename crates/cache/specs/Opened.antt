@@ -1,0 +1,102 @@
+-- Caches and seats, as contracts see them.
+use Rattle.std.specs.Prelude.{◌≡◌, ℕ, zero, suc, ◌<◌, ◌≤◌, List, [], ◌∷◌, ◌++◌, Bool, true, false, length, map, None, slice_set, slice_index_or}
+use mathlib.Core.Option.{some}
+use lib.ListN.{get_elem?}
+use Rattle.atomic_table.specs.Seated.{TableId}
+use Rattle.boxcar.specs.Table.{Shelves}
+use Rattle.stripe.specs.declared.call.Reply.{Reply}
+use Rattle.stripe.specs.History.{Call, key_of, stripe_of}
+use Rattle.stripe.specs.Stored.{Stored}
+use Rattle.stripe.specs.Tables.{IsJournal}
+use Rattle.cache.specs.Receipts.{Receipt}
+use Rattle.cache.specs.Views.{Part, View, part, none_full}
+use Rattle.cache.specs.declared.refusal.InvokeRefusal.{InvokeRefusal}
+use Rattle.cache.specs.declared.refusal.InvokeRefusal.TheVariants.{JournalFull, NoMemory}
+
+-- a cache: what its stripes stored when it was opened, how many records each may have, and how many seats there are
+pub record Opened : Type 0 where
+  pub table : TableId
+  pub registry : Shelves
+  pub tables : List Stored
+  pub journal : ℕ
+  pub seats : ℕ
+
+-- a seat of a cache: its number, its receipts, and which stripes it found full; `made` is the number of seats in the first one, and 0 in the others
+pub record Sitting : Type 0 where
+  pub table : TableId
+  pub caller : ℕ
+  pub made : ℕ
+  pub receipts : List Receipt
+  pub full : List Bool
+
+abbrev pub part_of : Sitting → Part
+part_of s = part s.caller s.receipts s.full
+
+-- the seats that one view has taken in
+abbrev pub view_of : ℕ → List Sitting → View
+view_of made seats = record { made = made; parts = map part_of seats; held = None }
+
+-- 1 to 16 seats
+abbrev pub IsSeatCount : ℕ → Type 0
+IsSeatCount seats = (0 < seats) × (seats ≤ 16)
+
+-- 1 to 4,096 records a stripe, and 1 to 16 seats
+abbrev pub AreCounts : ℕ → ℕ → Type 0
+AreCounts journal seats = IsJournal journal × IsSeatCount seats
+
+-- a cache over this registry, with these tables, so many records a stripe and so many seats
+pub record IsOpened (registry : Shelves) (tables : List Stored) (journal seats : ℕ) (d : Opened) : Type 0 where
+  pub registry_is : d.registry ≡ registry
+  pub tables_are : d.tables ≡ tables
+  pub journal_is : d.journal ≡ journal
+  pub seats_are : d.seats ≡ seats
+
+-- the number of seats, in the first of n
+abbrev pub made_of : ℕ → ℕ → ℕ
+made_of n zero = n
+made_of n (suc c) = 0
+
+-- the seat c of n, before any call
+abbrev pub fresh_seat : TableId → ℕ → ℕ → Sitting
+fresh_seat t n c = record { table = t; caller = c; made = made_of n c; receipts = []; full = none_full }
+
+-- the n seats of a cache, before any call
+pub record AreFresh (t : TableId) (n : ℕ) (seats : List Sitting) : Type 0 where
+  pub count : length seats ≡ n
+  pub each : (c : ℕ) (s : Sitting) → get_elem? seats c ≡ some s → s ≡ fresh_seat t n c
+
+-- the seat c of n, after calls
+pub record IsSeat (t : TableId) (n c : ℕ) (s : Sitting) : Type 0 where
+  pub table_is : s.table ≡ t
+  pub caller_is : s.caller ≡ c
+  pub made_is : s.made ≡ made_of n c
+
+-- all the seats of a cache, in their order
+pub record AreSeats (d : Opened) (seats : List Sitting) : Type 0 where
+  pub count : length seats ≡ d.seats
+  pub each : (c : ℕ) (s : Sitting) → get_elem? seats c ≡ some s → IsSeat d.table d.seats c s
+
+-- ---- calls
+
+abbrev pub with_receipt : Sitting → Receipt → Sitting
+with_receipt s t = record s { receipts = s.receipts ++ t ∷ [] }
+
+abbrev pub with_full : Sitting → ℕ → Sitting
+with_full s i = record s { full = slice_set s.full i true }
+
+-- the stripe of a call's key
+abbrev pub stripe_in : Opened → Call → ℕ
+stripe_in d call = stripe_of (length d.tables) (key_of call)
+
+-- the call was answered: the seat has one receipt more, of this call and this reply on the key's stripe
+pub record IsAnswered (d : Opened) (old : Sitting) (call : Call) (reply : Reply) (new : Sitting) : Type 0 where
+  pub receipt : Receipt
+  pub call_is : receipt.call ≡ call
+  pub reply_is : receipt.reply ≡ reply
+  pub stripe_is : receipt.stripe ≡ stripe_in d call
+  pub left : new ≡ with_receipt old receipt
+
+-- the call was refused: the seat has the key's stripe among the full ones, or there was no memory and the seat is as it was
+abbrev pub IsTurnedAway : Opened → Sitting → Call → InvokeRefusal → Sitting → Type 0
+IsTurnedAway d old call JournalFull new = (new ≡ with_full old (stripe_in d call)) × (slice_index_or new.full (stripe_in d call) false ≡ true)
+IsTurnedAway d old call NoMemory new = new ≡ old

@@ -1,0 +1,76 @@
+-- What is asked and told of the steps of a call.
+use Rattle.std.specs.Prelude.{◌≡◌, ◌≢◌, ℕ, ℤ, ◌+◌, ◌<◌, ◌≤◌, List, [], ◌∷◌, ◌++◌, Option, Some, None, length}
+use Rattle.atomic_table.specs.Table.{Me}
+use Rattle.jtypes.specs.Entry.{Entry}
+use Rattle.stripe.specs.History.{Begun, Record, Entries, key_of}
+use Rattle.stripe.specs.Kept.{Kept, IsKept, IsOf, IsRecord, begun, committed, entry_of}
+use Rattle.cache.specs.Receipts.{receipt_behind}
+use Rattle.cache.specs.Views.{Part, seat_view, holding, told_part}
+use Rattle.cache.specs.Guarded.{IsLater}
+use Rattle.cache.specs.Plays.{Sat, IsFree}
+
+-- the seat holds nothing
+pub record IsIdle (m : Sat) : Type 0 where
+  pub made : ℕ
+  pub part : Part
+  pub is : m ≡ (seat_view made part, [])
+
+-- the seat has taken the stripe, which was free
+pub record HasTaken (slots i made : ℕ) (p : Part) (m : Sat) : Type 0 where
+  pub stripe : Kept
+  pub is : m ≡ (holding made p i stripe, (i, stripe) ∷ [])
+  pub free : IsFree slots i (p ∷ []) stripe
+
+-- the stripe is in the seat's hands, and no call is open on it
+pub record CanBegin (i : ℕ) (b : Begun) (held : List (ℕ × Kept)) : Type 0 where
+  pub stripe : Kept
+  pub is : held ≡ (i, stripe) ∷ []
+  pub idle : stripe.running ≡ None
+  pub of : IsOf stripe (key_of b.call)
+
+-- the call has begun, and found this entry
+pub record HasBegun (i : ℕ) (b : Begun) (before : Entry) (y : Kept) (held : List (ℕ × Kept)) : Type 0 where
+  pub is : held ≡ (i, begun y b) ∷ []
+  pub found : before ≡ entry_of y (key_of b.call)
+  pub room : length y.records ≢ y.journal
+  pub same : (k : ℤ) → entry_of (begun y b) k ≡ entry_of y k
+  pub kept : (opening : Entries) → IsKept opening y → IsKept opening (begun y b)
+
+-- the call has ended, with this record at this place
+pub record HasCommitted (i : ℕ) (b : Begun) (y : Kept) (r : Record) (place : ℕ) (held : List (ℕ × Kept)) : Type 0 where
+  pub is : held ≡ (i, committed y r) ∷ []
+  pub made : IsRecord b (entry_of y (key_of b.call)) r
+  pub place_is : place ≡ length y.records
+  pub kept : (opening : Entries) → IsKept opening y → IsKept opening (committed y r)
+
+-- the seat holds the stripe as it took it
+pub record CanReturn (i : ℕ) (m : Sat) : Type 0 where
+  pub made : ℕ
+  pub part : Part
+  pub stripe : Kept
+  pub is : m ≡ (holding made part i stripe, (i, stripe) ∷ [])
+  pub idle : stripe.running ≡ None
+
+-- the seat holds the stripe as it took it, and it is full
+pub record CanFill (i : ℕ) (m : Sat) : Type 0 where
+  pub held : CanReturn i m
+  pub whole : length held.stripe.records ≡ held.stripe.journal
+
+-- the seat holds the stripe with one record more than when it took it: the next one of the seat
+pub record CanTell (i : ℕ) (m : Sat) : Type 0 where
+  pub made : ℕ
+  pub part : Part
+  pub before : Kept
+  pub stripe : Kept
+  pub one : Record
+  pub is : m ≡ (holding made part i before, (i, stripe) ∷ [])
+  pub later : IsLater before stripe
+  pub more : stripe.records ≡ before.records ++ one ∷ []
+  pub few : length stripe.records ≤ stripe.journal
+  pub caller : one.caller ≡ part.caller
+  pub number : one.number ≡ length part.receipts
+
+-- the seat has given the stripe back with one record more, and has its receipt
+abbrev pub HasTold : ℕ → Sat → Sat → Type 0
+HasTold i m m' = (made : ℕ) (p : Part) (y z : Kept) (r : Record) → m ≡ (holding made p i y, (i, z) ∷ []) → z.records ≡ y.records ++ r ∷ []
+    → m' ≡ (seat_view made (told_part p (receipt_behind i y.records r)), [])

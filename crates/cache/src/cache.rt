@@ -1,0 +1,146 @@
+//! Caches: how they are opened and closed.
+
+ghost use Rattle.std.specs.Prelude.{IfOk};
+ghost use Rattle.cache.specs.Ends.{HasRoom};
+
+use crate::ends::{Locked, join_all, locked, rejoined, seated, unpack};
+use crate::known::Terms;
+use crate::receipt::Receipt;
+use crate::seat::Seat;
+use registry::Registry;
+use std::alloc::{AllocError, Global};
+use std::marker::Model;
+use std::snapshot::Snapshot;
+use stripe::{OpenRefusal, Record, Rest, Tables};
+
+/// The most seats.
+const MOST_SEATS: usize = 16;
+
+/// A cache of Longs by Longs (JSR 107, `Cache`), which threads share. Each makes its calls with a seat of its own.
+#[derive(Drop)]
+pub struct Cache<'a> {
+    pub(crate) table: Locked<'a>,
+    pub(crate) registry: &'a Registry,
+    pub(crate) stripes: usize,
+    pub(crate) seats: usize,
+    pub(crate) rest: Rest<'a>,
+    pub(crate) receipts: Vec<Vec<Receipt<'a>>>,
+}
+
+impl<'a> Model for Cache<'a> {
+    ghost use Rattle.cache.specs.Opened.{Opened};
+
+    ghost Value = { Opened };
+
+    ghost use Rattle.std.specs.Coded.{codes};
+    ghost use Rattle.stripe.specs.Stored.{stored_code};
+    ghost use Rattle.boxcar.specs.Table.{shelves_coded};
+    ghost use Rattle.atomic_table.specs.Seated.{table_id_coded};
+
+    ghost coded = { Prim.hlevel (codes, stored_code, shelves_coded, table_id_coded) };
+
+    ghost use Rattle.cache.specs.Inside.{IsCache, opened};
+
+    ghost view = { opened };
+
+    ghost invariant = { IsCache };
+}
+
+/// What a closed cache hands out: its entries, the history of each stripe, and the receipts of each seat.
+#[derive(Drop)]
+pub struct Closed<'a> {
+    pub tables: Tables,
+    pub histories: Vec<Vec<Record<'a>>>,
+    pub receipts: Vec<Vec<Receipt<'a>>>,
+}
+
+/// The room that a cache takes beside its stripes.
+#[derive(Drop)]
+struct Room<'a> {
+    list: Vec<Seat<'a>>,
+    receipts: Vec<Vec<Receipt<'a>>>,
+}
+
+/// The room for so many seats.
+fn room_for<'a>(alloc: Global, seats: usize) -> Result<Room<'a>, AllocError>
+    ensures { IfOk result (HasRoom seats) }
+{
+    Ok(Room {
+        list: Vec::with_capacity(alloc, seats)?,
+        receipts: Vec::with_capacity(alloc, seats)?,
+    })
+}
+
+impl<'a> Cache<'a> {
+    ghost use Rattle.std.specs.Prelude.{◌≡◌, ◌↔◌, IfOk, IfErr, OnOk};
+    ghost use Rattle.stripe.specs.declared.refusal.OpenRefusal.TheVariants.{BadCount};
+    ghost use Rattle.cache.specs.Opened.{IsOpened, AreFresh, AreCounts, AreSeats};
+    ghost use Rattle.cache.specs.Closing.{Settles, histories_seen, receipts_seen, receipts_in};
+
+    /// A cache with these entries, whose stripes each may have so many records, and its seats; or the tables again.
+    pub fn open(
+        alloc: Global,
+        registry: &'a Registry,
+        tables: Tables,
+        journal: usize,
+        seats: usize,
+    ) -> Result<(Cache<'a>, Vec<Seat<'a>>), (OpenRefusal, Tables)>
+        ensures cache { IfOk result (λ r. IsOpened registry.now tables journal seats r.0) }
+        ensures seats { IfOk result (λ r. AreFresh r.0.table seats r.1.items) }
+        ensures counts { OnOk result (AreCounts journal seats) }
+        ensures count { IfErr result (λ e. (e.0 ≡ BadCount) ↔ (¬ AreCounts journal seats)) }
+        ensures given { IfErr result (λ e. e.1 ≡ tables) }
+    {
+        if seats == 0 || seats > MOST_SEATS {
+            return Err((OpenRefusal::BadCount, tables));
+        }
+        let terms = Terms {
+            tables: Snapshot::of(&tables),
+            journal,
+        };
+        let (stripes, rest) = tables.split(alloc, journal)?;
+        let count = stripes.len();
+        let Ok(room) = room_for(alloc, seats) else {
+            return Err((OpenRefusal::NoMemory, rejoined(stripes, rest)));
+        };
+        match locked(alloc, stripes, &terms) {
+            Ok((table, pass)) => {
+                let Room { list, receipts } = room;
+                let list = seated(alloc, &table.shared, pass, list, seats);
+                let cache = Cache {
+                    table,
+                    registry,
+                    stripes: count,
+                    seats,
+                    rest,
+                    receipts,
+                };
+                Ok((cache, list))
+            }
+            Err(stripes) => Err((OpenRefusal::NoMemory, rejoined(stripes, rest))),
+        }
+    }
+
+    /// Ends the cache, by all the seats that `open` gave, in their order.
+    pub fn close(self, mut seats: Vec<Seat<'a>>) -> Closed<'a>
+        requires { AreSeats self seats.items }
+        ensures settled { Settles self.entry seats.entry.items result.tables (histories_seen result.histories.items) }
+        ensures receipts { receipts_seen result.receipts.items ≡ receipts_in seats.entry.items }
+    {
+        let Cache {
+            table,
+            mut rest,
+            mut receipts,
+            ..
+        } = self;
+        let first = seats.remove(0);
+        let pass = join_all(&table.shared, first, seats, &mut receipts);
+        unpack(table, pass, &mut rest);
+        let (tables, histories) = rest.finish();
+        Closed {
+            tables,
+            histories,
+            receipts,
+        }
+    }
+}

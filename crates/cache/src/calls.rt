@@ -1,0 +1,277 @@
+//! The calls of a cache.
+
+ghost use Rattle.std.specs.Prelude.{◌≡◌, ◌<◌, ◌≤◌};
+ghost use Rattle.stripe.specs.History.{key_of, stripe_of};
+ghost use Rattle.stripe.specs.Seen.{call_of};
+
+use crate::cache::Cache;
+use crate::gate::{Gate, NoGate};
+use crate::receipt::Receipt;
+use crate::refusal::InvokeRefusal;
+use crate::seat::Seat;
+use crate::steps::{begin, commit, give_back, give_full, take, tell};
+use jtypes::Args;
+use machine::{Done, Workspace, run};
+use registry::ClassId;
+use std::sync::Wait;
+use stripe::{ArgRow, BeginRefusal, Call, Reply, stripe_of};
+
+/// The stripe of a call's key, of so many.
+fn place_of(stripes: usize, call: &Call<'_>) -> usize
+    requires some { 0 < stripes }
+    requires few { stripes ≤ 64 }
+    ensures place { result ≡ stripe_of stripes (key_of (call_of call.now)) }
+    ensures within { result < stripes }
+{
+    stripe_of(stripes, call.key())
+}
+
+impl<'a> Cache<'a> {
+    ghost use Rattle.std.specs.Prelude.{◌≡◌, ℤ, Option, None, IfOk, IfErr};
+    ghost use Rattle.machine.specs.declared.done.Done.{Done as DoneSeen};
+    ghost use Rattle.stripe.specs.History.{Call as CallSeen, Invoke, Get, Put, Remove, Contains};
+    ghost use Rattle.stripe.specs.Kept.{IsEnd};
+    ghost use Rattle.stripe.specs.Seen.{call_of};
+    ghost use Rattle.registry.specs.Ids.{IsOf, class_of};
+    ghost use Rattle.cache.specs.Opened.{IsAnswered, IsTurnedAway};
+
+    /// Makes a call under the lock of its key's stripe. `end` tells how it ends, by the entry that it found.
+    fn locked<R: Wait, F: FnOnce(Option<i64>) -> Option<Done>, G: Gate>(
+        &self,
+        rt: &R,
+        seat: &mut Seat<'a>,
+        call: Call<'a>,
+        end: F,
+        job: usize,
+        gate: &G,
+    ) -> Result<Reply, InvokeRefusal>
+        requires seat { seat.old.table ≡ self.now.table }
+        requires callable { (before : Option ℤ) → F.pre end before }
+        requires ends { (before : Option ℤ) (done : Option DoneSeen) → F.post end before done → IsEnd before (call_of call) done }
+        ensures ok { IfOk result (λ reply. IsAnswered self.now seat.old (call_of call.entry) reply seat.new) }
+        ensures err { IfErr result (λ refusal. IsTurnedAway self.now seat.old (call_of call.entry) refusal seat.new) }
+    {
+        if seat.receipts.reserve(1).is_err() {
+            return Err(InvokeRefusal::NoMemory);
+        }
+        let index = place_of(self.stripes, &call);
+        let board = &self.table.shared;
+        let pass = &mut seat.pass;
+        take(rt, board, pass, index);
+        let number = seat.receipts.len() as u32;
+        match begin(board, pass, index, seat.caller, number, call) {
+            Ok(before) => {
+                gate.started(job);
+                let (record, place) = commit(board, pass, index, end(before));
+                tell(board, pass, index);
+                seat.receipts.push_reserved(Receipt {
+                    stripe: index,
+                    place,
+                    call: record.call,
+                    reply: record.reply,
+                });
+                Ok(record.reply)
+            }
+            Err(BeginRefusal::JournalFull) => {
+                give_full(board, pass, index);
+                seat.full[index] = true;
+                Err(InvokeRefusal::JournalFull)
+            }
+            Err(BeginRefusal::NoMemory) => {
+                give_back(board, pass, index);
+                Err(InvokeRefusal::NoMemory)
+            }
+        }
+    }
+
+    /// A call that isn't an invocation.
+    fn plain<R: Wait, G: Gate>(
+        &self,
+        rt: &R,
+        seat: &mut Seat<'a>,
+        call: Call<'a>,
+        job: usize,
+        gate: &G,
+    ) -> Result<Reply, InvokeRefusal>
+        requires seat { seat.old.table ≡ self.now.table }
+        requires plain { (before : Option ℤ) → IsEnd before (call_of call) None }
+        ensures ok { IfOk result (λ reply. IsAnswered self.now seat.old (call_of call.entry) reply seat.new) }
+        ensures err { IfErr result (λ refusal. IsTurnedAway self.now seat.old (call_of call.entry) refusal seat.new) }
+    {
+        let end = |_before: Option<i64>| -> Option<Done>
+            ensures { result ≡ None }
+        { None };
+        let answer = self.locked(rt, seat, call, end, job, gate);
+        gate.answered(job);
+        answer
+    }
+
+    /// `invoke` (JSR 107, `Cache`), of an entry processor of this class.
+    pub fn invoke<R: Wait>(
+        &self,
+        rt: &R,
+        seat: &mut Seat<'a>,
+        workspace: &mut Workspace,
+        class: &ClassId,
+        key: i64,
+        args: Args,
+    ) -> Result<Reply, InvokeRefusal>
+        requires seat { seat.old.table ≡ self.now.table }
+        requires class { IsOf self.now.registry class.now }
+        ensures ok { IfOk result (λ reply. IsAnswered self.now seat.old (Invoke (class_of class.now) key args) reply seat.new) }
+        ensures err { IfErr result (λ refusal. IsTurnedAway self.now seat.old (Invoke (class_of class.now) key args) refusal seat.new) }
+    {
+        self.invoke_at(rt, seat, workspace, class, key, args, 0, &NoGate)
+    }
+
+    /// `invoke`, as a job, whose gate is told of it.
+    pub fn invoke_at<R: Wait, G: Gate>(
+        &self,
+        rt: &R,
+        seat: &mut Seat<'a>,
+        workspace: &mut Workspace,
+        class: &ClassId,
+        key: i64,
+        args: Args,
+        job: usize,
+        gate: &G,
+    ) -> Result<Reply, InvokeRefusal>
+        requires seat { seat.old.table ≡ self.now.table }
+        requires class { IsOf self.now.registry class.now }
+        ensures ok { IfOk result (λ reply. IsAnswered self.now seat.old (Invoke (class_of class.now) key args) reply seat.new) }
+        ensures err { IfErr result (λ refusal. IsTurnedAway self.now seat.old (Invoke (class_of class.now) key args) refusal seat.new) }
+    {
+        let class = self.registry.class(class);
+        let call = Call::Invoke {
+            class,
+            key,
+            args: ArgRow::of(&args),
+        };
+        let end = |before: Option<i64>| Some(run(class, key, before, &args, workspace));
+        let answer = self.locked(rt, seat, call, end, job, gate);
+        gate.answered(job);
+        answer
+    }
+
+    /// `get` (JSR 107, `Cache`).
+    pub fn get<R: Wait>(
+        &self,
+        rt: &R,
+        seat: &mut Seat<'a>,
+        key: i64,
+    ) -> Result<Reply, InvokeRefusal>
+        requires { seat.old.table ≡ self.now.table }
+        ensures ok { IfOk result (λ reply. IsAnswered self.now seat.old (Get key) reply seat.new) }
+        ensures err { IfErr result (λ refusal. IsTurnedAway self.now seat.old (Get key) refusal seat.new) }
+    {
+        self.get_at(rt, seat, key, 0, &NoGate)
+    }
+
+    /// `get`, as a job, whose gate is told of it.
+    pub fn get_at<R: Wait, G: Gate>(
+        &self,
+        rt: &R,
+        seat: &mut Seat<'a>,
+        key: i64,
+        job: usize,
+        gate: &G,
+    ) -> Result<Reply, InvokeRefusal>
+        requires { seat.old.table ≡ self.now.table }
+        ensures ok { IfOk result (λ reply. IsAnswered self.now seat.old (Get key) reply seat.new) }
+        ensures err { IfErr result (λ refusal. IsTurnedAway self.now seat.old (Get key) refusal seat.new) }
+    {
+        self.plain(rt, seat, Call::Get { key }, job, gate)
+    }
+
+    /// `put` (JSR 107, `Cache`).
+    pub fn put<R: Wait>(
+        &self,
+        rt: &R,
+        seat: &mut Seat<'a>,
+        key: i64,
+        value: i64,
+    ) -> Result<Reply, InvokeRefusal>
+        requires { seat.old.table ≡ self.now.table }
+        ensures ok { IfOk result (λ reply. IsAnswered self.now seat.old (Put key value) reply seat.new) }
+        ensures err { IfErr result (λ refusal. IsTurnedAway self.now seat.old (Put key value) refusal seat.new) }
+    {
+        self.put_at(rt, seat, key, value, 0, &NoGate)
+    }
+
+    /// `put`, as a job, whose gate is told of it.
+    pub fn put_at<R: Wait, G: Gate>(
+        &self,
+        rt: &R,
+        seat: &mut Seat<'a>,
+        key: i64,
+        value: i64,
+        job: usize,
+        gate: &G,
+    ) -> Result<Reply, InvokeRefusal>
+        requires { seat.old.table ≡ self.now.table }
+        ensures ok { IfOk result (λ reply. IsAnswered self.now seat.old (Put key value) reply seat.new) }
+        ensures err { IfErr result (λ refusal. IsTurnedAway self.now seat.old (Put key value) refusal seat.new) }
+    {
+        self.plain(rt, seat, Call::Put { key, value }, job, gate)
+    }
+
+    /// `remove` (JSR 107, `Cache`).
+    pub fn remove<R: Wait>(
+        &self,
+        rt: &R,
+        seat: &mut Seat<'a>,
+        key: i64,
+    ) -> Result<Reply, InvokeRefusal>
+        requires { seat.old.table ≡ self.now.table }
+        ensures ok { IfOk result (λ reply. IsAnswered self.now seat.old (Remove key) reply seat.new) }
+        ensures err { IfErr result (λ refusal. IsTurnedAway self.now seat.old (Remove key) refusal seat.new) }
+    {
+        self.remove_at(rt, seat, key, 0, &NoGate)
+    }
+
+    /// `remove`, as a job, whose gate is told of it.
+    pub fn remove_at<R: Wait, G: Gate>(
+        &self,
+        rt: &R,
+        seat: &mut Seat<'a>,
+        key: i64,
+        job: usize,
+        gate: &G,
+    ) -> Result<Reply, InvokeRefusal>
+        requires { seat.old.table ≡ self.now.table }
+        ensures ok { IfOk result (λ reply. IsAnswered self.now seat.old (Remove key) reply seat.new) }
+        ensures err { IfErr result (λ refusal. IsTurnedAway self.now seat.old (Remove key) refusal seat.new) }
+    {
+        self.plain(rt, seat, Call::Remove { key }, job, gate)
+    }
+
+    /// `containsKey` (JSR 107, `Cache`).
+    pub fn contains_key<R: Wait>(
+        &self,
+        rt: &R,
+        seat: &mut Seat<'a>,
+        key: i64,
+    ) -> Result<Reply, InvokeRefusal>
+        requires { seat.old.table ≡ self.now.table }
+        ensures ok { IfOk result (λ reply. IsAnswered self.now seat.old (Contains key) reply seat.new) }
+        ensures err { IfErr result (λ refusal. IsTurnedAway self.now seat.old (Contains key) refusal seat.new) }
+    {
+        self.contains_key_at(rt, seat, key, 0, &NoGate)
+    }
+
+    /// `containsKey`, as a job, whose gate is told of it.
+    pub fn contains_key_at<R: Wait, G: Gate>(
+        &self,
+        rt: &R,
+        seat: &mut Seat<'a>,
+        key: i64,
+        job: usize,
+        gate: &G,
+    ) -> Result<Reply, InvokeRefusal>
+        requires { seat.old.table ≡ self.now.table }
+        ensures ok { IfOk result (λ reply. IsAnswered self.now seat.old (Contains key) reply seat.new) }
+        ensures err { IfErr result (λ refusal. IsTurnedAway self.now seat.old (Contains key) refusal seat.new) }
+    {
+        self.plain(rt, seat, Call::Contains { key }, job, gate)
+    }
+}

@@ -1,0 +1,176 @@
+//! Seats are cut and joined, and stripes come back.
+
+ghost use Rattle.std.specs.Prelude.{◌≡◌, ◌+◌, ◌<◌, ◌≤◌, [], ◌∷◌, ℕ, suc, length, vec_len, vec_capacity, IfOk, IfErr};
+ghost use mathlib.Core.Option.{some};
+ghost use lib.ListN.{get_elem?};
+ghost use Rattle.stripe.specs.Tables.{IsCount, fresh_stripes, none_back};
+ghost use Rattle.cache.specs.Views.{seat_view, part, none_full, first_view};
+ghost use Rattle.cache.specs.Opened.{Sitting, IsSeatCount, AreFresh, fresh_seat, view_of};
+ghost use Rattle.cache.specs.Closing.{receipts_seen, receipts_in};
+ghost use Rattle.cache.specs.Ends.{AreReady, CanComeBack, IsUnpacked, tables_of};
+
+use crate::known::{Known, Terms};
+use crate::locks::{Locks, OneMore};
+use crate::receipt::Receipt;
+use crate::seat::Seat;
+use crate::steps::{Board, Place};
+use atomic_table::Table;
+use std::alloc::Global;
+use stripe::{Rest, Stripe, Tables};
+
+/// A table of stripes, under their locks.
+pub type Locked<'a> = Table<Stripe<'a>, Known, Terms, Locks, Global>;
+
+/// Cuts all seats but the first off the first.
+fn cut_all<'a>(
+    alloc: Global,
+    board: &Board<'a>,
+    pass: &mut Place<'a>,
+    list: &mut Vec<Seat<'a>>,
+    seats: usize,
+)
+    requires count { IsSeatCount seats }
+    requires board { (pass.old.table_id ≡ board.now.table_id) × (0 < board.now.table_id.words) }
+    requires first { pass.old.me ≡ (first_view, []) }
+    requires room { (list.old.items ≡ []) × (seats ≤ vec_capacity list.old) }
+    ensures table { pass.new.table_id ≡ pass.old.table_id }
+    ensures pass { pass.new.me ≡ (seat_view seats (part 0 [] none_full), []) }
+    ensures count { (length list.new.items + 1 ≡ seats) × (vec_capacity list.old ≤ vec_capacity list.new) }
+    ensures seats { (c : ℕ) (s : Sitting) → get_elem? list.new.items c ≡ some s → s ≡ fresh_seat pass.old.table_id seats (suc c) }
+{
+    for number in 1..seats {
+        let cut = board.split_seat::<OneMore>(pass);
+        list.push_reserved(Seat {
+            pass: cut,
+            caller: number as u8,
+            made: 0,
+            receipts: Vec::new(alloc),
+            full: [false; 64],
+        });
+    }
+}
+
+/// The first seat, before any call.
+fn first_seat<'a>(alloc: Global, pass: Place<'a>, seats: usize) -> Seat<'a>
+    requires count { IsSeatCount seats }
+    requires first { pass.me ≡ (seat_view seats (part 0 [] none_full), []) }
+    ensures { result ≡ fresh_seat pass.entry.table_id seats 0 }
+{
+    Seat {
+        pass,
+        caller: 0,
+        made: seats as u8,
+        receipts: Vec::new(alloc),
+        full: [false; 64],
+    }
+}
+
+/// Puts stripes that are fresh under locks; or the stripes again.
+pub fn locked<'a>(
+    alloc: Global,
+    stripes: Vec<Stripe<'a>>,
+    terms: &Terms,
+) -> Result<(Locked<'a>, Place<'a>), Vec<Stripe<'a>>>
+    requires count { IsCount (length terms.now.tables.value) }
+    requires fresh { stripes.items ≡ fresh_stripes terms.now.journal terms.now.tables.value }
+    ensures words { IfOk result (λ t. t.0.shared.table_id.words ≡ length terms.now.tables.value) }
+    ensures slots { IfOk result (λ t. t.0.shared.table_id.slots ≡ length terms.now.tables.value) }
+    ensures key { IfOk result (λ t. t.0.shared.key ≡ terms.now) }
+    ensures first { IfOk result (λ t. (t.1.table_id ≡ t.0.shared.table_id) × (t.1.me ≡ (first_view, []))) }
+    ensures err { IfErr result (λ s. s.items ≡ stripes.entry.items) }
+{
+    let words = [0u64; 64];
+    let count = stripes.len();
+    match Table::new(alloc, &words[..count], stripes, terms) {
+        Ok(made) => Ok(made),
+        Err(refused) => Err(refused.slots),
+    }
+}
+
+/// All seats of a cache, in the room for them.
+pub fn seated<'a>(
+    alloc: Global,
+    board: &Board<'a>,
+    mut pass: Place<'a>,
+    mut list: Vec<Seat<'a>>,
+    seats: usize,
+) -> Vec<Seat<'a>>
+    requires count { IsSeatCount seats }
+    requires board { (pass.table_id ≡ board.now.table_id) × (0 < board.now.table_id.words) }
+    requires first { pass.me ≡ (first_view, []) }
+    requires room { (list.items ≡ []) × (seats ≤ vec_capacity list) }
+    ensures { AreFresh pass.entry.table_id seats result.items }
+{
+    cut_all(alloc, board, &mut pass, &mut list, seats);
+    first_in(&mut list, first_seat(alloc, pass, seats));
+    list
+}
+
+/// Puts the first seat before the others.
+fn first_in<'a>(list: &mut Vec<Seat<'a>>, first: Seat<'a>)
+    requires { vec_len list.old < vec_capacity list.old }
+    ensures { list.new.items ≡ first.entry ∷ list.old.items }
+{
+    if list.insert(0, first).is_err() {
+        unreachable!()
+    }
+}
+
+/// Joins all seats into the first, and gathers their receipts.
+pub fn join_all<'a>(
+    board: &Board<'a>,
+    first: Seat<'a>,
+    rest: Vec<Seat<'a>>,
+    lists: &mut Vec<Vec<Receipt<'a>>>,
+) -> Place<'a>
+    requires board { (first.table ≡ board.now.table_id) × (0 < board.now.table_id.words) }
+    requires rest { (c : ℕ) (s : Sitting) → get_elem? rest.items c ≡ some s → s.table ≡ board.now.table_id }
+    requires room { (lists.old.items ≡ []) × (length rest.items + 1 ≤ vec_capacity lists.old) }
+    ensures table { result.table_id ≡ board.now.table_id }
+    ensures joined { result.me ≡ (view_of first.entry.made (first.entry ∷ rest.entry.items), []) }
+    ensures lists { receipts_seen lists.new.items ≡ receipts_in (first.entry ∷ rest.entry.items) }
+{
+    let Seat {
+        mut pass,
+        receipts,
+        ..
+    } = first;
+    lists.push_reserved(receipts);
+    for seat in rest {
+        let Seat {
+            pass: other,
+            receipts,
+            ..
+        } = seat;
+        board.join_seat::<OneMore>(&mut pass, other);
+        lists.push_reserved(receipts);
+    }
+    pass
+}
+
+/// Takes the stripes out of the table.
+pub fn unpack<'a>(table: Locked<'a>, pass: Place<'a>, rest: &mut Rest<'a>)
+    requires table { pass.table_id ≡ table.shared.table_id }
+    requires ready { CanComeBack table.shared.key table.shared.table_id.slots pass.id pass.me.0 }
+    requires rest { rest.old ≡ none_back table.shared.table_id.slots }
+    ensures { IsUnpacked table.entry.shared.key table.entry.shared.table_id.slots pass.entry.id pass.entry.me.0 rest.new }
+{
+    let mut closed = table.close_with(pass);
+    for i in 0..closed.slot_count() {
+        rest.add(closed.take(i));
+    }
+    closed.free();
+}
+
+/// Puts stripes back together into the tables that they were split from.
+pub fn rejoined<'a>(stripes: Vec<Stripe<'a>>, mut rest: Rest<'a>) -> Tables
+    requires stripes { AreReady (length stripes.items) stripes.items }
+    requires rest { rest ≡ none_back (length stripes.items) }
+    ensures { result ≡ tables_of stripes.entry.items }
+{
+    for stripe in stripes {
+        rest.add(stripe);
+    }
+    let (tables, _histories) = rest.finish();
+    tables
+}

@@ -1,0 +1,72 @@
+//! The rule of the stripes' locks, and what each step tells. No value of these types is made.
+
+use crate::known::{Known, Terms};
+use atomic_table::{Join, Play, Split, TableRule};
+use stripe::Stripe;
+
+/// A word for each stripe is 0 where the stripe is free, and 1 where a seat holds it.
+pub struct Locks;
+
+impl<'a> TableRule<Stripe<'a>, Known, Terms> for Locks {
+    ghost use Rattle.cache.specs.Guarded.{Guarded};
+    ghost use Rattle.cache.specs.Views.{first_view};
+
+    ghost holds = { Guarded };
+
+    ghost first = { λ _. first_view };
+}
+
+/// A stripe is taken, if it is free.
+pub struct Take;
+
+impl<'a> Play<Stripe<'a>, Known> for Take {
+    ghost use Rattle.cache.specs.Plays.{on_take};
+
+    ghost then = { on_take };
+}
+
+/// A stripe is given back as it was.
+pub struct Return;
+
+impl<'a> Play<Stripe<'a>, Known> for Return {
+    ghost use Rattle.cache.specs.Plays.{on_return};
+
+    ghost then = { on_return };
+}
+
+/// A stripe is given back as it was, and it is full.
+pub struct Fill;
+
+impl<'a> Play<Stripe<'a>, Known> for Fill {
+    ghost use Rattle.cache.specs.Plays.{on_fill};
+
+    ghost then = { on_fill };
+}
+
+/// A stripe is given back with one record more.
+pub struct Tell;
+
+impl<'a> Play<Stripe<'a>, Known> for Tell {
+    ghost use Rattle.cache.specs.Plays.{on_tell};
+
+    ghost then = { on_tell };
+}
+
+/// A further seat is made, and seats are put together at the end.
+pub struct OneMore;
+
+impl Split<Known> for OneMore {
+    ghost use Rattle.cache.specs.Views.{cut_left, cut_right};
+
+    ghost left = { cut_left };
+
+    ghost right = { cut_right };
+}
+
+impl Join<Known> for OneMore {
+    ghost use Rattle.cache.specs.Views.{joined, spent};
+
+    ghost both = { joined };
+
+    ghost spent = { spent };
+}

@@ -1,0 +1,115 @@
+//! A stripe is taken, worked on and given back.
+
+ghost use Rattle.std.specs.Prelude.{◌≡◌, ◌<◌, ◌∷◌, [], ℕ, length, Some, Err, IfOk, OnErr};
+ghost use Rattle.stripe.specs.History.{Begun, key_of};
+ghost use Rattle.stripe.specs.Kept.{Kept, CanCommit};
+ghost use Rattle.stripe.specs.Seen.{call_of, record_of};
+ghost use Rattle.stripe.specs.declared.refusal.BeginRefusal.TheVariants.{JournalFull};
+ghost use Rattle.cache.specs.Views.{Part, seat_view, holding, filled_part};
+ghost use Rattle.cache.specs.Inside.{IsBoard};
+ghost use Rattle.cache.specs.Steps.{IsIdle, HasTaken, CanBegin, HasBegun, HasCommitted, HasTold, CanReturn, CanFill, CanTell};
+
+use crate::known::{Known, Terms};
+use crate::locks::{Fill, Locks, Return, Take, Tell};
+use atomic_table::{Seat as Pass, Shared};
+use machine::Done;
+use std::sync::Wait;
+use stripe::{BeginRefusal, Call, Record, Stripe};
+
+/// The stripes, under their locks.
+pub type Board<'a> = Shared<Stripe<'a>, Known, Terms, Locks>;
+
+/// What a seat steps with.
+pub type Place<'a> = Pass<Stripe<'a>, Known>;
+
+/// Takes a stripe. Who finds it taken sleeps until it is given back.
+pub fn take<'a, R: Wait>(rt: &R, board: &Board<'a>, pass: &mut Place<'a>, index: usize)
+    requires table { pass.old.table_id ≡ board.now.table_id }
+    requires board { IsBoard board.now.table_id board.now.key }
+    requires index { index < board.now.table_id.words }
+    requires idle { IsIdle pass.old.me }
+    ensures table { pass.new.table_id ≡ pass.old.table_id }
+    ensures taken { (made : ℕ) (p : Part) → pass.old.me ≡ (seat_view made p, []) → HasTaken board.now.table_id.slots index made p pass.new.me }
+{
+    for _ in rt.forever() {
+        if board.swap::<Take>(pass, index, 1) == 0 {
+            return;
+        }
+        board.park(rt, index, 1);
+    }
+    unreachable!()
+}
+
+/// Begins a call on the stripe that the seat holds.
+pub fn begin<'a>(
+    board: &Board<'a>,
+    pass: &mut Place<'a>,
+    index: usize,
+    caller: u8,
+    number: u32,
+    call: Call<'a>,
+) -> Result<Option<i64>, BeginRefusal>
+    requires table { pass.old.table_id ≡ board.now.table_id }
+    requires held { CanBegin index (record { caller = caller; number = number; call = call_of call }) pass.old.me.1 }
+    ensures table { pass.new.table_id ≡ pass.old.table_id }
+    ensures view { pass.new.me.0 ≡ pass.old.me.0 }
+    ensures ok { IfOk result (λ before. (y : Kept) → pass.old.me.1 ≡ (index, y) ∷ [] → HasBegun index (record { caller = caller; number = number; call = call_of call.entry }) before y pass.new.me.1) }
+    ensures err { OnErr result (pass.new.me.1 ≡ pass.old.me.1) }
+    ensures full { result ≡ Err JournalFull → (y : Kept) → pass.old.me.1 ≡ (index, y) ∷ [] → length y.records ≡ y.journal }
+{
+    pass.slot_mut(board, index).begin(caller, number, call)
+}
+
+/// Ends the call that was begun on it. Answers its record and the record's place.
+pub fn commit<'a>(
+    board: &Board<'a>,
+    pass: &mut Place<'a>,
+    index: usize,
+    done: Option<Done>,
+) -> (Record<'a>, usize)
+    requires table { pass.old.table_id ≡ board.now.table_id }
+    requires held { (y : Kept) × (pass.old.me.1 ≡ (index, y) ∷ []) × CanCommit y done }
+    ensures table { pass.new.table_id ≡ pass.old.table_id }
+    ensures view { pass.new.me.0 ≡ pass.old.me.0 }
+    ensures committed { (y : Kept) (b : Begun) → pass.old.me.1 ≡ (index, y) ∷ [] → y.running ≡ Some b → HasCommitted index b y (record_of result.0) result.1 pass.new.me.1 }
+{
+    let stripe = pass.slot_mut(board, index);
+    let place = stripe.history().len();
+    (stripe.commit(done), place)
+}
+
+/// Gives the stripe back with one record more.
+pub fn tell<'a>(board: &Board<'a>, pass: &mut Place<'a>, index: usize)
+    requires table { pass.old.table_id ≡ board.now.table_id }
+    requires index { index < board.now.table_id.words }
+    requires held { CanTell index pass.old.me }
+    ensures table { pass.new.table_id ≡ pass.old.table_id }
+    ensures given { HasTold index pass.old.me pass.new.me }
+{
+    board.swap::<Tell>(pass, index, 0);
+    board.wake_one(index);
+}
+
+/// Gives the stripe back as it was.
+pub fn give_back<'a>(board: &Board<'a>, pass: &mut Place<'a>, index: usize)
+    requires table { pass.old.table_id ≡ board.now.table_id }
+    requires index { index < board.now.table_id.words }
+    requires held { CanReturn index pass.old.me }
+    ensures table { pass.new.table_id ≡ pass.old.table_id }
+    ensures given { (made : ℕ) (p : Part) (y : Kept) → pass.old.me.0 ≡ holding made p index y → pass.new.me ≡ (seat_view made p, []) }
+{
+    board.swap::<Return>(pass, index, 0);
+    board.wake_one(index);
+}
+
+/// Gives the stripe back as it was. Its history is full.
+pub fn give_full<'a>(board: &Board<'a>, pass: &mut Place<'a>, index: usize)
+    requires table { pass.old.table_id ≡ board.now.table_id }
+    requires index { index < board.now.table_id.words }
+    requires held { CanFill index pass.old.me }
+    ensures table { pass.new.table_id ≡ pass.old.table_id }
+    ensures given { (made : ℕ) (p : Part) (y : Kept) → pass.old.me.0 ≡ holding made p index y → pass.new.me ≡ (seat_view made (filled_part p index), []) }
+{
+    board.swap::<Fill>(pass, index, 0);
+    board.wake_one(index);
+}

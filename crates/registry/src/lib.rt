@@ -1,0 +1,9 @@
+//! Classes that threads share.
+#![tactic(auto)]
+
+mod registry;
+
+pub use registry::{ClassId, Registry};
+
+#[cfg(test)]
+mod tests;

@@ -1,0 +1,77 @@
+//! The classes that were accepted, and the ids that were given for them.
+
+ghost use Rattle.std.specs.Prelude.{◌≡◌, ◌⊎◌, IfOk, IfErr};
+
+use boxcar::Pushed;
+use jtypes::Refusal;
+use std::alloc::{AllocError, Global};
+use std::marker::Model;
+use std::sync::Wait;
+use verify::{Verified, verify};
+
+/// The classes that were accepted. Threads share it, and none is ever taken out or moved.
+#[derive(Drop)]
+pub struct Registry {
+    classes: boxcar::Vec<Verified>,
+}
+
+impl Model for Registry {
+    ghost use Rattle.boxcar.specs.Table.{Shelves, shelves_coded};
+
+    ghost Value = { Shelves };
+
+    ghost coded = { shelves_coded };
+
+    ghost view = { λ r. r.classes };
+}
+
+/// What `define` gives for a class. Contracts see the registry's place in it, and the class.
+#[derive(Drop)]
+pub struct ClassId {
+    token: Pushed<Verified>,
+}
+
+impl Model for ClassId {
+    ghost use Rattle.boxcar.specs.Table.{Where};
+    ghost use Rattle.typecheck.specs.Typing.{Class};
+
+    ghost Value = { Where Class };
+
+    ghost view = { λ id. id.token };
+}
+
+impl Registry {
+    ghost use Rattle.std.specs.Prelude.{◌≡◌, ◌⊎◌, IfOk, IfErr};
+    ghost use Rattle.jtypes.specs.declared.refusal.Refusal.{Refusal};
+    ghost use Rattle.verdict.specs.Verdict.{IsAccepted, IsClassOf, IsRefused};
+    ghost use Rattle.registry.specs.Ids.{IsOf, class_of};
+
+    /// No classes yet.
+    pub fn new(alloc: Global) -> Result<Registry, AllocError> {
+        Ok(Registry {
+            classes: boxcar::Vec::new(alloc)?,
+        })
+    }
+
+    /// Judges the bytes of a class (JVMS §4, §4.10.1), and keeps it. It may wait for another call that keeps one.
+    pub fn define<R: Wait>(&self, rt: &R, alloc: Global, bytes: &[u8]) -> Result<ClassId, Refusal>
+        ensures given { IfOk result (λ id. IsOf self.now id) }
+        ensures class { IfOk result (λ id. IsClassOf bytes.now (class_of id)) }
+        ensures accepted { IfOk result (λ _. IsAccepted bytes.now) }
+        ensures refused { IfErr result (λ r. (r ≡ Refusal.NoMemory) ⊎ IsRefused bytes.now r) }
+    {
+        let class = verify(alloc, bytes)?;
+        match self.classes.push_shown(rt, class) {
+            Ok(token) => Ok(ClassId { token }),
+            Err(_) => Err(Refusal::NoMemory),
+        }
+    }
+
+    /// The class for which the id was given.
+    pub fn class<'a>(&'a self, id: &ClassId) -> &'a Verified
+        requires { IsOf self.now id.now }
+        ensures { result.now ≡ class_of id.now }
+    {
+        self.classes.value(&id.token)
+    }
+}
