@@ -126,10 +126,8 @@ fn events_are_done_in_any_order(rt: HostRuntime) -> Result<(), Fail> {
     Ok(())
 }
 
-#[test]
-fn a_run_stops_at_a_refusal(rt: HostRuntime) -> Result<(), Fail> {
-    let alloc = rt.alloc();
-    let plus = verified(alloc, rows::plus(alloc)?)?;
+/// A run over a list of events in which the one at place 22 is refused.
+fn stopped_run(rt: &impl Abort, alloc: Global, plus: &Verified) -> Result<(), AllocError> {
     let mut world = opened(alloc, 2, 2)?;
     let step = Event::Step { stripe: 1 };
     let finish = Event::Finish { stripe: 1 };
@@ -137,7 +135,7 @@ fn a_run_stops_at_a_refusal(rt: HostRuntime) -> Result<(), Fail> {
     events.push(start(Call::Put { key: 1, value: 5 }))?;
     events.push(step)?;
     events.push(finish)?;
-    events.push(start(invoke(&plus, 1)))?;
+    events.push(start(invoke(plus, 1)))?;
     events.push(Event::Start {
         caller: 1,
         call: Call::Get { key: 3 },
@@ -162,6 +160,14 @@ fn a_run_stops_at_a_refusal(rt: HostRuntime) -> Result<(), Fail> {
         Ok(())
     );
     assert_eq!(rt; (world.entry(1), world.entry(2)), (Some(6), Some(7)));
+    Ok(())
+}
+
+#[test]
+fn a_run_stops_at_a_refusal(rt: HostRuntime) -> Result<(), Fail> {
+    let alloc = rt.alloc();
+    let plus = verified(alloc, rows::plus(alloc)?)?;
+    stopped_run(&rt, alloc, &plus)?;
     Ok(())
 }
 
