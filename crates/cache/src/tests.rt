@@ -1,16 +1,30 @@
 //! Calls of caches, on one thread and on several.
 
-ghost use Rattle.std.specs.Prelude.{◌≡◌};
+ghost use Rattle.std.specs.Prelude.{◌≡◌, IfOk};
+ghost use Rattle.cache.specs.Opened.{IsSeat};
+ghost use Rattle.registry.specs.Ids.{IsOf};
 
 use super::*;
-use jtypes::{Arg, Args, Outcome, Refusal};
+use jtypes::{Arg, Args, Outcome};
 use machine::Workspace;
 use registry::{ClassId, Registry};
 use rowclasses as rows;
-use std::alloc::Global;
+use std::alloc::{AllocError, Global};
 use std::sync::Wait;
 use std::test::Fail;
-use stripe::{OpenRefusal, Reply, Tables};
+use stripe::{OpenRefusal, Record, Reply, Tables};
+
+/// What a call was told.
+type Told = Result<Reply, InvokeRefusal>;
+
+/// A call that isn't an invocation.
+#[derive(Clone, Copy)]
+enum Plain {
+    Get,
+    Put(i64),
+    Remove,
+    Contains,
+}
 
 /// An invocation returned this Long.
 fn returned(n: i64) -> Reply {
@@ -33,6 +47,187 @@ fn refused(
         Ok(_) => None,
         Err((refusal, _tables)) => Some(refusal),
     }
+}
+
+/// A cache with one seat.
+fn opened<'a>(
+    alloc: Global,
+    registry: &'a Registry,
+    stripes: usize,
+    journal: usize,
+) -> Result<(Cache<'a>, Seat<'a>), OpenRefusal>
+    ensures registry { IfOk result (λ r. r.0.registry ≡ registry.now) }
+    ensures count { IfOk result (λ r. r.0.seats ≡ 1) }
+    ensures seat { IfOk result (λ r. IsSeat r.0.table 1 0 r.1) }
+{
+    let tables = Tables::new(alloc, stripes)?;
+    match Cache::open(alloc, registry, tables, journal, 1) {
+        Ok((cache, mut seats)) => {
+            let seat = seats.remove(0);
+            Ok((cache, seat))
+        }
+        Err((refusal, _tables)) => Err(refusal),
+    }
+}
+
+/// Makes a call that isn't an invocation.
+fn asked<'a, R: Wait>(rt: &R, cache: &Cache<'a>, seat: &mut Seat<'a>, key: i64, call: Plain) -> Told
+    requires { seat.old.table ≡ cache.now.table }
+    ensures table { seat.new.table ≡ seat.old.table }
+    ensures caller { seat.new.caller ≡ seat.old.caller }
+    ensures made { seat.new.made ≡ seat.old.made }
+{
+    match call {
+        Plain::Get => cache.get(rt, seat, key),
+        Plain::Put(value) => cache.put(rt, seat, key, value),
+        Plain::Remove => cache.remove(rt, seat, key),
+        Plain::Contains => cache.contains_key(rt, seat, key),
+    }
+}
+
+/// Invokes a class with no arguments.
+fn invoked<'a, R: Wait>(
+    rt: &R,
+    cache: &Cache<'a>,
+    seat: &mut Seat<'a>,
+    workspace: &mut Workspace,
+    class: &ClassId,
+    key: i64,
+) -> Told
+    requires seat { seat.old.table ≡ cache.now.table }
+    requires class { IsOf cache.now.registry class.now }
+    ensures table { seat.new.table ≡ seat.old.table }
+    ensures caller { seat.new.caller ≡ seat.old.caller }
+    ensures made { seat.new.made ≡ seat.old.made }
+{
+    cache.invoke(rt, seat, workspace, class, key, Args::none())
+}
+
+/// Closes a cache that has one seat.
+fn closed<'a>(alloc: Global, cache: Cache<'a>, seat: Seat<'a>) -> Result<Closed<'a>, AllocError>
+    requires count { cache.seats ≡ 1 }
+    requires seat { IsSeat cache.table 1 0 seat }
+{
+    let mut seats = Vec::new(alloc);
+    seats.push(seat)?;
+    Ok(cache.close(seats))
+}
+
+/// Makes each kind of call on a key, one after the other.
+fn asked_all<'a, R: Wait>(
+    rt: &R,
+    cache: &Cache<'a>,
+    seat: &mut Seat<'a>,
+    workspace: &mut Workspace,
+    plus: &ClassId,
+    key: i64,
+) -> [Told; 5]
+    requires seat { seat.old.table ≡ cache.now.table }
+    requires class { IsOf cache.now.registry plus.now }
+    ensures table { seat.new.table ≡ seat.old.table }
+    ensures caller { seat.new.caller ≡ seat.old.caller }
+    ensures made { seat.new.made ≡ seat.old.made }
+{
+    let put = asked(rt, cache, seat, key, Plain::Put(5));
+    let result = invoked(rt, cache, seat, workspace, plus, key);
+    let got = asked(rt, cache, seat, key, Plain::Get);
+    let there = asked(rt, cache, seat, key, Plain::Contains);
+    let removed = asked(rt, cache, seat, key, Plain::Remove);
+    [put, result, got, there, removed]
+}
+
+/// Whether these calls were told what they mean, one after the other.
+fn are_answers(told: &[Told; 5]) -> bool {
+    told.as_slice()
+        == [
+            Ok(Reply::Done),
+            Ok(returned(6)),
+            Ok(Reply::Value(Some(6))),
+            Ok(Reply::Flag(true)),
+            Ok(Reply::Flag(true)),
+        ]
+        .as_slice()
+}
+
+/// What a cache of two stripes hands out after these calls on key 1; none where one was told something else.
+fn called<'a, R: Wait>(
+    rt: &R,
+    alloc: Global,
+    registry: &'a Registry,
+    plus: &ClassId,
+) -> Option<Closed<'a>>
+    requires { IsOf registry.now plus.now }
+{
+    let Ok(mut workspace) = Workspace::new(alloc) else {
+        return None;
+    };
+    let Ok((cache, mut seat)) = opened(alloc, registry, 2, 16) else {
+        return None;
+    };
+    let told = asked_all(rt, &cache, &mut seat, &mut workspace, plus, 1);
+    if !are_answers(&told) {
+        return None;
+    }
+    match closed(alloc, cache, seat) {
+        Ok(closed) => Some(closed),
+        Err(_) => None,
+    }
+}
+
+/// How many records a stripe has, and how many receipts the first seat.
+fn counts(closed: &Closed<'_>, stripe: usize) -> Option<(usize, usize)> {
+    let Some(history) = closed.histories.get(stripe) else {
+        return None;
+    };
+    let Some(receipts) = closed.receipts.first() else {
+        return None;
+    };
+    Some((history.len(), receipts.len()))
+}
+
+/// Whether a receipt names the record at a place of a stripe.
+fn is_named(record: &Record<'_>, receipt: &Receipt<'_>, stripe: usize, place: usize) -> bool {
+    let names = receipt.stripe == stripe && receipt.place == place;
+    names && record.number as usize == place && record.reply == receipt.reply
+}
+
+/// What the first seat's receipt was told, where it names the record at its own place of this stripe.
+fn named(closed: &Closed<'_>, stripe: usize, place: usize) -> Option<Reply> {
+    let history = closed.histories.get(stripe)?;
+    let receipts = closed.receipts.first()?;
+    let record = history.get(place)?;
+    let receipt = receipts.get(place)?;
+    if is_named(record, receipt, stripe, place) {
+        Some(receipt.reply)
+    } else {
+        None
+    }
+}
+
+/// The same, at five places.
+fn named_all(closed: &Closed<'_>, stripe: usize) -> [Option<Reply>; 5] {
+    [
+        named(closed, stripe, 0),
+        named(closed, stripe, 1),
+        named(closed, stripe, 2),
+        named(closed, stripe, 3),
+        named(closed, stripe, 4),
+    ]
+}
+
+/// Whether the receipts of these calls name the five records of stripe 1.
+fn are_receipts(closed: &Closed<'_>) -> bool {
+    let are_five = counts(closed, 0) == Some((0, 5)) && counts(closed, 1) == Some((5, 5));
+    let are_named = named_all(closed, 1).as_slice()
+        == [
+            Some(Reply::Done),
+            Some(returned(6)),
+            Some(Reply::Value(Some(6))),
+            Some(Reply::Flag(true)),
+            Some(Reply::Flag(true)),
+        ]
+        .as_slice();
+    are_five && are_named
 }
 
 #[test]
@@ -65,35 +260,11 @@ fn calls_on_one_key(rt: HostRuntime) -> Result<(), Fail> {
     let Ok(plus) = registry.define(&rt, alloc, &rows::plus(alloc)?) else {
         panic!(rt; "plus is refused");
     };
-    let mut workspace = Workspace::new(alloc)?;
-    let Ok(tables) = Tables::new(alloc, 2) else {
-        panic!(rt; "no tables");
+    let Some(closed) = called(&rt, alloc, &registry, &plus) else {
+        panic!(rt; "another answer");
     };
-    let Ok((cache, mut seats)) = Cache::open(alloc, &registry, tables, 16, 1) else {
-        panic!(rt; "no cache");
-    };
-    let seat = &mut seats[0];
-    assert_eq!(rt; cache.put(&rt, seat, 1, 5), Ok(Reply::Done));
-    let invoked = cache.invoke(&rt, seat, &mut workspace, &plus, 1, Args::none());
-    assert_eq!(rt; invoked, Ok(returned(6)));
-    assert_eq!(rt; cache.get(&rt, seat, 1), Ok(Reply::Value(Some(6))));
-    assert_eq!(rt; cache.contains_key(&rt, seat, 1), Ok(Reply::Flag(true)));
-    assert_eq!(rt; cache.remove(&rt, seat, 1), Ok(Reply::Flag(true)));
-    let closed = cache.close(seats);
+    assert!(rt; are_receipts(&closed));
     assert_eq!(rt; closed.tables.entry(1), None);
-    assert_eq!(rt; closed.histories.len(), 2);
-    assert_eq!(rt; closed.histories[0].len(), 0);
-    assert_eq!(rt; closed.histories[1].len(), 5);
-    assert_eq!(rt; closed.receipts.len(), 1);
-    let mut place = 0;
-    for receipt in &closed.receipts[0] {
-        assert_eq!(rt; receipt.stripe, 1);
-        assert_eq!(rt; receipt.place, place);
-        assert_eq!(rt; receipt.reply, closed.histories[1][place].reply);
-        assert_eq!(rt; closed.histories[1][place].number as usize, place);
-        place += 1;
-    }
-    assert_eq!(rt; place, 5);
     Ok(())
 }
 
@@ -101,18 +272,15 @@ fn calls_on_one_key(rt: HostRuntime) -> Result<(), Fail> {
 fn a_full_stripe_refuses(rt: HostRuntime) -> Result<(), Fail> {
     let alloc = rt.alloc();
     let registry = Registry::new(alloc)?;
-    let Ok(tables) = Tables::new(alloc, 1) else {
-        panic!(rt; "no tables");
-    };
-    let Ok((cache, mut seats)) = Cache::open(alloc, &registry, tables, 1, 1) else {
+    let Ok((cache, mut seat)) = opened(alloc, &registry, 1, 1) else {
         panic!(rt; "no cache");
     };
-    let seat = &mut seats[0];
-    assert_eq!(rt; cache.put(&rt, seat, 1, 5), Ok(Reply::Done));
-    assert_eq!(rt; cache.get(&rt, seat, 1), Err(InvokeRefusal::JournalFull));
-    let closed = cache.close(seats);
+    let put = asked(&rt, &cache, &mut seat, 1, Plain::Put(5));
+    assert_eq!(rt; put, Ok(Reply::Done));
+    let got = asked(&rt, &cache, &mut seat, 1, Plain::Get);
+    assert_eq!(rt; got, Err(InvokeRefusal::JournalFull));
+    let closed = closed(alloc, cache, seat)?;
     assert_eq!(rt; closed.tables.entry(1), Some(5));
-    assert_eq!(rt; closed.histories[0].len(), 1);
-    assert_eq!(rt; closed.receipts[0].len(), 1);
+    assert_eq!(rt; counts(&closed, 0), Some((1, 1)));
     Ok(())
 }
