@@ -1,4 +1,4 @@
-//! Calls of caches, on one thread and on several.
+//! Calls of caches, on one thread.
 
 ghost use Rattle.std.specs.Prelude.{◌≡◌, IfOk};
 ghost use Rattle.cache.specs.Opened.{IsSeat};
