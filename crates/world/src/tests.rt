@@ -80,55 +80,21 @@ fn told(world: &World<'_>, stripe: usize) -> Option<(usize, u32, i64)> {
     Some((records.len(), last.number, last.call.key()))
 }
 
-#[test]
-fn events_are_done_in_any_order(rt: HostRuntime) -> Result<(), Fail> {
-    let alloc = rt.alloc();
-    let plus = verified(alloc, rows::plus(alloc)?)?;
-    let mut world = opened(alloc, 2, 2)?;
-    let step = Event::Step { stripe: 1 };
-    let finish = Event::Finish { stripe: 1 };
-    let put = start(Call::Put { key: 1, value: 5 });
-    assert_eq!(rt; world.apply(put), Applied::Done);
-    assert_eq!(rt; world.apply(step), Applied::Ignored);
-    assert_eq!(rt; world.apply(finish), Applied::Done);
-    assert_eq!(rt; world.apply(start(invoke(&plus, 1))), Applied::Done);
-    let get = Event::Start {
-        caller: 1,
-        call: Call::Get { key: 3 },
-    };
-    assert_eq!(rt; world.apply(get), Applied::Ignored);
-    assert_eq!(rt; world.apply(finish), Applied::Ignored);
-    for _ in 0..14 {
-        assert_eq!(rt; world.apply(step), Applied::Done);
+/// What became of these events, one after the other.
+fn applied_all<'a>(
+    alloc: Global,
+    world: &mut World<'a>,
+    events: &[Event<'a>],
+) -> Result<Vec<Applied>, AllocError> {
+    let mut told = Vec::new(alloc);
+    for event in events {
+        told.push(world.apply(*event))?;
     }
-    assert_eq!(rt; world.apply(step), Applied::Ignored);
-    assert_eq!(rt; world.entry(1), Some(5));
-    assert_eq!(rt; world.apply(finish), Applied::Done);
-    assert_eq!(rt; world.entry(1), Some(6));
-    let get = Event::Start {
-        caller: 1,
-        call: Call::Get { key: 1 },
-    };
-    assert_eq!(rt;
-        world.apply(get),
-        Applied::Refused(BeginRefusal::JournalFull)
-    );
-    let Some((tables, records)) = closed(world) else {
-        panic!(rt; "a call runs");
-    };
-    assert_eq!(rt; records.len(), 2);
-    let Some(last) = records.last() else {
-        panic!(rt; "no record");
-    };
-    assert_eq!(rt; (last.caller, last.number, last.after), (0, 1, Some(6)));
-    assert_eq!(rt; last.reply, Reply::Result(Outcome::Returned(Arg::Long(6))));
-    assert_eq!(rt; tables.entry(1), Some(6));
-    Ok(())
+    Ok(told)
 }
 
-/// A run over a list of events in which the one at place 22 is refused.
-fn stopped_run(rt: &impl Abort, alloc: Global, plus: &Verified) -> Result<(), AllocError> {
-    let mut world = opened(alloc, 2, 2)?;
+/// Events on two stripes, of which the one at place 22 finds a full history where a stripe may have two records.
+fn table<'a>(alloc: Global, plus: &'a Verified) -> Result<Vec<Event<'a>>, AllocError> {
     let step = Event::Step { stripe: 1 };
     let finish = Event::Finish { stripe: 1 };
     let mut events = Vec::new(alloc);
@@ -150,15 +116,59 @@ fn stopped_run(rt: &impl Abort, alloc: Global, plus: &Verified) -> Result<(), Al
         call: Call::Get { key: 1 },
     })?;
     events.push(start(Call::Put { key: 2, value: 7 }))?;
+    Ok(events)
+}
+
+/// What becomes of them.
+fn told_of_table(alloc: Global) -> Result<Vec<Applied>, AllocError> {
+    let mut told = Vec::new(alloc);
+    told.push(Applied::Done)?;
+    told.push(Applied::Ignored)?;
+    told.push(Applied::Done)?;
+    told.push(Applied::Done)?;
+    told.push(Applied::Ignored)?;
+    told.push(Applied::Ignored)?;
+    for _ in 0..14 {
+        told.push(Applied::Done)?;
+    }
+    told.push(Applied::Ignored)?;
+    told.push(Applied::Done)?;
+    told.push(Applied::Refused(BeginRefusal::JournalFull))?;
+    told.push(Applied::Done)?;
+    Ok(told)
+}
+
+/// The events of the table, one by one.
+fn one_by_one(rt: &impl Abort, alloc: Global, plus: &Verified) -> Result<(), AllocError> {
+    let mut world = opened(alloc, 2, 2)?;
+    let events = table(alloc, plus)?;
+    let applied = applied_all(alloc, &mut world, &events)?;
+    let expected = told_of_table(alloc)?;
+    assert!(rt; applied.as_slice() == expected.as_slice());
+    assert_eq!(rt; (world.entry(1), world.entry(2)), (Some(6), None));
+    assert_eq!(rt; told(&world, 1), Some((2, 1, 1)));
+    Ok(())
+}
+
+#[test]
+fn events_are_done_in_any_order(rt: HostRuntime) -> Result<(), Fail> {
+    let alloc = rt.alloc();
+    let plus = verified(alloc, rows::plus(alloc)?)?;
+    one_by_one(&rt, alloc, &plus)?;
+    Ok(())
+}
+
+/// The events of the table by one run, which stops at place 22; and then others.
+fn stopped_run(rt: &impl Abort, alloc: Global, plus: &Verified) -> Result<(), AllocError> {
+    let mut world = opened(alloc, 2, 2)?;
+    let events = table(alloc, plus)?;
     assert_eq!(rt; world.run(&events), Err((22, BeginRefusal::JournalFull)));
     assert_eq!(rt; (world.entry(1), world.entry(2)), (Some(6), None));
-    assert_eq!(rt;
-        world.run(&[
-            start(Call::Put { key: 2, value: 7 }),
-            Event::Finish { stripe: 0 }
-        ]),
-        Ok(())
-    );
+    let rest = [
+        start(Call::Put { key: 2, value: 7 }),
+        Event::Finish { stripe: 0 },
+    ];
+    assert_eq!(rt; world.run(&rest), Ok(()));
     assert_eq!(rt; (world.entry(1), world.entry(2)), (Some(6), Some(7)));
     Ok(())
 }
@@ -171,9 +181,34 @@ fn a_run_stops_at_a_refusal(rt: HostRuntime) -> Result<(), Fail> {
     Ok(())
 }
 
-#[test]
-fn calls_on_one_key(rt: HostRuntime) -> Result<(), Fail> {
-    let alloc = rt.alloc();
+/// The callers, numbers, replies and entries of records.
+fn told_of_records(
+    alloc: Global,
+    records: &[Record<'_>],
+) -> Result<Vec<(u8, u32, Reply, Option<i64>)>, AllocError> {
+    let mut told = Vec::new(alloc);
+    for record in records {
+        told.push((record.caller, record.number, record.reply, record.after))?;
+    }
+    Ok(told)
+}
+
+/// Whether these are the records of the calls on one key.
+fn are_on_one_key(told: &[(u8, u32, Reply, Option<i64>)]) -> bool {
+    told == [
+        (0, 0, Reply::Value(None), None),
+        (0, 1, Reply::Done, Some(5)),
+        (0, 2, Reply::Value(Some(5)), Some(5)),
+        (0, 3, Reply::Flag(true), Some(5)),
+        (0, 4, Reply::Flag(true), None),
+        (0, 5, Reply::Flag(false), None),
+        (0, 6, Reply::Flag(false), None),
+    ]
+    .as_slice()
+}
+
+/// Calls on a negative key of so many stripes.
+fn one_key(rt: &impl Abort, alloc: Global, stripes: usize) -> Result<(), AllocError> {
     let key = -7;
     let calls = [
         Call::Get { key },
@@ -184,30 +219,68 @@ fn calls_on_one_key(rt: HostRuntime) -> Result<(), Fail> {
         Call::Remove { key },
         Call::Contains { key },
     ];
-    for stripes in [1, 64] {
-        let world = plain_calls(&rt, alloc, stripes, &calls)?;
-        let Some((tables, records)) = closed(world) else {
-            panic!(rt; "a call runs");
-        };
-        let mut told = Vec::new(alloc);
-        for record in &records {
-            told.push((record.number, record.reply, record.after))?;
+    let world = plain_calls(rt, alloc, stripes, &calls)?;
+    let Some((tables, records)) = closed(world) else {
+        panic!(rt; "a call runs");
+    };
+    let told = told_of_records(alloc, &records)?;
+    assert!(rt; are_on_one_key(&told));
+    assert_eq!(rt; tables.entry(key), None);
+    Ok(())
+}
+
+#[test]
+fn calls_on_one_key(rt: HostRuntime) -> Result<(), Fail> {
+    let alloc = rt.alloc();
+    one_key(&rt, alloc, 1)?;
+    one_key(&rt, alloc, 64)?;
+    Ok(())
+}
+
+/// Steps on stripes 0, 1 and 2 till nothing is left to do, and what became of the finish of each.
+fn finish_all(alloc: Global, world: &mut World<'_>) -> Result<Vec<Applied>, AllocError> {
+    let mut told = Vec::new(alloc);
+    for stripe in 0..3 {
+        for _ in 0..40 {
+            let _applied = world.apply(Event::Step { stripe });
         }
-        assert!(rt;
-            told.as_slice()
-                == [
-                    (0, Reply::Value(None), None),
-                    (1, Reply::Done, Some(5)),
-                    (2, Reply::Value(Some(5)), Some(5)),
-                    (3, Reply::Flag(true), Some(5)),
-                    (4, Reply::Flag(true), None),
-                    (5, Reply::Flag(false), None),
-                    (6, Reply::Flag(false), None),
-                ]
-                .as_slice()
-        );
-        assert_eq!(rt; tables.entry(key), None);
+        told.push(world.apply(Event::Finish { stripe }))?;
     }
+    Ok(told)
+}
+
+/// Whether these are the records of a processor that threw and of one that set and removed, the latter first.
+fn are_in_turns(told: &[(u8, u32, Reply, Option<i64>)]) -> bool {
+    let null = Reply::Result(Outcome::Threw(JavaFault::NullPointer));
+    let two = Reply::Result(Outcome::Returned(Arg::Long(2)));
+    told == [(9, 0, two, None), (0, 0, null, None)].as_slice()
+}
+
+/// A processor that throws on an absent key, and one that sets and removes on another, by two callers on two stripes.
+fn turns(
+    rt: &impl Abort,
+    alloc: Global,
+    plus: &Verified,
+    set_remove: &Verified,
+) -> Result<(), AllocError> {
+    let mut world = opened(alloc, 2, 4)?;
+    let starts = [
+        start(invoke(plus, -1)),
+        Event::Start {
+            caller: 9,
+            call: invoke(set_remove, 4),
+        },
+    ];
+    let begun = applied_all(alloc, &mut world, &starts)?;
+    assert!(rt; begun.as_slice() == [Applied::Done, Applied::Done].as_slice());
+    let ended = finish_all(alloc, &mut world)?;
+    assert!(rt; ended.as_slice() == [Applied::Done, Applied::Done, Applied::Ignored].as_slice());
+    let Some((tables, records)) = closed(world) else {
+        panic!(rt; "a call runs");
+    };
+    let told = told_of_records(alloc, &records)?;
+    assert!(rt; are_in_turns(&told));
+    assert_eq!(rt; (tables.entry(-1), tables.entry(4)), (None, None));
     Ok(())
 }
 
@@ -219,33 +292,7 @@ fn calls_on_two_stripes_take_turns(rt: HostRuntime) -> Result<(), Fail> {
         panic!(rt; "no class");
     };
     let set_remove = verified(alloc, set_remove)?;
-    let mut world = opened(alloc, 2, 4)?;
-    let mut told = Vec::new(alloc);
-    assert_eq!(rt; world.apply(start(invoke(&plus, -1))), Applied::Done);
-    let other = Event::Start {
-        caller: 9,
-        call: invoke(&set_remove, 4),
-    };
-    assert_eq!(rt; world.apply(other), Applied::Done);
-    for stripe in [0, 1, 2] {
-        for _ in 0..40 {
-            let _applied = world.apply(Event::Step { stripe });
-        }
-        told.push(world.apply(Event::Finish { stripe }))?;
-    }
-    assert!(rt; told.as_slice() == [Applied::Done, Applied::Done, Applied::Ignored].as_slice());
-    assert_eq!(rt; (world.entry(-1), world.entry(4)), (None, None));
-    let Some((tables, records)) = closed(world) else {
-        panic!(rt; "a call runs");
-    };
-    let mut replies = Vec::new(alloc);
-    for record in &records {
-        replies.push((record.caller, record.number, record.reply))?;
-    }
-    let null = Reply::Result(Outcome::Threw(JavaFault::NullPointer));
-    let two = Reply::Result(Outcome::Returned(Arg::Long(2)));
-    assert!(rt; replies.as_slice() == [(9, 0, two), (0, 0, null)].as_slice());
-    assert_eq!(rt; (tables.entry(-1), tables.entry(4)), (None, None));
+    turns(&rt, alloc, &plus, &set_remove)?;
     Ok(())
 }
 
