@@ -20,3 +20,5 @@ pub use seat::Seat;
 
 #[cfg(test)]
 mod tests;
+#[cfg(test)]
+mod thread_tests;

@@ -1,0 +1,318 @@
+//! Calls of caches, in several threads.
+
+ghost use Rattle.std.specs.Prelude.{◌≡◌, ◌<◌, ℕ, length, slice_index_or, IfOk, IfSome};
+ghost use Rattle.std.specs.List.{All};
+ghost use Rattle.cache.specs.Opened.{AreFresh, Sitting};
+ghost use Rattle.registry.specs.Ids.{IsOf};
+
+use super::*;
+use jtypes::{Arg, Args};
+use machine::Workspace;
+use registry::{ClassId, Registry};
+use rowclasses as rows;
+use std::alloc::Global;
+use std::sync::{Barrier, Wait};
+use std::test::Fail;
+use std::thread;
+use std::thread::Threads;
+use stripe::{OpenRefusal, Tables};
+
+/// What a worker does, at its place among all.
+trait Shift<W> {
+    ghost accepts: { Self → W → Type 0 };
+
+    ghost leaves: { Self → W → W → Type 0 };
+
+    fn serve(&self, place: usize, worker: &mut W)
+        requires { accepts self.now worker.old }
+        ensures { leaves self.now worker.old worker.new };
+}
+
+/// Has each worker serve in a thread of its own.
+fn serve_all<R: Threads + Sync, W: Send, S: Shift<W> + Sync>(rt: &R, workers: &mut [W], shift: &S)
+    requires ready { All (S.accepts shift.now) workers.old }
+    ensures { (i : ℕ) (d : W) → i < length workers.old → S.leaves shift.now (slice_index_or workers.old i d) (slice_index_or workers.new i d) }
+{
+    thread::for_each_mut(rt, workers, 16, &|place, worker| shift.serve(place, worker));
+}
+
+/// A gate where a call that has started waits until others have.
+#[derive(Drop)]
+struct Meeting<'s, R> {
+    rt: &'s R,
+    barrier: &'s Barrier,
+}
+
+impl<'s, R: Wait> Gate for Meeting<'s, R> {
+    fn started(&self, _job: usize) {
+        self.barrier.wait(self.rt);
+    }
+
+    fn answered(&self, _job: usize) {}
+}
+
+/// What each caller does.
+#[derive(Clone, Copy)]
+enum Work {
+    /// It puts and gets on key 1, 500 times.
+    PutAndGet,
+    /// It counts the entry of key 1 up, 100 times.
+    Count,
+    /// The first caller puts on key 0 and the others on key 1. No call ends before two have started.
+    Meet,
+}
+
+/// Callers of a cache.
+#[derive(Drop)]
+struct Callers<'s, 'a, R> {
+    rt: &'s R,
+    alloc: Global,
+    cache: &'s Cache<'a>,
+    counter: &'s ClassId,
+    barrier: &'s Barrier,
+    work: Work,
+}
+
+impl<'s, 'a, R: Wait> Shift<Seat<'a>> for Callers<'s, 'a, R> {
+    ghost use Rattle.std.specs.Prelude.{◌≡◌};
+    ghost use Rattle.registry.specs.Ids.{IsOf};
+
+    ghost accepts = { λ s seat. (seat.table ≡ s.cache.now.table) × IsOf s.cache.now.registry s.counter.now };
+
+    ghost leaves = { λ s old new. (new.table ≡ old.table) × (new.caller ≡ old.caller) × (new.made ≡ old.made) };
+
+    fn serve(&self, place: usize, seat: &mut Seat<'a>) {
+        match self.work {
+            Work::PutAndGet => put_and_get(self.rt, self.cache, seat),
+            Work::Count => count(self.rt, self.alloc, self.cache, seat, self.counter),
+            Work::Meet => meet(self.rt, self.cache, seat, place, self.barrier),
+        }
+    }
+}
+
+/// Puts and gets on key 1, 500 times.
+fn put_and_get<'a, R: Wait>(rt: &R, cache: &Cache<'a>, seat: &mut Seat<'a>)
+    requires { seat.old.table ≡ cache.now.table }
+    ensures table { seat.new.table ≡ seat.old.table }
+    ensures caller { seat.new.caller ≡ seat.old.caller }
+    ensures made { seat.new.made ≡ seat.old.made }
+{
+    for value in 0..500 {
+        let _put = cache.put(rt, seat, 1, value);
+        let _got = cache.get(rt, seat, 1);
+    }
+}
+
+/// Counts the entry of key 1 up, 100 times.
+fn count<'a, R: Wait>(
+    rt: &R,
+    alloc: Global,
+    cache: &Cache<'a>,
+    seat: &mut Seat<'a>,
+    counter: &ClassId,
+)
+    requires seat { seat.old.table ≡ cache.now.table }
+    requires class { IsOf cache.now.registry counter.now }
+    ensures table { seat.new.table ≡ seat.old.table }
+    ensures caller { seat.new.caller ≡ seat.old.caller }
+    ensures made { seat.new.made ≡ seat.old.made }
+{
+    let Ok(mut workspace) = Workspace::new(alloc) else {
+        return;
+    };
+    for _ in 0..100 {
+        count_one(rt, cache, seat, &mut workspace, counter);
+    }
+}
+
+/// Counts the entry of key 1 up.
+fn count_one<'a, R: Wait>(
+    rt: &R,
+    cache: &Cache<'a>,
+    seat: &mut Seat<'a>,
+    workspace: &mut Workspace,
+    counter: &ClassId,
+)
+    requires seat { seat.old.table ≡ cache.now.table }
+    requires class { IsOf cache.now.registry counter.now }
+    ensures table { seat.new.table ≡ seat.old.table }
+    ensures caller { seat.new.caller ≡ seat.old.caller }
+    ensures made { seat.new.made ≡ seat.old.made }
+{
+    let Some(one) = Args::of(&[Arg::Long(1)]) else {
+        return;
+    };
+    let _counted = cache.invoke(rt, seat, workspace, counter, 1, one);
+}
+
+/// Puts on key 0 or key 1, when others have started too.
+fn meet<'a, R: Wait>(
+    rt: &R,
+    cache: &Cache<'a>,
+    seat: &mut Seat<'a>,
+    place: usize,
+    barrier: &Barrier,
+)
+    requires { seat.old.table ≡ cache.now.table }
+    ensures table { seat.new.table ≡ seat.old.table }
+    ensures caller { seat.new.caller ≡ seat.old.caller }
+    ensures made { seat.new.made ≡ seat.old.made }
+{
+    let key = if place == 0 { 0 } else { 1 };
+    let _put = cache.put_at(rt, seat, key, 7, place, &Meeting { rt, barrier });
+}
+
+/// A cache with so many stripes and seats.
+fn opened<'a>(
+    alloc: Global,
+    registry: &'a Registry,
+    stripes: usize,
+    seats: usize,
+) -> Result<(Cache<'a>, Vec<Seat<'a>>), OpenRefusal>
+    ensures registry { IfOk result (λ r. r.0.registry ≡ registry.now) }
+    ensures seats { IfOk result (λ r. AreFresh r.0.table r.0.seats r.1.items) }
+{
+    let tables = Tables::new(alloc, stripes)?;
+    match Cache::open(alloc, registry, tables, 4096, seats) {
+        Ok(opened) => Ok(opened),
+        Err((refusal, _tables)) => Err(refusal),
+    }
+}
+
+/// What a cache hands out after the work of as many callers as it has seats, each in a thread of its own.
+fn worked<'a, R: Threads + Wait + Sync>(
+    rt: &R,
+    alloc: Global,
+    registry: &'a Registry,
+    counter: &ClassId,
+    stripes: usize,
+    seats: usize,
+    work: Work,
+) -> Result<Closed<'a>, OpenRefusal>
+    requires { IsOf registry.now counter.now }
+{
+    let (cache, mut seats) = opened(alloc, registry, stripes, seats)?;
+    let callers = Callers {
+        rt,
+        alloc,
+        cache: &cache,
+        counter,
+        barrier: &Barrier::new(2),
+        work,
+    };
+    serve_all(rt, seats.as_mut_slice(), &callers);
+    Ok(cache.close(seats))
+}
+
+/// Defines the class Counter.
+fn counter_in<R: Wait>(rt: &R, alloc: Global, registry: &Registry) -> Option<ClassId>
+    ensures { IfSome result (λ id. IsOf registry.now id) }
+{
+    let Ok(bytes) = rows::counter(alloc) else {
+        return None;
+    };
+    match registry.define(rt, alloc, &bytes) {
+        Ok(id) => Some(id),
+        Err(_) => None,
+    }
+}
+
+/// How many seats have so many receipts.
+fn seats_of(closed: &Closed<'_>, receipts: usize) -> usize {
+    closed
+        .receipts
+        .iter()
+        .filter(|list| list.len() == receipts)
+        .count()
+}
+
+/// How many records a stripe has.
+fn records(closed: &Closed<'_>, stripe: usize) -> Option<usize> {
+    match closed.histories.get(stripe) {
+        Some(history) => Some(history.len()),
+        None => None,
+    }
+}
+
+fn is_sync<T: Sync>(_: &T) {}
+
+fn is_send<T: Send>(_: &T) {}
+
+#[test]
+fn threads_share_a_cache_and_hand_seats_on(rt: HostRuntime) -> Result<(), Fail> {
+    let alloc = rt.alloc();
+    let registry = Registry::new(alloc)?;
+    let Ok((cache, seats)) = opened(alloc, &registry, 2, 2) else {
+        panic!(rt; "no cache");
+    };
+    is_sync(&cache);
+    for seat in &seats {
+        is_send(seat);
+    }
+    assert_eq!(rt; seats.len(), 2);
+    Ok(())
+}
+
+#[test]
+fn two_callers_put_and_get(rt: HostRuntime) -> Result<(), Fail> {
+    let alloc = rt.alloc();
+    let registry = Registry::new(alloc)?;
+    let Some(counter) = counter_in(&rt, alloc, &registry) else {
+        panic!(rt; "counter is refused");
+    };
+    let Ok(closed) = worked(&rt, alloc, &registry, &counter, 1, 2, Work::PutAndGet) else {
+        panic!(rt; "no cache");
+    };
+    assert_eq!(rt; seats_of(&closed, 1000), 2);
+    assert_eq!(rt; records(&closed, 0), Some(2000));
+    assert_eq!(rt; closed.tables.entry(1), Some(499));
+    Ok(())
+}
+
+#[test]
+fn four_callers_count(rt: HostRuntime) -> Result<(), Fail> {
+    let alloc = rt.alloc();
+    let registry = Registry::new(alloc)?;
+    let Some(counter) = counter_in(&rt, alloc, &registry) else {
+        panic!(rt; "counter is refused");
+    };
+    let Ok(closed) = worked(&rt, alloc, &registry, &counter, 1, 4, Work::Count) else {
+        panic!(rt; "no cache");
+    };
+    assert_eq!(rt; seats_of(&closed, 100), 4);
+    assert_eq!(rt; records(&closed, 0), Some(400));
+    assert_eq!(rt; closed.tables.entry(1), Some(400));
+    Ok(())
+}
+
+#[test]
+fn sixteen_callers_count(rt: HostRuntime) -> Result<(), Fail> {
+    let alloc = rt.alloc();
+    let registry = Registry::new(alloc)?;
+    let Some(counter) = counter_in(&rt, alloc, &registry) else {
+        panic!(rt; "counter is refused");
+    };
+    let Ok(closed) = worked(&rt, alloc, &registry, &counter, 1, 16, Work::Count) else {
+        panic!(rt; "no cache");
+    };
+    assert_eq!(rt; seats_of(&closed, 100), 16);
+    assert_eq!(rt; records(&closed, 0), Some(1600));
+    assert_eq!(rt; closed.tables.entry(1), Some(1600));
+    Ok(())
+}
+
+#[test]
+fn calls_on_two_stripes_meet(rt: HostRuntime) -> Result<(), Fail> {
+    let alloc = rt.alloc();
+    let registry = Registry::new(alloc)?;
+    let Some(counter) = counter_in(&rt, alloc, &registry) else {
+        panic!(rt; "counter is refused");
+    };
+    let Ok(closed) = worked(&rt, alloc, &registry, &counter, 2, 2, Work::Meet) else {
+        panic!(rt; "no cache");
+    };
+    assert_eq!(rt; seats_of(&closed, 1), 2);
+    assert_eq!(rt; records(&closed, 0), Some(1));
+    assert_eq!(rt; records(&closed, 1), Some(1));
+    Ok(())
+}
