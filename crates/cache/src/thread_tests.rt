@@ -2,7 +2,7 @@
 
 ghost use Rattle.std.specs.Prelude.{◌≡◌, ◌<◌, ℕ, length, slice_index_or, IfOk, IfSome};
 ghost use Rattle.std.specs.List.{All};
-ghost use Rattle.cache.specs.Opened.{AreFresh, Sitting};
+ghost use Rattle.cache.specs.Opened.{AreFresh};
 ghost use Rattle.registry.specs.Ids.{IsOf};
 
 use super::*;
@@ -29,10 +29,16 @@ trait Shift<W> {
 }
 
 /// Has each worker serve in a thread of its own.
-fn serve_all<R: Threads + Sync, W: Send, S: Shift<W> + Sync>(rt: &R, workers: &mut [W], shift: &S)
-    requires ready { All (S.accepts shift.now) workers.old }
-    ensures { (i : ℕ) (d : W) → i < length workers.old → S.leaves shift.now (slice_index_or workers.old i d) (slice_index_or workers.new i d) }
+fn serve_all<R: Threads + Sync, W: Send, S: Shift<W> + Sync>(
+    rt: &R,
+    workers: &mut Vec<W>,
+    shift: &S,
+)
+    requires { All (S.accepts shift.now) workers.old.items }
+    ensures count { length workers.new.items ≡ length workers.old.items }
+    ensures left { (i : ℕ) (d : W) → i < length workers.old.items → S.leaves shift.now (slice_index_or workers.old.items i d) (slice_index_or workers.new.items i d) }
 {
+    let workers = workers.as_mut_slice();
     thread::for_each_mut(rt, workers, 16, &|place, worker| shift.serve(place, worker));
 }
 
@@ -200,7 +206,7 @@ fn worked<'a, R: Threads + Wait + Sync>(
         barrier: &Barrier::new(2),
         work,
     };
-    serve_all(rt, seats.as_mut_slice(), &callers);
+    serve_all(rt, &mut seats, &callers);
     Ok(cache.close(seats))
 }
 
