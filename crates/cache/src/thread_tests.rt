@@ -34,7 +34,7 @@ fn serve_all<R: Threads + Sync, W: Send, S: Shift<W> + Sync>(
     workers: &mut Vec<W>,
     shift: &S,
 )
-    requires { All (S.accepts shift.now) workers.old.items }
+    requires ready { All (S.accepts shift.now) workers.old.items }
     ensures count { length workers.new.items ≡ length workers.old.items }
     ensures left { (i : ℕ) (d : W) → i < length workers.old.items → S.leaves shift.now (slice_index_or workers.old.items i d) (slice_index_or workers.new.items i d) }
 {

@@ -28,24 +28,23 @@ served : (d : Opened) (old new : List Sitting) → AreFresh d.table d.seats old 
 served d old new fresh same kept = record {
   count = same ∙ fresh.count;
   each = λ c s e.
-    let below : c < length old = let w = within new c s e in omega (arith, same) in
-    let x = there old c below in
-    let was : slice_index_or old c s ≡ fresh_seat d.table d.seats c = found old c x.0 s x.1 ∙ fresh.each c x.0 x.1 in
-    let is : s ≡ slice_index_or new c s = sym (found new c s s e) in
-    let k = kept c s below in
-    record {
-      table_is = ap (λ (y : Sitting). y.table) is ∙ k.0 ∙ ap (λ (y : Sitting). y.table) was;
-      caller_is = ap (λ (y : Sitting). y.caller) is ∙ k.1 ∙ ap (λ (y : Sitting). y.caller) was;
-      made_is = ap (λ (y : Sitting). y.made) is ∙ k.2 ∙ ap (λ (y : Sitting). y.made) was;
-    };
+      let below : c < length old = let w = within new c s e in omega (arith, same) in
+      let x = there old c below in
+      let was : slice_index_or old c s ≡ fresh_seat d.table d.seats c = found old c x.0 s x.1 ∙ fresh.each c x.0 x.1 in
+      let is : s ≡ slice_index_or new c s = sym (found new c s s e) in
+      let k = kept c s below in
+      record {
+        table_is = ap (λ (y : Sitting). y.table) is ∙ k.0 ∙ ap (λ (y : Sitting). y.table) was;
+        caller_is = ap (λ (y : Sitting). y.caller) is ∙ k.1 ∙ ap (λ (y : Sitting). y.caller) was;
+        made_is = ap (λ (y : Sitting). y.made) is ∙ k.2 ∙ ap (λ (y : Sitting). y.made) was;
+      };
 }
 
-pub serve_all-requires : goal.serve_all-requires
-serve_all-requires g c κs within k d below =
-    (
-      ready c.in_ok-cache.cache.table c.in_ok-cache.cache.seats c.in_ok-cache.seats.items c.in_ok-cache.ensures.seats k d below,
-      subst (λ (r : Shelves). IsOf r c.args.counter.now) (sym c.in_ok-cache.ensures.registry) c.requires,
-    )
+pub serve_all-requires-clause-ready : goal.serve_all-requires-clause-ready
+serve_all-requires-clause-ready g c κs inside k d below = (
+  ready c.in_ok-cache.cache.table c.in_ok-cache.cache.seats c.in_ok-cache.seats.items c.in_ok-cache.ensures.seats k d below,
+  subst (λ (r : Shelves). IsOf r c.args.counter.now) (sym c.in_ok-cache.ensures.registry) c.requires,
+)
 
 pub close-requires : goal.close-requires
 close-requires g c = served c.in_ok-cache.cache c.in_ok-cache.seats.items c.serve_all.new.workers.items c.in_ok-cache.ensures.seats c.serve_all.ensures.count c.serve_all.ensures.left
