@@ -5,7 +5,7 @@ use lib.ListN.{get_elem?}
 use Rattle.atomic_table.specs.Seated.{TableId}
 use Rattle.boxcar.specs.Table.{Shelves}
 use Rattle.registry.specs.Ids.{IsOf}
-use Rattle.cache.specs.Opened.{Opened, Sitting, fresh_seat, AreFresh, IsSeat, AreSeats}
+use Rattle.cache.specs.Opened.{Opened, Sitting, fresh_seat, AreFresh, AreSeats}
 use Rattle.cache.proofs.Puts.{within}
 use Rattle.cache.proofs.Starts.{there}
 use Rattle.cache.proofs.thread_tests.worked.Goals as goal
