@@ -29,16 +29,12 @@ trait Shift<W> {
 }
 
 /// Has each worker serve in a thread of its own.
-fn serve_all<R: Threads + Sync, W: Send, S: Shift<W> + Sync>(
-    rt: &R,
-    workers: &mut Vec<W>,
-    shift: &S,
-)
-    requires ready { All (S.accepts shift.now) workers.old.items }
-    ensures count { length workers.new.items ≡ length workers.old.items }
-    ensures left { (i : ℕ) (d : W) → i < length workers.old.items → S.leaves shift.now (slice_index_or workers.old.items i d) (slice_index_or workers.new.items i d) }
+fn serve_all<R: Threads + Sync, W: Send, S: Shift<W> + Sync>(rt: &R, crew: &mut Vec<W>, shift: &S)
+    requires ready { All (S.accepts shift.now) crew.old.items }
+    ensures count { length crew.new.items ≡ length crew.old.items }
+    ensures left { (i : ℕ) (d : W) → i < length crew.old.items → S.leaves shift.now (slice_index_or crew.old.items i d) (slice_index_or crew.new.items i d) }
 {
-    let workers = workers.as_mut_slice();
+    let workers = crew.as_mut_slice();
     thread::for_each_mut(rt, workers, 16, &|place, worker| shift.serve(place, worker));
 }
 

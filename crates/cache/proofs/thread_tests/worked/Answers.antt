@@ -47,4 +47,4 @@ serve_all-requires-clause-ready g c κs inside k d below = (
 )
 
 pub close-requires : goal.close-requires
-close-requires g c = served c.in_ok-cache.cache c.in_ok-cache.seats.items c.serve_all.new.workers.items c.in_ok-cache.ensures.seats c.serve_all.ensures.count c.serve_all.ensures.left
+close-requires g c = served c.in_ok-cache.cache c.in_ok-cache.seats.items c.serve_all.new.crew.items c.in_ok-cache.ensures.seats c.serve_all.ensures.count c.serve_all.ensures.left
