@@ -1,19 +1,19 @@
 -- What an event does, by what becomes of the seat.
-use Rattle.std.proofs.Common.{rules, arith, ◌≡◌, ◌↔◌, ℕ, zero, suc, ◌+◌, ◌<◌, ◌≤◌, ℤ, Bool, true, false, not, ◌&&◌, cond, ◌==◌, IsTrue, List, [], ◌∷◌, length, map, Option, Some, None, is_some, IsSome, slice_get, slice_set, slice_index, refl, sym, ap, subst, ◌∙◌, true≢false}
+use Rattle.std.proofs.Common.{◌≡◌, ◌↔◌, ℕ, Bool, true, false, not, ◌&&◌, cond, ◌==◌, IsTrue, length, map, Option, Some, None, is_some, IsSome, slice_get, slice_set, refl, sym, ap, ◌∙◌, true≢false}
 use Rattle.std.proofs.lemmas.Bool.{eq-eqb, eqb-true}
 use Rattle.std.specs.FinMap as map
 use Rattle.std.specs.Option.{option_flatten}
 use Rattle.jtypes.specs.Entry.{Entry}
 use Rattle.stripe.specs.declared.refusal.BeginRefusal.{BeginRefusal}
 use Rattle.stripe.specs.declared.refusal.BeginRefusal.TheVariants.{JournalFull, NoMemory}
-use Rattle.stripe.specs.History.{Call, Begun, Record, key_of, stripe_of}
-use Rattle.stripe.specs.Kept.{Kept, IsOf, entry_of, may_make, is_absent}
+use Rattle.stripe.specs.History.{Call, Record, key_of, stripe_of}
+use Rattle.stripe.specs.Kept.{IsOf, entry_of, may_make, is_absent}
 use Rattle.world.specs.declared.event.Applied.{Applied}
 use Rattle.world.specs.declared.event.Applied.TheVariants.{Done, Ignored, Refused}
 use Rattle.world.specs.World as definition
 use Rattle.world.specs.World.{World, Running, Progress, Working, Settled, Start, Step, Finish, entries_now, history_of, stripe_in, starts_of, running_call, with_running, with_record, with_progress, record_of_call, progress_of, after_start, after_begin, after_step, stepped, after_finish, finished, apply}
 use Rattle.world.specs.Seated.{Seated, IsBegun, IsEnded, further, turned}
-use Rattle.world.specs.Refused.{works, is_final, is_idle, is_working, is_possible, is_full, is_start_on_full, is_start_on_absent, IsApplied, KeepsEntries}
+use Rattle.world.specs.Refused.{works, is_final, is_idle, is_working, is_possible, is_start_on_full, is_start_on_absent, IsApplied}
 use Rattle.world.specs.Inside.{Parts, running_on, world_of, IsAt, IsSteady}
 use Rattle.world.proofs.Places.{map_get, set_same}
 

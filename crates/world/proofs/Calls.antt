@@ -1,22 +1,21 @@
 -- How far calls are.
-use Rattle.std.proofs.Common.{rules, arith, ◌≡◌, ℕ, zero, suc, ◌+◌, ◌<◌, ◌≤◌, ℤ, Bool, true, false, not, cond, ◌⊎◌, inl, inr, List, Option, Some, None, is_some, IsSome, option_map, option_and_then, refl, sym, ap, subst, ◌∙◌, true≢false}
+use Rattle.std.proofs.Common.{arith, ◌≡◌, ℕ, zero, suc, ◌≤◌, ℤ, true, not, ◌⊎◌, inl, inr, List, Option, Some, None, is_some, option_map, option_and_then, refl, sym, ap, subst, ◌∙◌, true≢false}
 use Rattle.jtypes.specs.declared.types.Arg.{Arg}
 use Rattle.jtypes.specs.Entry.{Entry, effect, after_effect}
 use Rattle.jtypes.specs.Lists.{◌>>=◌}
 use Rattle.typecheck.specs.Typing.{Class, Method, number_of_process}
-use Rattle.verdict.specs.Machine.{Invocation, State, Final, Next, Goes, Ends, start, start_of, step, Reaches, here, onward}
+use Rattle.verdict.specs.Machine.{Invocation, State, Final, Goes, Ends, start, start_of, step, Reaches, here, onward}
 use Rattle.verdict.specs.Meaning.{Means}
 use Rattle.std.specs.List.{slice_get}
 use Rattle.machine.specs.declared.machine.Machine.{Machine}
 use Rattle.machine.specs.declared.done.Done.{Done}
-use Rattle.machine.specs.declared.done.Going.TheVariants as going
-use Rattle.machine.specs.Running.{IsRunning, IsStarted, IsMeant, IsFinal, Follows}
+use Rattle.machine.specs.Running.{IsFinal}
 use Rattle.stripe.specs.declared.call.Reply.{Reply}
 use Rattle.stripe.specs.declared.call.Reply.TheVariants as reply
-use Rattle.stripe.specs.History.{Call, Invoke, Get, Put, Remove, Contains, Begun, Record, Answers, key_of, invocation}
+use Rattle.stripe.specs.History.{Call, Invoke, Get, Put, Remove, Contains, Answers, invocation}
 use Rattle.stripe.specs.Kept.{IsEnd}
 use Rattle.world.proofs.Places.{nat_split, trichotomy}
-use Rattle.world.specs.World.{Progress, Working, Settled, Running, running_call, progress_of, progress_after, begun}
+use Rattle.world.specs.World.{Progress, Working, Settled, Running, running_call, progress_after}
 use Rattle.world.specs.Refused.{works, is_final}
 use Rattle.world.specs.Seated.{turned}
 use Rattle.world.specs.Going.{goes_to, state_after, state_in, progress_in, is_ended, IsUnderWay, IsGoing}

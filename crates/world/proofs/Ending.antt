@@ -1,15 +1,15 @@
 -- A call ends.
-use Rattle.std.proofs.Common.{rules, arith, ◌≡◌, ℕ, zero, suc, ◌+◌, ◌-◌, ◌*◌, ◌<◌, ◌≤◌, ℤ, Bool, true, false, cond, ◌==◌, ◌⊎◌, inl, inr, List, [], ◌∷◌, ◌++◌, length, map, Option, Some, None, is_some, IsSome, slice_get, slice_set, slice_index, filter, sum_by, count_by, refl, sym, ap, subst, ◌∙◌, length-append, true≢false}
+use Rattle.std.proofs.Common.{arith, ◌≡◌, ℕ, ◌+◌, ◌*◌, ◌<◌, ◌≤◌, ℤ, Bool, true, false, ◌==◌, inl, inr, [], ◌∷◌, ◌++◌, length, map, Some, None, is_some, slice_get, slice_set, slice_index, sum_by, refl, sym, ap, subst, ◌∙◌, length-append, true≢false}
 use Rattle.std.proofs.lemmas.Bool.Decides.{Decides-int_eq}
 use Rattle.std.proofs.lemmas.List.{length-set, length-map, map-set}
 use Rattle.std.specs.Ordering.{int_eq}
-use Rattle.stripe.specs.History.{Record, Answers, key_of, stripe_of, entries_after}
-use Rattle.stripe.specs.Kept.{Kept, IsOf, entry_of, committed}
-use Rattle.world.specs.World.{World, Running, is_by, opening_entries, entries_now, history_of, starts_of, with_record}
+use Rattle.stripe.specs.History.{Record, Answers, key_of, stripe_of}
+use Rattle.stripe.specs.Kept.{Kept, IsOf, entry_of}
+use Rattle.world.specs.World.{Running, is_by, opening_entries, entries_now, starts_of, with_record}
 use Rattle.world.specs.Seated.{Seated, IsEnded}
-use Rattle.world.specs.Refused.{Runs, KeepsEntries}
+use Rattle.world.specs.Refused.{KeepsEntries}
 use Rattle.world.specs.Inside.{Parts, running_on, world_of, IsAt, AreSeats, room_of, IsSteady}
-use Rattle.world.proofs.Places.{one_if, get_set_cases, get_map, map_get, sum_set, sum_at, sum_more}
+use Rattle.world.proofs.Places.{one_if, get_set_cases, get_map, sum_set, sum_at, sum_more}
 use Rattle.world.proofs.Histories.{entry_there, entry_elsewhere, legal_more, part_there, part_elsewhere}
 use Rattle.world.proofs.Steady.{inside, running_count}
 

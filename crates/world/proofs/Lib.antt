@@ -1,5 +1,6 @@
 pub mod Places
 pub mod Histories
+pub mod Lawful
 pub mod Calls
 pub mod Seats
 pub mod Steady

@@ -1,12 +1,12 @@
 -- Worlds that open and close.
-use Rattle.std.proofs.Common.{rules, arith, ◌≡◌, ℕ, zero, suc, ◌+◌, ◌-◌, ◌*◌, ◌<◌, ◌≤◌, ℤ, Bool, true, false, List, [], ◌∷◌, ◌++◌, length, map, All, Option, Some, None, is_some, IsSome, option_and_then, slice_get, slice_index, sum_by, count_by, refl, sym, ap, subst, ◌∙◌, true≢false, zero-add}
+use Rattle.std.proofs.Common.{arith, ◌≡◌, ℕ, zero, suc, ◌+◌, ◌-◌, ◌*◌, ◌≤◌, ℤ, List, [], ◌∷◌, ◌++◌, length, map, All, Option, Some, None, option_and_then, slice_get, slice_index, sum_by, count_by, refl, sym, ap, subst, ◌∙◌, true≢false, zero-add}
 use Rattle.std.proofs.lemmas.List.{length-map}
 use Rattle.std.specs.Prelude.{replicate}
-use Rattle.stripe.specs.History.{Record, stripe_of}
+use Rattle.stripe.specs.History.{stripe_of}
 use Rattle.stripe.specs.Stored.{Stored, entry_in, entry_among}
-use Rattle.stripe.specs.Kept.{Kept, IsOf, entry_of, fresh}
+use Rattle.stripe.specs.Kept.{Kept, fresh}
 use Rattle.stripe.specs.Tables.{IsCount, IsJournal, fresh_from, fresh_stripes, none_back}
-use Rattle.world.specs.World.{World, Running, is_by, entries_now, starts_of}
+use Rattle.world.specs.World.{Running, is_by, entries_now}
 use Rattle.world.specs.Seated.{Seated, idle_seat, AreIdle}
 use Rattle.world.specs.Refused.{NoneRuns}
 use Rattle.world.specs.Room.{stored_on}

@@ -1,9 +1,10 @@
 -- One event more.
-use Rattle.std.proofs.Common.{◌≡◌, ℕ, zero, suc, Bool, true, false, IsTrue, List, [], ◌∷◌, ◌++◌, map, take, Option, Some, None, slice_get, refl, sym, ap, subst, ◌∙◌}
+use Rattle.std.proofs.Common.{◌≡◌, ℕ, zero, suc, Bool, true, false, IsTrue, List, [], ◌∷◌, ◌++◌, map, take, Option, Some, None, slice_get, refl, ap, ◌∙◌}
 use Rattle.stripe.specs.declared.refusal.BeginRefusal.{BeginRefusal}
 use Rattle.stripe.specs.declared.refusal.BeginRefusal.TheVariants.{JournalFull, NoMemory}
 use Rattle.world.specs.declared.event.Applied.TheVariants.{Refused}
-use Rattle.world.specs.World.{World, Event, apply, run}
+use Rattle.stripe.specs.History.{key_of}
+use Rattle.world.specs.World.{World, Running, Progress, Working, Settled, Event, Start, Step, Finish, entries_now, stripe_in, progress_of, after_begin, after_start, stepped, after_step, finished, after_finish, apply, run}
 use Rattle.world.specs.Refused.{is_start_on_full, is_start_on_absent, HaveRoom, IsRefusable}
 
 pub run_more : (w : World) (es : List Event) (e : Event) → run w (es ++ e ∷ []) ≡ apply (run w es) e
@@ -26,3 +27,41 @@ refusable w e NoMemory f g = g refl
 pub not_true : (b : Bool) → (b ≡ true → ⊥) → b ≡ false
 not_true true n = absurd (n refl)
 not_true false n = refl
+
+-- ---- the opening tables stay
+
+opening_applied : (w : World) (e : Event) → (apply w e).opening ≡ w.opening
+opening_applied w (Start caller call) = started (slice_get w.running (stripe_in w call))
+  where
+    begins : (o : Option Progress) → (after_begin w caller call o).opening ≡ w.opening
+    begins None = refl
+    begins (Some p) = refl
+
+    started : (o : Option (Option Running)) → (after_start w caller call o).opening ≡ w.opening
+    started None = refl
+    started (Some None) = begins (progress_of (entries_now w (key_of call)) call)
+    started (Some (Some r)) = refl
+opening_applied w (Step i) = turned (slice_get w.running i)
+  where
+    turn : (r : Running) (q : Progress) → (stepped w i r q).opening ≡ w.opening
+    turn r (Working c s) = refl
+    turn r (Settled reply after) = refl
+
+    turned : (o : Option (Option Running)) → (after_step w i o).opening ≡ w.opening
+    turned None = refl
+    turned (Some None) = refl
+    turned (Some (Some r)) = turn r r.progress
+opening_applied w (Finish i) = ended (slice_get w.running i)
+  where
+    end : (r : Running) (q : Progress) → (finished w i r q).opening ≡ w.opening
+    end r (Working c s) = refl
+    end r (Settled reply after) = refl
+
+    ended : (o : Option (Option Running)) → (after_finish w i o).opening ≡ w.opening
+    ended None = refl
+    ended (Some None) = refl
+    ended (Some (Some r)) = end r r.progress
+
+pub opening_stays : (w : World) (es : List Event) → (run w es).opening ≡ w.opening
+opening_stays w [] = refl
+opening_stays w (e ∷ es) = opening_stays (apply w e) es ∙ opening_applied w e

@@ -1,25 +1,25 @@
 -- What a seat holds of its call.
-use Rattle.std.proofs.Common.{rules, arith, ◌≡◌, ℕ, zero, suc, ℤ, Bool, true, false, not, List, Option, Some, None, is_some, IsSome, IsTrue, option_map, option_and_then, take, refl, sym, ap, subst, ◌∙◌, true≢false}
+use Rattle.std.proofs.Common.{◌≡◌, suc, ℤ, Bool, true, false, not, List, Option, Some, None, is_some, IsSome, IsTrue, option_map, refl, sym, ap, subst, ◌∙◌, true≢false}
 use Rattle.jtypes.specs.declared.types.Arg.{Arg}
 use Rattle.jtypes.specs.Entry.{Entry, effect, after_effect}
 use Rattle.typecheck.specs.Typing.{Class}
-use Rattle.verdict.specs.Machine.{Invocation, State, Final, Goes, Ends, start, step}
+use Rattle.verdict.specs.Machine.{Invocation, State}
 use Rattle.verdict.specs.Meaning.{Means}
 use Rattle.machine.specs.declared.machine.Machine.{Machine}
 use Rattle.machine.specs.declared.done.Done.{Done}
 use Rattle.machine.specs.declared.done.Going.TheVariants as going
-use Rattle.machine.specs.Running.{IsRunning, IsStarted, IsMeant, IsFinal, Follows}
+use Rattle.machine.specs.Running.{IsRunning, IsStarted, IsFinal, Follows}
 use Rattle.stripe.specs.declared.call.OpenCall.{OpenCall}
 use Rattle.stripe.specs.History.{Call, Invoke, Begun, Record, Answers, key_of, invocation}
 use Rattle.stripe.specs.Seen.{call_of, begun_of}
-use Rattle.stripe.specs.Kept.{Kept, IsOf, IsEnd, IsRecord, CanCommit, entry_of, begun, committed}
+use Rattle.stripe.specs.Kept.{Kept, IsOf, IsRecord, CanCommit, entry_of, begun, committed}
 use Rattle.world.specs.World as world
 use Rattle.world.specs.World.{Progress, Working, Settled, Running, running_call, progress_of, record_of_call}
-use Rattle.world.specs.Refused.{works, is_final}
-use Rattle.world.specs.Seated.{Seated, IsBegun, IsEnded, turned}
+use Rattle.world.specs.Refused.{works}
+use Rattle.world.specs.Seated.{IsBegun, IsEnded, turned}
 use Rattle.world.specs.Going.{state_in, progress_in, is_ended, IsUnderWay, IsGoing}
 use Rattle.world.specs.Seating.{running_in}
-use Rattle.world.proofs.Calls.{start_zero, first_state, next_state, going_some, call_in, works_going, final_going, turned_ended, turned_goes, turned_ends, going_end, ended_progress}
+use Rattle.world.proofs.Calls.{start_zero, first_state, next_state, going_some, call_in, works_going, turned_goes, turned_ends, going_end, ended_progress}
 
 -- each open call is under way, or ended
 abbrev pub AreGoing : Kept → Machine → Option Done → Type 0

@@ -1,19 +1,16 @@
 -- What is true of a world stays true.
-use Rattle.std.proofs.Common.{rules, arith, ◌≡◌, ℕ, zero, suc, ◌+◌, ◌-◌, ◌*◌, ◌<◌, ◌≤◌, ℤ, Bool, true, false, cond, if◌then◌else◌, ◌==◌, ◌⊎◌, inl, inr, List, [], ◌∷◌, ◌++◌, length, map, Option, Some, None, IsSome, slice_get, slice_set, slice_index, filter, sum_by, count_by, refl, sym, ap, subst, ◌∙◌, length-append, true≢false}
+use Rattle.std.proofs.Common.{arith, ◌≡◌, ℕ, ◌+◌, ◌-◌, ◌*◌, ◌<◌, ◌≤◌, Bool, true, false, ◌==◌, inl, inr, List, length, map, Option, Some, None, IsSome, slice_get, slice_set, slice_index, sum_by, count_by, refl, sym, ap, subst, ◌∙◌, true≢false}
 use Rattle.std.proofs.Math.Nat.{mul-le-mul}
 use Rattle.std.proofs.lemmas.Bool.{eq-eqb, eqb-true}
 use Rattle.std.proofs.lemmas.List.Sums.{count_by-le-length}
 use Rattle.std.proofs.lemmas.List.{length-set, length-map, map-set, get_or-set_same, get_or-set_other}
-use Rattle.stripe.specs.History.{Call, Begun, Record, Entries, key_of, stripe_of, entries_after}
-use Rattle.stripe.specs.Stored.{Stored}
-use Rattle.stripe.specs.Kept.{Kept, IsOf, entry_of, begun, committed}
-use Rattle.world.specs.World.{World, Running, Progress, with_progress, is_by, is_on, opening_entries, entries_now, history_of, starts_of, running_call, with_running, with_record}
-use Rattle.world.specs.Seated.{Seated, IsBegun, IsEnded, further, turned}
-use Rattle.world.specs.Refused.{Runs, KeepsEntries}
+use Rattle.stripe.specs.History.{Call, Begun, Record, key_of}
+use Rattle.stripe.specs.Kept.{Kept, IsOf, entry_of}
+use Rattle.world.specs.World.{World, Running, with_progress, is_by, starts_of, running_call, with_running}
+use Rattle.world.specs.Seated.{Seated, IsBegun, further, turned}
 use Rattle.world.specs.Inside.{Parts, running_on, world_of, IsAt, AreSeats, room_of, IsSteady}
 use Rattle.std.proofs.lemmas.Option.{slice_get_within}
-use Rattle.world.proofs.Places.{one_if, get_set, get_set_cases, set_same, get_map, map_get, sum_set, sum_at, sum_more}
-use Rattle.world.proofs.Histories.{entry_there, entry_elsewhere, legal_more, part_there, part_elsewhere}
+use Rattle.world.proofs.Places.{one_if, get_set_cases, set_same, map_get, sum_set}
 
 -- the parts with another seat at this place, and other counts
 abbrev pub with_seat : Parts → ℕ → Seated → List ℕ → Parts

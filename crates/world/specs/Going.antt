@@ -2,12 +2,12 @@
 use Rattle.std.specs.Prelude.{◌≡◌, ℕ, zero, suc, Bool, true, false, Option, Some, None, option_map, option_and_then}
 use Rattle.jtypes.specs.Entry.{Entry, after_effect}
 use Rattle.typecheck.specs.Typing.{Class}
-use Rattle.verdict.specs.Machine.{Invocation, State, Next, Goes, Ends, start, step}
+use Rattle.verdict.specs.Machine.{Invocation, State, Next, Goes, start, step}
 use Rattle.machine.specs.declared.machine.Machine.{Machine}
 use Rattle.machine.specs.declared.done.Done.{Done}
 use Rattle.machine.specs.Running.{IsRunning, IsMeant}
 use Rattle.stripe.specs.declared.call.Reply.TheVariants.{Result}
-use Rattle.stripe.specs.History.{Call, Invoke, Get, Put, Remove, Contains, invocation}
+use Rattle.stripe.specs.History.{Call, Invoke, invocation}
 use Rattle.world.specs.World.{Progress, Working, Settled, progress_of}
 
 abbrev pub goes_to : Option Next → Option State

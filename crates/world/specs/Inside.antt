@@ -1,9 +1,9 @@
 -- What is true of every world.
-use Rattle.std.specs.Prelude.{◌≡◌, ℕ, ◌+◌, ◌-◌, ◌*◌, ◌<◌, ◌≤◌, ℤ, List, length, map, vec_capacity, Option, Some, None, IsSome, slice_get, slice_index, sum_by}
+use Rattle.std.specs.Prelude.{◌≡◌, ℕ, ◌+◌, ◌-◌, ◌*◌, ◌<◌, ◌≤◌, ℤ, List, length, map, vec_capacity, Option, Some, IsSome, slice_get, slice_index, sum_by}
 use Rattle.stripe.specs.History.{Record, key_of, IsLegal}
 use Rattle.stripe.specs.Seen.{record_of}
 use Rattle.stripe.specs.Stored.{Stored}
-use Rattle.stripe.specs.Kept.{Kept, IsOf, entry_of}
+use Rattle.stripe.specs.Kept.{IsOf, entry_of}
 use Rattle.stripe.specs.Tables.{Back, IsCount, IsJournal, none_back}
 use Rattle.world.specs.declared.world.World.TheInside.{Inside}
 use Rattle.world.specs.World.{World, Running, opening_entries, entries_now, history_of, starts_of}

@@ -1,6 +1,7 @@
 pub mod World
 pub mod Seen
 pub mod Refused
+pub mod Lawful
 pub mod Seated
 pub mod Going
 pub mod Seating

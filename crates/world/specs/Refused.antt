@@ -1,10 +1,10 @@
 -- Which events are possible, and what may refuse a possible start.
-use Rattle.std.specs.Prelude.{◌≡◌, ◌↔◌, ℕ, ◌<◌, ◌==◌, ◌&&◌, not, ℤ, Bool, true, false, IsTrue, List, [], ◌∷◌, Option, Some, None, is_some, slice_get, length, take}
+use Rattle.std.specs.Prelude.{◌≡◌, ◌↔◌, ℕ, ◌==◌, ◌&&◌, not, ℤ, Bool, true, false, IsTrue, List, [], ◌∷◌, Option, Some, None, is_some, slice_get, length, take}
 use Rattle.world.specs.declared.event.Applied.{Applied}
 use Rattle.world.specs.declared.event.Applied.TheVariants.{Done, Ignored, Refused}
 use Rattle.stripe.specs.declared.refusal.BeginRefusal.{BeginRefusal}
 use Rattle.stripe.specs.declared.refusal.BeginRefusal.TheVariants.{JournalFull, NoMemory}
-use Rattle.stripe.specs.History.{Call, key_of}
+use Rattle.stripe.specs.History.{key_of}
 use Rattle.stripe.specs.Kept.{may_make}
 use Rattle.world.specs.World.{World, Running, Progress, Working, Settled, Event, Start, Step, Finish, entries_now, stripe_in, history_of, apply, run}
 

@@ -1,5 +1,5 @@
 -- What is true of every seat.
-use Rattle.std.specs.Prelude.{◌≡◌, Option, Some, None, option_map, option_and_then}
+use Rattle.std.specs.Prelude.{◌≡◌, Option, Some, None, option_map}
 use Rattle.machine.specs.declared.machine.Machine.{Machine}
 use Rattle.machine.specs.declared.done.Done.{Done}
 use Rattle.stripe.specs.History.{Begun, key_of}

@@ -1,5 +1,5 @@
 -- A world: running calls, and the calls that are finished. One event is a start, one instruction, or a finish (JSR 107, Cache and EntryProcessor).
-use Rattle.std.specs.Prelude.{◌≡◌, ℕ, ◌+◌, ◌==◌, ℤ, Bool, true, false, List, [], ◌∷◌, ◌++◌, Option, Some, None, is_some, slice_get, slice_set, replicate, length, filter, count_by}
+use Rattle.std.specs.Prelude.{ℕ, ◌+◌, ◌==◌, Bool, false, List, [], ◌∷◌, ◌++◌, Option, Some, None, is_some, slice_get, slice_set, replicate, length, filter, count_by}
 use Rattle.jtypes.specs.Entry.{Entry}
 use Rattle.typecheck.specs.Typing.{Class}
 use Rattle.verdict.specs.Machine.{State, Next, Goes, Ends, start, step}
@@ -50,9 +50,13 @@ stripe_in w call = stripe_of (length w.opening) (key_of call)
 abbrev pub is_on : ℕ → ℕ → Record → Bool
 is_on stripes i r = stripe_of stripes (key_of r.call) == i
 
+-- the records on a stripe, of so many
+abbrev pub records_on : ℕ → ℕ → List Record → List Record
+records_on stripes i records = filter (is_on stripes i) records
+
 -- the finished calls of a stripe
 abbrev pub history_of : World → ℕ → List Record
-history_of w i = filter (is_on (length w.opening) i) w.finished
+history_of w i = records_on (length w.opening) i w.finished
 
 -- ---- how a call begins
 

@@ -60,6 +60,7 @@ impl<'a> World<'a> {
     ghost use Rattle.world.specs.World.{Start, Step, Finish, opened, opening_entries, entries_now, history_of, apply, run};
     ghost use Rattle.world.specs.Seen.{event_of};
     ghost use Rattle.world.specs.Refused.{is_possible, is_start_on_full, is_start_on_absent, IsApplied, KeepsEntries, HaveRoom, IsStopped, NoneRuns};
+    ghost use Rattle.world.specs.Lawful.{IsLawful};
 
     /// A world on these tables, in which no call has started; each stripe may have so many records, 1 to 4,096. Or the tables
     /// again.
@@ -158,18 +159,24 @@ impl<'a> World<'a> {
         ensures ok { OnOk result (self.new ≡ run self.old (map event_of events.now)) }
         ensures room { OnOk result (HaveRoom self.old (map event_of events.now)) }
         ensures stopped { IfErr result (λ e. IsStopped self.old (map event_of events.now) e.0 e.1 self.new) }
+        ensures opening { self.new.opening ≡ self.old.opening }
+        ensures lawful { IsLawful self.new.opening self.new.finished (entries_now self.new) }
     {
         for (place, event) in events.iter().enumerate() {
             if let Applied::Refused(refusal) = self.apply(*event) {
+                self.is_legal();
                 return Err((place, refusal));
             }
         }
+        self.is_legal();
         Ok(())
     }
 
-    /// The finished calls are a legal history from the opening entries: each answers on the entry that those before it leave.
+    /// The finished calls are a legal history from the opening entries, and so are those of each stripe: each answers on the entry
+    /// that those before it leave.
     pub fn is_legal(&self)
-        ensures { IsLegal (opening_entries self.now) self.now.finished }
+        ensures legal { IsLegal (opening_entries self.now) self.now.finished }
+        ensures lawful { IsLawful self.now.opening self.now.finished (entries_now self.now) }
     {
         let _seats = &self.seats;
     }
@@ -214,6 +221,7 @@ impl<'a> World<'a> {
         ensures legal { IsLegal (opening_entries self.entry) self.entry.finished }
         ensures left { (k : ℤ) → entry_among result.0 k ≡ entries_now self.entry k }
         ensures stripes { length result.0 ≡ length self.entry.opening }
+        ensures lawful { IsLawful self.entry.opening (map record_of result.1.items) (entry_among result.0) }
     {
         let World {
             seats,

@@ -1,5 +1,4 @@
-use Rattle.std.proofs.Common.{rules, arith, ◌≡◌, ◌<◌, ◌≤◌, ◌+◌, ◌*◌, ◌++◌, ◌∷◌, [], ℕ, ℤ, suc, length, List, map, take, All, Option, Some, None, IsSome, IsTrue, true, false, not, cond, vec_len, vec_capacity, slice_get, slice_set, slice_index, w64, refl, sym, ap, subst, ◌∙◌, append_assoc, add-one}
-use Rattle.std.proofs.lemmas.Option.{slice_get_read}
+use Rattle.std.proofs.Common.{◌≡◌, ◌++◌, ◌∷◌, ℕ, length, List, Some, slice_get, sym, ap, ◌∙◌}
 use Rattle.std.proofs.lemmas.List.{length-map}
 use Rattle.stripe.specs.Kept.{Kept}
 use Rattle.stripe.specs.Tables.{Back}

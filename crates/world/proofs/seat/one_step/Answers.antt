@@ -1,4 +1,4 @@
-use Rattle.std.proofs.Common.{rules, arith, ◌≡◌, ◌<◌, ◌≤◌, ℕ, suc, length, map, Option, Some, None, IsSome, IsTrue, true, false, not, cond, w64, refl, sym, ap, subst, ◌∙◌}
+use Rattle.std.proofs.Common.{suc, sym, ap, subst, ◌∙◌}
 use Rattle.bounds.specs.Rows.{bounds_in}
 use Rattle.machine.specs.Running.{Follows}
 use Rattle.world.proofs.seat.one_step.Goals as goal

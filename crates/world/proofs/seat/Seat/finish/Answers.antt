@@ -1,5 +1,5 @@
-use Rattle.std.proofs.Common.{rules, arith, ◌≡◌, ◌<◌, ◌≤◌, ℕ, suc, length, map, Option, Some, None, IsSome, IsTrue, true, false, not, cond, w64, refl, sym, ap, subst, ◌∙◌}
-use Rattle.stripe.specs.Kept.{Kept, IsRecord}
+use Rattle.std.proofs.Common.{None, sym, subst, ◌∙◌}
+use Rattle.stripe.specs.Kept.{IsRecord}
 use Rattle.stripe.specs.Seen.{begun_of, record_of}
 use Rattle.world.specs.Seated.{Seated, IsEnded}
 use Rattle.world.specs.Seating.{running_in}

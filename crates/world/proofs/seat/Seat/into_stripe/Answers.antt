@@ -1,4 +1,4 @@
-use Rattle.std.proofs.Common.{rules, arith, ◌≡◌, ◌<◌, ◌≤◌, ℕ, suc, length, map, Option, Some, None, IsSome, IsTrue, true, false, not, cond, w64, refl, sym, ap, subst, ◌∙◌}
+use Rattle.std.proofs.Common.{ap, ◌∙◌}
 use Rattle.world.specs.Seated.{Seated}
 use Rattle.world.proofs.Seats.{none_runs}
 use Rattle.world.proofs.seat.Seat.into_stripe.Goals as goal

@@ -1,4 +1,4 @@
-use Rattle.std.proofs.Common.{rules, arith, ◌≡◌, ◌<◌, ◌≤◌, ℕ, suc, length, map, Option, Some, None, IsSome, IsTrue, true, false, not, cond, w64, refl, sym, ap, subst, ◌∙◌}
+use Rattle.std.proofs.Common.{◌≡◌, Option, None, IsTrue, ap, subst}
 use Rattle.world.specs.World.{Running}
 use Rattle.world.specs.Seated.{Seated}
 use Rattle.world.proofs.Seats.{idle_open}

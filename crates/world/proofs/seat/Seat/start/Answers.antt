@@ -1,4 +1,4 @@
-use Rattle.std.proofs.Common.{rules, arith, ◌≡◌, ◌<◌, ◌≤◌, ℕ, suc, length, map, Option, Some, None, IsSome, IsTrue, true, false, not, cond, w64, refl, sym, ap, subst, ◌∙◌}
+use Rattle.std.proofs.Common.{rules, Option, None, IsSome, w64, refl, sym, ap, subst, ◌∙◌}
 use Rattle.std.proofs.lemmas.Int.{to_z-of_z}
 use Rattle.machine.specs.Running.{IsStarted}
 use Rattle.stripe.specs.History.{Begun, invocation, key_of}

@@ -1,5 +1,4 @@
-use Rattle.std.proofs.Common.{rules, arith, ◌≡◌, ◌<◌, ◌≤◌, ℕ, suc, length, map, Option, Some, None, IsSome, IsTrue, true, false, not, cond, w64, refl, sym, ap, subst, ◌∙◌}
-use Rattle.machine.specs.Running.{Follows}
+use Rattle.std.proofs.Common.{Some, not, cond, refl, sym, ap, ◌∙◌}
 use Rattle.stripe.specs.Rows.{arguments}
 use Rattle.stripe.specs.Seen.{call_of}
 use Rattle.world.specs.declared.event.Applied.TheVariants.{Done, Ignored}

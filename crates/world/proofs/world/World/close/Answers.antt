@@ -1,9 +1,11 @@
-use Rattle.std.proofs.Common.{rules, arith, ◌≡◌, ◌<◌, ◌≤◌, ◌+◌, ◌*◌, ◌++◌, ◌∷◌, [], ℕ, ℤ, suc, length, List, map, take, All, Option, Some, None, IsSome, IsTrue, true, false, not, cond, vec_len, vec_capacity, slice_get, slice_set, slice_index, w64, refl, sym, ap, subst, ◌∙◌, append_assoc, add-one}
-use Rattle.std.proofs.lemmas.Option.{slice_get_read}
+use Rattle.std.proofs.Common.{List, map, sym, ap, subst, ◌∙◌}
 use Rattle.stripe.specs.Stored.{Stored, entry_among}
+use Rattle.stripe.specs.Seen.{record_of}
 use Rattle.world.specs.World.{World, entries_now}
+use Rattle.world.specs.Lawful.{IsLawful}
 use Rattle.world.specs.Refused.{NoneRuns}
-use Rattle.world.specs.Inside.{parts, world_of}
+use Rattle.world.specs.Inside.{parts}
+use Rattle.world.proofs.Lawful.{is_lawful}
 use Rattle.world.proofs.Opening.{none_idle, stored_left}
 use Rattle.world.proofs.world.World.close.Goals as goal
 
@@ -19,3 +21,10 @@ give_back-requires-clause-returning c i x there =
 pub returns-clause-left : goal.returns-clause-left
 returns-clause-left c k =
     ap (λ (ms : List Stored). entry_among ms k) c.give_back.ensures ∙ stored_left (parts c.self.inside) c.self.invariant k ∙ ap (λ (w : World). entries_now w k) c.self.view_is
+
+pub returns-clause-lawful : goal.returns-clause-lawful
+returns-clause-lawful c =
+    let p = parts c.self.inside in
+    subst (λ (w : World). IsLawful w.opening (map record_of c.self.inside.finished.items) (entry_among c.give_back.result)) c.self.view_is
+    (is_lawful p.opening p.finished (entry_among c.give_back.result) c.self.invariant.legal
+    (λ k. ap (λ (ms : List Stored). entry_among ms k) c.give_back.ensures ∙ stored_left p c.self.invariant k))

@@ -1,16 +1,16 @@
-use Rattle.std.proofs.Common.{rules, arith, ◌≡◌, ◌<◌, ◌≤◌, ◌+◌, ◌++◌, ◌∷◌, [], ℕ, ℤ, suc, length, List, map, Option, Some, None, IsSome, IsTrue, true, false, not, cond, vec_len, vec_capacity, slice_get, slice_set, slice_index, w64, refl, sym, ap, subst, ◌∙◌}
+use Rattle.std.proofs.Common.{arith, ◌≡◌, ◌<◌, ◌++◌, ◌∷◌, [], ℕ, List, map, Some, vec_len, vec_capacity, slice_get, slice_set, refl, sym, ap, subst, ◌∙◌}
 use Rattle.std.proofs.lemmas.Option.{slice_get_read}
 use Rattle.std.proofs.lemmas.List.{map-append, length-map}
 use Rattle.stripe.specs.History.{Record}
 use Rattle.stripe.specs.Seen.{record_of}
 use Rattle.world.specs.declared.event.Applied.TheVariants.{Done, Ignored}
 use Rattle.world.specs.World.{World, Finish, with_record}
-use Rattle.world.specs.Seated.{Seated, IsEnded}
+use Rattle.world.specs.Seated.{Seated}
 use Rattle.world.specs.Refused.{IsApplied, KeepsEntries}
 use Rattle.world.specs.Inside.{Parts, IsSteady, parts, world_of, running_on}
 use Rattle.world.proofs.Places.{map_get}
 use Rattle.world.proofs.Steady.{with_seat, world_same}
-use Rattle.world.proofs.Ending.{with_end, record_set, steady_ended, keeps_ended, finish_room}
+use Rattle.world.proofs.Ending.{record_set, steady_ended, keeps_ended, finish_room}
 use Rattle.world.proofs.Applying.{applied_finish, kept_finish, was_done, was_ignored}
 use Rattle.world.proofs.world.World.finish.Goals as goal
 

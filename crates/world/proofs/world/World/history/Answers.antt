@@ -1,9 +1,9 @@
-use Rattle.std.proofs.Common.{rules, arith, ◌≡◌, ◌<◌, ◌≤◌, ◌+◌, ◌++◌, ◌∷◌, [], ℕ, ℤ, suc, length, List, map, Option, Some, None, IsSome, IsTrue, true, false, not, cond, vec_len, vec_capacity, slice_get, slice_set, slice_index, w64, refl, sym, ap, subst, ◌∙◌}
+use Rattle.std.proofs.Common.{arith, ◌≡◌, ◌<◌, length, Some, vec_len, slice_get, ap}
 use Rattle.std.proofs.lemmas.Option.{slice_get_read}
 use Rattle.std.proofs.lemmas.List.{length-map}
 use Rattle.stripe.specs.Seen.{record_of}
 use Rattle.world.specs.World.{World}
-use Rattle.world.specs.Inside.{parts, world_of, IsAt}
+use Rattle.world.specs.Inside.{parts}
 use Rattle.world.proofs.world.World.history.Goals as goal
 
 pub returns-clause-few : goal.returns-clause-few

@@ -1,9 +1,8 @@
-use Rattle.std.proofs.Common.{rules, arith, ◌≡◌, ◌<◌, ◌≤◌, ◌+◌, ◌*◌, ◌++◌, ◌∷◌, [], ℕ, ℤ, suc, length, List, map, take, All, Option, Some, None, IsSome, IsTrue, true, false, not, cond, vec_len, vec_capacity, slice_get, slice_set, slice_index, w64, refl, sym, ap, subst, ◌∙◌, append_assoc, add-one}
-use Rattle.std.proofs.lemmas.Option.{slice_get_read}
+use Rattle.std.proofs.Common.{IsTrue, sym, subst}
 use Rattle.world.specs.World.{World}
 use Rattle.world.specs.Seated.{AreIdle}
 use Rattle.world.specs.Refused.{NoneRuns}
-use Rattle.world.specs.Inside.{parts, world_of}
+use Rattle.world.specs.Inside.{parts}
 use Rattle.world.proofs.Opening.{idle_none, none_idle}
 use Rattle.world.proofs.world.World.is_idle.Goals as goal
 

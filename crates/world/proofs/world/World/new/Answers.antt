@@ -1,11 +1,8 @@
-use Rattle.std.proofs.Common.{rules, arith, ◌≡◌, ◌<◌, ◌≤◌, ◌+◌, ◌*◌, ◌++◌, ◌∷◌, [], ℕ, ℤ, suc, length, List, map, take, All, Option, Some, None, IsSome, IsTrue, true, false, not, cond, vec_len, vec_capacity, slice_get, slice_set, slice_index, w64, refl, sym, ap, subst, ◌∙◌, append_assoc, add-one}
-use Rattle.std.proofs.lemmas.Option.{slice_get_read}
-use Rattle.stripe.specs.History.{Record}
+use Rattle.std.proofs.Common.{arith, ◌≡◌, ◌≤◌, ◌*◌, [], length, map, All, None, vec_capacity, sym, ap, subst, ◌∙◌}
 use Rattle.stripe.specs.Seen.{record_of}
 use Rattle.stripe.specs.Kept.{Kept}
-use Rattle.stripe.specs.Stored.{Stored}
-use Rattle.stripe.specs.Tables.{IsCount, fresh_stripes}
-use Rattle.world.specs.Seated.{Seated, idle_seat}
+use Rattle.stripe.specs.Tables.{IsCount}
+use Rattle.world.specs.Seated.{idle_seat}
 use Rattle.world.specs.Inside.{Parts, IsSteady, running_on}
 use Rattle.world.proofs.Opening.{fresh_length, fresh_idle, none_running, opened_parts, steady_opened}
 use Rattle.world.proofs.world.World.new.Goals as goal

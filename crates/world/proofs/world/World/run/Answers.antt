@@ -1,4 +1,4 @@
-use Rattle.std.proofs.Common.{rules, arith, ◌≡◌, ◌<◌, ◌≤◌, ◌+◌, ◌*◌, ◌++◌, ◌∷◌, [], ℕ, ℤ, suc, length, List, map, take, All, Option, Some, None, IsSome, IsTrue, true, false, not, cond, vec_len, vec_capacity, slice_get, slice_set, slice_index, w64, refl, sym, ap, subst, ◌∙◌, append_assoc, add-one}
+use Rattle.std.proofs.Common.{arith, ◌≡◌, ◌+◌, ◌++◌, ◌∷◌, [], length, map, take, Some, false, slice_get, refl, sym, ap, subst, ◌∙◌, add-one}
 use Rattle.std.proofs.lemmas.Option.{slice_get_read}
 use Rattle.std.proofs.lemmas.List.{take-map}
 use Rattle.stripe.specs.declared.refusal.BeginRefusal.TheVariants.{JournalFull}
@@ -7,7 +7,7 @@ use Rattle.world.specs.World.{World, apply, run}
 use Rattle.world.specs.Seen.{event_of}
 use Rattle.world.specs.Refused.{is_start_on_full, HaveRoom, IsRefusable}
 use Rattle.world.proofs.Places.{map_get}
-use Rattle.world.proofs.Runs.{run_more, room_more, take_one, refusable, not_true}
+use Rattle.world.proofs.Runs.{run_more, room_more, take_one, refusable, not_true, opening_stays}
 use Rattle.world.proofs.world.World.run.Goals as goal
 
 pub returns-in-Refused-clause-stopped : goal.returns-in-Refused-clause-stopped
@@ -40,3 +40,14 @@ loop-place-preserved c =
       c.apply.ensures.world (λ r q. c.in_default.not-Refused r q) ∙ ap (λ (v : World). apply v (event_of e)) c.loop-place.invariant.0 ∙ sym (run_more w (map event_of (take i events)) (event_of e)) ∙ ap (run w) (sym more),
       subst (HaveRoom w) (sym more) (room_more w (map event_of (take i events)) (event_of e) c.loop-place.invariant.1 (ap (λ (v : World). is_start_on_full v (event_of e)) (sym c.loop-place.invariant.0) ∙ room)),
     )
+
+pub returns-in-Refused-clause-opening : goal.returns-in-Refused-clause-opening
+returns-in-Refused-clause-opening c =
+    let same : c.apply.new.self ≡ c.loop-place.self = c.in-Refused.ensures.same not_done in
+    ap (λ (w : World). w.opening) (same ∙ c.loop-place.invariant.0) ∙ opening_stays c.args.self.now (map event_of (take c.loop-place.place c.args.events.now))
+  where
+    not_done : Refused c.in-Refused.refusal ≡ Done → ⊥
+    not_done q = absurd (cc)
+
+pub returns-clause-opening : goal.returns-clause-opening
+returns-clause-opening c = ap (λ (w : World). w.opening) c.loop-place.invariant.0 ∙ opening_stays c.args.self.now (map event_of (take c.loop-place.place c.args.events.now))

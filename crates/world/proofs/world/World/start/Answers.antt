@@ -1,14 +1,14 @@
-use Rattle.std.proofs.Common.{rules, arith, ◌≡◌, ◌<◌, ◌≤◌, ◌+◌, ◌++◌, ◌∷◌, [], ℕ, ℤ, suc, length, List, map, Option, Some, None, IsSome, IsTrue, true, false, not, cond, vec_len, vec_capacity, slice_get, slice_set, slice_index, w64, to_z, of_z, refl, sym, ap, subst, ◌∙◌}
+use Rattle.std.proofs.Common.{rules, arith, ◌≡◌, ◌<◌, ◌+◌, ℕ, length, Some, None, vec_len, slice_get, slice_set, slice_index, w64, to_z, of_z, refl, ap, subst, ◌∙◌}
 use Rattle.std.proofs.lemmas.Option.{slice_get_read}
 use Rattle.std.proofs.lemmas.Int.{to_z-of_z}
 use Rattle.stripe.specs.declared.refusal.BeginRefusal.TheVariants.{JournalFull}
 use Rattle.stripe.specs.History.{Begun, key_of, stripe_of}
 use Rattle.stripe.specs.Seen.{call_of}
 use Rattle.world.specs.declared.event.Applied.TheVariants.{Done, Ignored, Refused}
-use Rattle.world.specs.World.{World, Start, entries_now, apply}
-use Rattle.world.specs.Seated.{Seated, IsBegun}
+use Rattle.world.specs.World.{World, Start}
+use Rattle.world.specs.Seated.{IsBegun}
 use Rattle.world.specs.Refused.{IsApplied, KeepsEntries}
-use Rattle.world.specs.Inside.{parts, world_of, running_on}
+use Rattle.world.specs.Inside.{parts, world_of}
 use Rattle.world.proofs.Steady.{with_seat, running_set, steady_started, world_same}
 use Rattle.world.proofs.Applying.{applied_start, start_done, of_stripe, idle_running}
 use Rattle.world.proofs.world.World.start.Goals as goal

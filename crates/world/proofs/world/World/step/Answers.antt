@@ -1,7 +1,6 @@
-use Rattle.std.proofs.Common.{rules, arith, ◌≡◌, ◌<◌, ◌≤◌, ◌+◌, ◌++◌, ◌∷◌, [], ℕ, ℤ, suc, length, List, map, Option, Some, None, IsSome, IsTrue, true, false, not, cond, vec_len, vec_capacity, slice_get, slice_set, slice_index, w64, refl, sym, ap, subst, ◌∙◌}
+use Rattle.std.proofs.Common.{arith, ◌≡◌, Some, vec_len, slice_get, ap, subst, ◌∙◌}
 use Rattle.std.proofs.lemmas.Option.{slice_get_read}
 use Rattle.world.specs.World.{World, Step, with_running}
-use Rattle.world.specs.Seated.{Seated}
 use Rattle.world.specs.Refused.{IsApplied}
 use Rattle.world.specs.Inside.{parts, world_of, running_on}
 use Rattle.world.proofs.Places.{map_get}

@@ -1,4 +1,4 @@
-use Rattle.std.proofs.Common.{◌≡◌, length, ap, ◌∙◌}
+use Rattle.std.proofs.Common.{length, ap, ◌∙◌}
 use Rattle.world.specs.World.{World}
 use Rattle.world.proofs.world.World.stripes.Goals as goal
 

@@ -1,0 +1,5 @@
+mod Members
+mod Tags
+mod Merge
+mod Handed
+mod SmallRound

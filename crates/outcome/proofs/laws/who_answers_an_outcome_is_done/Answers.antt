@@ -1,0 +1,5 @@
+use Rattle.outcome.proofs.Handed.{rounds_are_done}
+use Rattle.outcome.proofs.laws.who_answers_an_outcome_is_done.Goals as goal
+
+pub returns : goal.returns
+returns c = rounds_are_done

@@ -1,0 +1,4 @@
+pub mod Outcome
+pub mod Closed
+pub mod Statements
+pub mod Example

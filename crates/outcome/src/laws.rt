@@ -1,0 +1,42 @@
+//! The laws.
+
+ghost use Rattle.outcome.specs.Example.{NoValueFromNowhere, left_by_round, no_entries, replies, round};
+ghost use Rattle.outcome.specs.Outcome.{IsDone};
+ghost use Rattle.outcome.specs.Statements.{CachesHandOutHistories, CallsAreFiled, HistoriesFollow, NoneIsFiled, RefusedCallsAreFiled, RoundsAreDone, WorldsHandOutHistories};
+
+/// The histories of a closed cache, one stripe's behind the other's, are one legal history of the calls that were answered at its
+/// seats, each once and with its reply, and lead from the entries that the cache was opened with to those that it hands out.
+///
+/// It asks that each receipt names the stripe of its key, which `calls_are_filed` gives to whoever made the calls.
+pub fn what_a_cache_hands_out_is_an_outcome()
+    ensures { CachesHandOutHistories }
+{}
+
+/// A seat begins without receipts, each answered call adds one that names the stripe of its key, and a refused call adds none.
+pub fn calls_are_filed()
+    ensures none { NoneIsFiled }
+    ensures more { CallsAreFiled }
+    ensures refused { RefusedCallsAreFiled }
+{}
+
+/// The finished calls of a world are a legal history, and lead from the entries that the world was opened with to those now.
+pub fn what_a_world_hands_out_is_an_outcome()
+    ensures { WorldsHandOutHistories }
+{}
+
+/// A round is done if each of its calls has an answer, and the answered ones are, in some order, the calls of such a history.
+pub fn who_answers_an_outcome_is_done()
+    ensures { RoundsAreDone }
+{}
+
+/// Histories of which the second begins where the first ends are one history of the calls of both.
+pub fn histories_follow_one_another()
+    ensures { HistoriesFollow }
+{}
+
+/// A worked example: a round of four calls, of which one is refused, is done, in another order than that of the calls. And a round
+/// in which a `get` is answered by a value that nobody put isn't.
+pub fn a_small_round_is_done()
+    ensures done { IsDone no_entries round replies left_by_round }
+    ensures nowhere { NoValueFromNowhere }
+{}
