@@ -1,0 +1,4 @@
+pub mod Totals
+pub mod Times
+mod Draws
+mod Shares

@@ -1,0 +1,4 @@
+pub mod Counters
+pub mod Inside
+pub mod Rule
+pub mod Views

@@ -1,0 +1,107 @@
+-- One call more, and one answer more.
+use Rattle.std.proofs.Common.{◌≡◌, ℕ, zero, suc, List, [], ◌∷◌, ◌++◌, length, get_or, set, Ok, Err, IfOk, IfErr, Bool, true, false, refl, sym, ap, ◌∙◌, subst, ⊎_elim, append_assoc}
+use Rattle.std.proofs.lemmas.List.{append-nil, map-append}
+use Rattle.std.proofs.lemmas.List.Concat.{flat_map-append}
+use Rattle.std.proofs.lemmas.List.Elements.{All-head, All-tail}
+use Rattle.std.specs.List.{All, AllByRecursion}
+use mathlib.Core.Option.{some, some-injective, some-ne-none}
+use lib.ListN.{get_elem?}
+use Rattle.atomic_table.proofs.Lists.{at_snoc}
+use Rattle.boxcar.specs.Table.{Shelves}
+use Rattle.stripe.specs.History.{Call}
+use Rattle.cache.specs.Receipts.{Receipt}
+use Rattle.cache.specs.declared.refusal.InvokeRefusal.TheVariants.{JournalFull, NoMemory}
+use Rattle.cache.specs.Opened.{Opened, Sitting, IsAnswered, IsTurnedAway, stripe_in}
+use Rattle.invokeall.specs.declared.job.Job.{Job}
+use Rattle.invokeall.specs.Jobs.{call_of, calls_of, IsCallable}
+use Rattle.invokeall.specs.Rounds.{Answer, told, told_seat, IsLaterSeat, IsPlaced, IsFull}
+use Rattle.invokeall.specs.Crews.{told_answer, told_at, told_row, numbers, ShowsFull}
+
+-- what one call at a seat gives
+pub record OneCall (d : Opened) (c : Call) (a b : Sitting) (x : Answer) : Type 0 where
+  pub later : IsLaterSeat a b
+  pub receipts : told_seat b ≡ told_seat a ++ told_answer c x
+  pub placed : IsPlaced d a → IsPlaced d b
+  pub full : x ≡ Err JournalFull → IsFull d c b
+
+pub same_seat : (a b : Sitting) → b ≡ a → IsLaterSeat a b
+same_seat a b e = subst (IsLaterSeat a) (sym e) (record { table = refl; caller = refl; made = refl; receipts = ([], sym (append-nil a.receipts)); full = λ i h. h })
+
+pub later_seat : (a b c : Sitting) → IsLaterSeat a b → IsLaterSeat b c → IsLaterSeat a c
+later_seat a b c x y = record {
+  table = y.table ∙ x.table;
+  caller = y.caller ∙ x.caller;
+  made = y.made ∙ x.made;
+  receipts = (x.receipts.0 ++ y.receipts.0, y.receipts.1 ∙ ap (λ (l : List Receipt). l ++ y.receipts.0) x.receipts.1 ∙ append_assoc a.receipts x.receipts.0 y.receipts.0);
+  full = λ i h. y.full i (x.full i h);
+}
+
+still_set : (l : List Bool) (i j : ℕ) → get_or l j false ≡ true → get_or (set l i true) j false ≡ true
+still_set [] i j e = e
+still_set (x ∷ xs) zero zero e = refl
+still_set (x ∷ xs) zero (suc j) e = e
+still_set (x ∷ xs) (suc i) zero e = e
+still_set (x ∷ xs) (suc i) (suc j) e = still_set xs i j e
+
+one_more : (P : Receipt → Type 0) (xs : List Receipt) (x : Receipt) → AllByRecursion P xs → P x → AllByRecursion P (xs ++ x ∷ [])
+one_more P [] x h p = (p, tt)
+one_more P (y ∷ ys) x h p = (h.0, one_more P ys x h.1 p)
+
+pub one_call : (d : Opened) (c : Call) (a b : Sitting) (x : Answer) → IfOk x (λ reply. IsAnswered d a c reply b) → IfErr x (λ refusal. IsTurnedAway d a c refusal b) → OneCall d c a b x
+one_call d c a b (Ok r) ok err =
+    let t : Receipt = ok.receipt in record {
+      later = subst (IsLaterSeat a) (sym ok.left) (record { table = refl; caller = refl; made = refl; receipts = (t ∷ [], refl); full = λ i h. h });
+      receipts = ap told_seat ok.left ∙ map-append told a.receipts (t ∷ []) ∙ (λ k. told_seat a ++ (ok.call_is k, ok.reply_is k) ∷ []);
+      placed = λ h. subst (IsPlaced d) (sym ok.left) (one_more (λ (u : Receipt). u.stripe ≡ stripe_in d u.call) a.receipts t h (ok.stripe_is ∙ ap (stripe_in d) (sym ok.call_is)));
+      full = λ e. absurd (cc);
+    }
+one_call d c a b (Err JournalFull) ok err =
+    let e = err.0 in record {
+      later = subst (IsLaterSeat a) (sym e) (record { table = refl; caller = refl; made = refl; receipts = ([], sym (append-nil a.receipts)); full = λ i h. still_set a.full (stripe_in d c) i h });
+      receipts = ap told_seat e ∙ sym (append-nil (told_seat a));
+      placed = λ h. subst (IsPlaced d) (sym e) h;
+      full = λ _. err.1;
+    }
+one_call d c a b (Err NoMemory) ok err = record {
+  later = same_seat a b err;
+  receipts = ap told_seat err ∙ sym (append-nil (told_seat a));
+  placed = λ h. subst (IsPlaced d) (sym err) h;
+  full = λ x. absurd (cc);
+}
+
+-- the call of a job stands where the job stands
+pub called_at : (jobs : List Job) (k : ℕ) (j : Job) → get_elem? jobs k ≡ some j → get_elem? (calls_of jobs) k ≡ some (call_of j)
+called_at [] k j e = absurd (some-ne-none j (sym e))
+called_at (x ∷ xs) zero j e = ap (λ (z : Job). some (call_of z)) (some-injective x j e)
+called_at (x ∷ xs) (suc k) j e = called_at xs k j e
+
+pub callable_at : (registry : Shelves) (jobs : List Job) (k : ℕ) (j : Job) → All (IsCallable registry) jobs → get_elem? jobs k ≡ some j → IsCallable registry j
+callable_at registry [] k j all e = absurd (some-ne-none j (sym e))
+callable_at registry (x ∷ xs) zero j all e = subst (IsCallable registry) (some-injective x j e) (All-head (IsCallable registry) x xs all)
+callable_at registry (x ∷ xs) (suc k) j all e = callable_at registry xs k j (All-tail (IsCallable registry) x xs all) e
+
+told_there : (cs : List Call) (k : ℕ) (c : Call) (x : Answer) → get_elem? cs k ≡ some c → told_at cs k x ≡ told_answer c x
+told_there [] k c x e = absurd (some-ne-none c (sym e))
+told_there (y ∷ ys) zero c x e = ap (λ (z : Call). told_answer z x) (some-injective y c e)
+told_there (y ∷ ys) (suc k) c x e = told_there ys k c x e
+
+pub row_more : (cs : List Call) (xs : List (ℕ × Answer)) (k : ℕ) (c : Call) (x : Answer) → get_elem? cs k ≡ some c → told_row cs (xs ++ (k, x) ∷ []) ≡ told_row cs xs ++ told_answer c x
+row_more cs xs k c x e =
+    flat_map-append (λ (y : ℕ × Answer). told_at cs y.0 y.1) xs ((k, x) ∷ []) ∙ ap (λ l. told_row cs xs ++ l) (append-nil (told_at cs k x) ∙ told_there cs k c x e)
+
+pub full_more : (d : Opened) (cs : List Call) (a b : Sitting) (xs : List (ℕ × Answer)) (k : ℕ) (c : Call) (x : Answer) → get_elem? cs k ≡ some c → OneCall d c a b x → ShowsFull d cs a xs
+    → ShowsFull d cs b (xs ++ (k, x) ∷ [])
+full_more d cs a b xs k c x at one old j m u e there = ⊎_elim
+    (λ (h : get_elem? xs j ≡ some (m, Err JournalFull)). one.later.full (stripe_in d u) (old j m u h there))
+    (λ (h : (k, x) ≡ (m, Err JournalFull)).
+    let same : c ≡ u = some-injective c u (sym at ∙ subst (λ (n : ℕ). get_elem? cs n ≡ some u) (sym (ap (λ (y : ℕ × Answer). y.0) h)) there) in
+    subst (λ (z : Call). IsFull d z b) same (one.full (ap (λ (y : ℕ × Answer). y.1) h)))
+    (at_snoc xs (k, x) (m, Err JournalFull) j e)
+
+pub numbers_more : (xs : List (ℕ × Answer)) (k : ℕ) (x : Answer) → numbers (xs ++ (k, x) ∷ []) ≡ numbers xs ++ k ∷ []
+numbers_more [] k x = refl
+numbers_more (y ∷ ys) k x = ap (λ (l : List ℕ). y.0 ∷ l) (numbers_more ys k x)
+
+pub numbers_long : (xs : List (ℕ × Answer)) → length (numbers xs) ≡ length xs
+numbers_long [] = refl
+numbers_long (y ∷ ys) = ap suc (numbers_long ys)

@@ -1,0 +1,241 @@
+-- What all workers did.
+use Rattle.std.proofs.Common.{◌≡◌, ◌⊎◌, ℕ, zero, suc, ◌+◌, ◌<◌, ◌≤◌, ◌==◌, List, [], ◌∷◌, ◌++◌, length, map, get_or, Option, Some, None, Err, true, refl, sym, ap, ◌∙◌, subst, inl, inr, ⊎_elim, arith, append_assoc}
+use Rattle.std.specs.Prelude.{flat_map}
+use Rattle.std.specs.List.{All}
+use Rattle.std.specs.List.Sorted.{IsPermutation}
+use Rattle.std.proofs.lemmas.List.{map-append}
+use Rattle.std.proofs.lemmas.List.Elements.{All-nil, All-cons, All-head, All-tail, All-same}
+use Rattle.std.proofs.lemmas.List.Concat.{flat_map-append}
+use Rattle.std.proofs.lemmas.List.Sorted.{IsPermutation-refl, IsPermutation-sym, IsPermutation-trans, IsPermutation-append_left, IsPermutation-append_right, IsPermutation-append_comm}
+use mathlib.Core.Option.{some, some-injective, some-ne-none}
+use lib.ListN.{get_elem?}
+use Rattle.claims.specs.Counters.{Numbering, Share, AreAll, fresh, one_if, times, times_drawn}
+use Rattle.claims.proofs.Totals.{total_append}
+use Rattle.stripe.specs.History.{Call}
+use Rattle.cache.specs.declared.refusal.InvokeRefusal.TheVariants.{JournalFull}
+use Rattle.cache.specs.Opened.{Opened, Sitting}
+use Rattle.invokeall.specs.declared.job.Job.{Job}
+use Rattle.invokeall.specs.declared.work.Worker.{Worker}
+use Rattle.invokeall.specs.Jobs.{call_of, calls_of}
+use Rattle.invokeall.specs.Rounds.{Answer, Told, answered, reply_of, told_seat, told_seats, IsLaterSeat, IsPlaced, IsFull, IsRound, IsAtHome}
+use Rattle.invokeall.specs.Crews.{IsReady, HasWorked, told_row, told_at, numbers}
+use Rattle.invokeall.specs.Rooms.{Row, Places, HasRoom, blanks, placed, entries_of, seats_of, claimers_of, rows_of, IsThere}
+use Rattle.invokeall.proofs.Rows.{told_all, reply_in, AreOnce, told_rows, from_entry, blank_at, length_placed, length_blanks, all_filled}
+
+pub length_calls : (jobs : List Job) → length (calls_of jobs) ≡ length jobs
+length_calls [] = refl
+length_calls (j ∷ js) = ap suc (length_calls js)
+
+replies_in : (answers : List Answer) → map reply_in (map Some answers) ≡ map reply_of answers
+replies_in [] = refl
+replies_in (a ∷ rest) = ap (λ l. reply_of a ∷ l) (replies_in rest)
+
+length_some : (answers : List Answer) → length (map Some answers) ≡ length answers
+length_some [] = refl
+length_some (a ∷ rest) = ap suc (length_some rest)
+
+some_at : (answers : List Answer) (k : ℕ) (a : Answer) → get_elem? answers k ≡ some a → get_elem? (map Some answers) k ≡ some (Some a)
+some_at [] k a e = absurd (some-ne-none a (sym e))
+some_at (x ∷ xs) zero a e = ap (λ (y : Answer). some (Some y)) (some-injective x a e)
+some_at (x ∷ xs) (suc k) a e = some_at xs k a e
+
+some_same : (a b : Answer) → Some a ≡ Some b → a ≡ b
+some_same a b e = ap (λ (p : Option Answer). value p a) e
+  where
+    value : Option Answer → Answer → Answer
+    value (Some x) d = x
+    value None d = d
+
+module _ (d : Opened) (counter : Numbering) (jobs : List Job) where
+  abbrev pub AllWorked : List Worker → List Worker → Type 0
+  AllWorked [] [] = Unit {0}
+  AllWorked (v ∷ vs) (w ∷ ws) = HasWorked d counter jobs v w × AllWorked vs ws
+  AllWorked _ _ = ⊥
+
+  pub all_worked : (vs ws : List Worker) → length ws ≡ length vs → ((i : ℕ) (e : Worker) → i < length vs → HasWorked d counter jobs (get_or vs i e) (get_or ws i e)) → AllWorked vs ws
+  all_worked [] [] same each = tt
+  all_worked [] (w ∷ ws) same each = absurd (omega arith)
+  all_worked (v ∷ vs) [] same each = absurd (omega arith)
+  all_worked (v ∷ vs) (w ∷ ws) same each = (each 0 v (omega arith), all_worked vs ws (omega arith) (λ i e h. each (suc i) e (omega arith)))
+
+  pub as_long : (vs ws : List Worker) → AllWorked vs ws → length (seats_of ws) ≡ length (seats_of vs)
+  as_long [] [] a = refl
+  as_long [] (w ∷ ws) a = absurd a
+  as_long (v ∷ vs) [] a = absurd a
+  as_long (v ∷ vs) (w ∷ ws) a = ap suc (as_long vs ws a.1)
+
+  pub all_later : (vs ws : List Worker) → AllWorked vs ws → (i : ℕ) (x y : Sitting) → get_elem? (seats_of vs) i ≡ some x → get_elem? (seats_of ws) i ≡ some y → IsLaterSeat x y
+  all_later [] ws a i x y e f = absurd (some-ne-none x (sym e))
+  all_later (v ∷ vs) [] a i x y e f = absurd a
+  all_later (v ∷ vs) (w ∷ ws) a zero x y e f = subst (λ (z : Sitting). IsLaterSeat z y) (some-injective v.seat x e) (subst (λ (z : Sitting). IsLaterSeat v.seat z) (some-injective w.seat y f) a.0.seat)
+  all_later (v ∷ vs) (w ∷ ws) a (suc i) x y e f = all_later vs ws a.1 i x y e f
+
+  pub all_placed : (vs ws : List Worker) → AllWorked vs ws → ((i : ℕ) (x : Sitting) → get_elem? (seats_of vs) i ≡ some x → IsPlaced d x) → (i : ℕ) (y : Sitting) → get_elem? (seats_of ws) i ≡ some y → IsPlaced d y
+  all_placed [] [] a h i y f = absurd (some-ne-none y (sym f))
+  all_placed [] (w ∷ ws) a h i y f = absurd a
+  all_placed (v ∷ vs) [] a h i y f = absurd a
+  all_placed (v ∷ vs) (w ∷ ws) a h zero y f = subst (λ (z : Sitting). IsPlaced d z) (some-injective w.seat y f) (a.0.placed (h 0 v.seat refl))
+  all_placed (v ∷ vs) (w ∷ ws) a h (suc i) y f = all_placed vs ws a.1 (λ j x e. h (suc j) x e) i y f
+
+  abbrev row_told : Worker → List Told
+  row_told w = told_row (calls_of jobs) w.answers.items
+
+  crossed : (p q r s : List Told) → IsPermutation ((p ++ r) ++ (q ++ s)) ((p ++ q) ++ (r ++ s))
+  crossed p q r s =
+      let a : IsPermutation ((r ++ q) ++ s) ((q ++ r) ++ s) = IsPermutation-append_left s (r ++ q) (q ++ r) (IsPermutation-append_comm r q) in
+      let b : IsPermutation (p ++ ((r ++ q) ++ s)) (p ++ ((q ++ r) ++ s)) = IsPermutation-append_right p ((r ++ q) ++ s) ((q ++ r) ++ s) a in
+      let left : p ++ ((r ++ q) ++ s) ≡ (p ++ r) ++ (q ++ s) = ap (λ l. p ++ l) (append_assoc r q s) ∙ sym (append_assoc p r (q ++ s)) in
+      let right : p ++ ((q ++ r) ++ s) ≡ (p ++ q) ++ (r ++ s) = ap (λ l. p ++ l) (append_assoc q r s) ∙ sym (append_assoc p q (r ++ s)) in
+      subst (λ l. IsPermutation l ((p ++ q) ++ (r ++ s))) left (subst (λ l. IsPermutation (p ++ ((r ++ q) ++ s)) l) right b)
+
+  pub told_worked : (vs ws : List Worker) → AllWorked vs ws → IsPermutation (told_seats (seats_of vs) ++ flat_map row_told ws) (told_seats (seats_of ws))
+  told_worked [] [] a = IsPermutation-refl []
+  told_worked [] (w ∷ ws) a = absurd a
+  told_worked (v ∷ vs) [] a = absurd a
+  told_worked (v ∷ vs) (w ∷ ws) a =
+      let p = told_seat v.seat in
+      let q = row_told w in
+      let r = told_seats (seats_of vs) in
+      let s = flat_map row_told ws in
+      let rest : IsPermutation ((p ++ q) ++ (r ++ s)) ((p ++ q) ++ told_seats (seats_of ws)) = IsPermutation-append_right (p ++ q) (r ++ s) (told_seats (seats_of ws)) (told_worked vs ws a.1) in
+      subst (λ l. IsPermutation ((p ++ r) ++ (q ++ s)) (l ++ told_seats (seats_of ws))) (sym a.0.receipts)
+      (IsPermutation-trans ((p ++ r) ++ (q ++ s)) ((p ++ q) ++ (r ++ s)) ((p ++ q) ++ told_seats (seats_of ws)) (crossed p q r s) rest)
+
+  pub told_entries : (ws : List Worker) → told_row (calls_of jobs) (entries_of (rows_of ws)) ≡ flat_map row_told ws
+  told_entries [] = refl
+  told_entries (w ∷ ws) = flat_map-append (λ (a : ℕ × Answer). told_at (calls_of jobs) a.0 a.1) w.answers.items (entries_of (rows_of ws)) ∙ ap (λ l. row_told w ++ l) (told_entries ws)
+
+  numbers_append : (xs ys : List (ℕ × Answer)) → numbers (xs ++ ys) ≡ numbers xs ++ numbers ys
+  numbers_append xs ys = map-append (λ (a : ℕ × Answer). a.0) xs ys
+
+  more_entries : (x : ℕ) (w : Worker) (ws : List Worker) → times x (numbers (entries_of (rows_of (w ∷ ws)))) ≡ times x (numbers w.answers.items) + times x (numbers (entries_of (rows_of ws)))
+  more_entries x w ws = ap (λ l. times x l) (numbers_append w.answers.items (entries_of (rows_of ws))) ∙ total_append (λ (y : ℕ). one_if (x == y)) (numbers w.answers.items) (numbers (entries_of (rows_of ws)))
+
+  -- the numbers of all answers are those that the claimers drew
+  drawn_entries : (vs ws : List Worker) → AllWorked vs ws → (x : ℕ) → times_drawn x (claimers_of ws) ≡ times x (numbers (entries_of (rows_of ws)))
+  drawn_entries [] [] a x = refl
+  drawn_entries [] (w ∷ ws) a x = absurd a
+  drawn_entries (v ∷ vs) [] a x = absurd a
+  drawn_entries (v ∷ vs) (w ∷ ws) a x =
+      let e = ap (times x) a.0.drawn in
+      let f = drawn_entries vs ws a.1 x in
+      let g = more_entries x w ws in omega arith
+
+  -- no number was drawn twice, and each of a job once
+  pub record IsEachOnce (ws : List Worker) : Type 0 where
+    pub most : (x : ℕ) → times_drawn x (claimers_of ws) ≤ 1
+    pub jobs_are : (x : ℕ) → x < length jobs → times_drawn x (claimers_of ws) ≡ 1
+
+  entries_once : (vs ws : List Worker) → AllWorked vs ws → IsEachOnce ws → AreOnce (entries_of (rows_of ws))
+  entries_once vs ws a each = record { once = λ x. let e = drawn_entries vs ws a x in let f = each.most x in omega arith }
+
+  -- so each has its answer
+  pub are_filled : (vs ws : List Worker) → AllWorked vs ws → IsEachOnce ws → All IsThere (placed (blanks (length jobs)) (entries_of (rows_of ws)))
+  are_filled vs ws a each = all_filled (length jobs) (entries_of (rows_of ws)) (λ k below. let e = drawn_entries vs ws a k in let f = each.jobs_are k below in omega arith)
+
+  -- where a worker worked, a claimer is done
+  pub first_done : (vs ws : List Worker) → AllWorked vs ws → 0 < length vs → (s : Share) × (get_elem? (claimers_of ws) 0 ≡ some s) × (s.done ≡ true)
+  first_done [] ws a some_worker = absurd (omega arith)
+  first_done (v ∷ vs) [] a some_worker = absurd a
+  first_done (v ∷ vs) (w ∷ ws) a some_worker = (w.claimer, refl, a.0.done)
+
+  -- all claimers are of the counter
+  pub claimers_at : (vs ws : List Worker) → AllWorked vs ws → (i : ℕ) (s : Share) → get_elem? (claimers_of ws) i ≡ some s → s.counter ≡ counter
+  claimers_at [] [] a i s e = absurd (some-ne-none s (sym e))
+  claimers_at [] (w ∷ ws) a i s e = absurd a
+  claimers_at (v ∷ vs) [] a i s e = absurd a
+  claimers_at (v ∷ vs) (w ∷ ws) a zero s e = ap (λ (t : Share). t.counter) (sym (some-injective w.claimer s e)) ∙ a.0.at
+  claimers_at (v ∷ vs) (w ∷ ws) a (suc i) s e = claimers_at vs ws a.1 i s e
+
+  at_append : (xs ys : List (ℕ × Answer)) (j : ℕ) (e : ℕ × Answer) → get_elem? (xs ++ ys) j ≡ some e → ((m : ℕ) × (get_elem? xs m ≡ some e)) ⊎ ((m : ℕ) × (get_elem? ys m ≡ some e))
+  at_append [] ys j e h = inr (j, h)
+  at_append (x ∷ xs) ys zero e h = inl (0, h)
+  at_append (x ∷ xs) ys (suc j) e h = ⊎_elim
+      (λ (g : (m : ℕ) × (get_elem? xs m ≡ some e)). inl (suc g.0, g.1))
+      (λ (g : (m : ℕ) × (get_elem? ys m ≡ some e)). inr g)
+      (at_append xs ys j e h)
+
+  pub full_shown : (vs ws : List Worker) → AllWorked vs ws → (k : ℕ) (c : Call) → get_elem? (calls_of jobs) k ≡ some c → (j : ℕ) → get_elem? (entries_of (rows_of ws)) j ≡ some (k, Err JournalFull)
+      → (i : ℕ) × (s : Sitting) × (get_elem? (seats_of ws) i ≡ some s) × IsFull d c s
+  full_shown [] [] a k c there j e = absurd (some-ne-none (k, Err JournalFull) (sym e))
+  full_shown [] (w ∷ ws) a k c there j e = absurd a
+  full_shown (v ∷ vs) [] a k c there j e = absurd a
+  full_shown (v ∷ vs) (w ∷ ws) a k c there j e = ⊎_elim
+      (λ (g : (m : ℕ) × (get_elem? w.answers.items m ≡ some (k, Err JournalFull))). (0, w.seat, refl, a.0.full g.0 k c g.1 there))
+      (λ (g : (m : ℕ) × (get_elem? (entries_of (rows_of ws)) m ≡ some (k, Err JournalFull))). let f = full_shown vs ws a.1 k c there g.0 g.1 in (suc f.0, f.1, f.2, f.3))
+      (at_append w.answers.items (entries_of (rows_of ws)) j (k, Err JournalFull) e)
+
+  told_by_all : (vs ws : List Worker) → AllWorked vs ws → IsEachOnce ws → (answers : List Answer) → map Some answers ≡ placed (blanks (length jobs)) (entries_of (rows_of ws))
+      → IsPermutation (told_seats (seats_of vs) ++ answered (calls_of jobs) (map reply_of answers)) (told_seats (seats_of ws))
+  told_by_all vs ws a each answers are =
+      let calls : List Call = calls_of jobs in
+      let es : List (ℕ × Answer) = entries_of (rows_of ws) in
+      let old : List Told = told_seats (seats_of vs) in
+      let here : List Told = answered calls (map reply_of answers) in
+      let same : told_all calls (placed (blanks (length calls)) es) ≡ here =
+      ap (λ n. told_all calls (placed (blanks n) es)) (length_calls jobs) ∙ ap (told_all calls) (sym are) ∙ ap (answered calls) (replies_in answers) in
+      let told : IsPermutation (told_row calls es) here = subst (IsPermutation (told_row calls es)) same (told_rows calls es (entries_once vs ws a each)) in
+      let one : IsPermutation (old ++ here) (old ++ told_row calls es) = IsPermutation-append_right old here (told_row calls es) (IsPermutation-sym (told_row calls es) here told) in
+      let two : IsPermutation (old ++ told_row calls es) (told_seats (seats_of ws)) = subst (λ l. IsPermutation (old ++ l) (told_seats (seats_of ws))) (sym (told_entries ws)) (told_worked vs ws a) in
+      IsPermutation-trans (old ++ here) (old ++ told_row calls es) (told_seats (seats_of ws)) one two
+
+  full_by_all : (vs ws : List Worker) → AllWorked vs ws → (answers : List Answer) → map Some answers ≡ placed (blanks (length jobs)) (entries_of (rows_of ws))
+      → (k : ℕ) (c : Call) → get_elem? answers k ≡ some (Err JournalFull) → get_elem? (calls_of jobs) k ≡ some c → (i : ℕ) × (s : Sitting) × (get_elem? (seats_of ws) i ≡ some s) × IsFull d c s
+  full_by_all vs ws a answers are k c e there =
+      let es : List (ℕ × Answer) = entries_of (rows_of ws) in
+      let full : Answer = Err JournalFull in
+      ⊎_elim
+      (λ (g : get_elem? (blanks (length jobs)) k ≡ some (Some full)). absurd (let f = blank_at (length jobs) k (Some full) g in cc))
+      (λ (g : (j : ℕ) × (b : Answer) × (Some full ≡ Some b) × (get_elem? es j ≡ some (k, b))).
+      let same : g.1 ≡ full = sym (some_same full g.1 g.2) in
+      full_shown vs ws a k c there g.0 (subst (λ (b : Answer). get_elem? es g.0 ≡ some (k, b)) same g.3))
+      (from_entry (blanks (length jobs)) es k (Some full) (subst (λ (l : Places). get_elem? l k ≡ some (Some full)) are (some_at answers k full e)))
+
+  -- the round, from what the workers did
+  pub is_round : (vs ws : List Worker) (old new : List Sitting) (answers : List Answer) → AllWorked vs ws → old ≡ seats_of vs → new ≡ seats_of ws
+      → map Some answers ≡ placed (blanks (length jobs)) (entries_of (rows_of ws)) → IsEachOnce ws → IsRound d (calls_of jobs) old new answers
+  is_round vs ws old new answers a before after are each =
+      subst (λ (l : List Sitting). IsRound d (calls_of jobs) l new answers) (sym before)
+      (subst (λ (l : List Sitting). IsRound d (calls_of jobs) (seats_of vs) l answers) (sym after) (record {
+        count = sym (length_some answers) ∙ ap length are ∙ length_placed (blanks (length jobs)) (entries_of (rows_of ws)) ∙ length_blanks (length jobs) ∙ sym (length_calls jobs);
+        seats = as_long vs ws a;
+        later = all_later vs ws a;
+        receipts = told_by_all vs ws a each answers are;
+        placed = all_placed vs ws a;
+        full = full_by_all vs ws a answers are;
+      }))
+
+  -- workers that were hired in order have seats of this cache, fresh claimers, and empty lists with room for all jobs
+  pub all_ready : (vs : List Worker) (seats : List Sitting) (shares : List Share) (rows : List Row) → seats_of vs ≡ seats → claimers_of vs ≡ shares → rows_of vs ≡ rows
+      → All (IsAtHome d) seats → ((i : ℕ) (s : Share) → get_elem? shares i ≡ some s → s ≡ fresh counter) → All (HasRoom (length jobs)) rows → All (IsReady d counter jobs) vs
+  all_ready [] seats shares rows a b e home each room = All-nil (IsReady d counter jobs)
+  all_ready (v ∷ vs) seats shares rows a b e home each room =
+      let h = All-same (IsAtHome d) (v.seat ∷ seats_of vs) seats a home in
+      let r = All-same (HasRoom (length jobs)) (v.answers ∷ rows_of vs) rows e room in
+      let f : (i : ℕ) (s : Share) → get_elem? (v.claimer ∷ claimers_of vs) i ≡ some s → s ≡ fresh counter = subst (λ (l : List Share). (i : ℕ) (s : Share) → get_elem? l i ≡ some s → s ≡ fresh counter) (sym b) each in
+      let mine = All-head (HasRoom (length jobs)) v.answers (rows_of vs) r in
+      All-cons (IsReady d counter jobs) v vs (record { home = All-head (IsAtHome d) v.seat (seats_of vs) h; claimer = f 0 v.claimer refl; answers = mine.0; room = mine.1 })
+      (all_ready vs (seats_of vs) (claimers_of vs) (rows_of vs) refl refl refl (All-tail (IsAtHome d) v.seat (seats_of vs) h) (λ i s g. f (suc i) s g) (All-tail (HasRoom (length jobs)) v.answers (rows_of vs) r))
+
+  length_claimers : (ws : List Worker) → length (claimers_of ws) ≡ length ws
+  length_claimers [] = refl
+  length_claimers (w ∷ ws) = ap suc (length_claimers ws)
+
+  -- the claimers that come back are all of the counter
+  pub all_claimers : (vs ws : List Worker) → AllWorked vs ws → length ws ≡ counter.workers → AreAll counter (claimers_of ws)
+  all_claimers vs ws a long = record { count = length_claimers ws ∙ long; each = claimers_at vs ws a }
+
+  -- what the counter's close says of them
+  pub each_once : (vs ws : List Worker) (shares : List Share) → AllWorked vs ws → 0 < length vs → counter.jobs ≡ length jobs → shares ≡ claimers_of ws → ((x : ℕ) → times_drawn x shares ≤ 1)
+      → ((c : ℕ) (s : Share) → get_elem? shares c ≡ some s → s.done ≡ true → (x : ℕ) → x < counter.jobs → times_drawn x shares ≡ 1) → IsEachOnce ws
+  each_once vs ws shares a some_worker same are most done =
+      let first = first_done vs ws a some_worker in
+      let there : get_elem? shares 0 ≡ some first.0 = ap (λ (l : List Share). get_elem? l 0) are ∙ first.1 in
+      record {
+        most = λ x. subst (λ (l : List Share). times_drawn x l ≤ 1) are (most x);
+        jobs_are = λ x below. subst (λ (l : List Share). times_drawn x l ≡ 1) are (done 0 first.0 there first.2 x (omega arith));
+      }
+
+pub length_seats : (ws : List Worker) → length (seats_of ws) ≡ length ws
+length_seats [] = refl
+length_seats (w ∷ ws) = ap suc (length_seats ws)

@@ -1,0 +1,89 @@
+use Rattle.std.proofs.Common.{◌≡◌, ℕ, ◌+◌, ◌<◌, ◌≤◌, List, [], ◌∷◌, ◌++◌, length, map, take, drop, get_or, Some, arith, sym, ap, ◌∙◌, subst, take_all}
+use Rattle.std.specs.List.{All}
+use Rattle.std.proofs.lemmas.List.Elements.{All-same}
+use lib.Seq.{take-append-le}
+use mathlib.Core.Option.{some}
+use lib.ListN.{get_elem?}
+use Rattle.cache.specs.Opened.{Opened, Sitting}
+use Rattle.claims.specs.Counters.{Numbering, Share, AreAll}
+use Rattle.invokeall.specs.declared.job.Job.{Job}
+use Rattle.invokeall.specs.declared.work.Worker.{Worker}
+use Rattle.invokeall.specs.Crews.{IsReady, HasWorked}
+use Rattle.invokeall.specs.Rooms.{Places, seats_of, claimers_of, rows_of, entries_of, blanks, placed, IsThere}
+use Rattle.invokeall.proofs.Worked.{AllWorked, all_worked, all_ready, all_claimers, are_filled, is_round, each_once, length_seats}
+use Rattle.invokeall.proofs.round.run_in.Goals as goal
+
+-- what stands in a vector after a write of its whole slice
+written : {A : Type 0} (len : ℕ) (new items rest : List A) → len ≡ length items → length new ≡ length items → take len (new ++ rest) ≡ new
+written len new items rest a b = take-append-le len new rest (omega arith) ∙ take_all len new (omega arith)
+
+pub run_all-requires-clause-ready : goal.run_all-requires-clause-ready
+run_all-requires-clause-ready g c =
+    let vs : List Worker = c.hire.new.workers.items in
+    let before : seats_of vs ≡ c.args.seats.now.items = c.hire.ensures.seats ∙ ap (λ v. v.items) c.replace-old.ensures.value in
+    let room = c.requires.room in
+    let all = all_ready c.args.cache.now c.args.room.counter c.args.jobs.now vs c.args.seats.now.items c.args.room.claimers.items c.args.room.lists.items before c.hire.ensures.claimers c.hire.ensures.lists c.requires.home room.claimers.each room.lists.1 in
+    let is : c.as_mut_slice.result.now ≡ vs = c.as_mut_slice.ensures.value in
+    λ lifetimes lives. All-same (IsReady c.args.cache.now c.args.room.counter c.args.jobs.now) c.as_mut_slice.result.now vs is all
+
+pub close-requires : goal.close-requires
+close-requires g c =
+    let d : Opened = c.args.cache.now in
+    let counter : Numbering = c.args.room.counter in
+    let jobs : List Job = c.args.jobs.now in
+    let vs : List Worker = c.hire.new.workers.items in
+    let ws : List Worker = c.run_all.new.workers in
+    let before : seats_of vs ≡ c.args.seats.now.items = c.hire.ensures.seats ∙ ap (λ v. v.items) c.replace-old.ensures.value in
+    let long : length c.as_mut_slice.result.now ≡ length vs = ap (λ (l : List Worker). length l) c.as_mut_slice.ensures.value in
+    let same : length ws ≡ length vs = omega (arith, c.run_all.auto.workers) in
+    let seats : length vs ≡ length c.args.seats.now.items = sym (length_seats vs) ∙ ap (λ (l : List Sitting). length l) before in
+    let whole = written c.hire.new.workers.len ws vs (drop (length ws) vs) (omega (arith, c.hire.new.workers.ok.0)) same in
+    let worked = all_worked d counter jobs vs ws same (λ i e below. subst (λ (l : List Worker). HasWorked d counter jobs (get_or l i e) (get_or ws i e)) c.as_mut_slice.ensures.value (c.run_all.ensures i e (omega arith))) in
+    let shares : c.gather.new.claimers.items ≡ claimers_of ws = c.gather.ensures.claimers ∙ ap claimers_of whole in
+    subst (AreAll counter) (sym shares) (all_claimers d counter jobs vs ws worked (same ∙ seats ∙ sym c.requires.room.workers_are))
+
+pub filled-requires-clause-there : goal.filled-requires-clause-there
+filled-requires-clause-there g c =
+    let d : Opened = c.args.cache.now in
+    let counter : Numbering = c.args.room.counter in
+    let jobs : List Job = c.args.jobs.now in
+    let vs : List Worker = c.hire.new.workers.items in
+    let ws : List Worker = c.run_all.new.workers in
+    let before : seats_of vs ≡ c.args.seats.now.items = c.hire.ensures.seats ∙ ap (λ v. v.items) c.replace-old.ensures.value in
+    let long : length c.as_mut_slice.result.now ≡ length vs = ap (λ (l : List Worker). length l) c.as_mut_slice.ensures.value in
+    let same : length ws ≡ length vs = omega (arith, c.run_all.auto.workers) in
+    let seats : length vs ≡ length c.args.seats.now.items = sym (length_seats vs) ∙ ap (λ (l : List Sitting). length l) before in
+    let whole = written c.hire.new.workers.len ws vs (drop (length ws) vs) (omega (arith, c.hire.new.workers.ok.0)) same in
+    let worked = all_worked d counter jobs vs ws same (λ i e below. subst (λ (l : List Worker). HasWorked d counter jobs (get_or l i e) (get_or ws i e)) c.as_mut_slice.ensures.value (c.run_all.ensures i e (omega arith))) in
+    let shares : c.gather.new.claimers.items ≡ claimers_of ws = c.gather.ensures.claimers ∙ ap claimers_of whole in
+    let some_worker : 0 < length vs = omega (arith, c.requires.some_seat) in
+    let each = each_once d counter jobs vs ws c.gather.new.claimers.items worked some_worker c.requires.room.jobs_are shares c.close.ensures.once c.close.ensures.done in
+    let start : c.as_mut_slice-2.result.now ≡ c.args.room.places.items = c.as_mut_slice-2.ensures.value in
+    let covered : length c.collect.new.places ≡ length c.args.room.places.items = c.collect.auto.places ∙ ap (λ (l : Places). length l) start in
+    let rows : entries_of c.gather.new.rows.items ≡ entries_of (rows_of ws) = ap entries_of c.gather.ensures.rows ∙ ap (λ (l : List Worker). entries_of (rows_of l)) whole in
+    let places = written c.args.room.places.len c.collect.new.places c.args.room.places.items (drop (length c.collect.new.places) c.args.room.places.items) (omega (arith, c.args.room.places.ok.0)) covered
+    ∙ c.collect.ensures ∙ (λ k. placed ((start ∙ c.requires.room.places) k) (rows k)) in
+    All-same IsThere _ (placed (blanks (length jobs)) (entries_of (rows_of ws))) places (are_filled d counter jobs vs ws worked each)
+
+pub returns-clause-round : goal.returns-clause-round
+returns-clause-round g c =
+    let d : Opened = c.args.cache.now in
+    let counter : Numbering = c.args.room.counter in
+    let jobs : List Job = c.args.jobs.now in
+    let vs : List Worker = c.hire.new.workers.items in
+    let ws : List Worker = c.run_all.new.workers in
+    let before : seats_of vs ≡ c.args.seats.now.items = c.hire.ensures.seats ∙ ap (λ v. v.items) c.replace-old.ensures.value in
+    let long : length c.as_mut_slice.result.now ≡ length vs = ap (λ (l : List Worker). length l) c.as_mut_slice.ensures.value in
+    let same : length ws ≡ length vs = omega (arith, c.run_all.auto.workers) in
+    let seats : length vs ≡ length c.args.seats.now.items = sym (length_seats vs) ∙ ap (λ (l : List Sitting). length l) before in
+    let whole = written c.hire.new.workers.len ws vs (drop (length ws) vs) (omega (arith, c.hire.new.workers.ok.0)) same in
+    let worked = all_worked d counter jobs vs ws same (λ i e below. subst (λ (l : List Worker). HasWorked d counter jobs (get_or l i e) (get_or ws i e)) c.as_mut_slice.ensures.value (c.run_all.ensures i e (omega arith))) in
+    let shares : c.gather.new.claimers.items ≡ claimers_of ws = c.gather.ensures.claimers ∙ ap claimers_of whole in
+    let some_worker : 0 < length vs = omega (arith, c.requires.some_seat) in
+    let each = each_once d counter jobs vs ws c.gather.new.claimers.items worked some_worker c.requires.room.jobs_are shares c.close.ensures.once c.close.ensures.done in
+    let start : c.as_mut_slice-2.result.now ≡ c.args.room.places.items = c.as_mut_slice-2.ensures.value in
+    let covered : length c.collect.new.places ≡ length c.args.room.places.items = c.collect.auto.places ∙ ap (λ (l : Places). length l) start in
+    let rows : entries_of c.gather.new.rows.items ≡ entries_of (rows_of ws) = ap entries_of c.gather.ensures.rows ∙ ap (λ (l : List Worker). entries_of (rows_of l)) whole in
+    let places = written c.args.room.places.len c.collect.new.places c.args.room.places.items (drop (length c.collect.new.places) c.args.room.places.items) (omega (arith, c.args.room.places.ok.0)) covered
+    ∙ c.collect.ensures ∙ (λ k. placed ((start ∙ c.requires.room.places) k) (rows k)) in
+    is_round d counter jobs vs ws c.args.seats.now.items c.gather.new.seats.items c.filled.result.items worked (sym before) (c.gather.ensures.seats ∙ ap seats_of whole) (c.filled.ensures ∙ places) each

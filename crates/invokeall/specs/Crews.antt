@@ -1,0 +1,50 @@
+-- Workers before and after their work.
+use Rattle.std.specs.Prelude.{◌≡◌, ℕ, zero, suc, ◌≤◌, List, [], ◌∷◌, ◌++◌, map, flat_map, length, vec_capacity, Ok, Err, true}
+use mathlib.Core.Option.{some}
+use lib.ListN.{get_elem?}
+use Rattle.stripe.specs.History.{Call}
+use Rattle.claims.specs.Counters.{Numbering, fresh}
+use Rattle.cache.specs.declared.refusal.InvokeRefusal.TheVariants.{JournalFull}
+use Rattle.cache.specs.Opened.{Opened, Sitting}
+use Rattle.invokeall.specs.declared.job.Job.{Job}
+use Rattle.invokeall.specs.declared.work.Worker.{Worker}
+use Rattle.invokeall.specs.Jobs.{calls_of}
+use Rattle.invokeall.specs.Rounds.{Answer, Told, told_seat, IsLaterSeat, IsPlaced, IsFull}
+
+-- what an answer to a call tells: the call with its reply, or nothing
+abbrev pub told_answer : Call → Answer → List Told
+told_answer c (Ok r) = (c, r) ∷ []
+told_answer c (Err e) = []
+
+-- the same of an answer to the call of this number
+abbrev pub told_at : List Call → ℕ → Answer → List Told
+told_at [] k a = []
+told_at (c ∷ cs) zero a = told_answer c a
+told_at (c ∷ cs) (suc k) a = told_at cs k a
+
+abbrev pub told_row : List Call → List (ℕ × Answer) → List Told
+told_row calls row = flat_map (λ (a : ℕ × Answer). told_at calls a.0 a.1) row
+
+abbrev pub numbers : List (ℕ × Answer) → List ℕ
+numbers row = map (λ (a : ℕ × Answer). a.0) row
+
+-- a refusal for a full journal shows at this seat
+abbrev pub ShowsFull : Opened → List Call → Sitting → List (ℕ × Answer) → Type 0
+ShowsFull d calls s row = (j k : ℕ) (c : Call) → get_elem? row j ≡ some (k, Err JournalFull) → get_elem? calls k ≡ some c → IsFull d c s
+
+-- a worker that hasn't begun
+pub record IsReady (d : Opened) (counter : Numbering) (jobs : List Job) (w : Worker) : Type 0 where
+  pub home : w.seat.table ≡ d.table
+  pub claimer : w.claimer ≡ fresh counter
+  pub answers : w.answers.items ≡ []
+  pub room : length jobs ≤ vec_capacity w.answers
+
+-- a worker that found no job left: it has an answer to each job that it claimed, and what these tell is what its new receipts tell
+pub record HasWorked (d : Opened) (counter : Numbering) (jobs : List Job) (v w : Worker) : Type 0 where
+  pub seat : IsLaterSeat v.seat w.seat
+  pub at : w.claimer.counter ≡ counter
+  pub done : w.claimer.done ≡ true
+  pub drawn : w.claimer.drawn ≡ numbers w.answers.items
+  pub receipts : told_seat w.seat ≡ told_seat v.seat ++ told_row (calls_of jobs) w.answers.items
+  pub placed : IsPlaced d v.seat → IsPlaced d w.seat
+  pub full : ShowsFull d (calls_of jobs) w.seat w.answers.items

@@ -1,0 +1,25 @@
+-- The calls of jobs, as the definitions see them.
+use Rattle.std.specs.Prelude.{List, map}
+use Rattle.boxcar.specs.Table.{Shelves}
+use Rattle.stripe.specs.History.{Call, Invoke, Get, Put, Remove, Contains}
+use Rattle.registry.specs.Ids.{IsOf, class_of}
+use Rattle.invokeall.specs.declared.job.Job.{Job}
+use Rattle.invokeall.specs.declared.job.Job.TheVariants as job
+
+abbrev pub call_of : Job → Call
+call_of (job.Invoke class key args) = Invoke (class_of class.now) key args.now
+call_of (job.Get key) = Get key
+call_of (job.Put key value) = Put key value
+call_of (job.Remove key) = Remove key
+call_of (job.Contains key) = Contains key
+
+abbrev pub calls_of : List Job → List Call
+calls_of jobs = map call_of jobs
+
+-- the class of an invocation is of this registry
+abbrev pub IsCallable : Shelves → Job → Type 0
+IsCallable registry (job.Invoke class key args) = IsOf registry class.now
+IsCallable registry (job.Get key) = Unit {0}
+IsCallable registry (job.Put key value) = Unit {0}
+IsCallable registry (job.Remove key) = Unit {0}
+IsCallable registry (job.Contains key) = Unit {0}

@@ -1,0 +1,5 @@
+pub mod Collected
+pub mod Crews
+pub mod Jobs
+pub mod Rooms
+pub mod Rounds

@@ -1,0 +1,59 @@
+-- The memory of a round, and its workers before and after their work.
+use Rattle.std.specs.Prelude.{◌≡◌, ℕ, ◌≤◌, List, [], ◌∷◌, map, flat_map, length, replicate, slice_set, vec_capacity, Option, Some, None, Vec}
+use Rattle.std.specs.Global.{Global}
+use Rattle.std.specs.List.{All}
+use Rattle.claims.specs.Counters.{Share, AreFresh}
+use Rattle.cache.specs.Opened.{Sitting}
+use Rattle.invokeall.specs.declared.work.Worker.{Worker}
+use Rattle.invokeall.specs.declared.room.Room.{Room}
+use Rattle.invokeall.specs.Rounds.{Answer}
+
+abbrev pub Row : Type 0
+Row = Vec (ℕ × Answer) Global
+
+-- a place for the answer to each job
+abbrev pub Places : Type 0
+Places = List (Option Answer)
+
+-- no answer yet
+abbrev pub blanks : ℕ → Places
+blanks n = replicate n None
+
+-- the answers put to their places; a later one counts
+abbrev pub placed : Places → List (ℕ × Answer) → Places
+placed places [] = places
+placed places (e ∷ es) = placed (slice_set places e.0 (Some e.1)) es
+
+-- there is an answer
+abbrev pub IsThere : Option Answer → Type 0
+IsThere p = (a : Answer) × (p ≡ Some a)
+
+abbrev pub entries_of : List Row → List (ℕ × Answer)
+entries_of rows = flat_map (λ (r : Row). r.items) rows
+
+abbrev pub seats_of : List Worker → List Sitting
+seats_of ws = map (λ (w : Worker). w.seat) ws
+
+abbrev pub claimers_of : List Worker → List Share
+claimers_of ws = map (λ (w : Worker). w.claimer) ws
+
+abbrev pub rows_of : List Worker → List Row
+rows_of ws = map (λ (w : Worker). w.answers) ws
+
+-- an empty list with room for so many
+abbrev pub HasRoom : {A : Type 0} → ℕ → Vec A Global → Type 0
+HasRoom n v = (v.items ≡ []) × (n ≤ vec_capacity v)
+
+-- room for a round of so many jobs by so many workers
+pub record IsRoom (jobs count : ℕ) (r : Room) : Type 0 where
+  pub jobs_are : r.counter.jobs ≡ jobs
+  pub workers_are : r.counter.workers ≡ count
+  pub claimers : AreFresh r.counter r.claimers.items
+  pub lists : (length r.lists.items ≡ count) × All (HasRoom jobs) r.lists.items
+  pub workers : HasRoom count r.workers
+  pub rows : HasRoom count r.rows
+  pub seats : HasRoom count r.seats
+  pub workspaces : HasRoom count r.workspaces
+  pub spent : HasRoom count r.spent
+  pub places : r.places.items ≡ blanks jobs
+  pub answers : HasRoom jobs r.answers

@@ -1,0 +1,115 @@
+//! `invokeAll` (JSR 107, `Cache`).
+
+ghost use Rattle.std.specs.Prelude.{◌≡◌, length, IfOk, OnErr, OnOk};
+ghost use Rattle.std.specs.List.{All};
+ghost use Rattle.registry.specs.Ids.{IsOf, class_of};
+ghost use Rattle.claims.specs.Counters.{IsJobCount, IsWorkerCount};
+ghost use Rattle.invokeall.specs.Jobs.{IsCallable, calls_of};
+ghost use Rattle.invokeall.specs.Rounds.{IsAtHome};
+ghost use Rattle.invokeall.specs.Rooms.{HasRoom};
+ghost use Rattle.invokeall.specs.Collected.{IsInvokedAll, different, invocations, is_null as is_null_answer, listed};
+ghost use Rattle.boxcar.specs.Table.{Shelves};
+
+use crate::job::{Job, JobReply};
+use crate::round::run_round;
+use cache::{Cache, Gate, Seat};
+use indexmap::IndexSet;
+use jtypes::{Arg, Args, Outcome};
+use machine::Workspace;
+use registry::ClassId;
+use std::alloc::{AllocError, Global};
+use std::sync::Wait;
+use std::thread::Threads;
+use stripe::Reply;
+
+/// Each key once, where it first stands.
+fn once_each(alloc: Global, keys: &[i64]) -> Result<IndexSet<i64>, AllocError>
+    ensures { IfOk result (λ set. set.keys ≡ different keys.now) }
+{
+    let mut set = IndexSet::new(alloc);
+    for key in keys {
+        if set.insert(*key).is_err() {
+            return Err(AllocError);
+        }
+    }
+    Ok(set)
+}
+
+/// A job for each key.
+fn jobs_for<'j>(
+    alloc: Global,
+    class: &'j ClassId,
+    keys: &[i64],
+    args: &'j Args,
+) -> Result<Vec<Job<'j>>, AllocError>
+    ensures calls { IfOk result (λ jobs. calls_of jobs.items ≡ invocations (class_of class.now) args.now keys.now) }
+    ensures callable { (registry : Shelves) → IsOf registry class.now → IfOk result (λ jobs. All (IsCallable registry) jobs.items) }
+{
+    let mut jobs = Vec::with_capacity(alloc, keys.len())?;
+    for key in keys {
+        jobs.push_reserved(Job::Invoke {
+            class,
+            key: *key,
+            args,
+        });
+    }
+    Ok(jobs)
+}
+
+/// Whether the processor returned null.
+fn is_null(answer: &JobReply) -> bool
+    ensures { result ≡ is_null_answer answer.now }
+{
+    matches!(answer, Ok(Reply::Result(Outcome::Returned(Arg::Null))))
+}
+
+/// A key with its answer.
+fn entry(key: &i64, answer: &JobReply) -> (i64, JobReply)
+    ensures { result ≡ (key.now, answer.now) }
+{
+    (*key, *answer)
+}
+
+/// Lists the keys with their answers, but for those whose processor returned null.
+fn list(keys: &[i64], answers: &[JobReply], results: &mut Vec<(i64, JobReply)>)
+    requires count { length answers.now ≡ length keys.now }
+    requires room { HasRoom (length keys.now) results.old }
+    ensures { results.new.items ≡ listed keys.now answers.now }
+{
+    for i in 0..keys.len() {
+        if !is_null(&answers[i]) {
+            results.push_reserved(entry(&keys[i], &answers[i]));
+        }
+    }
+}
+
+/// `invokeAll`, by a round: one invocation for each key, doubles dropped. The results have the keys' order. A key whose processor returned null has none; one
+/// whose processor threw has its exception (`EntryProcessorResult`), and one that the cache refused the refusal.
+pub fn invoke_all<'a, R: Threads + Wait + Sync, G: Gate + Sync>(
+    rt: &R,
+    alloc: Global,
+    cache: &Cache<'a>,
+    class: &ClassId,
+    keys: &[i64],
+    args: Args,
+    seats: &mut Vec<Seat<'a>>,
+    workspaces: &mut Vec<Workspace>,
+    gate: &G,
+) -> Result<Vec<(i64, JobReply)>, AllocError>
+    requires keys { IsJobCount (length keys.now) }
+    requires seats { IsWorkerCount (length seats.old.items) }
+    requires workspaces { length workspaces.old.items ≡ length seats.old.items }
+    requires home { All (IsAtHome cache.now) seats.old.items }
+    requires class { IsOf cache.now.registry class.now }
+    ensures ok { IfOk result (λ results. IsInvokedAll cache.now (class_of class.now) keys.now args seats.old.items seats.new.items results.items) }
+    ensures workspaces { OnOk result (length workspaces.new.items ≡ length workspaces.old.items) }
+    ensures err { OnErr result ((seats.new.items ≡ seats.old.items) × (workspaces.new.items ≡ workspaces.old.items)) }
+{
+    let set = once_each(alloc, keys)?;
+    let keys = set.as_slice();
+    let mut results = Vec::with_capacity(alloc, keys.len())?;
+    let jobs = jobs_for(alloc, class, keys, &args)?;
+    let answers = run_round(rt, alloc, cache, jobs.as_slice(), seats, workspaces, gate)?;
+    list(keys, answers.as_slice(), &mut results);
+    Ok(results)
+}

@@ -1,0 +1,80 @@
+//! The workers of a round, at work.
+
+ghost use Rattle.std.specs.Prelude.{◌≡◌, ◌<◌, ℕ, length, slice_index_or};
+ghost use Rattle.std.specs.List.{All};
+ghost use Rattle.invokeall.specs.declared.work.Worker.{Worker};
+ghost use Rattle.invokeall.specs.declared.job.Job.{Job};
+ghost use Rattle.invokeall.specs.Jobs.{IsCallable};
+ghost use Rattle.invokeall.specs.Crews.{IsReady, HasWorked};
+
+use crate::job::Job;
+use crate::shift::{Shift, serve_all};
+use crate::work::{Worker, work};
+use cache::{Cache, Gate};
+use claims::Counter;
+use std::sync::Wait;
+use std::thread::Threads;
+
+/// What all workers of a round share.
+#[derive(Drop)]
+pub struct Day<'s, 'a, 'j, R, G> {
+    pub rt: &'s R,
+    pub cache: &'s Cache<'a>,
+    pub counter: &'s Counter,
+    pub jobs: &'s [Job<'j>],
+    pub gate: &'s G,
+}
+
+impl<'s, 'a, 'j, R: Wait, G: Gate> Shift<Worker<'a>> for Day<'s, 'a, 'j, R, G> {
+    ghost use Rattle.std.specs.Prelude.{◌≡◌, length};
+    ghost use Rattle.std.specs.List.{All};
+    ghost use Rattle.invokeall.specs.Jobs.{IsCallable};
+    ghost use Rattle.invokeall.specs.Crews.{IsReady, HasWorked};
+
+    ghost accepts = { λ s w. IsReady s.cache.now s.counter.now s.jobs.now w × ((s.counter.now.jobs ≡ length s.jobs.now) × All (IsCallable s.cache.now.registry) s.jobs.now) };
+
+    ghost leaves = { λ s v w. HasWorked s.cache.now s.counter.now s.jobs.now v w };
+
+    fn serve(&self, worker: &mut Worker<'a>) {
+        work(
+            self.rt,
+            self.cache,
+            self.counter,
+            self.jobs,
+            worker,
+            self.gate,
+        )
+    }
+}
+
+/// How many threads serve: one a worker, but no more than there are jobs.
+fn threads_for(jobs: usize, workers: usize) -> usize
+    ensures { 0 < result }
+{
+    jobs.min(workers).max(1)
+}
+
+/// Has all workers work.
+pub fn run_all<'a, 'j, R: Threads + Wait + Sync, G: Gate + Sync>(
+    rt: &R,
+    cache: &Cache<'a>,
+    counter: &Counter,
+    jobs: &[Job<'j>],
+    workers: &mut [Worker<'a>],
+    gate: &G,
+)
+    requires counter { counter.now.jobs ≡ length jobs.now }
+    requires callable { All (IsCallable cache.now.registry) jobs.now }
+    requires ready { All (IsReady cache.now counter.now jobs.now) workers.old }
+    ensures { (i : ℕ) (d : Worker) → i < length workers.old → HasWorked cache.now counter.now jobs.now (slice_index_or workers.old i d) (slice_index_or workers.new i d) }
+{
+    let day = Day {
+        rt,
+        cache,
+        counter,
+        jobs,
+        gate,
+    };
+    let threads = threads_for(jobs.len(), workers.len());
+    serve_all(rt, workers, threads, &day);
+}

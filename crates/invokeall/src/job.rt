@@ -1,0 +1,76 @@
+//! Jobs of a round.
+
+ghost use Rattle.std.specs.Prelude.{◌≡◌, IfOk, IfErr};
+ghost use Rattle.registry.specs.Ids.{IsOf};
+ghost use Rattle.cache.specs.Opened.{IsAnswered, IsTurnedAway};
+ghost use Rattle.invokeall.specs.Jobs.{call_of, IsCallable};
+
+use cache::{Cache, Gate, InvokeRefusal, Seat};
+use jtypes::Args;
+use machine::Workspace;
+use registry::ClassId;
+use std::sync::Wait;
+use stripe::Reply;
+
+/// A call that one of the workers of a round makes (JSR 107, `Cache`).
+#[derive(Clone, Copy)]
+pub enum Job<'j> {
+    /// `invoke`, of the entry processor of this class.
+    Invoke {
+        class: &'j ClassId,
+        key: i64,
+        args: &'j Args,
+    },
+    /// `get`
+    Get {
+        key: i64,
+    },
+    /// `put`
+    Put {
+        key: i64,
+        value: i64,
+    },
+    /// `remove`
+    Remove {
+        key: i64,
+    },
+    /// `containsKey`
+    Contains {
+        key: i64,
+    },
+}
+
+/// What a job is told: the reply to its call, or why the cache refused it.
+pub type JobReply = Result<Reply, InvokeRefusal>;
+
+impl<'j> Job<'j> {
+    ghost use Rattle.std.specs.Prelude.{◌≡◌, IfOk, IfErr};
+    ghost use Rattle.cache.specs.Opened.{IsAnswered, IsTurnedAway};
+    ghost use Rattle.invokeall.specs.Jobs.{call_of, IsCallable};
+
+    /// Makes the call, as the job of this number.
+    pub(crate) fn call<'a, R: Wait, G: Gate>(
+        self,
+        rt: &R,
+        cache: &Cache<'a>,
+        seat: &mut Seat<'a>,
+        workspace: &mut Workspace,
+        number: usize,
+        gate: &G,
+    ) -> JobReply
+        requires seat { seat.old.table ≡ cache.now.table }
+        requires callable { IsCallable cache.now.registry self }
+        ensures ok { IfOk result (λ reply. IsAnswered cache.now seat.old (call_of self.entry) reply seat.new) }
+        ensures err { IfErr result (λ refusal. IsTurnedAway cache.now seat.old (call_of self.entry) refusal seat.new) }
+    {
+        match self {
+            Job::Invoke { class, key, args } => {
+                cache.invoke_at(rt, seat, workspace, class, key, *args, number, gate)
+            }
+            Job::Get { key } => cache.get_at(rt, seat, key, number, gate),
+            Job::Put { key, value } => cache.put_at(rt, seat, key, value, number, gate),
+            Job::Remove { key } => cache.remove_at(rt, seat, key, number, gate),
+            Job::Contains { key } => cache.contains_key_at(rt, seat, key, number, gate),
+        }
+    }
+}

@@ -1,0 +1,17 @@
+//! Rounds: many jobs by several workers, and `invokeAll` over them.
+#![tactic(auto)]
+
+mod all;
+mod crew;
+mod job;
+mod room;
+mod round;
+mod shift;
+mod work;
+
+pub use all::invoke_all;
+pub use job::{Job, JobReply};
+pub use round::run_round;
+
+#[cfg(test)]
+mod tests;

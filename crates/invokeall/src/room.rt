@@ -1,0 +1,172 @@
+//! The memory of a round. Workers get it, and it comes back from them.
+
+ghost use Rattle.std.specs.Prelude.{◌≡◌, ◌≤◌, length, map, IfOk, Some, vec_capacity};
+ghost use Rattle.std.specs.List.{All};
+ghost use Rattle.claims.specs.Counters.{IsJobCount, IsWorkerCount};
+ghost use Rattle.invokeall.specs.Rooms.{blanks, placed, entries_of, seats_of, claimers_of, rows_of, HasRoom, IsThere, IsRoom};
+
+use crate::job::JobReply;
+use crate::work::Worker;
+use cache::Seat;
+use claims::{Claimer, Counter, open};
+use machine::Workspace;
+use std::alloc::{AllocError, Global};
+
+/// Answers, each with its job's number.
+pub type Row = Vec<(usize, JobReply)>;
+
+/// What a round needs. It is made before the first claim.
+#[derive(Drop)]
+pub struct Room<'a> {
+    pub counter: Counter,
+    pub claimers: Vec<Claimer>,
+    pub lists: Vec<Row>,
+    pub workers: Vec<Worker<'a>>,
+    pub rows: Vec<Row>,
+    pub seats: Vec<Seat<'a>>,
+    pub workspaces: Vec<Workspace>,
+    pub spent: Vec<Claimer>,
+    pub places: Vec<Option<JobReply>>,
+    pub answers: Vec<JobReply>,
+}
+
+/// Room for so many jobs and workers.
+pub fn room_for<'a>(alloc: Global, jobs: usize, count: usize) -> Result<Room<'a>, AllocError>
+    requires jobs { IsJobCount jobs }
+    requires workers { IsWorkerCount count }
+    ensures { IfOk result (IsRoom jobs count) }
+{
+    let lists = empty_rows(alloc, jobs, count)?;
+    let workers = Vec::with_capacity(alloc, count)?;
+    let rows = Vec::with_capacity(alloc, count)?;
+    let seats = Vec::with_capacity(alloc, count)?;
+    let workspaces = Vec::with_capacity(alloc, count)?;
+    let spent = Vec::with_capacity(alloc, count)?;
+    let places = no_answers(alloc, jobs)?;
+    let answers = Vec::with_capacity(alloc, jobs)?;
+    let (counter, claimers) = open(alloc, jobs, count)?;
+    Ok(Room {
+        counter,
+        claimers,
+        lists,
+        workers,
+        rows,
+        seats,
+        workspaces,
+        spent,
+        places,
+        answers,
+    })
+}
+
+/// A place for the answer to each job.
+fn no_answers(alloc: Global, jobs: usize) -> Result<Vec<Option<JobReply>>, AllocError>
+    ensures { IfOk result (λ v. v.items ≡ blanks jobs) }
+{
+    let mut places = Vec::with_capacity(alloc, jobs)?;
+    for _ in 0..jobs {
+        places.push(None)?;
+    }
+    Ok(places)
+}
+
+/// A list for each worker, which has room for answers to all jobs.
+fn empty_rows(alloc: Global, jobs: usize, count: usize) -> Result<Vec<Row>, AllocError>
+    ensures { IfOk result (λ v. (length v.items ≡ count) × All (HasRoom jobs) v.items) }
+{
+    let mut rows = Vec::new(alloc);
+    for _ in 0..count {
+        let row = Vec::with_capacity(alloc, jobs)?;
+        rows.push(row)?;
+    }
+    Ok(rows)
+}
+
+/// A worker for each seat, in their order.
+pub fn hire<'a>(
+    seats: Vec<Seat<'a>>,
+    mut workspaces: Vec<Workspace>,
+    mut claimers: Vec<Claimer>,
+    mut lists: Vec<Row>,
+    workers: &mut Vec<Worker<'a>>,
+)
+    requires workspaces { length workspaces.items ≡ length seats.items }
+    requires claimers { length claimers.items ≡ length seats.items }
+    requires lists { length lists.items ≡ length seats.items }
+    requires room { HasRoom (length seats.items) workers.old }
+    ensures seats { seats_of workers.new.items ≡ seats.entry.items }
+    ensures claimers { claimers_of workers.new.items ≡ claimers.items }
+    ensures lists { rows_of workers.new.items ≡ lists.items }
+{
+    for seat in seats {
+        workers.push_reserved(Worker {
+            seat,
+            workspace: workspaces.remove(0),
+            claimer: claimers.remove(0),
+            answers: lists.remove(0),
+        });
+    }
+}
+
+/// What workers had comes back, in their order.
+pub fn gather<'a>(
+    workers: Vec<Worker<'a>>,
+    seats: &mut Vec<Seat<'a>>,
+    workspaces: &mut Vec<Workspace>,
+    claimers: &mut Vec<Claimer>,
+    rows: &mut Vec<Row>,
+)
+    requires seats { HasRoom (length workers.items) seats.old }
+    requires workspaces { HasRoom (length workers.items) workspaces.old }
+    requires claimers { HasRoom (length workers.items) claimers.old }
+    requires rows { HasRoom (length workers.items) rows.old }
+    ensures seats { seats.new.items ≡ seats_of workers.entry.items }
+    ensures workspaces { length workspaces.new.items ≡ length workers.entry.items }
+    ensures claimers { claimers.new.items ≡ claimers_of workers.entry.items }
+    ensures rows { rows.new.items ≡ rows_of workers.entry.items }
+{
+    for worker in workers {
+        let Worker {
+            seat,
+            workspace,
+            claimer,
+            answers,
+        } = worker;
+        seats.push_reserved(seat);
+        workspaces.push_reserved(workspace);
+        claimers.push_reserved(claimer);
+        rows.push_reserved(answers);
+    }
+}
+
+/// Puts the answers of all rows to their places.
+pub fn collect(rows: Vec<Row>, places: &mut [Option<JobReply>])
+    ensures { places.new ≡ placed places.old (entries_of rows.items) }
+{
+    for row in rows {
+        place(row.as_slice(), places);
+    }
+}
+
+fn place(row: &[(usize, JobReply)], places: &mut [Option<JobReply>])
+    ensures { places.new ≡ placed places.old row.now }
+{
+    for (number, answer) in row {
+        if *number < places.len() {
+            places[*number] = Some(*answer);
+        }
+    }
+}
+
+/// The answers, once each is there.
+pub fn filled(places: Vec<Option<JobReply>>, mut answers: Vec<JobReply>) -> Vec<JobReply>
+    requires there { All IsThere places.items }
+    requires room { HasRoom (length places.items) answers }
+    ensures { map Some result.items ≡ places.items }
+{
+    for place in places {
+        let Some(answer) = place else { unreachable!() };
+        answers.push_reserved(answer);
+    }
+    answers
+}

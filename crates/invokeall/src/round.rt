@@ -1,0 +1,84 @@
+//! A round of jobs.
+
+ghost use Rattle.std.specs.Prelude.{◌≡◌, ◌<◌, length, IfOk, OnErr, OnOk};
+ghost use Rattle.std.specs.List.{All};
+ghost use Rattle.claims.specs.Counters.{IsJobCount, IsWorkerCount};
+ghost use Rattle.invokeall.specs.Jobs.{IsCallable, calls_of};
+ghost use Rattle.invokeall.specs.Rounds.{IsRound, IsAtHome};
+ghost use Rattle.invokeall.specs.Rooms.{IsRoom};
+
+use crate::crew::run_all;
+use crate::job::{Job, JobReply};
+use crate::room::{Room, collect, filled, gather, hire, room_for};
+use cache::{Cache, Gate, Seat};
+use machine::Workspace;
+use std::alloc::{AllocError, Global};
+use std::mem;
+use std::sync::Wait;
+use std::thread::Threads;
+
+/// Runs the jobs, by a worker at each seat, each with a workspace. A worker claims one job after the other, until there is none left; the answers stand in the
+/// order of the jobs. There are as many threads as workers or jobs, whichever is fewer, the caller's own among them.
+///
+/// All memory of the round itself is taken before the first claim. After that a job may be refused, by its answer.
+pub fn run_round<'a, 'j, R: Threads + Wait + Sync, G: Gate + Sync>(
+    rt: &R,
+    alloc: Global,
+    cache: &Cache<'a>,
+    jobs: &[Job<'j>],
+    seats: &mut Vec<Seat<'a>>,
+    workspaces: &mut Vec<Workspace>,
+    gate: &G,
+) -> Result<Vec<JobReply>, AllocError>
+    requires jobs { IsJobCount (length jobs.now) }
+    requires seats { IsWorkerCount (length seats.old.items) }
+    requires workspaces { length workspaces.old.items ≡ length seats.old.items }
+    requires home { All (IsAtHome cache.now) seats.old.items }
+    requires callable { All (IsCallable cache.now.registry) jobs.now }
+    ensures ok { IfOk result (λ answers. IsRound cache.now (calls_of jobs.now) seats.old.items seats.new.items answers.items) }
+    ensures workspaces { OnOk result (length workspaces.new.items ≡ length workspaces.old.items) }
+    ensures err { OnErr result ((seats.new.items ≡ seats.old.items) × (workspaces.new.items ≡ workspaces.old.items)) }
+{
+    let room = room_for(alloc, jobs.len(), seats.len())?;
+    Ok(run_in(rt, cache, jobs, seats, workspaces, room, gate))
+}
+
+/// Runs the jobs in the room for them.
+fn run_in<'a, 'j, R: Threads + Wait + Sync, G: Gate + Sync>(
+    rt: &R,
+    cache: &Cache<'a>,
+    jobs: &[Job<'j>],
+    seats: &mut Vec<Seat<'a>>,
+    workspaces: &mut Vec<Workspace>,
+    room: Room<'a>,
+    gate: &G,
+) -> Vec<JobReply>
+    requires some_seat { 0 < length seats.old.items }
+    requires workspaces { length workspaces.old.items ≡ length seats.old.items }
+    requires home { All (IsAtHome cache.now) seats.old.items }
+    requires callable { All (IsCallable cache.now.registry) jobs.now }
+    requires room { IsRoom (length jobs.now) (length seats.old.items) room }
+    ensures round { IsRound cache.now (calls_of jobs.now) seats.old.items seats.new.items result.items }
+    ensures workspaces { length workspaces.new.items ≡ length workspaces.old.items }
+{
+    let Room {
+        counter,
+        claimers,
+        lists,
+        mut workers,
+        mut rows,
+        seats: back,
+        workspaces: spaces,
+        mut spent,
+        mut places,
+        answers,
+    } = room;
+    let old = mem::replace(seats, back);
+    let used = mem::replace(workspaces, spaces);
+    hire(old, used, claimers, lists, &mut workers);
+    run_all(rt, cache, &counter, jobs, workers.as_mut_slice(), gate);
+    gather(workers, seats, workspaces, &mut spent, &mut rows);
+    counter.close(spent);
+    collect(rows, places.as_mut_slice());
+    filled(places, answers)
+}
