@@ -16,7 +16,7 @@ use Rattle.cache.specs.declared.refusal.InvokeRefusal.TheVariants.{JournalFull}
 use Rattle.cache.specs.Opened.{Opened, Sitting}
 use Rattle.invokeall.specs.declared.job.Job.{Job}
 use Rattle.invokeall.specs.declared.work.Worker.{Worker}
-use Rattle.invokeall.specs.Jobs.{call_of, calls_of}
+use Rattle.invokeall.specs.Jobs.{calls_of}
 use Rattle.invokeall.specs.Rounds.{Answer, Told, answered, reply_of, told_seat, told_seats, IsLaterSeat, IsPlaced, IsFull, IsRound, IsAtHome}
 use Rattle.invokeall.specs.Crews.{IsReady, HasWorked, told_row, told_at, numbers}
 use Rattle.invokeall.specs.Rooms.{Row, Places, HasRoom, blanks, placed, entries_of, seats_of, claimers_of, rows_of, IsThere}

@@ -1,5 +1,5 @@
 -- What a round of jobs gives.
-use Rattle.std.specs.Prelude.{◌≡◌, ℕ, zero, suc, List, [], ◌∷◌, ◌++◌, map, flat_map, IsPermutation, length, Option, Some, None, Result, Ok, Err, true, slice_index_or, false}
+use Rattle.std.specs.Prelude.{◌≡◌, ℕ, List, [], ◌∷◌, ◌++◌, map, flat_map, IsPermutation, length, Option, Some, None, Result, Ok, Err, true, slice_index_or, false}
 use Rattle.std.specs.List.{AllByRecursion}
 use mathlib.Core.Option.{some}
 use lib.ListN.{get_elem?}

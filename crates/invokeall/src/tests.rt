@@ -275,13 +275,11 @@ fn is_possible(outcome: Option<(i64, i64, i64)>) -> bool {
 fn a_thousand_rounds_are_each_in_some_order(rt: HostRuntime) -> Result<(), Fail> {
     let alloc = rt.alloc();
     let counter = rows::counter(alloc)?;
-    let mut possible = 0;
+    let mut are_possible = true;
     for _ in 0..1000 {
-        if is_possible(beside_a_put(&rt, alloc, &counter)) {
-            possible += 1;
-        }
+        are_possible = are_possible && is_possible(beside_a_put(&rt, alloc, &counter));
     }
-    assert_eq!(rt; possible, 1000);
+    assert!(rt; are_possible);
     Ok(())
 }
 

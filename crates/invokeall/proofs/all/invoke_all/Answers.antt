@@ -1,4 +1,4 @@
-use Rattle.std.proofs.Common.{◌≡◌, ℕ, ℤ, ◌+◌, ◌≤◌, ◌++◌, ◌∷◌, [], List, Bool, true, false, if◌then◌else◌, length, fold, arith, refl, sym, ap, ◌∙◌, suc, length-append}
+use Rattle.std.proofs.Common.{◌≡◌, ℤ, ◌+◌, ◌≤◌, ◌++◌, ◌∷◌, [], List, Bool, true, false, if◌then◌else◌, length, fold, arith, refl, sym, ap, ◌∙◌, suc, length-append}
 use Rattle.std.specs.List.{list_any}
 use Rattle.std.specs.Ordering.{int_eq}
 use Rattle.jtypes.specs.declared.types.Arg.{Arg}

@@ -1,4 +1,4 @@
-use Rattle.std.proofs.Common.{◌≡◌, ◌+◌, ◌<◌, ◌≤◌, ◌++◌, ◌∷◌, [], ℕ, ℤ, zero, suc, List, Bool, true, false, if◌then◌else◌, length, drop, get_or, refl, sym, ap, ◌∙◌, subst, arith, append_assoc, length-append, vec_capacity}
+use Rattle.std.proofs.Common.{◌≡◌, ◌+◌, ◌<◌, ◌++◌, ◌∷◌, [], ℕ, ℤ, zero, suc, List, true, false, if◌then◌else◌, length, drop, get_or, refl, sym, ap, ◌∙◌, arith, append_assoc, length-append, vec_capacity}
 use Rattle.invokeall.specs.Rounds.{Answer}
 use Rattle.invokeall.specs.Collected.{is_null, listed}
 use Rattle.invokeall.proofs.all.list.Goals.{then-not-is_null, else-not-is_null}

@@ -1,16 +1,13 @@
-use Rattle.std.proofs.Common.{◌≡◌, ℕ, ◌+◌, ◌<◌, ◌≤◌, List, [], ◌∷◌, ◌++◌, length, map, take, drop, get_or, Some, arith, sym, ap, ◌∙◌, subst, take_all}
-use Rattle.std.specs.List.{All}
+use Rattle.std.proofs.Common.{◌≡◌, ℕ, ◌<◌, List, ◌++◌, length, take, drop, get_or, arith, sym, ap, ◌∙◌, subst, take_all}
 use Rattle.std.proofs.lemmas.List.Elements.{All-same}
 use lib.Seq.{take-append-le}
-use mathlib.Core.Option.{some}
-use lib.ListN.{get_elem?}
 use Rattle.cache.specs.Opened.{Opened, Sitting}
-use Rattle.claims.specs.Counters.{Numbering, Share, AreAll}
+use Rattle.claims.specs.Counters.{Numbering, AreAll}
 use Rattle.invokeall.specs.declared.job.Job.{Job}
 use Rattle.invokeall.specs.declared.work.Worker.{Worker}
 use Rattle.invokeall.specs.Crews.{IsReady, HasWorked}
 use Rattle.invokeall.specs.Rooms.{Places, seats_of, claimers_of, rows_of, entries_of, blanks, placed, IsThere}
-use Rattle.invokeall.proofs.Worked.{AllWorked, all_worked, all_ready, all_claimers, are_filled, is_round, each_once, length_seats}
+use Rattle.invokeall.proofs.Worked.{all_worked, all_ready, all_claimers, are_filled, is_round, each_once, length_seats}
 use Rattle.invokeall.proofs.round.run_in.Goals as goal
 
 -- what stands in a vector after a write of its whole slice

@@ -1,15 +1,13 @@
-use Rattle.std.proofs.Common.{◌≡◌, ℕ, ◌<◌, ◌++◌, ◌∷◌, [], List, length, arith, sym, ap, ◌∙◌, subst, append_assoc}
-use Rattle.std.proofs.lemmas.Grind.{common_steps}
+use Rattle.std.proofs.Common.{◌≡◌, ℕ, ◌++◌, ◌∷◌, [], List, arith, sym, ap, ◌∙◌, subst, append_assoc}
 use mathlib.Core.Option.{some}
 use lib.ListN.{get_elem?}
 use Rattle.stripe.specs.History.{Call}
 use Rattle.cache.specs.Opened.{Sitting}
 use Rattle.claims.specs.Counters.{Share}
-use Rattle.invokeall.specs.declared.job.Job.{Job}
 use Rattle.invokeall.specs.Jobs.{call_of, calls_of}
 use Rattle.invokeall.specs.Rounds.{Answer, told_seat}
 use Rattle.invokeall.specs.Crews.{told_row, told_answer, numbers, ShowsFull}
-use Rattle.invokeall.proofs.Turns.{one_call, later_seat, called_at, callable_at, row_more, full_more, numbers_more, numbers_long}
+use Rattle.invokeall.proofs.Turns.{one_call, later_seat, called_at, callable_at, row_more, full_more, numbers_more}
 use Rattle.invokeall.proofs.work.work.Goals as goal
 
 pub call-answer-requires-clause-callable : goal.call-answer-requires-clause-callable
