@@ -1,0 +1,10 @@
+-- The memory of a round.
+use Rattle.std.specs.Prelude.{◌≡◌, ℕ, length}
+use Rattle.invokeall.specs.Rooms as rooms
+use Rattle.workers.specs.declared.room.Room.{Room}
+
+-- room for a round of so many jobs by so many workers, with a workspace for each worker, and for its replies
+pub record IsRoom (jobs workers : ℕ) (r : Room) : Type 0 where
+  pub round : rooms.IsRoom jobs workers r.round
+  pub workspaces : length r.workspaces.items ≡ workers
+  pub replies : rooms.HasRoom jobs r.replies
