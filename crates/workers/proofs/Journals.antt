@@ -1,6 +1,7 @@
 -- A round has no more jobs than a history has room for records, so none is refused for a full history.
-use Rattle.std.proofs.Common.{◌≡◌, ◌≢◌, ℕ, zero, suc, ◌<◌, ◌≤◌, List, [], ◌∷◌, ◌++◌, length, map, Bool, true, false, Ok, Err, refl, sym, ap, ◌∙◌, arith, length-append, IsPermutation}
+use Rattle.std.proofs.Common.{◌≡◌, ◌≢◌, ℕ, zero, suc, ◌<◌, ◌≤◌, List, [], ◌∷◌, ◌++◌, length, map, get_or, Bool, true, false, Ok, Err, refl, sym, ap, ◌∙◌, arith, length-append, IsPermutation}
 use Rattle.std.specs.Prelude.{slice_index_or}
+use Rattle.std.specs.List.{All}
 use Rattle.std.proofs.lemmas.List.Sorted.{length_permutation}
 use mathlib.Core.Option.{some, some-injective, some-ne-none}
 use lib.ListN.{get_elem?}
@@ -8,11 +9,13 @@ use Rattle.stripe.specs.History.{Call, Record}
 use Rattle.stripe.specs.Stored.{Stored}
 use Rattle.cache.specs.declared.refusal.InvokeRefusal.{InvokeRefusal}
 use Rattle.cache.specs.declared.refusal.InvokeRefusal.TheVariants.{JournalFull}
-use Rattle.cache.specs.Opened.{Opened, Sitting, stripe_in}
+use Rattle.cache.specs.Opened.{Opened, Sitting, AreFresh, stripe_in}
 use Rattle.cache.specs.Closing.{Settles, history_at, full_at}
 use Rattle.outcome.specs.Outcome.{answered, calls_in}
 use Rattle.outcome.specs.Closed.{all_records, calls_at}
-use Rattle.invokeall.specs.Rounds.{Answer, reply_of, ShowsAtSeats}
+use Rattle.invokeall.specs.Rounds.{Answer, reply_of, IsRound, ShowsAtSeats}
+use Rattle.workers.specs.Rooms.{HasPlace}
+use Rattle.workers.proofs.Done.{once_told, history_left}
 
 -- a history is among all of them
 some_records : (hs : List (List Record)) (j : ℕ) → length (history_at hs j) ≤ length (all_records hs)
@@ -50,7 +53,7 @@ full_there [] i s e = absurd (some-ne-none s (sym e))
 full_there (x ∷ xs) zero s e = ap (λ (z : Sitting). z.full) (some-injective x s e)
 full_there (x ∷ xs) (suc i) s e = full_there xs i s e
 
-pub never_full : (d : Opened) (new : List Sitting) (calls : List Call) (answers : List Answer) (tables : List Stored) (hs : List (List Record)) → length calls ≤ d.journal
+never_full : (d : Opened) (new : List Sitting) (calls : List Call) (answers : List Answer) (tables : List Stored) (hs : List (List Record)) → length calls ≤ d.journal
     → length answers ≡ length calls → Settles d new tables hs → IsPermutation (answered calls (map reply_of answers)) (calls_at new) → IsPermutation (calls_at new) (calls_in (all_records hs))
     → ShowsAtSeats d calls new answers → (k : ℕ) → get_elem? answers k ≢ some (Err JournalFull)
 never_full d new calls answers tables hs few count s once more shows k at =
@@ -65,3 +68,14 @@ never_full d new calls answers tables hs few count s once more shows k at =
     let three = as_long (all_records hs) in
     let less = fewer calls answers k JournalFull count at in
     omega (arith, few)
+
+answer_at : (answers : List Answer) (i : ℕ) (e : Answer) → i < length answers → get_elem? answers i ≡ some (get_or answers i e)
+answer_at [] i e below = absurd (omega arith)
+answer_at (x ∷ xs) zero e below = refl
+answer_at (x ∷ xs) (suc i) e below = answer_at xs i e (omega arith)
+
+pub all_have_places : (d : Opened) (n : ℕ) (old new : List Sitting) (calls : List Call) (answers : List Answer) (tables : List Stored) (hs : List (List Record)) → length calls ≤ d.journal
+    → AreFresh d.table n old → IsRound d calls old new answers → Settles d new tables hs → All HasPlace answers
+all_have_places d n old new calls answers tables hs few fresh round s = λ i e below full.
+    let history = history_left d n old new calls answers fresh round tables hs s in
+    never_full d new calls answers tables hs few round.count s (once_told d n old new calls answers fresh round) history.once round.full i (answer_at answers i e below ∙ ap some full)

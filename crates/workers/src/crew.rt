@@ -9,10 +9,10 @@ ghost use Rattle.outcome.specs.Outcome.{IsDone};
 ghost use Rattle.invokeall.specs.Jobs.{IsCallable, calls_of};
 ghost use Rattle.invokeall.specs.Rounds.{reply_of};
 ghost use Rattle.invokeall.specs.Rooms.{HasRoom};
-ghost use Rattle.workers.specs.Rooms.{IsRoom};
+ghost use Rattle.workers.specs.Rooms.{HasPlace, IsRoom};
 
 use crate::room::{Room, room_for};
-use cache::{Cache, Closed, Gate, Seat};
+use cache::{Cache, Closed, Gate, InvokeRefusal, Seat};
 use invokeall::{Job, JobReply, run_in};
 use registry::Registry;
 use std::alloc::Global;
@@ -67,6 +67,7 @@ fn run_on<'a, R: Threads + Wait + Sync, G: Gate + Sync>(
     gate: &G,
 ) -> Left
     requires count { IsSeatCount cache.seats }
+    requires journal { length jobs.now ≤ cache.journal }
     requires seats { AreFresh cache.table cache.seats seats.items }
     requires callable { All (IsCallable cache.registry) jobs.now }
     requires room { IsRoom (length jobs.now) cache.seats room }
@@ -86,7 +87,8 @@ fn run_on<'a, R: Threads + Wait + Sync, G: Gate + Sync>(
 
 /// Puts the replies of answers into the room for them.
 fn put_replies(answers: &[JobReply], replies: &mut Vec<Option<Reply>>)
-    requires { HasRoom (length answers.now) replies.old }
+    requires room { HasRoom (length answers.now) replies.old }
+    requires places { All HasPlace answers.now }
     ensures { replies.new.items ≡ map reply_of answers.now }
 {
     for answer in answers {
@@ -94,12 +96,14 @@ fn put_replies(answers: &[JobReply], replies: &mut Vec<Option<Reply>>)
     }
 }
 
-/// The reply of an answer, if it has one.
+/// The reply of an answer; none of a refusal for want of memory.
 fn reply_in(answer: &JobReply) -> Option<Reply>
+    requires { HasPlace answer.now }
     ensures { result ≡ reply_of answer.now }
 {
     match *answer {
         Ok(reply) => Some(reply),
-        Err(_) => None,
+        Err(InvokeRefusal::NoMemory) => None,
+        Err(InvokeRefusal::JournalFull) => unreachable!(),
     }
 }
