@@ -57,7 +57,11 @@ fn on_own_keys<'j>(class: &'j ClassId, args: &'j Args) -> [Job<'j>; 5]
 {
     [
         Job::Put { key: 1, value: 5 },
-        Job::Invoke { class, key: 2, args },
+        Job::Invoke {
+            class,
+            key: 2,
+            args,
+        },
         Job::Get { key: 3 },
         Job::Contains { key: 4 },
         Job::Remove { key: 5 },
@@ -70,7 +74,11 @@ fn on_two_keys<'j>(class: &'j ClassId, args: &'j Args) -> [Job<'j>; 5]
 {
     [
         Job::Put { key: 1, value: 5 },
-        Job::Invoke { class, key: 1, args },
+        Job::Invoke {
+            class,
+            key: 1,
+            args,
+        },
         Job::Get { key: 1 },
         Job::Remove { key: 3 },
         Job::Contains { key: 3 },
@@ -182,8 +190,7 @@ fn nothing_is_left<R: Threads + Wait + Sync>(rt: &R, alloc: Global, workers: usi
     let Some(left) = behind_puts(rt, alloc, &registry, workers, &[]) else {
         return false;
     };
-    left.replies.is_empty()
-        && entries_in(&left.tables) == [None, Some(41), Some(7), None, Some(50)]
+    left.replies.is_empty() && entries_in(&left.tables) == [None, Some(41), Some(7), None, Some(50)]
 }
 
 #[test]
