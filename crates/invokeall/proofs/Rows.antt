@@ -14,7 +14,8 @@ use Rattle.atomic_table.proofs.Lists.{at_set}
 use Rattle.stripe.specs.declared.call.Reply.{Reply}
 use Rattle.stripe.specs.History.{Call}
 use Rattle.claims.specs.Counters.{one_if, times}
-use Rattle.invokeall.specs.Rounds.{Answer, Told, answered, reply_of}
+use Rattle.outcome.specs.Outcome.{answered}
+use Rattle.invokeall.specs.Rounds.{Answer, reply_of}
 use Rattle.invokeall.specs.Crews.{told_at, told_row, numbers}
 use Rattle.invokeall.specs.Rooms.{Places, blanks, placed, IsThere}
 
@@ -23,7 +24,7 @@ abbrev pub reply_in : Option Answer → Option Reply
 reply_in (Some a) = reply_of a
 reply_in None = None
 
-abbrev pub told_all : List Call → Places → List Told
+abbrev pub told_all : List Call → Places → List (Call × Reply)
 told_all calls places = answered calls (map reply_in places)
 
 -- at this place, where there is one, stands no answer

@@ -3,25 +3,31 @@ use Rattle.std.proofs.Common.{◌≡◌, ℕ, zero, suc, List, [], ◌∷◌, �
 use Rattle.std.proofs.lemmas.List.{append-nil, map-append}
 use Rattle.std.proofs.lemmas.List.Concat.{flat_map-append}
 use Rattle.std.proofs.lemmas.List.Elements.{All-head, All-tail}
-use Rattle.std.specs.List.{All, AllByRecursion}
+use Rattle.std.specs.List.{All}
 use mathlib.Core.Option.{some, some-injective, some-ne-none}
 use lib.ListN.{get_elem?}
 use Rattle.atomic_table.proofs.Lists.{at_snoc}
 use Rattle.boxcar.specs.Table.{Shelves}
+use Rattle.stripe.specs.declared.call.Reply.{Reply}
 use Rattle.stripe.specs.History.{Call}
 use Rattle.cache.specs.Receipts.{Receipt}
 use Rattle.cache.specs.declared.refusal.InvokeRefusal.TheVariants.{JournalFull, NoMemory}
 use Rattle.cache.specs.Opened.{Opened, Sitting, IsAnswered, IsTurnedAway, stripe_in}
+use Rattle.outcome.specs.Closed.{calls_told, AreFiled}
+use Rattle.outcome.proofs.Handed.{filed_by_calls, filed_by_refusals}
 use Rattle.invokeall.specs.declared.job.Job.{Job}
 use Rattle.invokeall.specs.Jobs.{call_of, calls_of, IsCallable}
-use Rattle.invokeall.specs.Rounds.{Answer, told, told_seat, IsLaterSeat, IsPlaced, IsFull}
+use Rattle.invokeall.specs.Rounds.{Answer, IsLaterSeat, IsFull}
 use Rattle.invokeall.specs.Crews.{told_answer, told_at, told_row, numbers, ShowsFull}
+
+abbrev pub told_seat : Sitting → List (Call × Reply)
+told_seat s = calls_told s.receipts
 
 -- what one call at a seat gives
 pub record OneCall (d : Opened) (c : Call) (a b : Sitting) (x : Answer) : Type 0 where
   pub later : IsLaterSeat a b
-  pub receipts : told_seat b ≡ told_seat a ++ told_answer c x
-  pub placed : IsPlaced d a → IsPlaced d b
+  pub receipts : calls_told b.receipts ≡ calls_told a.receipts ++ told_answer c x
+  pub filed : AreFiled (length d.tables) a.receipts → AreFiled (length d.tables) b.receipts
   pub full : x ≡ Err JournalFull → IsFull d c b
 
 pub same_seat : (a b : Sitting) → b ≡ a → IsLaterSeat a b
@@ -43,29 +49,25 @@ still_set (x ∷ xs) zero (suc j) e = e
 still_set (x ∷ xs) (suc i) zero e = e
 still_set (x ∷ xs) (suc i) (suc j) e = still_set xs i j e
 
-one_more : (P : Receipt → Type 0) (xs : List Receipt) (x : Receipt) → AllByRecursion P xs → P x → AllByRecursion P (xs ++ x ∷ [])
-one_more P [] x h p = (p, tt)
-one_more P (y ∷ ys) x h p = (h.0, one_more P ys x h.1 p)
-
 pub one_call : (d : Opened) (c : Call) (a b : Sitting) (x : Answer) → IfOk x (λ reply. IsAnswered d a c reply b) → IfErr x (λ refusal. IsTurnedAway d a c refusal b) → OneCall d c a b x
 one_call d c a b (Ok r) ok err =
     let t : Receipt = ok.receipt in record {
       later = subst (IsLaterSeat a) (sym ok.left) (record { table = refl; caller = refl; made = refl; receipts = (t ∷ [], refl); full = λ i h. h });
-      receipts = ap told_seat ok.left ∙ map-append told a.receipts (t ∷ []) ∙ (λ k. told_seat a ++ (ok.call_is k, ok.reply_is k) ∷ []);
-      placed = λ h. subst (IsPlaced d) (sym ok.left) (one_more (λ (u : Receipt). u.stripe ≡ stripe_in d u.call) a.receipts t h (ok.stripe_is ∙ ap (stripe_in d) (sym ok.call_is)));
+      receipts = ap told_seat ok.left ∙ map-append (λ (u : Receipt). (u.call, u.reply)) a.receipts (t ∷ []) ∙ (λ k. told_seat a ++ (ok.call_is k, ok.reply_is k) ∷ []);
+      filed = filed_by_calls d a b c r ok;
       full = λ e. absurd (cc);
     }
 one_call d c a b (Err JournalFull) ok err =
     let e = err.0 in record {
       later = subst (IsLaterSeat a) (sym e) (record { table = refl; caller = refl; made = refl; receipts = ([], sym (append-nil a.receipts)); full = λ i h. still_set a.full (stripe_in d c) i h });
       receipts = ap told_seat e ∙ sym (append-nil (told_seat a));
-      placed = λ h. subst (IsPlaced d) (sym e) h;
+      filed = filed_by_refusals d a b c JournalFull err;
       full = λ _. err.1;
     }
 one_call d c a b (Err NoMemory) ok err = record {
   later = same_seat a b err;
   receipts = ap told_seat err ∙ sym (append-nil (told_seat a));
-  placed = λ h. subst (IsPlaced d) (sym err) h;
+  filed = filed_by_refusals d a b c NoMemory err;
   full = λ x. absurd (cc);
 }
 

@@ -11,13 +11,17 @@ use mathlib.Core.Option.{some, some-injective, some-ne-none}
 use lib.ListN.{get_elem?}
 use Rattle.claims.specs.Counters.{Numbering, Share, AreAll, fresh, one_if, times, times_drawn}
 use Rattle.claims.proofs.Totals.{total_append}
+use Rattle.stripe.specs.declared.call.Reply.{Reply}
 use Rattle.stripe.specs.History.{Call}
+use Rattle.cache.specs.Receipts.{Receipt}
 use Rattle.cache.specs.declared.refusal.InvokeRefusal.TheVariants.{JournalFull}
 use Rattle.cache.specs.Opened.{Opened, Sitting}
+use Rattle.outcome.specs.Outcome.{answered}
+use Rattle.outcome.specs.Closed.{all_receipts, calls_told, calls_at, AreFiled, AllAreFiled}
 use Rattle.invokeall.specs.declared.job.Job.{Job}
 use Rattle.invokeall.specs.declared.work.Worker.{Worker}
 use Rattle.invokeall.specs.Jobs.{calls_of}
-use Rattle.invokeall.specs.Rounds.{Answer, Told, answered, reply_of, told_seat, told_seats, IsLaterSeat, IsPlaced, IsFull, IsRound, IsAtHome}
+use Rattle.invokeall.specs.Rounds.{Answer, reply_of, IsLaterSeat, IsFull, IsRound, IsAtHome}
 use Rattle.invokeall.specs.Crews.{IsReady, HasWorked, told_row, told_at, numbers}
 use Rattle.invokeall.specs.Rooms.{Row, Places, HasRoom, blanks, placed, entries_of, seats_of, claimers_of, rows_of, IsThere}
 use Rattle.invokeall.proofs.Rows.{told_all, reply_in, AreOnce, told_rows, from_entry, blank_at, length_placed, length_blanks, all_filled}
@@ -70,17 +74,17 @@ module _ (d : Opened) (counter : Numbering) (jobs : List Job) where
   all_later (v ∷ vs) (w ∷ ws) a zero x y e f = subst (λ (z : Sitting). IsLaterSeat z y) (some-injective v.seat x e) (subst (λ (z : Sitting). IsLaterSeat v.seat z) (some-injective w.seat y f) a.0.seat)
   all_later (v ∷ vs) (w ∷ ws) a (suc i) x y e f = all_later vs ws a.1 i x y e f
 
-  pub all_placed : (vs ws : List Worker) → AllWorked vs ws → ((i : ℕ) (x : Sitting) → get_elem? (seats_of vs) i ≡ some x → IsPlaced d x) → (i : ℕ) (y : Sitting) → get_elem? (seats_of ws) i ≡ some y → IsPlaced d y
-  all_placed [] [] a h i y f = absurd (some-ne-none y (sym f))
-  all_placed [] (w ∷ ws) a h i y f = absurd a
-  all_placed (v ∷ vs) [] a h i y f = absurd a
-  all_placed (v ∷ vs) (w ∷ ws) a h zero y f = subst (λ (z : Sitting). IsPlaced d z) (some-injective w.seat y f) (a.0.placed (h 0 v.seat refl))
-  all_placed (v ∷ vs) (w ∷ ws) a h (suc i) y f = all_placed vs ws a.1 (λ j x e. h (suc j) x e) i y f
+  pub all_filed : (vs ws : List Worker) → AllWorked vs ws → AllAreFiled (length d.tables) (seats_of vs) → AllAreFiled (length d.tables) (seats_of ws)
+  all_filed [] [] a h i y f = absurd (some-ne-none y (sym f))
+  all_filed [] (w ∷ ws) a h i y f = absurd a
+  all_filed (v ∷ vs) [] a h i y f = absurd a
+  all_filed (v ∷ vs) (w ∷ ws) a h zero y f = subst (λ (z : Sitting). AreFiled (length d.tables) z.receipts) (some-injective w.seat y f) (a.0.filed (h 0 v.seat refl))
+  all_filed (v ∷ vs) (w ∷ ws) a h (suc i) y f = all_filed vs ws a.1 (λ j x e. h (suc j) x e) i y f
 
-  abbrev row_told : Worker → List Told
+  abbrev row_told : Worker → List (Call × Reply)
   row_told w = told_row (calls_of jobs) w.answers.items
 
-  crossed : (p q r s : List Told) → IsPermutation ((p ++ r) ++ (q ++ s)) ((p ++ q) ++ (r ++ s))
+  crossed : (p q r s : List (Call × Reply)) → IsPermutation ((p ++ r) ++ (q ++ s)) ((p ++ q) ++ (r ++ s))
   crossed p q r s =
       let a : IsPermutation ((r ++ q) ++ s) ((q ++ r) ++ s) = IsPermutation-append_left s (r ++ q) (q ++ r) (IsPermutation-append_comm r q) in
       let b : IsPermutation (p ++ ((r ++ q) ++ s)) (p ++ ((q ++ r) ++ s)) = IsPermutation-append_right p ((r ++ q) ++ s) ((q ++ r) ++ s) a in
@@ -88,18 +92,24 @@ module _ (d : Opened) (counter : Numbering) (jobs : List Job) where
       let right : p ++ ((q ++ r) ++ s) ≡ (p ++ q) ++ (r ++ s) = ap (λ l. p ++ l) (append_assoc q r s) ∙ sym (append_assoc p q (r ++ s)) in
       subst (λ l. IsPermutation l ((p ++ q) ++ (r ++ s))) left (subst (λ l. IsPermutation (p ++ ((r ++ q) ++ s)) l) right b)
 
-  pub told_worked : (vs ws : List Worker) → AllWorked vs ws → IsPermutation (told_seats (seats_of vs) ++ flat_map row_told ws) (told_seats (seats_of ws))
+  -- the calls at one seat more
+  seat_more : (s : Sitting) (ss : List Sitting) → calls_at (s ∷ ss) ≡ calls_told s.receipts ++ calls_at ss
+  seat_more s ss = map-append (λ (t : Receipt). (t.call, t.reply)) s.receipts (all_receipts ss)
+
+  pub told_worked : (vs ws : List Worker) → AllWorked vs ws → IsPermutation (calls_at (seats_of vs) ++ flat_map row_told ws) (calls_at (seats_of ws))
   told_worked [] [] a = IsPermutation-refl []
   told_worked [] (w ∷ ws) a = absurd a
   told_worked (v ∷ vs) [] a = absurd a
   told_worked (v ∷ vs) (w ∷ ws) a =
-      let p = told_seat v.seat in
+      let p = calls_told v.seat.receipts in
       let q = row_told w in
-      let r = told_seats (seats_of vs) in
+      let r = calls_at (seats_of vs) in
       let s = flat_map row_told ws in
-      let rest : IsPermutation ((p ++ q) ++ (r ++ s)) ((p ++ q) ++ told_seats (seats_of ws)) = IsPermutation-append_right (p ++ q) (r ++ s) (told_seats (seats_of ws)) (told_worked vs ws a.1) in
-      subst (λ l. IsPermutation ((p ++ r) ++ (q ++ s)) (l ++ told_seats (seats_of ws))) (sym a.0.receipts)
-      (IsPermutation-trans ((p ++ r) ++ (q ++ s)) ((p ++ q) ++ (r ++ s)) ((p ++ q) ++ told_seats (seats_of ws)) (crossed p q r s) rest)
+      let rest : IsPermutation ((p ++ q) ++ (r ++ s)) ((p ++ q) ++ calls_at (seats_of ws)) = IsPermutation-append_right (p ++ q) (r ++ s) (calls_at (seats_of ws)) (told_worked vs ws a.1) in
+      let all : IsPermutation ((p ++ r) ++ (q ++ s)) ((p ++ q) ++ calls_at (seats_of ws)) =
+      IsPermutation-trans ((p ++ r) ++ (q ++ s)) ((p ++ q) ++ (r ++ s)) ((p ++ q) ++ calls_at (seats_of ws)) (crossed p q r s) rest in
+      let new : (p ++ q) ++ calls_at (seats_of ws) ≡ calls_at (seats_of (w ∷ ws)) = ap (λ l. l ++ calls_at (seats_of ws)) (sym a.0.receipts) ∙ sym (seat_more w.seat (seats_of ws)) in
+      subst (λ l. IsPermutation (l ++ (q ++ s)) (calls_at (seats_of (w ∷ ws)))) (sym (seat_more v.seat (seats_of vs))) (subst (λ l. IsPermutation ((p ++ r) ++ (q ++ s)) l) new all)
 
   pub told_entries : (ws : List Worker) → told_row (calls_of jobs) (entries_of (rows_of ws)) ≡ flat_map row_told ws
   told_entries [] = refl
@@ -166,18 +176,18 @@ module _ (d : Opened) (counter : Numbering) (jobs : List Job) where
       (at_append w.answers.items (entries_of (rows_of ws)) j (k, Err JournalFull) e)
 
   told_by_all : (vs ws : List Worker) → AllWorked vs ws → IsEachOnce ws → (answers : List Answer) → map Some answers ≡ placed (blanks (length jobs)) (entries_of (rows_of ws))
-      → IsPermutation (told_seats (seats_of vs) ++ answered (calls_of jobs) (map reply_of answers)) (told_seats (seats_of ws))
+      → IsPermutation (calls_at (seats_of vs) ++ answered (calls_of jobs) (map reply_of answers)) (calls_at (seats_of ws))
   told_by_all vs ws a each answers are =
       let calls : List Call = calls_of jobs in
       let es : List (ℕ × Answer) = entries_of (rows_of ws) in
-      let old : List Told = told_seats (seats_of vs) in
-      let here : List Told = answered calls (map reply_of answers) in
+      let old : List (Call × Reply) = calls_at (seats_of vs) in
+      let here : List (Call × Reply) = answered calls (map reply_of answers) in
       let same : told_all calls (placed (blanks (length calls)) es) ≡ here =
       ap (λ n. told_all calls (placed (blanks n) es)) (length_calls jobs) ∙ ap (told_all calls) (sym are) ∙ ap (answered calls) (replies_in answers) in
       let told : IsPermutation (told_row calls es) here = subst (IsPermutation (told_row calls es)) same (told_rows calls es (entries_once vs ws a each)) in
       let one : IsPermutation (old ++ here) (old ++ told_row calls es) = IsPermutation-append_right old here (told_row calls es) (IsPermutation-sym (told_row calls es) here told) in
-      let two : IsPermutation (old ++ told_row calls es) (told_seats (seats_of ws)) = subst (λ l. IsPermutation (old ++ l) (told_seats (seats_of ws))) (sym (told_entries ws)) (told_worked vs ws a) in
-      IsPermutation-trans (old ++ here) (old ++ told_row calls es) (told_seats (seats_of ws)) one two
+      let two : IsPermutation (old ++ told_row calls es) (calls_at (seats_of ws)) = subst (λ l. IsPermutation (old ++ l) (calls_at (seats_of ws))) (sym (told_entries ws)) (told_worked vs ws a) in
+      IsPermutation-trans (old ++ here) (old ++ told_row calls es) (calls_at (seats_of ws)) one two
 
   full_by_all : (vs ws : List Worker) → AllWorked vs ws → (answers : List Answer) → map Some answers ≡ placed (blanks (length jobs)) (entries_of (rows_of ws))
       → (k : ℕ) (c : Call) → get_elem? answers k ≡ some (Err JournalFull) → get_elem? (calls_of jobs) k ≡ some c → (i : ℕ) × (s : Sitting) × (get_elem? (seats_of ws) i ≡ some s) × IsFull d c s
@@ -201,7 +211,7 @@ module _ (d : Opened) (counter : Numbering) (jobs : List Job) where
         seats = as_long vs ws a;
         later = all_later vs ws a;
         receipts = told_by_all vs ws a each answers are;
-        placed = all_placed vs ws a;
+        filed = all_filed vs ws a;
         full = full_by_all vs ws a answers are;
       }))
 

@@ -2,27 +2,29 @@
 use Rattle.std.specs.Prelude.{◌≡◌, ℕ, zero, suc, ◌≤◌, List, [], ◌∷◌, ◌++◌, map, flat_map, length, vec_capacity, Ok, Err, true}
 use mathlib.Core.Option.{some}
 use lib.ListN.{get_elem?}
+use Rattle.stripe.specs.declared.call.Reply.{Reply}
 use Rattle.stripe.specs.History.{Call}
 use Rattle.claims.specs.Counters.{Numbering, fresh}
 use Rattle.cache.specs.declared.refusal.InvokeRefusal.TheVariants.{JournalFull}
 use Rattle.cache.specs.Opened.{Opened, Sitting}
+use Rattle.outcome.specs.Closed.{calls_told, AreFiled}
 use Rattle.invokeall.specs.declared.job.Job.{Job}
 use Rattle.invokeall.specs.declared.work.Worker.{Worker}
 use Rattle.invokeall.specs.Jobs.{calls_of}
-use Rattle.invokeall.specs.Rounds.{Answer, Told, told_seat, IsLaterSeat, IsPlaced, IsFull}
+use Rattle.invokeall.specs.Rounds.{Answer, IsLaterSeat, IsFull}
 
 -- what an answer to a call tells: the call with its reply, or nothing
-abbrev pub told_answer : Call → Answer → List Told
+abbrev pub told_answer : Call → Answer → List (Call × Reply)
 told_answer c (Ok r) = (c, r) ∷ []
 told_answer c (Err e) = []
 
 -- the same of an answer to the call of this number
-abbrev pub told_at : List Call → ℕ → Answer → List Told
+abbrev pub told_at : List Call → ℕ → Answer → List (Call × Reply)
 told_at [] k a = []
 told_at (c ∷ cs) zero a = told_answer c a
 told_at (c ∷ cs) (suc k) a = told_at cs k a
 
-abbrev pub told_row : List Call → List (ℕ × Answer) → List Told
+abbrev pub told_row : List Call → List (ℕ × Answer) → List (Call × Reply)
 told_row calls row = flat_map (λ (a : ℕ × Answer). told_at calls a.0 a.1) row
 
 abbrev pub numbers : List (ℕ × Answer) → List ℕ
@@ -45,6 +47,6 @@ pub record HasWorked (d : Opened) (counter : Numbering) (jobs : List Job) (v w :
   pub at : w.claimer.counter ≡ counter
   pub done : w.claimer.done ≡ true
   pub drawn : w.claimer.drawn ≡ numbers w.answers.items
-  pub receipts : told_seat w.seat ≡ told_seat v.seat ++ told_row (calls_of jobs) w.answers.items
-  pub placed : IsPlaced d v.seat → IsPlaced d w.seat
+  pub receipts : calls_told w.seat.receipts ≡ calls_told v.seat.receipts ++ told_row (calls_of jobs) w.answers.items
+  pub filed : AreFiled (length d.tables) v.seat.receipts → AreFiled (length d.tables) w.seat.receipts
   pub full : ShowsFull d (calls_of jobs) w.seat w.answers.items

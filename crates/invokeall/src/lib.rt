@@ -11,7 +11,8 @@ mod work;
 
 pub use all::invoke_all;
 pub use job::{Job, JobReply};
-pub use round::run_round;
+pub use room::{Room, room_for};
+pub use round::{run_in, run_round};
 
 #[cfg(test)]
 mod tests;

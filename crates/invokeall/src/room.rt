@@ -30,7 +30,7 @@ pub struct Room<'a> {
     pub answers: Vec<JobReply>,
 }
 
-/// Room for so many jobs and workers.
+/// Room for a round of so many jobs and workers, which `run_in` uses.
 pub fn room_for<'a>(alloc: Global, jobs: usize, count: usize) -> Result<Room<'a>, AllocError>
     requires jobs { IsJobCount jobs }
     requires workers { IsWorkerCount count }

@@ -43,8 +43,8 @@ pub fn run_round<'a, 'j, R: Threads + Wait + Sync, G: Gate + Sync>(
     Ok(run_in(rt, cache, jobs, seats, workspaces, room, gate))
 }
 
-/// Runs the jobs in the room for them.
-fn run_in<'a, 'j, R: Threads + Wait + Sync, G: Gate + Sync>(
+/// Runs the jobs in the room for them, as `run_round` does. So it takes no memory of its own, and a job may be refused by its answer alone.
+pub fn run_in<'a, 'j, R: Threads + Wait + Sync, G: Gate + Sync>(
     rt: &R,
     cache: &Cache<'a>,
     jobs: &[Job<'j>],

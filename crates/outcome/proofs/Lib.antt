@@ -1,5 +1,5 @@
 mod Members
 mod Tags
 mod Merge
-mod Handed
+pub mod Handed
 mod SmallRound

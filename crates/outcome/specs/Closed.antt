@@ -15,9 +15,13 @@ all_records histories = flat_map (λ h. h) histories
 abbrev pub all_receipts : List Sitting → List Receipt
 all_receipts seats = flat_map (λ (s : Sitting). s.receipts) seats
 
+-- the calls of receipts, each with its reply
+abbrev pub calls_told : List Receipt → List (Call × Reply)
+calls_told receipts = map (λ (t : Receipt). (t.call, t.reply)) receipts
+
 -- the calls that were answered at these seats, each with its reply
 abbrev pub calls_at : List Sitting → List (Call × Reply)
-calls_at seats = map (λ (t : Receipt). (t.call, t.reply)) (all_receipts seats)
+calls_at seats = calls_told (all_receipts seats)
 
 -- each of these receipts names the stripe of its call's key, of so many
 abbrev pub AreFiled : ℕ → List Receipt → Type 0

@@ -5,9 +5,9 @@ use Rattle.stripe.specs.History.{Call}
 use Rattle.cache.specs.Opened.{Sitting}
 use Rattle.claims.specs.Counters.{Share}
 use Rattle.invokeall.specs.Jobs.{call_of, calls_of}
-use Rattle.invokeall.specs.Rounds.{Answer, told_seat}
+use Rattle.invokeall.specs.Rounds.{Answer}
 use Rattle.invokeall.specs.Crews.{told_row, told_answer, numbers, ShowsFull}
-use Rattle.invokeall.proofs.Turns.{one_call, later_seat, called_at, callable_at, row_more, full_more, numbers_more}
+use Rattle.invokeall.proofs.Turns.{told_seat, one_call, later_seat, called_at, callable_at, row_more, full_more, numbers_more}
 use Rattle.invokeall.proofs.work.work.Goals as goal
 
 pub call-answer-requires-clause-callable : goal.call-answer-requires-clause-callable
@@ -36,6 +36,6 @@ loop-job-preserved g c =
       seat = later_seat first before after i.seat one.later;
       receipts = one.receipts ∙ ap (λ l. l ++ told_answer call x) i.receipts ∙ append_assoc (told_seat first) (told_row calls xs) (told_answer call x)
           ∙ ap (λ l. told_seat first ++ l) (sym (row_more calls xs n call x at) ∙ ap (told_row calls) (sym items));
-      placed = λ h. one.placed (i.placed h);
+      filed = λ h. one.filed (i.filed h);
       full = subst (ShowsFull c.args.cache.now calls after) (sym items) (full_more c.args.cache.now calls before after xs n call x at one i.full);
     }

@@ -1,6 +1,7 @@
 use Rattle.std.proofs.Common.{◌≡◌, ◌-◌, ◌≤◌, ◌++◌, length, vec_capacity}
 use Rattle.invokeall.specs.Jobs.{calls_of}
-use Rattle.invokeall.specs.Rounds.{told_seat, IsLaterSeat, IsPlaced}
+use Rattle.outcome.specs.Closed.{calls_told, AreFiled}
+use Rattle.invokeall.specs.Rounds.{IsLaterSeat}
 use Rattle.invokeall.specs.Crews.{told_row, numbers, ShowsFull}
 use Rattle.invokeall.proofs.work.work.Given as goal
 
@@ -11,8 +12,8 @@ invariant-loop-job g l = record {
   drawn : l.worker.claimer.drawn ≡ numbers l.worker.answers.items;
   room : vec_capacity l.initial.worker.answers ≤ vec_capacity l.worker.answers;
   seat : IsLaterSeat l.initial.worker.seat l.worker.seat;
-  receipts : told_seat l.worker.seat ≡ told_seat l.initial.worker.seat ++ told_row (calls_of l.jobs) l.worker.answers.items;
-  placed : IsPlaced l.cache l.initial.worker.seat → IsPlaced l.cache l.worker.seat;
+  receipts : calls_told l.worker.seat.receipts ≡ calls_told l.initial.worker.seat.receipts ++ told_row (calls_of l.jobs) l.worker.answers.items;
+  filed : AreFiled (length l.cache.tables) l.initial.worker.seat.receipts → AreFiled (length l.cache.tables) l.worker.seat.receipts;
   full : ShowsFull l.cache (calls_of l.jobs) l.worker.seat l.worker.answers.items;
 }
 

@@ -1,0 +1,16 @@
+-- The memory of a round, and what becomes of its answers.
+use Rattle.std.specs.Prelude.{◌≡◌, ◌≢◌, ℕ, length, Err}
+use Rattle.cache.specs.declared.refusal.InvokeRefusal.TheVariants.{JournalFull}
+use Rattle.invokeall.specs.Rounds.{Answer}
+use Rattle.invokeall.specs.Rooms as rooms
+use Rattle.workers.specs.declared.room.Room.{Room}
+
+-- room for a round of so many jobs by so many workers, with a workspace for each worker, and for its replies
+pub record IsRoom (jobs workers : ℕ) (r : Room) : Type 0 where
+  pub round : rooms.IsRoom jobs workers r.round
+  pub workspaces : length r.workspaces.items ≡ workers
+  pub replies : rooms.HasRoom jobs r.replies
+
+-- the job wasn't refused for a full history
+abbrev pub HasPlace : Answer → Type 0
+HasPlace a = a ≢ Err JournalFull

@@ -1,0 +1,10 @@
+//! A round of jobs by worker threads, on a cache that is opened for it and closed behind it.
+#![tactic(auto)]
+
+mod crew;
+mod room;
+
+pub use crew::{Left, run_by_workers};
+
+#[cfg(test)]
+mod tests;

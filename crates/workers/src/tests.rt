@@ -1,0 +1,202 @@
+//! Rounds by one worker and by several.
+
+ghost use Rattle.std.specs.Prelude.{◌≡◌};
+ghost use Rattle.std.specs.List.{All};
+ghost use Rattle.boxcar.specs.Table.{Shelves};
+ghost use Rattle.registry.specs.Ids.{IsOf};
+ghost use Rattle.invokeall.specs.Jobs.{IsCallable};
+
+use super::*;
+use cache::NoGate;
+use invokeall::Job;
+use jtypes::{Arg, Args, Outcome};
+use registry::{ClassId, Registry};
+use rowclasses as rows;
+use std::alloc::Global;
+use std::sync::Wait;
+use std::test::Fail;
+use std::thread::Threads;
+use stripe::{Reply, Tables};
+
+/// An invocation returned this Long.
+fn returned(n: i64) -> Option<Reply> {
+    Some(Reply::Result(Outcome::Returned(Arg::Long(n))))
+}
+
+/// What a round of these jobs leaves, by 1 to 16 workers.
+fn round<R: Threads + Wait + Sync>(
+    rt: &R,
+    alloc: Global,
+    registry: &Registry,
+    tables: Tables,
+    workers: usize,
+    jobs: &[Job<'_>],
+) -> Option<Left>
+    requires { All (IsCallable registry.now) jobs.now }
+{
+    if workers == 0 || workers > 16 || jobs.len() > 4096 {
+        return None;
+    }
+    run_by_workers(rt, alloc, registry, tables, workers, jobs, &NoGate).ok()
+}
+
+/// Three entries are put.
+fn three_puts<'j>() -> [Job<'j>; 3]
+    ensures { (registry : Shelves) → All (IsCallable registry) result }
+{
+    [
+        Job::Put { key: 2, value: 41 },
+        Job::Put { key: 3, value: 7 },
+        Job::Put { key: 5, value: 50 },
+    ]
+}
+
+/// A job of each kind, each on a key of its own.
+fn on_own_keys<'j>(class: &'j ClassId, args: &'j Args) -> [Job<'j>; 5]
+    ensures { (registry : Shelves) → IsOf registry class.now → All (IsCallable registry) result }
+{
+    [
+        Job::Put { key: 1, value: 5 },
+        Job::Invoke {
+            class,
+            key: 2,
+            args,
+        },
+        Job::Get { key: 3 },
+        Job::Contains { key: 4 },
+        Job::Remove { key: 5 },
+    ]
+}
+
+/// A job of each kind, on two keys.
+fn on_two_keys<'j>(class: &'j ClassId, args: &'j Args) -> [Job<'j>; 5]
+    ensures { (registry : Shelves) → IsOf registry class.now → All (IsCallable registry) result }
+{
+    [
+        Job::Put { key: 1, value: 5 },
+        Job::Invoke {
+            class,
+            key: 1,
+            args,
+        },
+        Job::Get { key: 1 },
+        Job::Remove { key: 3 },
+        Job::Contains { key: 3 },
+    ]
+}
+
+/// What a round leaves behind a round of three puts, on two stripes.
+fn behind_puts<R: Threads + Wait + Sync>(
+    rt: &R,
+    alloc: Global,
+    registry: &Registry,
+    workers: usize,
+    jobs: &[Job<'_>],
+) -> Option<Left>
+    requires { All (IsCallable registry.now) jobs.now }
+{
+    let tables = Tables::new(alloc, 2).ok()?;
+    let puts = three_puts();
+    let left = round(rt, alloc, registry, tables, workers, &puts)?;
+    round(rt, alloc, registry, left.tables, workers, jobs)
+}
+
+/// The entries of the keys 1 to 5.
+fn entries_in(tables: &Tables) -> [Option<i64>; 5] {
+    [
+        tables.entry(1),
+        tables.entry(2),
+        tables.entry(3),
+        tables.entry(4),
+        tables.entry(5),
+    ]
+}
+
+/// Whether a round of jobs on keys of their own leaves what it has to.
+fn own_keys_are_right<R: Threads + Wait + Sync>(
+    rt: &R,
+    alloc: Global,
+    plus: &[u8],
+    workers: usize,
+) -> bool {
+    let Ok(registry) = Registry::new(alloc) else {
+        return false;
+    };
+    let Ok(class) = registry.define(rt, alloc, plus) else {
+        return false;
+    };
+    let args = Args::none();
+    let jobs = on_own_keys(&class, &args);
+    let Some(left) = behind_puts(rt, alloc, &registry, workers, &jobs) else {
+        return false;
+    };
+    let replies = [
+        Some(Reply::Done),
+        returned(42),
+        Some(Reply::Value(Some(7))),
+        Some(Reply::Flag(false)),
+        Some(Reply::Flag(true)),
+    ];
+    left.replies.as_slice() == replies.as_slice()
+        && entries_in(&left.tables) == [Some(5), Some(42), Some(7), None, None]
+}
+
+#[test]
+fn jobs_on_own_keys_have_one_outcome(rt: HostRuntime) -> Result<(), Fail> {
+    let alloc = rt.alloc();
+    let plus = rows::plus(alloc)?;
+    assert!(rt; own_keys_are_right(&rt, alloc, &plus, 1));
+    assert!(rt; own_keys_are_right(&rt, alloc, &plus, 4));
+    Ok(())
+}
+
+/// Whether one worker runs jobs on two keys in their order.
+fn two_keys_are_right<R: Threads + Wait + Sync>(rt: &R, alloc: Global, plus: &[u8]) -> bool {
+    let Ok(registry) = Registry::new(alloc) else {
+        return false;
+    };
+    let Ok(class) = registry.define(rt, alloc, plus) else {
+        return false;
+    };
+    let args = Args::none();
+    let jobs = on_two_keys(&class, &args);
+    let Some(left) = behind_puts(rt, alloc, &registry, 1, &jobs) else {
+        return false;
+    };
+    let replies = [
+        Some(Reply::Done),
+        returned(6),
+        Some(Reply::Value(Some(6))),
+        Some(Reply::Flag(true)),
+        Some(Reply::Flag(false)),
+    ];
+    left.replies.as_slice() == replies.as_slice()
+        && entries_in(&left.tables) == [Some(6), Some(41), None, None, Some(50)]
+}
+
+#[test]
+fn one_worker_keeps_the_order(rt: HostRuntime) -> Result<(), Fail> {
+    let alloc = rt.alloc();
+    let plus = rows::plus(alloc)?;
+    assert!(rt; two_keys_are_right(&rt, alloc, &plus));
+    Ok(())
+}
+
+/// Whether a round without jobs leaves the entries as they were.
+fn nothing_is_left<R: Threads + Wait + Sync>(rt: &R, alloc: Global, workers: usize) -> bool {
+    let Ok(registry) = Registry::new(alloc) else {
+        return false;
+    };
+    let Some(left) = behind_puts(rt, alloc, &registry, workers, &[]) else {
+        return false;
+    };
+    left.replies.is_empty() && entries_in(&left.tables) == [None, Some(41), Some(7), None, Some(50)]
+}
+
+#[test]
+fn no_jobs_leave_the_entries(rt: HostRuntime) -> Result<(), Fail> {
+    let alloc = rt.alloc();
+    assert!(rt; nothing_is_left(&rt, alloc, 1));
+    assert!(rt; nothing_is_left(&rt, alloc, 4));
+    Ok(())
+}
