@@ -64,6 +64,9 @@ module _ (p : Parts) (h : IsSteady p) (i : ℕ) (x : Seated) (there : slice_get 
       ∙ ap (λ j. with_running (world_of p) j (Some (running_call caller (starts_of (world_of p) caller) call is.progress))) place in
       at ∙ sym (ap (after_start (world_of p) caller call) idle ∙ ap (after_begin (world_of p) caller call) goes)
 
+  pub start_forward : (number : ℕ) (y : Seated) → IsBegun x (record { caller = caller; number = number; call = call }) y → IsSome (progress_of (entries_now (world_of p) (key_of call)) call)
+  start_forward number y is = ap is_some (ap (λ e. progress_of e call) (sym entry_is) ∙ is.is)
+
   start_ignored : IsSome x.running → apply (world_of p) (Start caller call) ≡ world_of p
   start_ignored s = ap (after_start (world_of p) caller call) found ∙ by x.running s
     where

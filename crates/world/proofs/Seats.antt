@@ -1,7 +1,8 @@
 -- What a seat holds of its call.
-use Rattle.std.proofs.Common.{◌≡◌, suc, ℤ, Bool, true, false, not, List, Option, Some, None, is_some, IsSome, IsTrue, option_map, refl, sym, ap, subst, ◌∙◌, true≢false}
+use Rattle.std.proofs.Common.{arith, ◌≡◌, suc, ◌+◌, ◌-◌, ◌<◌, ◌≤◌, ℤ, Bool, true, false, not, List, Option, Some, None, is_some, IsSome, IsTrue, option_map, refl, sym, ap, subst, ◌∙◌, true≢false}
 use Rattle.jtypes.specs.declared.types.Arg.{Arg}
 use Rattle.jtypes.specs.Entry.{Entry, effect, after_effect}
+use Rattle.bounds.specs.Paths.{step_limit}
 use Rattle.typecheck.specs.Typing.{Class}
 use Rattle.verdict.specs.Machine.{Invocation, State}
 use Rattle.verdict.specs.Meaning.{Means}
@@ -17,6 +18,7 @@ use Rattle.world.specs.World as world
 use Rattle.world.specs.World.{Progress, Working, Settled, Running, running_call, progress_of, record_of_call}
 use Rattle.world.specs.Refused.{works}
 use Rattle.world.specs.Seated.{IsBegun, IsEnded, turned}
+use Rattle.world.specs.Forward.{turns_on}
 use Rattle.world.specs.Going.{state_in, progress_in, is_ended, IsUnderWay, IsGoing}
 use Rattle.world.specs.Seating.{running_in}
 use Rattle.world.proofs.Calls.{start_zero, first_state, next_state, going_some, call_in, works_going, turned_goes, turned_ends, going_end, ended_progress}
@@ -121,6 +123,12 @@ module _ (s : Kept) (m : Machine) (ended : Option Done) (sound : AreGoing s m en
   seen_as : (done : Option Done) (new : Machine) → running_in s new done s.running ≡ call_in o.caller o.number (before_in s o) (Invoke c k args) done new
   seen_as done new = ap (running_in s new done) (sym runs) ∙ ap (λ x. call_in o.caller o.number (before_in s o) x done new) is
 
+  -- as far as it is
+  seen_old : running_in s m ended s.running ≡ Some (running_call o.caller o.number (Invoke c k args) (Working c way.1.state))
+  seen_old =
+      ap (λ e. running_in s m e s.running) way.0 ∙ seen_as None m
+      ∙ ap (λ x. option_map (running_call o.caller o.number (Invoke c k args)) (option_map (λ s. Working c s) x)) way.1.is
+
   module _ (new : Machine) (follows : (x : State) → IsRunning c x m → Follows c x going.Going new) (counts : new.steps ≡ suc m.steps) where
     next : Follows c way.1.state going.Going new
     next = follows way.1.state way.1.running
@@ -142,6 +150,18 @@ module _ (s : Kept) (m : Machine) (ended : Option Done) (sound : AreGoing s m en
         ∙ sym (turned_goes o.caller o.number (before_in s o) c k args m new way.1 next.0 next.1 counts)
         ∙ ap turned (sym (ap (λ e. running_in s m e s.running) way.0 ∙ seen_as None m))
 
+    pub goes_nearer : new.steps ≤ step_limit → turns_on (Some (running_in s new ended s.running)) < turns_on (Some (running_in s m ended s.running))
+    goes_nearer few =
+        let seen : running_in s new ended s.running ≡ Some (running_call o.caller o.number (Invoke c k args) (Working c next.0)) =
+        ap (λ e. running_in s new e s.running) way.0 ∙ seen_as None new
+        ∙ ap (λ x. option_map (running_call o.caller o.number (Invoke c k args)) (option_map (λ s. Working c s) x))
+        (ap (state_in c (invocation k args (before_in s o))) counts ∙ next_state c (invocation k args (before_in s o)) m.steps way.1.state next.0 way.1.is next.1) in
+        let is : turns_on (Some (running_in s new ended s.running)) ≡ (step_limit - next.0.steps) + 2 = ap (λ r. turns_on (Some r)) seen in
+        let was : turns_on (Some (running_in s m ended s.running)) ≡ (step_limit - way.1.state.steps) + 2 = ap (λ r. turns_on (Some r)) seen_old in
+        let now = next.3.state.at.rest.steps in
+        let before = way.1.running.state.at.rest.steps in
+        omega (arith, is, was, now, before, counts, few)
+
   module _ (new : Machine) (d : Done) (follows : (x : State) → IsRunning c x m → Follows c x (going.Ended d) new) where
     last : Follows c way.1.state (going.Ended d) new
     last = follows way.1.state way.1.running
@@ -159,6 +179,12 @@ module _ (s : Kept) (m : Machine) (ended : Option Done) (sound : AreGoing s m en
         seen_as (Some d) new
         ∙ sym (turned_ends o.caller o.number (before_in s o) c k args m new way.1 d last.0 last.1 told leads)
         ∙ ap turned (sym (ap (λ e. running_in s m e s.running) way.0 ∙ seen_as None m))
+
+    pub ends_nearer : turns_on (Some (running_in s new (Some d) s.running)) < turns_on (Some (running_in s m ended s.running))
+    ends_nearer =
+        let is : turns_on (Some (running_in s new (Some d) s.running)) ≡ 1 = ap (λ r. turns_on (Some r)) (seen_as (Some d) new) in
+        let was : turns_on (Some (running_in s m ended s.running)) ≡ (step_limit - way.1.state.steps) + 2 = ap (λ r. turns_on (Some r)) seen_old in
+        omega (arith, is, was)
 
 -- ---- an invocation begins
 

@@ -7,10 +7,11 @@ use Rattle.std.proofs.lemmas.List.{length-set, length-map, map-set, get_or-set_s
 use Rattle.stripe.specs.History.{Call, Begun, Record, key_of}
 use Rattle.stripe.specs.Kept.{Kept, IsOf, entry_of}
 use Rattle.world.specs.World.{World, Running, with_progress, is_by, starts_of, running_call, with_running}
+use Rattle.world.specs.Forward.{turns_on, turns_left}
 use Rattle.world.specs.Seated.{Seated, IsBegun, further, turned}
 use Rattle.world.specs.Inside.{Parts, running_on, world_of, IsAt, AreSeats, room_of, IsSteady}
 use Rattle.std.proofs.lemmas.Option.{slice_get_within}
-use Rattle.world.proofs.Places.{one_if, get_set_cases, set_same, map_get, sum_set}
+use Rattle.world.proofs.Places.{one_if, get_set, get_set_cases, set_same, map_get, sum_set}
 
 -- the parts with another seat at this place, and other counts
 abbrev pub with_seat : Parts → ℕ → Seated → List ℕ → Parts
@@ -24,6 +25,14 @@ at_running w rs i x h =
 
 pub running_set : (p : Parts) (i : ℕ) (y : Seated) (starts : List ℕ) → world_of (with_seat p i y starts) ≡ with_running (world_of p) i y.running
 running_set p i y starts = ap (λ rs. record { opening = p.opening; journal = p.journal; running = rs; finished = p.finished }) (map-set running_on p.seats i y)
+
+-- the call on one stripe comes nearer to its end
+pub turned_nearer : (p : Parts) (i : ℕ) (x y : Seated) (starts : List ℕ) → slice_get p.seats i ≡ Some x → turns_on (Some y.running) < turns_on (Some x.running)
+    → turns_left (world_of (with_seat p i y starts)) i < turns_left (world_of p) i
+turned_nearer p i x y starts there less =
+    let was : slice_get (map running_on p.seats) i ≡ Some x.running = map_get running_on p.seats i x there in
+    let is : slice_get (map running_on (slice_set p.seats i y)) i ≡ Some y.running = map_get running_on (slice_set p.seats i y) i y (get_set p.seats i y (slice_get_within p.seats i x there)) in
+    subst (λ o. turns_on o < turns_on (slice_get (map running_on p.seats) i)) (sym is) (subst (λ o. turns_on (Some y.running) < turns_on o) (sym was) less)
 
 -- a call starts or takes a step: no more is finished
 module _ (p : Parts) (h : IsSteady p) (i : ℕ) (x y : Seated) (there : slice_get p.seats i ≡ Some x) where

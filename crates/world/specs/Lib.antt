@@ -2,6 +2,7 @@ pub mod World
 pub mod Seen
 pub mod Refused
 pub mod Lawful
+pub mod Forward
 pub mod Seated
 pub mod Going
 pub mod Seating

@@ -1,6 +1,7 @@
 //! A stripe with the call that runs on it.
 
-ghost use Rattle.std.specs.Prelude.{◌≡◌, ◌↔◌, IfSome, IfNone, IsSome, IsTrue, None, Some, map, length, suc, false, if◌then◌else◌};
+ghost use Rattle.std.specs.Prelude.{◌≡◌, ◌↔◌, ◌≤◌, IfSome, IfNone, IsSome, IsTrue, None, Some, map, length, suc, false, if◌then◌else◌};
+ghost use Rattle.bounds.specs.Paths.{step_limit};
 ghost use Rattle.verdict.specs.Machine.{State};
 ghost use Rattle.machine.specs.Running.{IsRunning, Follows};
 ghost use Rattle.stripe.specs.Seen.{call_of};
@@ -57,6 +58,7 @@ fn one_step(workspace: &mut Workspace, class: &Verified) -> Going
     requires { (s : State) × IsRunning class.now s workspace.old }
     ensures follows { (s : State) → IsRunning class.now s workspace.old → Follows class.now s result workspace.new }
     ensures counts { (s : State) → IsRunning class.now s workspace.old → result ≡ Going.Going → workspace.new.steps ≡ suc workspace.old.steps }
+    ensures few { (s : State) → IsRunning class.now s workspace.old → result ≡ Going.Going → workspace.new.steps ≤ step_limit }
 {
     is_checked(class);
     starts_and_counts();
@@ -66,13 +68,14 @@ fn one_step(workspace: &mut Workspace, class: &Verified) -> Going
 }
 
 impl<'a> Seat<'a> {
-    ghost use Rattle.std.specs.Prelude.{◌≡◌, ◌↔◌, IfSome, IfNone, IsSome, IsTrue, None, Some, map, length, false, if◌then◌else◌};
+    ghost use Rattle.std.specs.Prelude.{◌≡◌, ◌↔◌, ◌<◌, IfSome, IfNone, IsSome, IsTrue, None, Some, map, length, false, if◌then◌else◌};
     ghost use Rattle.stripe.specs.declared.refusal.BeginRefusal.TheVariants.{JournalFull, NoMemory};
     ghost use Rattle.stripe.specs.History.{key_of};
     ghost use Rattle.stripe.specs.Kept.{IsOf, entry_of, is_absent};
     ghost use Rattle.stripe.specs.Seen.{call_of, record_of};
     ghost use Rattle.world.specs.Refused.{works, is_final};
     ghost use Rattle.world.specs.Seated.{IsBegun, IsEnded, turned};
+    ghost use Rattle.world.specs.Forward.{turns_on};
 
     /// A stripe on which no call runs.
     pub fn new(stripe: Stripe<'a>, workspace: Workspace) -> Seat<'a>
@@ -116,6 +119,7 @@ impl<'a> Seat<'a> {
         ensures answer { result ≡ (if works (Some self.old.running) then Applied.Done else Applied.Ignored) }
         ensures stripe { self.new.stripe ≡ self.old.stripe }
         ensures running { self.new.running ≡ turned self.old.running }
+        ensures nearer { result ≡ Applied.Done → turns_on (Some self.new.running) < turns_on (Some self.old.running) }
     {
         effect_leads_from_before_to_now();
         let Some(open) = self.stripe.open() else {

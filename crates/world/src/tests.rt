@@ -307,6 +307,7 @@ fn histories_are_by_stripe(rt: HostRuntime) -> Result<(), Fail> {
     let world = plain_calls(&rt, alloc, 2, &calls)?;
     assert!(rt; world.is_idle());
     assert_eq!(rt; world.stripes(), 2);
+    assert_eq!(rt; world.finished().len(), 3);
     assert_eq!(rt; told(&world, 0), Some((1, 1, 2)));
     assert_eq!(rt; told(&world, 1), Some((2, 2, -1)));
     Ok(())

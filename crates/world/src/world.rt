@@ -60,6 +60,7 @@ impl<'a> World<'a> {
     ghost use Rattle.world.specs.World.{Start, Step, Finish, opened, opening_entries, entries_now, history_of, apply, run};
     ghost use Rattle.world.specs.Seen.{event_of};
     ghost use Rattle.world.specs.Refused.{is_possible, is_start_on_full, is_start_on_absent, IsApplied, KeepsEntries, HaveRoom, IsStopped, NoneRuns};
+    ghost use Rattle.world.specs.Forward.{GoesForward};
     ghost use Rattle.world.specs.Lawful.{IsLawful};
 
     /// A world on these tables, in which no call has started; each stripe may have so many records, 1 to 4,096. Or the tables
@@ -103,6 +104,7 @@ impl<'a> World<'a> {
         ensures full { (result ≡ Applied.Refused JournalFull) ↔ IsTrue (is_start_on_full self.old (event_of event.entry)) }
         ensures memory { result ≡ Applied.Refused NoMemory → IsTrue (is_start_on_absent self.old (event_of event.entry)) }
         ensures held { KeepsEntries self.old self.new }
+        ensures forward { result ≡ Applied.Done → GoesForward self.old (event_of event.entry) self.new }
     {
         match event {
             Event::Start { caller, call } => self.start(caller, call),
@@ -115,6 +117,7 @@ impl<'a> World<'a> {
     fn start(&mut self, caller: u8, call: Call<'a>) -> Applied
         ensures applied { IsApplied self.old (Start caller (call_of call.entry)) result self.new }
         ensures held { KeepsEntries self.old self.new }
+        ensures forward { result ≡ Applied.Done → GoesForward self.old (Start caller (call_of call.entry)) self.new }
     {
         let place = stripe_of(self.seats.len(), call.key());
         let number = self.starts[caller as usize];
@@ -130,6 +133,7 @@ impl<'a> World<'a> {
     fn step(&mut self, stripe: usize) -> Applied
         ensures applied { IsApplied self.old (Step stripe) result self.new }
         ensures held { KeepsEntries self.old self.new }
+        ensures forward { result ≡ Applied.Done → GoesForward self.old (Step stripe) self.new }
     {
         if stripe >= self.seats.len() {
             return Applied::Ignored;
@@ -196,6 +200,13 @@ impl<'a> World<'a> {
     {
         let seat = &self.seats[stripe];
         seat.history()
+    }
+
+    /// The finished calls, in their order.
+    pub fn finished(&self) -> &[Record<'a>]
+        ensures { map record_of result.now ≡ self.now.finished }
+    {
+        &self.finished
     }
 
     /// The entry of a key after the finished calls.

@@ -7,10 +7,11 @@ use Rattle.stripe.specs.Seen.{call_of}
 use Rattle.world.specs.declared.event.Applied.TheVariants.{Done, Ignored, Refused}
 use Rattle.world.specs.World.{World, Start}
 use Rattle.world.specs.Seated.{IsBegun}
+use Rattle.world.specs.Forward.{GoesForward}
 use Rattle.world.specs.Refused.{IsApplied, KeepsEntries}
 use Rattle.world.specs.Inside.{parts, world_of}
 use Rattle.world.proofs.Steady.{with_seat, running_set, steady_started, world_same}
-use Rattle.world.proofs.Applying.{applied_start, start_done, of_stripe, idle_running}
+use Rattle.world.proofs.Applying.{applied_start, start_done, start_forward, of_stripe, idle_running}
 use Rattle.world.proofs.world.World.start.Goals as goal
 
 below : (n i len : ℕ) → i < len → len ≡ n → i < n
@@ -72,6 +73,18 @@ returns-in-Done-clause-applied c =
     ∙ start_done p c.self.invariant c.stripe_of-place.result c.index_mut-seat.result.now there c.args.caller (call_of c.args.call) place (slice_index c.self.inside.starts c.args.caller) c.start-applied.new.self (none_ran c) (is_begun c)
     (c.self.invariant.numbers c.args.caller byte)))
 
+pub returns-in-Done-clause-forward : goal.returns-in-Done-clause-forward
+returns-in-Done-clause-forward c d =
+    let p = parts c.self.inside in
+    let x = c.index_mut-seat.result.now in
+    let there : slice_get p.seats c.stripe_of-place.result ≡ Some x = slice_get_read p.seats (vec_len c.self.inside.seats) c.stripe_of-place.result x c.self.inside.seats.ok.0 (below (vec_len c.self.inside.seats) c.stripe_of-place.result c.len.result c.stripe_of-place.ensures.within c.len.ensures) c.index_mut-seat.ensures.value in
+    let key : to_z w64 (of_z w64 c.key.result) ≡ key_of (call_of c.args.call) = to_z-of_z w64 c.key.result (search rules) ∙ c.key.ensures in
+    let place : c.stripe_of-place.result ≡ stripe_of (length p.opening) (key_of (call_of c.args.call)) =
+    c.stripe_of-place.ensures.stripe ∙ ap (stripe_of c.len.result) key ∙ ap (λ n. stripe_of n (key_of (call_of c.args.call))) (c.len.ensures ∙ c.self.inside.seats.ok.0 ∙ c.self.invariant.same) in
+    let new = world_of (with_seat p c.stripe_of-place.result c.start-applied.new.self (slice_set c.self.inside.starts c.args.caller (slice_index c.self.inside.starts c.args.caller + 1))) in
+    subst (λ (w : World). GoesForward w (Start c.args.caller (call_of c.args.call)) new) c.self.view_is
+    (start_forward p c.self.invariant c.stripe_of-place.result x there c.args.caller (call_of c.args.call) place (slice_index c.self.inside.starts c.args.caller) c.start-applied.new.self (is_begun c))
+
 pub returns-in_default : goal.returns-in_default
 returns-in_default c =
     let p = parts c.self.inside in
@@ -89,4 +102,5 @@ returns-in_default c =
           (λ n. world_same p c.self.invariant c.stripe_of-place.result c.index_mut-seat.result.now c.start-applied.new.self there (c.start-applied.ensures.same n))
           (λ d. absurd (c.in_default.not-Done d)));
       held = subst (λ (w : World). KeepsEntries w new) c.self.view_is (λ k a b. refl);
+      forward = λ d. absurd (c.in_default.not-Done d);
     }

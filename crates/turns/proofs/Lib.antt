@@ -1,0 +1,4 @@
+mod Replies
+mod Moves
+mod Told
+mod Stages

@@ -1,0 +1,14 @@
+use Rattle.std.proofs.Common.{◌≡◌, ◌-◌, ◌≤◌, length}
+use Rattle.turns.specs.Course.{stage, IsGoing}
+use Rattle.turns.proofs.course.Course.begin_all.Given as goal
+
+abbrev pub invariant-calls : goal.invariant-calls
+invariant-calls l = record {
+  going : IsGoing (stage l.self);
+  calls : (stage l.self).calls ≡ (stage l.initial.self).calls;
+  opening : l.self.world.opening ≡ l.initial.self.world.opening;
+  few : l.self.begun ≤ length l.self.calls.now;
+}
+
+abbrev pub decreases-calls : goal.decreases-calls
+decreases-calls l = length l.self.calls.now - l.self.begun

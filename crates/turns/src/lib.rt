@@ -1,0 +1,10 @@
+//! One round of calls on the entries of a cache, on one thread: calls on different stripes run in turn, one instruction a turn.
+#![tactic(auto)]
+
+mod course;
+mod run;
+
+pub use run::{Left, run_in_turns};
+
+#[cfg(test)]
+mod tests;

@@ -1,0 +1,24 @@
+-- How far a call is from its end.
+use Rattle.std.specs.Prelude.{ℕ, ◌+◌, ◌-◌, ◌<◌, Option, Some, IsSome, slice_get}
+use Rattle.bounds.specs.Paths.{step_limit}
+use Rattle.stripe.specs.History.{key_of}
+use Rattle.world.specs.World.{World, Running, Progress, Working, Settled, Event, Start, Step, Finish, entries_now, progress_of}
+
+-- how many events a call still takes at most: its steps, of which an accepted class takes no more than the limit, and the finish
+abbrev pub turns_of : Progress → ℕ
+turns_of (Working c s) = (step_limit - s.steps) + 2
+turns_of (Settled reply after) = 1
+
+abbrev pub turns_on : Option (Option Running) → ℕ
+turns_on (Some (Some r)) = turns_of r.progress
+turns_on _ = 0
+
+-- of the call that runs on a stripe; none if none does
+abbrev pub turns_left : World → ℕ → ℕ
+turns_left w i = turns_on (slice_get w.running i)
+
+-- a call that is started has a first progress, and a step brings a call nearer to its end
+abbrev pub GoesForward : World → Event → World → Type 0
+GoesForward w (Start caller call) new = IsSome (progress_of (entries_now w (key_of call)) call)
+GoesForward w (Step i) new = turns_left new i < turns_left w i
+GoesForward w (Finish i) new = Unit {0}
