@@ -3,7 +3,7 @@ use Rattle.std.specs.List.{All}
 use Rattle.std.proofs.lemmas.List.Elements.{All-same}
 use Rattle.stripe.specs.declared.call.Reply.{Reply}
 use Rattle.stripe.specs.Stored.{entry_among}
-use Rattle.cache.specs.Opened.{Opened, Sitting, AreSeats}
+use Rattle.cache.specs.Opened.{Opened, Sitting}
 use Rattle.outcome.specs.Outcome.{IsDone}
 use Rattle.invokeall.specs.declared.job.Job.{Job}
 use Rattle.invokeall.specs.Jobs.{calls_of}
