@@ -1,0 +1,6 @@
+mod Plans
+mod Rounds
+mod Begun
+mod Devices
+mod Listed
+mod Ends

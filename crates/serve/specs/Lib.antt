@@ -1,0 +1,5 @@
+pub mod Rounds
+pub mod Served
+pub mod Settings
+pub mod Devices
+pub mod Kept

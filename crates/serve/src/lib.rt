@@ -1,0 +1,19 @@
+//! The server engine: requests are read round by round, each round is run at its end, and its replies are written.
+#![tactic(auto)]
+
+mod adding;
+mod fault;
+mod jobs;
+mod plan;
+mod reading;
+mod settings;
+mod stream;
+mod telling;
+mod turn;
+
+pub use fault::ServeFault;
+pub use settings::Settings;
+pub use stream::serve;
+
+#[cfg(test)]
+mod tests;
