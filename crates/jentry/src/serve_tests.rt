@@ -1,6 +1,6 @@
 //! Streams through the program: options, replies and statuses.
 
-use crate::tests::answered;
+use crate::tests::answer_to;
 use std::process::Abort;
 use std::sync::Wait;
 use std::test::Fail;
@@ -32,7 +32,7 @@ fn is_served(
     errors: &str,
 ) -> Result<(), Fail> {
     let alloc = rt.alloc();
-    let answer = answered(rt, alloc, words, Vec::new(alloc), input, 1000)?;
+    let answer = answer_to(rt, alloc, words, Vec::new(alloc), input, 1000)?;
     assert_eq!(rt; answer.status, status, "{words:?}");
     assert!(rt; answer.output.as_slice() == output, "{words:?}");
     assert!(rt; answer.errors.as_slice() == errors.as_bytes(), "{words:?}");

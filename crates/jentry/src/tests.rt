@@ -65,7 +65,7 @@ fn words_of(alloc: Global, words: &[&str]) -> Result<Vec<String>, AllocError> {
 }
 
 /// A command over a class and an input, with an output that holds so many bytes.
-pub(crate) fn answered(
+pub(crate) fn answer_to(
     rt: &(impl Threads + Wait + Sync),
     alloc: Global,
     words: &[&str],
@@ -110,7 +110,7 @@ fn told_to(
     bytes: Vec<u8>,
     most: usize,
 ) -> Result<Answered, AllocError> {
-    answered(rt, alloc, words, bytes, &[], most)
+    answer_to(rt, alloc, words, bytes, &[], most)
 }
 
 fn told(
@@ -610,7 +610,6 @@ fn lines_are_judged(rt: HostRuntime) -> Result<(), Fail> {
         (&["check", "-h"], line),
         (&["--version"], line),
         (&["help"], line),
-        (&["serve"], line),
         (&["--", "check", "C"], line),
         (&["run", "C", "7"], line),
         (&["run", "C", "-7", "1"], line),
