@@ -16,4 +16,6 @@ pub use settings::Settings;
 pub use stream::serve;
 
 #[cfg(test)]
+mod round_tests;
+#[cfg(test)]
 mod tests;

@@ -1,7 +1,7 @@
 //! Streams, byte by byte.
 
 use super::*;
-use cache::NoGate;
+use cache::{Gate, NoGate};
 use rowclasses as rows;
 use std::alloc::{AllocError, Global};
 use std::io;
@@ -13,24 +13,34 @@ use wire::Counted;
 
 /// What a stream came to.
 #[derive(Drop)]
-struct Ended {
-    fault: Option<ServeFault>,
-    output: Vec<u8>,
+pub(crate) struct Ended {
+    pub(crate) fault: Option<ServeFault>,
+    pub(crate) output: Vec<u8>,
 }
 
-fn serve_all<T: Threads + Wait + Sync>(
+pub(crate) fn serve_all<T: Threads + Wait + Sync>(
     rt: &T,
     alloc: Global,
     input: &[u8],
     workers: usize,
 ) -> Ended {
-    let mut reader = Counted::new(input);
-    let mut writer = Counted::new(Vec::new(alloc));
     let settings = Settings {
         workers,
         stripes: 16,
     };
-    let fault = match serve(rt, alloc, &mut reader, &mut writer, settings, &NoGate) {
+    serve_beside(rt, alloc, input, settings, &NoGate)
+}
+
+pub(crate) fn serve_beside<T: Threads + Wait + Sync, G: Gate + Sync>(
+    rt: &T,
+    alloc: Global,
+    input: &[u8],
+    settings: Settings,
+    gate: &G,
+) -> Ended {
+    let mut reader = Counted::new(input);
+    let mut writer = Counted::new(Vec::new(alloc));
+    let fault = match serve(rt, alloc, &mut reader, &mut writer, settings, gate) {
         Ok(()) => None,
         Err(fault) => Some(fault),
     };
@@ -41,13 +51,13 @@ fn serve_all<T: Threads + Wait + Sync>(
 }
 
 /// Adds the frame that defines a class.
-fn define(input: &mut Vec<u8>, class: &[u8]) -> Result<(), AllocError> {
+pub(crate) fn define(input: &mut Vec<u8>, class: &[u8]) -> Result<(), AllocError> {
     let length = (1 + class.len()) % 65_536;
     input.extend_from_slice(&[0, 0, (length / 256) as u8, (length % 256) as u8, 1])?;
     input.extend_from_slice(class)
 }
 
-static ROUND_END: [u8; 5] = [0, 0, 0, 1, 8];
+pub(crate) static ROUND_END: [u8; 5] = [0, 0, 0, 1, 8];
 
 #[test]
 fn a_class_is_defined_by_its_bounds(rt: HostRuntime) -> Result<(), Fail> {
@@ -522,7 +532,7 @@ fn more_jobs_than_a_round_may_have_are_denied(rt: HostRuntime) -> Result<(), Fai
 }
 
 /// The reply to an invocation that returned this Long.
-fn returned(n: u8) -> [u8; 15] {
+pub(crate) fn returned(n: u8) -> [u8; 15] {
     [0, 0, 0, 0x0B, 6, 0, 1, 0, 0, 0, 0, 0, 0, 0, n]
 }
 
@@ -564,7 +574,3 @@ fn jobs_on_one_key_come_one_after_the_other(rt: HostRuntime) -> Result<(), Fail>
     }
     Ok(())
 }
-
-// Row 21 by `serve`: a gate that holds job 0 until it has seen job 1 answered, as in invokeall's tests (`cache`'s gate), with
-// Settings { workers: 2, stripes: 2 } and the stream: define Counter, round end, invoke 0 on key 0 with argument 1, invoke 0 on
-// key 1 with argument 1, round end.
