@@ -104,20 +104,23 @@ fn perform<'a, T: Threads + Wait + Sync, I: Read, W: Write>(
     input: &mut I,
     output: &mut W,
 ) -> Result<u8, Failure<'a>> {
-    let answer = match parse(alloc, words) {
-        Ok(Request::Check { file }) => check_answer(alloc, files, file)?,
-        Ok(
-            Request::Run {
-                file,
-                key,
-                before,
-                args,
-            },
-        ) => run_answer(alloc, files, file, key, before, &args)?,
-        Ok(Request::Serve(settings)) => return serve_input(rt, alloc, settings, input, output),
+    let request = match parse(alloc, words) {
+        Ok(request) => request,
         Err(failure) => return Err(failure),
     };
-    write_answer(output, &answer)
+    match &request {
+        Request::Check { file } => write_answer(output, &check_answer(alloc, files, file)?),
+        Request::Run {
+            file,
+            key,
+            before,
+            args,
+        } => {
+            let answer = run_answer(alloc, files, file, *key, *before, args)?;
+            write_answer(output, &answer)
+        }
+        Request::Serve(settings) => serve_input(rt, alloc, *settings, input, output),
+    }
 }
 
 /// Tells a failure; nothing is done where even that can't be written.

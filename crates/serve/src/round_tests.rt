@@ -63,9 +63,9 @@ fn a_thousand_rounds_are_each_in_some_order(rt: HostRuntime) -> Result<(), Fail>
     let ended = serve_all(&rt, alloc, &input, 4);
     assert_eq!(rt; ended.fault, None);
     // The class and its round come first.
-    let replies = &ended.output.as_slice()[22..];
-    assert_eq!(rt; replies.len(), 1000 * REPLIES);
-    assert!(rt; replies.chunks(REPLIES).all(is_in_some_order));
+    let output = ended.output.as_slice();
+    assert_eq!(rt; output.len(), 22 + 1000 * REPLIES);
+    assert!(rt; output[22..].chunks(REPLIES).all(is_in_some_order));
     Ok(())
 }
 
@@ -120,7 +120,9 @@ fn two_stripes_work_at_once(rt: HostRuntime) -> Result<(), Fail> {
     assert_eq!(rt; ended.fault, None);
     assert!(rt; gate.seen.load(Ordering::Acquire));
     // The class and its round come first.
-    assert_eq!(rt; &ended.output.as_slice()[22..37], &returned(1)[..]);
-    assert_eq!(rt; &ended.output.as_slice()[37..52], &returned(1)[..]);
+    let output = ended.output.as_slice();
+    assert_eq!(rt; output.len(), 57);
+    assert_eq!(rt; &output[22..37], &returned(1)[..]);
+    assert_eq!(rt; &output[37..52], &returned(1)[..]);
     Ok(())
 }

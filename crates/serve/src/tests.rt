@@ -472,7 +472,9 @@ fn results_have_no_nulls_and_no_doubles(rt: HostRuntime) -> Result<(), Fail> {
         let ended = serve_all(&rt, alloc, &input, workers);
         assert_eq!(rt; ended.fault, None);
         // A class with its bounds, three puts and a round's end come first.
-        assert_eq!(rt; &ended.output.as_slice()[17 + 3 * 5 + 5..], &results[..]);
+        let output = ended.output.as_slice();
+        assert_eq!(rt; output.len(), 77);
+        assert_eq!(rt; &output[17 + 3 * 5 + 5..], &results[..]);
     }
     Ok(())
 }
