@@ -187,13 +187,14 @@ pub data IsFaulty (bytes : List ℕ) : ReadFault → Type 0 where
 -- a beginning of a frame, which is not whole: it ends in the length or in the text
 pub data IsPart (bytes : List ℕ) : Type 0 where
   of_length : length bytes < 4 → IsPart bytes
-  of_text : (n : ℕ) (rest : List ℕ) → bytes ≡ big_bytes 4 n ++ rest → length rest < n → IsPart bytes
+  of_text : (n : ℕ) (rest : List ℕ) → bytes ≡ big_bytes 4 n ++ rest → n ≤ longest → length rest < n → IsPart bytes
 
 -- a frame, or a beginning of one
 pub record IsBegun (bytes : List ℕ) : Type 0 where
   pub length_is : ℕ
   pub rest : List ℕ
   pub parts : bytes ≡ big_bytes 4 length_is ++ rest
+  pub short : length_is ≤ longest
   pub within : length rest ≤ length_is
 
 abbrev pub IsFront : List ℕ → Front → Type 0
