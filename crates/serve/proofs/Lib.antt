@@ -4,3 +4,6 @@ mod Begun
 mod Devices
 mod Listed
 mod Ends
+mod Fronts
+mod Onward
+mod Told

@@ -72,6 +72,9 @@ stops_of left requests bytes wire.NoMemory gives = served.frame_memory bytes giv
 
 -- ---- a round more
 
+pub end_is_request : IsRequest RoundEnd
+end_is_request = record { in_range = tt; short = omega arith }
+
 pub serves_more : (taken given : List ℕ) (s t : Stand) (requests : List Request) (replies : List Reply) → Serves taken given s → AreOpen requests → IsRound s requests replies t
     → Serves (taken ++ requests_text (ended requests)) (given ++ replies_text (all_told replies)) t
 serves_more taken given s t requests replies v are r = record {
@@ -82,9 +85,6 @@ serves_more taken given s t requests replies v are r = record {
   written = ap (λ l. l ++ replies_text (all_told replies)) v.written ∙ sym (texts_append reply_frame v.replies (all_told replies));
   answers = served.round v.requests v.replies s t requests replies v.answers r;
 }
-  where
-    end_is_request : IsRequest RoundEnd
-    end_is_request = record { in_range = tt; short = omega arith }
 
 -- nothing was served yet
 pub nothing_yet : (classes : List Class) (entries : Entries) → classes ≡ [] → ((k : lib.IntN.ℤ) → entries k ≡ None) → Serves [] [] (stand classes entries)

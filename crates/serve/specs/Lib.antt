@@ -3,3 +3,4 @@ pub mod Served
 pub mod Settings
 pub mod Devices
 pub mod Kept
+pub mod CutShort

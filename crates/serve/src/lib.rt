@@ -4,6 +4,7 @@
 mod adding;
 mod fault;
 mod jobs;
+mod laws;
 mod plan;
 mod reading;
 mod settings;
@@ -12,6 +13,7 @@ mod telling;
 mod turn;
 
 pub use fault::ServeFault;
+pub use laws::cut_streams_go_on;
 pub use settings::Settings;
 pub use stream::serve;
 
