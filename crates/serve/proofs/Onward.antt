@@ -119,20 +119,20 @@ answer_all front told s v begun [] are each =
     }
 answer_all front told s v begun (q ∷ rest) are each = elim (is_end q) [
   | inl e ↦
-    let r = some_round s begun are in
-    let text = replies_text (all_told r.replies) in
-    let whole = front ++ requests_text (ended begun) in
-    let later = answer_all whole (told ++ text) r.after (serves_more front told s r.after begun r.replies v are r.is) [] rest tt each.1 in
-    let end : whole ++ [] ≡ (front ++ requests_text begun) ++ request_frame q =
-    append-nil whole ∙ ap (λ l. front ++ l) (texts_more request_frame begun RoundEnd) ∙ sym (append_assoc front (requests_text begun) (request_frame RoundEnd)) ∙ ap (λ x. (front ++ requests_text begun) ++ request_frame x) (sym e) in
-    let parts = ap (λ l. l ++ requests_text rest) end ∙ append_assoc (front ++ requests_text begun) (request_frame q) (requests_text rest) in
-    subst (λ l. GoesOn l told) parts (behind ((whole ++ []) ++ requests_text rest) told text later)
+      let r = some_round s begun are in
+      let text = replies_text (all_told r.replies) in
+      let whole = front ++ requests_text (ended begun) in
+      let later = answer_all whole (told ++ text) r.after (serves_more front told s r.after begun r.replies v are r.is) [] rest tt each.1 in
+      let end : whole ++ [] ≡ (front ++ requests_text begun) ++ request_frame q =
+      append-nil whole ∙ ap (λ l. front ++ l) (texts_more request_frame begun RoundEnd) ∙ sym (append_assoc front (requests_text begun) (request_frame RoundEnd)) ∙ ap (λ x. (front ++ requests_text begun) ++ request_frame x) (sym e) in
+      let parts = ap (λ l. l ++ requests_text rest) end ∙ append_assoc (front ++ requests_text begun) (request_frame q) (requests_text rest) in
+      subst (λ l. GoesOn l told) parts (behind ((whole ++ []) ++ requests_text rest) told text later)
   | inr open_yet ↦
-    let more = begun ++ q ∷ [] in
-    let later = answer_all front told s v more rest (each_more (λ x. IsRequest x × (x ≢ RoundEnd)) begun q are (each.0, open_yet)) each.1 in
-    let one : front ++ requests_text more ≡ (front ++ requests_text begun) ++ request_frame q = ap (λ l. front ++ l) (texts_more request_frame begun q) ∙ sym (append_assoc front (requests_text begun) (request_frame q)) in
-    let parts = ap (λ l. l ++ requests_text rest) one ∙ append_assoc (front ++ requests_text begun) (request_frame q) (requests_text rest) in
-    subst (λ l. GoesOn l told) parts later
+      let more = begun ++ q ∷ [] in
+      let later = answer_all front told s v more rest (each_more (λ x. IsRequest x × (x ≢ RoundEnd)) begun q are (each.0, open_yet)) each.1 in
+      let one : front ++ requests_text more ≡ (front ++ requests_text begun) ++ request_frame q = ap (λ l. front ++ l) (texts_more request_frame begun q) ∙ sym (append_assoc front (requests_text begun) (request_frame q)) in
+      let parts = ap (λ l. l ++ requests_text rest) one ∙ append_assoc (front ++ requests_text begun) (request_frame q) (requests_text rest) in
+      subst (λ l. GoesOn l told) parts later
 ]
 
 -- ---- so does each that was cut short

@@ -3,7 +3,7 @@ use Rattle.std.proofs.Common.{◌≡◌, ℕ, ◌+◌, ◌≤◌, List, [], ◌�
 use Rattle.std.specs.List.{AllByRecursion}
 use Rattle.wire.specs.declared.request.Request.{Request}
 use Rattle.wire.specs.declared.request.Request.TheVariants.{Define, Put, Get, Remove, Contains, Invoke, InvokeAll, RoundEnd}
-use Rattle.wire.specs.Frames.{request_frame, IsRequest, IsRead}
+use Rattle.wire.specs.Frames.{request_frame, IsRequest, IsRead, IsPart, of_length, of_text}
 use Rattle.wire.specs.Frames as frames
 use Rattle.serve.specs.declared.fault.ServeFault.{ServeFault}
 use Rattle.serve.specs.declared.fault.ServeFault.TheVariants as fault
@@ -43,6 +43,12 @@ one_ends xs are = let e = ends_append xs (RoundEnd ∷ []) in let n = none_ends 
 abbrev HasNone : List ℕ → Type 0
 HasNone bytes = (r : Request) (rest : List ℕ) → IsRead bytes r rest → ⊥
 
+-- a part of a frame is none
+part_has_none : OneFront → (bytes : List ℕ) → IsPart bytes → HasNone bytes
+part_has_none once [] (of_length short) = nothing_is_read once
+part_has_none once (b ∷ bytes) (of_length short) = no_fault_is_read once (b ∷ bytes) frames.Truncated (frames.cut_length (omega arith) short)
+part_has_none once bytes (of_text n rest is few some) = no_fault_is_read once bytes frames.Truncated (frames.cut_body n rest is (omega (arith, some)) few some)
+
 -- of the whole frames before such bytes no more rounds end than of all of them
 few_end : OneFront → (back : List ℕ) (requests : List Request) (extra : List ℕ) → AllByRecursion IsRequest requests → back ≡ requests_text requests ++ extra → HasNone extra → (n : ℕ) → ends requests ≤ n
     → EndAtMost n back
@@ -71,7 +77,7 @@ told_unread once input output front back s f requests extra parts v are taken (t
 told_unread once input output front back s f requests extra parts v are taken (cut other is) = all_but 0 input output front back s parts v (unended once back requests extra are taken (no_fault_is_read once extra frames.Truncated is))
 told_unread once input output front back s f requests extra parts v are taken (input_ended some) = all_but 0 input output front back s parts v (unended once back requests [] are taken (nothing_is_read once))
 told_unread once input output front back s f requests extra parts v are taken (malformed other is) = all_but 0 input output front back s parts v (unended once back requests extra are taken (no_fault_is_read once extra frames.Malformed is))
-told_unread once input output front back s f requests extra parts v are taken (reader other is) = (front, back, parts, record { left = s; serves = v })
+told_unread once input output front back s f requests extra parts v are taken (reader other is) = all_but 0 input output front back s parts v (unended once back requests extra are taken (part_has_none once extra is))
 told_unread once input output front back s f requests extra parts v are taken (frame_memory other is) = (front, back, parts, record { left = s; serves = v })
 told_unread once input output front back s f requests extra parts v are taken memory = (front, back, parts, record { left = s; serves = v })
 

@@ -46,9 +46,8 @@ pub record AnsweredBut (n : ℕ) (input output : List ℕ) : Type 0 where
   pub served : IsServed front output
   pub unanswered : EndAtMost n back
 
--- which rounds were answered before this fault: with one of a frame all whose ends were read; with one of the writer all but the last, whose answer may have begun
+-- which rounds were answered before this fault: all whose ends were read; at want of memory those of a front part; at a fault of the writer all but the last, whose answer may have begun
 abbrev pub IsTold : List ℕ → List ℕ → ServeFault → Type 0
-IsTold input output fault.Read = RoundsAnswered input output
 IsTold input output fault.NoMemory = RoundsAnswered input output
 IsTold input output fault.Write = (told part : List ℕ) × (output ≡ told ++ part) × AnsweredBut 1 input told
 IsTold input output _ = AnsweredBut 0 input output
