@@ -125,6 +125,24 @@ fn workspaces(alloc: Global, count: usize) -> Result<Vec<Workspace>, AllocError>
     Ok(list)
 }
 
+/// A cache with these tables, and its seats; or the tables again.
+fn opened<'a>(
+    alloc: Global,
+    registry: &'a Registry,
+    tables: Tables,
+    seats: usize,
+) -> Result<(Cache<'a>, Vec<Seat<'a>>), Tables>
+    ensures registry { IfOk result (λ r. r.0.registry ≡ registry.now) }
+    ensures count { IfOk result (λ r. IsWorkerCount (length r.1.items)) }
+    ensures home { IfOk result (λ r. All (IsAtHome r.0) r.1.items) }
+    ensures seats { IfOk result (λ r. AreSeats r.0 r.1.items) }
+{
+    match Cache::open(alloc, registry, tables, 64, seats) {
+        Ok(opened) => Ok(opened),
+        Err((_, tables)) => Err(tables),
+    }
+}
+
 /// What was answered, if the round was run, and the tables afterwards.
 type Left<A> = (Option<Vec<A>>, Tables);
 
@@ -140,9 +158,9 @@ fn round<R: Threads + Wait + Sync>(
     requires callable { All (IsCallable registry.now) jobs.now }
     requires few { length jobs.now ≡ 48 }
 {
-    let (cache, mut seats) = match Cache::open(alloc, registry, tables, 64, count) {
+    let (cache, mut seats) = match opened(alloc, registry, tables, count) {
         Ok(opened) => opened,
-        Err((_, tables)) => return (None, tables),
+        Err(tables) => return (None, tables),
     };
     let Ok(mut spaces) = workspaces(alloc, seats.len()) else {
         return (None, cache.close(seats).tables);
@@ -173,9 +191,9 @@ fn plus_on_all<R: Threads + Wait + Sync>(
 ) -> Left<(i64, JobReply)>
     requires { IsOf registry.now class.now }
 {
-    let (cache, mut seats) = match Cache::open(alloc, registry, tables, 64, count) {
+    let (cache, mut seats) = match opened(alloc, registry, tables, count) {
         Ok(opened) => opened,
-        Err((_, tables)) => return (None, tables),
+        Err(tables) => return (None, tables),
     };
     let Ok(mut spaces) = workspaces(alloc, seats.len()) else {
         return (None, cache.close(seats).tables);
