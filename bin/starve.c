@@ -5,6 +5,7 @@
 #include <stdatomic.h>
 #include <stdio.h>
 #include <stdlib.h>
+#include <sys/syscall.h>
 #include <unistd.h>
 
 static atomic_long growths;
@@ -15,10 +16,18 @@ __attribute__((constructor)) static void begin(void) {
   refused = word ? atol(word) : 0;
 }
 
-__attribute__((destructor)) static void end(void) {
+static void tell(void) {
   char line[64];
   int length = snprintf(line, sizeof line, "growths %ld\n", atomic_load(&growths));
-  if (write(2, line, length) < 0) _exit(9);
+  if (write(2, line, length) < 0) abort();
+}
+
+__attribute__((destructor)) static void end(void) { tell(); }
+
+void _exit(int status) {
+  tell();
+  syscall(SYS_exit_group, status);
+  __builtin_unreachable();
 }
 
 static int is_refused(void) {
