@@ -4,7 +4,13 @@ use crate::output::Failure;
 use clap::error::ErrorKind;
 use clap::{Arg as Word, ArgAction, ArgMatches, Command, Error};
 use jtypes::{Arg, Args};
+use serve::Settings;
 use std::alloc::{AllocError, Global};
+
+/// How many workers serve where the line doesn't say.
+const WORKERS: usize = 4;
+/// In how many stripes the entries are kept where the line doesn't say.
+const STRIPES: usize = 16;
 
 /// What is asked of the program.
 #[derive(Debug, Drop)]
@@ -20,13 +26,20 @@ pub enum Request<'a> {
         before: Option<i64>,
         args: Args,
     },
+    /// Serve the requests of the input.
+    Serve(Settings),
 }
 
 fn value<'a>(alloc: Global, name: &'a str) -> Word<'a> {
     Word::new(alloc, name).required(true).action(ArgAction::Set)
 }
 
-/// The form of a line: `check FILE` and `run FILE KEY VALUE [ARGS..]`, with no other options.
+/// An option with a value, at most once.
+fn option<'a>(alloc: Global, name: &'a str) -> Word<'a> {
+    Word::new(alloc, name).long(name).action(ArgAction::Set)
+}
+
+/// The form of a line: `check FILE`, `run FILE KEY VALUE [ARGS..]` and `serve [--workers N] [--stripes N]`, with no other options.
 fn form<'a>(alloc: Global) -> Result<Command<'a>, AllocError> {
     let check = Command::new(alloc, "check")
         .disable_help_flag(true)
@@ -40,13 +53,18 @@ fn form<'a>(alloc: Global) -> Result<Command<'a>, AllocError> {
         .arg(value(alloc, "KEY"))?
         .arg(value(alloc, "VALUE"))?
         .arg(args)?;
+    let serve = Command::new(alloc, "serve")
+        .disable_help_flag(true)
+        .arg(option(alloc, "workers"))?
+        .arg(option(alloc, "stripes"))?;
     Command::new(alloc, "jentry")
         .no_binary_name(true)
         .disable_help_flag(true)
         .disable_help_subcommand(true)
         .subcommand_required(true)
         .subcommand(check)?
-        .subcommand(run)
+        .subcommand(run)?
+        .subcommand(serve)
 }
 
 fn matches_of<'a>(alloc: Global, words: &'a [&'a str]) -> Result<ArgMatches<'a>, Error> {
@@ -111,10 +129,35 @@ fn run_of<'a>(matches: &ArgMatches<'a>, file: &'a str) -> Option<Request<'a>> {
     })
 }
 
+/// The count of an option: 1 to 9 digits, or what it is where the option isn't there.
+fn count(matches: &ArgMatches<'_>, name: &str, without: usize) -> Option<usize> {
+    let Some(text) = matches.get_str(name) else {
+        return Some(without);
+    };
+    if text.len() > 9 {
+        return None;
+    }
+    usize::try_from(number(text)?).ok()
+}
+
+/// The settings of a line that serves.
+fn settings_of(matches: &ArgMatches<'_>) -> Option<Settings> {
+    Some(Settings {
+        workers: count(matches, "workers", WORKERS)?,
+        stripes: count(matches, "stripes", STRIPES)?,
+    })
+}
+
 fn request_of<'a>(matches: &ArgMatches<'a>) -> Result<Request<'a>, Failure<'a>> {
     let Some((name, found)) = matches.subcommand() else {
         return Err(Failure::BadCommandLine);
     };
+    if name == "serve" {
+        return match settings_of(found) {
+            Some(settings) => Ok(Request::Serve(settings)),
+            None => Err(Failure::BadCommandLine),
+        };
+    }
     let Some(file) = found.get_str("FILE") else {
         return Err(Failure::BadCommandLine);
     };

@@ -8,6 +8,8 @@ mod program;
 #[cfg(test)]
 mod row_tests;
 #[cfg(test)]
+mod serve_tests;
+#[cfg(test)]
 mod tests;
 
 use files::RealFiles;
@@ -40,6 +42,7 @@ fn main(rt: HostRuntime) -> ExitCode {
     };
     let files = RealFiles::new(&rt);
     ExitCode::from(command(
+        &rt,
         rt.alloc(),
         &words,
         &files,

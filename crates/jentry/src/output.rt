@@ -16,7 +16,7 @@ pub const OK: u8 = 0;
 pub const USAGE: u8 = 1;
 /// Of a class that is refused.
 pub const REFUSED: u8 = 2;
-/// Of a file that can't be read, an output that can't be written, and want of memory.
+/// Of a file that can't be read, an output that can't be written, want of memory, and a stream that ends by a fault.
 pub const OTHER: u8 = 3;
 /// Of a run that throws.
 pub const THREW: u8 = 4;
@@ -34,6 +34,9 @@ pub enum Failure<'a> {
     NoMemory,
     #[error("error: cannot write")]
     CannotWrite,
+    /// A fault of a stream, with its number and its name.
+    #[error("serve fault {0} {1}")]
+    Fault(u8, &'a str),
 }
 
 impl From<AllocError> for Failure<'_> {
@@ -46,7 +49,10 @@ impl<'a> Failure<'a> {
     pub fn status(self) -> u8 {
         match self {
             Failure::BadCommandLine | Failure::BadArgument => USAGE,
-            Failure::CannotRead(_) | Failure::NoMemory | Failure::CannotWrite => OTHER,
+            Failure::CannotRead(_)
+            | Failure::NoMemory
+            | Failure::CannotWrite
+            | Failure::Fault(..) => OTHER,
         }
     }
 

@@ -2,12 +2,20 @@
 
 use crate::files::Files;
 use crate::line::{Request, parse};
-use crate::output::{Answer, Failure, accepted, ran, refused};
-use jtypes::Refusal;
+use crate::output::{Answer, Failure, OK, accepted, ran, refused};
+use cache::NoGate;
+use jtypes::{Args, Refusal};
 use machine::{Workspace, run};
+use serve::{Settings, serve};
 use std::alloc::{AllocError, Global};
-use std::io::{Read, Write};
+use std::io::{BufReader, Read, Write};
+use std::sync::Wait;
+use std::thread::Threads;
 use verify::{Verified, verify};
+use wire::Counted;
+
+/// How many bytes of the input are read ahead at most.
+const AHEAD: usize = 65_536;
 
 /// The class of a file, verified.
 fn verified<'a>(
@@ -22,30 +30,53 @@ fn verified<'a>(
     Ok(verify(alloc, &bytes))
 }
 
-/// Does what is asked, and answers what is to be written.
-fn answer<'a>(
+/// The answer to a class that is to be judged.
+fn check_answer<'a>(
     alloc: Global,
-    request: &Request<'a>,
     files: &impl Files,
+    file: &'a str,
 ) -> Result<Answer, Failure<'a>> {
-    match request {
-        Request::Check { file } => match verified(alloc, files, file)? {
-            Ok(class) => Ok(accepted(alloc, class.bounds())?),
-            Err(refusal) => Ok(refused(alloc, refusal)?),
-        },
-        Request::Run {
-            file,
-            key,
-            before,
-            args,
-        } => match verified(alloc, files, file)? {
-            Ok(class) => {
-                let mut workspace = Workspace::new(alloc)?;
-                let done = run(&class, *key, *before, args, &mut workspace);
-                Ok(ran(alloc, done, *before)?)
-            }
-            Err(refusal) => Ok(refused(alloc, refusal)?),
-        },
+    match verified(alloc, files, file)? {
+        Ok(class) => Ok(accepted(alloc, class.bounds())?),
+        Err(refusal) => Ok(refused(alloc, refusal)?),
+    }
+}
+
+/// The answer to a class that is to be run.
+fn run_answer<'a>(
+    alloc: Global,
+    files: &impl Files,
+    file: &'a str,
+    key: i64,
+    before: Option<i64>,
+    args: &Args,
+) -> Result<Answer, Failure<'a>> {
+    match verified(alloc, files, file)? {
+        Ok(class) => {
+            let mut workspace = Workspace::new(alloc)?;
+            let done = run(&class, key, before, args, &mut workspace);
+            Ok(ran(alloc, done, before)?)
+        }
+        Err(refusal) => Ok(refused(alloc, refusal)?),
+    }
+}
+
+/// Serves the requests of the input to its end.
+fn serve_input<'a, T: Threads + Wait + Sync, I: Read, W: Write>(
+    rt: &T,
+    alloc: Global,
+    settings: Settings,
+    input: &mut I,
+    output: &mut W,
+) -> Result<u8, Failure<'a>> {
+    let Ok(buffered) = BufReader::with_capacity(alloc, AHEAD, input) else {
+        return Err(Failure::NoMemory);
+    };
+    let mut reader = Counted::new(buffered);
+    let mut writer = Counted::new(output);
+    match serve(rt, alloc, &mut reader, &mut writer, settings, &NoGate) {
+        Ok(()) => Ok(OK),
+        Err(fault) => Err(Failure::Fault(fault.number(), fault.name())),
     }
 }
 
@@ -65,18 +96,31 @@ fn words_of<'a>(alloc: Global, words: &'a [String]) -> Result<Vec<&'a str>, Allo
     Ok(texts)
 }
 
-fn perform<'a, W: Write>(
+fn perform<'a, T: Threads + Wait + Sync, I: Read, W: Write>(
+    rt: &T,
     alloc: Global,
     words: &'a [&'a str],
     files: &impl Files,
+    input: &mut I,
     output: &mut W,
 ) -> Result<u8, Failure<'a>> {
     let request = match parse(alloc, words) {
         Ok(request) => request,
         Err(failure) => return Err(failure),
     };
-    let answer = answer(alloc, &request, files)?;
-    write_answer(output, &answer)
+    match &request {
+        Request::Check { file } => write_answer(output, &check_answer(alloc, files, file)?),
+        Request::Run {
+            file,
+            key,
+            before,
+            args,
+        } => {
+            let answer = run_answer(alloc, files, file, *key, *before, args)?;
+            write_answer(output, &answer)
+        }
+        Request::Serve(settings) => serve_input(rt, alloc, *settings, input, output),
+    }
 }
 
 /// Tells a failure; nothing is done where even that can't be written.
@@ -96,13 +140,14 @@ pub fn no_memory<W: Write>(errors: &mut W) -> u8 {
     Failure::NoMemory.status()
 }
 
-/// The program: does the command of these words, over these files, and answers its status. Lines that begin with `error` go to
-/// `errors`, all others to `output`; the input is read by no command yet.
-pub fn command<I: Read, W: Write, E: Write>(
+/// The program: does the command of these words, over these files, and answers its status. Lines that begin with `error` or
+/// `serve fault` go to `errors`, all other output to `output`; `serve` alone reads the input.
+pub fn command<T: Threads + Wait + Sync, I: Read, W: Write, E: Write>(
+    rt: &T,
     alloc: Global,
     words: &[String],
     files: &impl Files,
-    _input: &mut I,
+    input: &mut I,
     output: &mut W,
     errors: &mut E,
 ) -> u8 {
@@ -110,7 +155,7 @@ pub fn command<I: Read, W: Write, E: Write>(
         Ok(texts) => texts,
         Err(_) => return tell(alloc, errors, Failure::NoMemory),
     };
-    match perform(alloc, &texts, files, output) {
+    match perform(rt, alloc, &texts, files, input, output) {
         Ok(status) => status,
         Err(failure) => tell(alloc, errors, failure),
     }

@@ -5,7 +5,9 @@ use rowclasses as rows;
 use rowclasses::{Frames, Method};
 use std::alloc::{AllocError, Global};
 use std::process::Abort;
+use std::sync::Wait;
 use std::test::Fail;
+use std::thread::Threads;
 
 /// What `check` tells of a class, with its status.
 struct Checked {
@@ -356,7 +358,7 @@ fn runs_are_told(rt: HostRuntime) -> Result<(), Fail> {
 
 /// `check` tells this of a class.
 fn check_tells(
-    rt: &impl Abort,
+    rt: &(impl Abort + Threads + Wait + Sync),
     alloc: Global,
     class: &[u8],
     status: u8,

@@ -4,9 +4,11 @@ use crate::files::{FileFault, Files, RealFiles};
 use crate::program::command;
 use rowclasses as rows;
 use std::alloc::{AllocError, Global};
-use std::io::{self, Read, Write};
+use std::io::{self, Write};
 use std::process::Abort;
+use std::sync::Wait;
 use std::test::Fail;
+use std::thread::Threads;
 
 /// One file, named `C`; all others can't be read.
 #[derive(Drop)]
@@ -20,15 +22,6 @@ impl Files for OneFile {
             return Err(FileFault::CannotRead);
         }
         Vec::from_slice(alloc, &self.bytes).map_err(|_| FileFault::NoMemory)
-    }
-}
-
-#[derive(Drop)]
-struct NoInput;
-
-impl Read for NoInput {
-    fn read(&mut self, _buf: &mut [u8]) -> io::Result<usize> {
-        Ok(0)
     }
 }
 
@@ -57,10 +50,10 @@ impl Write for Sink {
 
 /// What a command answered.
 #[derive(Drop)]
-struct Answered {
-    status: u8,
-    output: Vec<u8>,
-    errors: Vec<u8>,
+pub(crate) struct Answered {
+    pub(crate) status: u8,
+    pub(crate) output: Vec<u8>,
+    pub(crate) errors: Vec<u8>,
 }
 
 fn words_of(alloc: Global, words: &[&str]) -> Result<Vec<String>, AllocError> {
@@ -71,14 +64,18 @@ fn words_of(alloc: Global, words: &[&str]) -> Result<Vec<String>, AllocError> {
     Ok(all)
 }
 
-fn told_to(
+/// A command over a class and an input, with an output that holds so many bytes.
+pub(crate) fn answer_to(
+    rt: &(impl Threads + Wait + Sync),
     alloc: Global,
     words: &[&str],
     bytes: Vec<u8>,
+    input: &[u8],
     most: usize,
 ) -> Result<Answered, AllocError> {
     let words = words_of(alloc, words)?;
     let files = OneFile { bytes };
+    let mut input = input;
     // The sinks have their room beforehand, so that only the command can lack memory.
     let mut output = Sink {
         bytes: Vec::with_capacity(alloc, most)?,
@@ -89,10 +86,11 @@ fn told_to(
         most: 1000,
     };
     let status = command(
+        rt,
         alloc,
         &words,
         &files,
-        &mut NoInput,
+        &mut input,
         &mut output,
         &mut errors,
     );
@@ -105,8 +103,23 @@ fn told_to(
     })
 }
 
-fn told(alloc: Global, words: &[&str], bytes: Vec<u8>) -> Result<Answered, AllocError> {
-    told_to(alloc, words, bytes, 1000)
+fn told_to(
+    rt: &(impl Threads + Wait + Sync),
+    alloc: Global,
+    words: &[&str],
+    bytes: Vec<u8>,
+    most: usize,
+) -> Result<Answered, AllocError> {
+    answer_to(rt, alloc, words, bytes, &[], most)
+}
+
+fn told(
+    rt: &(impl Threads + Wait + Sync),
+    alloc: Global,
+    words: &[&str],
+    bytes: Vec<u8>,
+) -> Result<Answered, AllocError> {
+    told_to(rt, alloc, words, bytes, 1000)
 }
 
 fn is_told(told: &Answered, status: u8, output: &str, errors: &str) -> bool {
@@ -124,14 +137,14 @@ pub(crate) struct Row<'a> {
 }
 
 pub(crate) fn rows_hold(
-    rt: &impl Abort,
+    rt: &(impl Abort + Threads + Wait + Sync),
     alloc: Global,
     class: &[u8],
     rows: &[Row<'_>],
 ) -> Result<(), Fail> {
     for row in rows {
         let bytes = Vec::from_slice(alloc, class)?;
-        let answer = told(alloc, row.words, bytes)?;
+        let answer = told(rt, alloc, row.words, bytes)?;
         assert!(rt;
             is_told(&answer, row.status, row.output, ""),
             "{:?}",
@@ -339,8 +352,13 @@ fn changed(alloc: Global, at: usize, bytes: &[u8]) -> Result<Vec<u8>, AllocError
     Ok(class)
 }
 
-fn is_refused(rt: &impl Abort, alloc: Global, class: Vec<u8>, output: &str) -> Result<(), Fail> {
-    let answer = told(alloc, &["check", "C"], class)?;
+fn is_refused(
+    rt: &(impl Abort + Threads + Wait + Sync),
+    alloc: Global,
+    class: Vec<u8>,
+    output: &str,
+) -> Result<(), Fail> {
+    let answer = told(rt, alloc, &["check", "C"], class)?;
     assert!(rt; is_told(&answer, 2, output, ""), "{output}");
     Ok(())
 }
@@ -401,7 +419,7 @@ fn each_byte_of_the_header_is_judged(rt: HostRuntime) -> Result<(), Fail> {
                 continue;
             }
             let (status, output) = told_of_header(at, byte);
-            let answer = told(alloc, &["check", "C"], changed(alloc, at, &[byte])?)?;
+            let answer = told(&rt, alloc, &["check", "C"], changed(alloc, at, &[byte])?)?;
             assert!(rt; is_told(&answer, status, output, ""), "{byte} at {at}");
         }
     }
@@ -426,7 +444,7 @@ fn long_lengths_are_refused(rt: HostRuntime) -> Result<(), Fail> {
 static GIVE: [u8; 2] = [0x2B, 0xB0];
 
 fn methods_refused(
-    rt: &impl Abort,
+    rt: &(impl Abort + Threads + Wait + Sync),
     alloc: Global,
     methods: &[rows::Method<'_>],
     output: &str,
@@ -505,13 +523,13 @@ fn every_tag_is_read(rt: HostRuntime) -> Result<(), Fail> {
     let accepted = "accepted steps=14 words=0 slots=9 depth=1\n";
     let plus = rows::process(4, 5, &rows::PLUS);
     let class = rows::bytes_of(alloc, &FURTHER, &rows::CONSTRUCTOR, &[plus])?;
-    let answer = told(alloc, &["check", "C"], class)?;
+    let answer = told(&rt, alloc, &["check", "C"], class)?;
     assert!(rt; is_told(&answer, 0, accepted, ""));
     let handle = [rows::Constant::MethodHandle(6, 1)];
     let class = rows::bytes_of(alloc, &handle, &rows::CONSTRUCTOR, &[plus])?;
     is_refused(&rt, alloc, class, "refused 5 BadPool\n")?;
     for (at, bytes) in [(6, [0, 51]), (6, [0, 52])] {
-        let answer = told(alloc, &["check", "C"], changed(alloc, at, &bytes)?)?;
+        let answer = told(&rt, alloc, &["check", "C"], changed(alloc, at, &bytes)?)?;
         assert!(rt; is_told(&answer, 0, accepted, ""));
     }
     Ok(())
@@ -592,7 +610,6 @@ fn lines_are_judged(rt: HostRuntime) -> Result<(), Fail> {
         (&["check", "-h"], line),
         (&["--version"], line),
         (&["help"], line),
-        (&["serve"], line),
         (&["--", "check", "C"], line),
         (&["run", "C", "7"], line),
         (&["run", "C", "-7", "1"], line),
@@ -615,7 +632,7 @@ fn lines_are_judged(rt: HostRuntime) -> Result<(), Fail> {
         // The form and the values are judged before the file is read.
         (&["run", "D", "7", "x"], argument),
     ] {
-        let answer = told(alloc, words, rows::plus(alloc)?)?;
+        let answer = told(&rt, alloc, words, rows::plus(alloc)?)?;
         assert!(rt; is_told(&answer, 1, "", errors), "{words:?}");
     }
     Ok(())
@@ -669,10 +686,10 @@ fn files_and_outputs_fail(rt: HostRuntime) -> Result<(), Fail> {
         (["check", "-"], "error: cannot read -\n"),
         (["check", ""], "error: cannot read \n"),
     ] {
-        let answer = told(alloc, &words, rows::plus(alloc)?)?;
+        let answer = told(&rt, alloc, &words, rows::plus(alloc)?)?;
         assert!(rt; is_told(&answer, 3, "", errors), "{words:?}");
     }
-    let answer = told_to(alloc, &["check", "C"], rows::plus(alloc)?, 10)?;
+    let answer = told_to(&rt, alloc, &["check", "C"], rows::plus(alloc)?, 10)?;
     assert_eq!(rt; answer.status, 3);
     assert!(rt; answer.errors.as_slice() == b"error: cannot write\n".as_slice());
     Ok(())
@@ -714,7 +731,7 @@ fn commands_answer_or_lack_memory(rt: HostRuntime) {
         let Ok(class) = changed(alloc, at, &[1]) else {
             continue;
         };
-        if let Ok(answer) = told(alloc, words, class) {
+        if let Ok(answer) = told(&rt, alloc, words, class) {
             assert!(rt;
                 is_told_or_lacks_memory(&answer, status, output),
                 "{words:?}"

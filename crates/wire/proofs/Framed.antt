@@ -6,7 +6,7 @@ use Rattle.byteorder.specs.Numbers.{big_from-take}
 use Rattle.wire.specs.declared.request.Request.{Request}
 use Rattle.wire.specs.declared.fault.WireFault.{WireFault}
 use Rattle.wire.specs.declared.fault.WireFault.TheVariants as fault
-use Rattle.wire.specs.Frames.{AreBytes, longest, frame, request_frame, IsText, IsRead, cut_body, no_request}
+use Rattle.wire.specs.Frames.{AreBytes, longest, frame, request_frame, IsText, IsRead, cut_body, no_request, of_text}
 use Rattle.wire.specs.Reading.{Completes, ReadGives, found}
 use Rattle.wire.proofs.Numbers.{bytes_front, bytes_back, bytes_of_number}
 
@@ -39,8 +39,8 @@ frame_err n bytes left fault.TooLong some short h = absurd h
 frame_err n bytes left fault.Truncated some short h = (cut_body n bytes refl some short h.1, h.0)
 frame_err n bytes left fault.Malformed some short h =
     no_request bytes [] (ap (λ m. big_bytes 4 m ++ bytes) (sym h.1) ∙ sym (append-nil (frame bytes))) (omega (arith, some, h.1)) (omega (arith, short, h.1)) h.0
-frame_err n bytes left fault.Read some short h = tt
-frame_err n bytes left fault.NoMemory some short h = tt
+frame_err n bytes left fault.Read some short h = of_text n bytes refl short h
+frame_err n bytes left fault.NoMemory some short h = record { length_is = n; rest = bytes; parts = refl; short = short; within = h }
 
 pub frame_gives : (n : ℕ) (bytes : List ℕ) (left : Option (List ℕ)) (r : Result Request WireFault) → 1 ≤ n → n ≤ longest → Completes [] n left bytes r → ReadGives left (big_bytes 4 n ++ bytes) (found r)
 frame_gives n bytes left (Ok r) some short h = frame_ok n bytes r short h.0 h.1

@@ -25,7 +25,7 @@ pub cut_later : (e : WireFault) (front bytes : List ℕ) (m n : ℕ) (left : Opt
 cut_later TooLong front bytes m n left h k = k
 cut_later Truncated front bytes m n left h k = (k.0, omega (arith, k.1, length-append front bytes))
 cut_later Malformed front bytes m n left h k = k
-cut_later Read front bytes m n left h k = k
+cut_later Read front bytes m n left h k = omega (arith, k, length-append front bytes)
 cut_later NoMemory front bytes m n left h k = k
 
 pub cut_or_lacks : (e : WireFault) (bytes : List ℕ) (n : ℕ) (left : Option (List ℕ)) → IsCut n left bytes e → IsCutOrLacks n left bytes e
@@ -33,7 +33,7 @@ cut_or_lacks TooLong bytes n left h = h
 cut_or_lacks Truncated bytes n left h = h
 cut_or_lacks Malformed bytes n left h = h
 cut_or_lacks Read bytes n left h = h
-cut_or_lacks NoMemory bytes n left h = tt
+cut_or_lacks NoMemory bytes n left h = absurd h
 
 pub cut_passed : (e : WireFault) (bytes : List ℕ) (n : ℕ) (left : Option (List ℕ)) → IsCut n left bytes e → IsPassed n left bytes e
 cut_passed TooLong bytes n left h = h
@@ -65,7 +65,7 @@ parse_completes (Err TooLong) before bytes n left e h = absurd h
 parse_completes (Err Truncated) before bytes n left e h = absurd h
 parse_completes (Err Malformed) before bytes n left e h = (h, e)
 parse_completes (Err Read) before bytes n left e h = absurd h
-parse_completes (Err NoMemory) before bytes n left e h = h
+parse_completes (Err NoMemory) before bytes n left e h = omega (arith, e)
 
 -- what comes before may be read too
 pub completes_more : (r : Result Request WireFault) (before front bytes : List ℕ) (m n : ℕ) (left : Option (List ℕ)) → length front + m ≡ n → Completes (before ++ front) m left bytes r → Completes before n left (front ++ bytes) r
@@ -73,8 +73,8 @@ completes_more (Ok r) before front bytes m n left e h = (subst (λ t. IsText t r
 completes_more (Err TooLong) before front bytes m n left e h = h
 completes_more (Err Truncated) before front bytes m n left e h = (h.0, omega (arith, h.1, length-append front bytes))
 completes_more (Err Malformed) before front bytes m n left e h = (subst IsNoRequest (append_assoc before front bytes) h.0, omega (arith, h.1, length-append front bytes))
-completes_more (Err Read) before front bytes m n left e h = h
-completes_more (Err NoMemory) before front bytes m n left e h = h
+completes_more (Err Read) before front bytes m n left e h = omega (arith, h, length-append front bytes)
+completes_more (Err NoMemory) before front bytes m n left e h = omega (arith, h, length-append front bytes)
 
 -- the same where what is known of it is written otherwise
 pub completes_behind : (r : Result Request WireFault) (before front seen bytes : List ℕ) (m n : ℕ) (left : Option (List ℕ)) → seen ≡ before ++ front → length front + m ≡ n → Completes seen m left bytes r → Completes before n left (front ++ bytes) r

@@ -184,6 +184,19 @@ pub data IsFaulty (bytes : List ℕ) : ReadFault → Type 0 where
   cut_body : (n : ℕ) (rest : List ℕ) → bytes ≡ big_bytes 4 n ++ rest → 1 ≤ n → n ≤ longest → length rest < n → IsFaulty bytes Truncated
   no_request : (text rest : List ℕ) → bytes ≡ frame text ++ rest → 1 ≤ length text → length text ≤ longest → IsNoRequest text → IsFaulty bytes Malformed
 
+-- a beginning of a frame, which is not whole: it ends in the length or in the text
+pub data IsPart (bytes : List ℕ) : Type 0 where
+  of_length : length bytes < 4 → IsPart bytes
+  of_text : (n : ℕ) (rest : List ℕ) → bytes ≡ big_bytes 4 n ++ rest → n ≤ longest → length rest < n → IsPart bytes
+
+-- a frame, or a beginning of one
+pub record IsBegun (bytes : List ℕ) : Type 0 where
+  pub length_is : ℕ
+  pub rest : List ℕ
+  pub parts : bytes ≡ big_bytes 4 length_is ++ rest
+  pub short : length_is ≤ longest
+  pub within : length rest ≤ length_is
+
 abbrev pub IsFront : List ℕ → Front → Type 0
 IsFront bytes AtEnd = bytes ≡ []
 IsFront bytes (Whole r rest) = IsRead bytes r rest

@@ -1,5 +1,5 @@
 -- What a reading answers, by the bytes that it took and by those that are left.
-use Rattle.std.specs.Prelude.{◌≡◌, ◌≢◌, ◌⊎◌, ℕ, ◌<◌, ◌^◌, List, [], ◌++◌, length, Option, Some, None, Result, Ok, Err}
+use Rattle.std.specs.Prelude.{◌≡◌, ◌≢◌, ◌⊎◌, ℕ, ◌<◌, ◌≤◌, ◌^◌, List, [], ◌++◌, length, Option, Some, None, Result, Ok, Err}
 use Rattle.std.specs.Io.KnownBytes.{IsAtEnd, Consumes}
 use Rattle.byteorder.specs.Endian.{big_bytes}
 use Rattle.jtypes.specs.declared.refusal.Refusal.{Refusal}
@@ -8,7 +8,7 @@ use Rattle.wire.specs.declared.request.Request.{Request}
 use Rattle.wire.specs.declared.fault.WireFault.{WireFault}
 use Rattle.wire.specs.declared.fault.WireFault.TheVariants as fault
 use Rattle.wire.specs.Counting.{Counting, HasRisen, StaysCounted}
-use Rattle.wire.specs.Frames.{IsText, IsNoRequest, IsRead, IsFaulty, TooLong, Truncated, Malformed, Front, AtEnd, Whole, Faulty}
+use Rattle.wire.specs.Frames.{IsText, IsNoRequest, IsRead, IsFaulty, IsPart, IsBegun, TooLong, Truncated, Malformed, Front, AtEnd, Whole, Faulty}
 
 abbrev pub wire_fault_number : WireFault → ℕ
 wire_fault_number fault.TooLong = 1
@@ -37,12 +37,12 @@ ReadCounts (Err e) old new = FaultCounts e old new
 -- why no part of so many bytes was read
 abbrev pub IsCut : ℕ → Option (List ℕ) → List ℕ → WireFault → Type 0
 IsCut n left bytes fault.Truncated = IsAtEnd left × (length bytes < n)
-IsCut n left bytes fault.Read = Unit {0}
+IsCut n left bytes fault.Read = length bytes < n
 IsCut n left bytes _ = ⊥
 
 -- the same where memory may be wanting
 abbrev pub IsCutOrLacks : ℕ → Option (List ℕ) → List ℕ → WireFault → Type 0
-IsCutOrLacks n left bytes fault.NoMemory = Unit {0}
+IsCutOrLacks n left bytes fault.NoMemory = length bytes ≤ n
 IsCutOrLacks n left bytes e = IsCut n left bytes e
 
 -- the fault of a frame of which so many bytes were passed over
@@ -79,8 +79,8 @@ ReadGives left bytes (Ok None) = (bytes ≡ []) × IsAtEnd left
 ReadGives left bytes (Err fault.TooLong) = IsFaulty bytes TooLong
 ReadGives left bytes (Err fault.Truncated) = IsFaulty bytes Truncated × IsAtEnd left
 ReadGives left bytes (Err fault.Malformed) = IsFaulty bytes Malformed
-ReadGives left bytes (Err fault.Read) = Unit {0}
-ReadGives left bytes (Err fault.NoMemory) = Unit {0}
+ReadGives left bytes (Err fault.Read) = IsPart bytes
+ReadGives left bytes (Err fault.NoMemory) = IsBegun bytes
 
 abbrev pub found : Result Request WireFault → Result (Option Request) WireFault
 found (Ok r) = Ok (Some r)

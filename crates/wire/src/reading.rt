@@ -1,6 +1,6 @@
 //! Requests are read.
 
-ghost use Rattle.std.specs.Prelude.{⊤, ◌≡◌, ◌≢◌, ◌<◌, ◌≤◌, ◌^◌, ℕ, List, [], ◌∷◌, ◌++◌, length, take, IfSome, IfOk, IfErr, OnOk, OnErr, Err};
+ghost use Rattle.std.specs.Prelude.{◌≡◌, ◌≢◌, ◌<◌, ◌≤◌, ◌^◌, ℕ, List, [], ◌∷◌, ◌++◌, length, take, IfSome, IfOk, IfErr, OnOk, OnErr, Err};
 ghost use Rattle.std.specs.Io.KnownBytes.{IsAtEnd};
 ghost use Rattle.byteorder.specs.Endian.{big_bytes};
 ghost use Rattle.wire.specs.Frames.{AreBytes, Front, IsFront};
@@ -30,7 +30,7 @@ fn fill<R: Read>(reader: &mut Counted<R>, buf: &mut [u8]) -> Result<usize, WireF
     ensures bytes { IfOk result (λ n. Took R.remaining reader.old reader.new (take n buf.new)) }
     ensures end { IfOk result (λ n. n < length buf.new → IsAtEnd (R.remaining reader.new.inner)) }
     ensures err { IfErr result (λ e. e ≡ WireFault.Read) }
-    ensures some { OnErr result (TookSome R.remaining reader.old reader.new (λ _ _. ⊤)) }
+    ensures some { OnErr result (TookSome R.remaining reader.old reader.new (λ _ bytes. length bytes < length buf.new)) }
     ensures long { length buf.new ≡ length buf.old }
     ensures counted { ReadCounts result reader.old reader.new }
 {

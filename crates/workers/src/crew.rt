@@ -1,6 +1,6 @@
 //! A cache is opened, a round is run on it, and it is closed.
 
-ghost use Rattle.std.specs.Prelude.{◌≡◌, ◌≤◌, length, map, vec_capacity, IfOk, IfErr};
+ghost use Rattle.std.specs.Prelude.{◌≡◌, ◌<◌, ◌≤◌, length, map, vec_capacity, IfOk, IfErr};
 ghost use Rattle.std.specs.List.{All};
 ghost use Rattle.claims.specs.Counters.{IsJobCount};
 ghost use Rattle.stripe.specs.Stored.{entry_among};
@@ -29,7 +29,23 @@ pub struct Left {
     pub replies: Vec<Option<Reply>>,
 }
 
-/// Runs the jobs by so many workers, each on a thread but that there are no more threads than jobs. The caller's own thread is among them.
+/// How many of something a round takes that needs no more of it than it has jobs: at least one.
+fn needed(jobs: usize, most: usize) -> usize
+    requires { 0 < most }
+    ensures some { 0 < result }
+    ensures few { result ≤ most }
+    ensures enough { jobs ≤ most → jobs ≤ result }
+{
+    if jobs == 0 {
+        1
+    } else if jobs < most {
+        jobs
+    } else {
+        most
+    }
+}
+
+/// Runs the jobs by so many workers, or one for each job where there are fewer jobs. Each works on a thread of its own; the caller's is among them.
 ///
 /// All memory of the round itself is taken before the first job runs. Where that fails, no job was run, and the tables come back as they were.
 pub fn run_by_workers<R: Threads + Wait + Sync, G: Gate + Sync>(
@@ -48,10 +64,12 @@ pub fn run_by_workers<R: Threads + Wait + Sync, G: Gate + Sync>(
     ensures stripes { IfOk result (λ left. length left.tables ≡ length tables) }
     ensures kept { IfErr result (λ e. e ≡ tables) }
 {
-    let Ok(room) = room_for(alloc, jobs.len(), workers) else {
+    let seats = needed(jobs.len(), workers);
+    let records = needed(jobs.len(), MOST_RECORDS);
+    let Ok(room) = room_for(alloc, jobs.len(), seats) else {
         return Err(tables);
     };
-    match Cache::open(alloc, registry, tables, MOST_RECORDS, workers) {
+    match Cache::open(alloc, registry, tables, records, seats) {
         Ok((cache, seats)) => Ok(run_on(rt, cache, seats, jobs, room, gate)),
         Err((_, tables)) => Err(tables),
     }

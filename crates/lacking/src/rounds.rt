@@ -1,0 +1,254 @@
+//! Rounds and calls on many keys, on a cache.
+
+ghost use Rattle.std.specs.Prelude.{◌≡◌, length, IfOk, IfSome};
+ghost use Rattle.std.specs.List.{All};
+ghost use Rattle.boxcar.specs.Table.{Shelves};
+ghost use Rattle.registry.specs.Ids.{IsOf};
+ghost use Rattle.claims.specs.Counters.{IsWorkerCount};
+ghost use Rattle.cache.specs.Opened.{AreSeats};
+ghost use Rattle.invokeall.specs.Jobs.{IsCallable};
+ghost use Rattle.invokeall.specs.Rounds.{IsAtHome};
+
+use cache::{Cache, InvokeRefusal, NoGate, Seat};
+use invokeall::{Job, JobReply, invoke_all, run_round};
+use jtypes::{Arg, Args, JavaFault, Outcome};
+use machine::Workspace;
+use registry::{ClassId, Registry};
+use rowclasses as rows;
+use std::alloc::{AllocError, Global};
+use std::process::Abort;
+use std::sync::Wait;
+use std::test::Fail;
+use std::thread::Threads;
+use stripe::{Reply, Tables};
+
+/// How many keys there are.
+const KEYS: usize = 48;
+
+/// The entry of each key.
+type Entries = [Option<i64>; KEYS];
+
+fn entries_of(tables: &Tables) -> Entries {
+    let mut entries = [None; KEYS];
+    for (key, entry) in entries.iter_mut().enumerate() {
+        *entry = tables.entry(key as i64);
+    }
+    entries
+}
+
+/// What is done on each key.
+#[derive(Clone, Copy, PartialEq, Eq)]
+enum Work {
+    /// A put of the key's own number.
+    Put,
+    /// An invocation that adds one.
+    Plus,
+}
+
+/// Whether the entry that a key has afterwards is what this tells of the work on it.
+fn is_told(work: Work, key: i64, before: Option<i64>, told: &JobReply, now: Option<i64>) -> bool {
+    match (work, before, told) {
+        (_, _, Err(InvokeRefusal::NoMemory)) => now == before,
+        (Work::Put, _, Ok(Reply::Done)) => now == Some(key),
+        (Work::Plus, Some(n), Ok(Reply::Result(Outcome::Returned(Arg::Long(m))))) => {
+            *m == n.wrapping_add(1) && now == Some(*m)
+        }
+        (Work::Plus, None, Ok(Reply::Result(Outcome::Threw(JavaFault::NullPointer)))) => {
+            now.is_none()
+        }
+        _ => false,
+    }
+}
+
+/// Whether each key's entry is the one that its answer tells; without answers nothing has changed.
+fn are_told(work: Work, before: &Entries, answers: Option<&[JobReply]>, now: &Entries) -> bool {
+    let Some(answers) = answers else {
+        return now == before;
+    };
+    if answers.len() != KEYS {
+        return false;
+    }
+    for key in 0..KEYS {
+        if !is_told(work, key as i64, before[key], &answers[key], now[key]) {
+            return false;
+        }
+    }
+    true
+}
+
+/// The same of the results of a call on all keys, each listed once, in order.
+fn are_listed(before: &Entries, results: Option<&[(i64, JobReply)]>, now: &Entries) -> bool {
+    let Some(results) = results else {
+        return now == before;
+    };
+    if results.len() != KEYS {
+        return false;
+    }
+    for key in 0..KEYS {
+        let (listed, told) = &results[key];
+        if *listed != key as i64 || !is_told(Work::Plus, *listed, before[key], told, now[key]) {
+            return false;
+        }
+    }
+    true
+}
+
+/// The work on each key.
+fn jobs_for<'j>(
+    alloc: Global,
+    work: Work,
+    class: &'j ClassId,
+    args: &'j Args,
+) -> Result<Vec<Job<'j>>, AllocError>
+    ensures callable { (registry : Shelves) → IsOf registry class.now → IfOk result (λ jobs. All (IsCallable registry) jobs.items) }
+    ensures count { IfOk result (λ jobs. length jobs.items ≡ 48) }
+{
+    let mut jobs = Vec::new(alloc);
+    for place in 0..KEYS {
+        let key = place as i64;
+        jobs.push(match work {
+            Work::Put => Job::Put { key, value: key },
+            Work::Plus => Job::Invoke { class, key, args },
+        })?;
+    }
+    Ok(jobs)
+}
+
+/// So many workspaces.
+fn workspaces(alloc: Global, count: usize) -> Result<Vec<Workspace>, AllocError>
+    ensures { IfOk result (λ v. length v.items ≡ count) }
+{
+    let mut list = Vec::new(alloc);
+    for _ in 0..count {
+        list.push(Workspace::new(alloc)?)?;
+    }
+    Ok(list)
+}
+
+/// A cache with these tables, and its seats; or the tables again.
+fn opened<'a>(
+    alloc: Global,
+    registry: &'a Registry,
+    tables: Tables,
+    seats: usize,
+) -> Result<(Cache<'a>, Vec<Seat<'a>>), Tables>
+    ensures registry { IfOk result (λ r. r.0.registry ≡ registry.now) }
+    ensures count { IfOk result (λ r. IsWorkerCount (length r.1.items)) }
+    ensures home { IfOk result (λ r. All (IsAtHome r.0) r.1.items) }
+    ensures seats { IfOk result (λ r. AreSeats r.0 r.1.items) }
+{
+    match Cache::open(alloc, registry, tables, 64, seats) {
+        Ok(opened) => Ok(opened),
+        Err((_, tables)) => Err(tables),
+    }
+}
+
+/// What was answered, if the round was run, and the tables afterwards.
+type Left<A> = (Option<Vec<A>>, Tables);
+
+/// Does a round on a cache that is opened for it.
+fn round<R: Threads + Wait + Sync>(
+    rt: &R,
+    alloc: Global,
+    registry: &Registry,
+    tables: Tables,
+    count: usize,
+    jobs: &[Job<'_>],
+) -> Left<JobReply>
+    requires callable { All (IsCallable registry.now) jobs.now }
+    requires few { length jobs.now ≡ 48 }
+{
+    let (cache, mut seats) = match opened(alloc, registry, tables, count) {
+        Ok(opened) => opened,
+        Err(tables) => return (None, tables),
+    };
+    let Ok(mut spaces) = workspaces(alloc, seats.len()) else {
+        return (None, cache.close(seats).tables);
+    };
+    match run_round(rt, alloc, &cache, jobs, &mut seats, &mut spaces, &NoGate) {
+        Ok(answers) => (Some(answers), cache.close(seats).tables),
+        Err(AllocError) => (None, cache.close(seats).tables),
+    }
+}
+
+/// Each key, and some of them once more.
+fn keys_and_doubles() -> [i64; 64] {
+    let mut keys = [0; 64];
+    for place in 0..64 {
+        keys[place] = (place % KEYS) as i64;
+    }
+    keys
+}
+
+/// Adds one to each key by one call.
+fn plus_on_all<R: Threads + Wait + Sync>(
+    rt: &R,
+    alloc: Global,
+    registry: &Registry,
+    tables: Tables,
+    count: usize,
+    class: &ClassId,
+) -> Left<(i64, JobReply)>
+    requires { IsOf registry.now class.now }
+{
+    let (cache, mut seats) = match opened(alloc, registry, tables, count) {
+        Ok(opened) => opened,
+        Err(tables) => return (None, tables),
+    };
+    let Ok(mut spaces) = workspaces(alloc, seats.len()) else {
+        return (None, cache.close(seats).tables);
+    };
+    let keys = keys_and_doubles();
+    let args = Args::none();
+    match invoke_all(
+        rt,
+        alloc,
+        &cache,
+        class,
+        &keys,
+        args,
+        &mut seats,
+        &mut spaces,
+        &NoGate,
+    ) {
+        Ok(results) => (Some(results), cache.close(seats).tables),
+        Err(AllocError) => (None, cache.close(seats).tables),
+    }
+}
+
+/// Whether rounds by so many workers, of puts, of invocations and of one call on all keys, do what they tell.
+fn rounds_are_right<R: Threads + Wait + Sync>(
+    rt: &R,
+    alloc: Global,
+    count: usize,
+) -> Result<bool, AllocError> {
+    let Ok(tables) = Tables::new(alloc, 4) else {
+        return Err(AllocError);
+    };
+    let registry = Registry::new(alloc)?;
+    let Ok(class) = registry.define(rt, alloc, &rows::plus(alloc)?) else {
+        return Err(AllocError);
+    };
+    let args = Args::none();
+    let jobs = jobs_for(alloc, Work::Put, &class, &args)?;
+    let (answers, tables) = round(rt, alloc, &registry, tables, count, &jobs);
+    let first = entries_of(&tables);
+    let is_put = are_told(Work::Put, &[None; KEYS], answers.as_deref(), &first);
+    let jobs = jobs_for(alloc, Work::Plus, &class, &args)?;
+    let (answers, tables) = round(rt, alloc, &registry, tables, count, &jobs);
+    let second = entries_of(&tables);
+    let is_run = are_told(Work::Plus, &first, answers.as_deref(), &second);
+    let (results, tables) = plus_on_all(rt, alloc, &registry, tables, count, &class);
+    let is_listed = are_listed(&second, results.as_deref(), &entries_of(&tables));
+    Ok(is_put && is_run && is_listed)
+}
+
+/// Where memory lacks for what stands around the rounds, there is nothing to see.
+#[test]
+fn rounds_do_what_they_tell_or_nothing(rt: HostRuntime) {
+    for count in [1, 4] {
+        if let Ok(are_right) = rounds_are_right(&rt, rt.alloc(), count) {
+            assert!(rt; are_right, "{count} workers");
+        }
+    }
+}

@@ -1,0 +1,138 @@
+//! Streams of requests.
+
+use cache::NoGate;
+use rowclasses as rows;
+use serve::{ServeFault, Settings, serve};
+use std::alloc::{AllocError, Global};
+use std::sync::Wait;
+use std::test::Fail;
+use std::thread::Threads;
+use wire::Counted;
+
+/// How many keys there are.
+const KEYS: u8 = 40;
+
+static ROUND_END: [u8; 5] = [0, 0, 0, 1, 8];
+
+static ENDED: [u8; 5] = [0, 0, 0, 1, 9];
+
+static DONE: [u8; 5] = [0, 0, 0, 1, 3];
+
+static DENIED_MEMORY: [u8; 6] = [0, 0, 0, 2, 8, 3];
+
+static DENIED_CLASS: [u8; 6] = [0, 0, 0, 2, 8, 1];
+
+static DEFINED: [u8; 17] = [0, 0, 0, 13, 1, 0, 0, 0, 0, 0, 0, 0, 14, 0, 0, 0, 0];
+
+static REFUSED_MEMORY: [u8; 10] = [0, 0, 0, 6, 2, 30, 0, 0, 0, 0];
+
+static THREW_NULL_POINTER: [u8; 7] = [0, 0, 0, 3, 6, 1, 3];
+
+/// The result of an invocation that returned this Long.
+fn returned(n: u8) -> [u8; 15] {
+    [0, 0, 0, 0x0B, 6, 0, 1, 0, 0, 0, 0, 0, 0, 0, n]
+}
+
+/// A class that adds one is defined, each key is put to its own number, and in a second round invoked.
+fn script(alloc: Global) -> Result<Vec<u8>, AllocError> {
+    let plus = rows::plus(alloc)?;
+    let mut input = Vec::new(alloc);
+    input.extend_from_slice(&[0, 0, 2, 0xD8, 1])?;
+    input.extend_from_slice(&plus)?;
+    for key in 0..KEYS {
+        input.extend_from_slice(&[
+            0, 0, 0, 0x11, 2, 0, 0, 0, 0, 0, 0, 0, key, 0, 0, 0, 0, 0, 0, 0, key,
+        ])?;
+    }
+    input.extend_from_slice(&ROUND_END)?;
+    for key in 0..KEYS {
+        input.extend_from_slice(&[0, 0, 0, 0x0E, 6, 0, 0, 0, 0, 0, 0, 0, 0, 0, 0, 0, key, 0])?;
+    }
+    input.extend_from_slice(&ROUND_END)?;
+    Ok(input)
+}
+
+/// What follows this frame in the replies; none where they don't begin with it.
+fn behind<'r>(replies: &'r [u8], frame: &[u8]) -> Option<&'r [u8]> {
+    let (front, rest) = replies.split_at_checked(frame.len())?;
+    if front == frame { Some(rest) } else { None }
+}
+
+/// What follows the replies to the first round; none where they can't be. Also whether the class is defined, and which keys are put.
+fn first_round<'r>(replies: &'r [u8]) -> Option<(&'r [u8], bool, [bool; 40])> {
+    let (mut rest, is_defined) = match behind(replies, &DEFINED) {
+        Some(rest) => (rest, true),
+        None => (behind(replies, &REFUSED_MEMORY)?, false),
+    };
+    let mut are_put = [false; 40];
+    for is_put in are_put.iter_mut() {
+        match behind(rest, &DONE) {
+            Some(next) => {
+                *is_put = true;
+                rest = next;
+            }
+            None => rest = behind(rest, &DENIED_MEMORY)?,
+        }
+    }
+    Some((behind(rest, &ENDED)?, is_defined, are_put))
+}
+
+/// What follows the reply to an invocation on a key; none where it can't be.
+fn invoked<'r>(replies: &'r [u8], is_defined: bool, key: u8, is_put: bool) -> Option<&'r [u8]> {
+    if !is_defined {
+        return behind(replies, &DENIED_CLASS);
+    }
+    let told = if is_put {
+        behind(replies, &returned(key.wrapping_add(1)))
+    } else {
+        behind(replies, &THREW_NULL_POINTER)
+    };
+    match told {
+        Some(rest) => Some(rest),
+        None => behind(replies, &DENIED_MEMORY),
+    }
+}
+
+/// Whether the replies are those to both rounds, or to the whole rounds before memory lacked.
+fn are_right(replies: &[u8], fault: Option<ServeFault>) -> Option<bool> {
+    let may_end = fault == Some(ServeFault::NoMemory);
+    if may_end && replies.is_empty() {
+        return Some(true);
+    }
+    let (mut rest, is_defined, are_put) = first_round(replies)?;
+    if may_end && rest.is_empty() {
+        return Some(true);
+    }
+    for (key, is_put) in (0..KEYS).zip(are_put.iter()) {
+        rest = invoked(rest, is_defined, key, *is_put)?;
+    }
+    Some(fault.is_none() && behind(rest, &ENDED)?.is_empty())
+}
+
+/// Serves the script by so many workers.
+fn script_is_served<T: Threads + Wait + Sync>(
+    rt: &T,
+    alloc: Global,
+    workers: usize,
+) -> Result<bool, AllocError> {
+    let input = script(alloc)?;
+    let mut reader = Counted::new(input.as_slice());
+    let mut writer = Counted::new(Vec::with_capacity(alloc, 4096)?);
+    let settings = Settings {
+        workers,
+        stripes: 4,
+    };
+    let fault = serve(rt, alloc, &mut reader, &mut writer, settings, &NoGate).err();
+    let output = writer.into_inner();
+    Ok(are_right(output.as_slice(), fault).unwrap_or(false))
+}
+
+/// Where memory lacks for the script itself, there is nothing to see.
+#[test]
+fn streams_are_served_or_lack_memory(rt: HostRuntime) {
+    for workers in [0, 1, 4] {
+        if let Ok(is_served) = script_is_served(&rt, rt.alloc(), workers) {
+            assert!(rt; is_served, "{workers} workers");
+        }
+    }
+}

@@ -1,0 +1,39 @@
+-- At first there are no entries.
+use Rattle.std.proofs.Common.{◌≡◌, ◌≢◌, ◌==◌, [], ◌∷◌, Bool, true, false, arith, subst, ℕ, ℤ, List, Option, None, length, slice_get, replicate, zero, suc, refl, sym, ap, ◌∙◌}
+use Rattle.std.specs.FinMap as map
+use Rattle.std.specs.Prelude.{option_and_then}
+use Rattle.std.specs.Option.{option_flatten}
+use Rattle.std.specs.Ordering.{int_cmp}
+use Rattle.jtypes.specs.Entry.{Entry}
+use Rattle.stripe.specs.Stored.{Stored, entry_in, entry_among}
+use Rattle.std.proofs.lemmas.Bool.Decides.{nat_tests}
+use Rattle.std.proofs.lemmas.List.Sorted.{IsPermutation-refl}
+use Rattle.stripe.specs.History.{stripe_of, Call, Entries}
+use Rattle.stripe.specs.declared.call.Reply.{Reply}
+use Rattle.outcome.specs.Outcome.{IsDone}
+
+at_place : (n i : ℕ) (k : ℤ) → option_and_then (λ (m : Stored). entry_in m k) (slice_get (replicate n map.empty) i) ≡ None
+at_place zero i k = refl
+at_place (suc n) zero k = ap option_flatten (map.get-empty {X = Entry} int_cmp k)
+at_place (suc n) (suc i) k = at_place n i k
+
+pub no_entries : (tables : List Stored) (stripes : ℕ) → tables ≡ replicate stripes map.empty → (k : ℤ) → entry_among tables k ≡ None
+no_entries tables stripes e k = ap (λ l. entry_among l k) e ∙ at_place stripes (stripe_of (length (replicate {A = Stored} stripes map.empty)) k) k
+
+pub is_none : (n : ℕ) (b : Bool) → b ≡ (n == 0) → b ≡ true → n ≡ 0
+is_none n b e f = grind (arith, nat_tests)
+
+pub is_some : (n : ℕ) (b : Bool) → b ≡ (n == 0) → b ≡ false → n ≢ 0
+is_some n b e f = grind (arith, nat_tests)
+
+pub nil_of : {A : Type 0} (xs : List A) → length xs ≡ 0 → xs ≡ []
+nil_of [] e = refl
+nil_of (x ∷ xs) e = absurd (omega (arith, e))
+
+-- a round without calls is done
+pub nothing_done : (before : Entries) (calls : List Call) (answers : List (Option Reply)) → calls ≡ [] → answers ≡ [] → IsDone before calls answers before
+nothing_done before calls answers e f = subst (λ l. IsDone before l answers before) (sym e) (subst (λ l. IsDone before [] l before) (sym f) (record {
+  count = refl;
+  history = [];
+  is = record { legal = tt; once = IsPermutation-refl []; left = λ k. refl };
+}))

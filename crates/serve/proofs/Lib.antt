@@ -1,0 +1,9 @@
+mod Plans
+mod Rounds
+mod Begun
+mod Devices
+mod Listed
+mod Ends
+mod Fronts
+mod Onward
+mod Told

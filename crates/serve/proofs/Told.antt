@@ -1,0 +1,104 @@
+-- Which rounds of a stream that was cut short were answered.
+use Rattle.std.proofs.Common.{◌≡◌, ℕ, ◌+◌, ◌≤◌, List, [], ◌∷◌, ◌++◌, None, refl, sym, ap, ◌∙◌, subst, arith, append_assoc, append-nil}
+use Rattle.std.specs.List.{AllByRecursion}
+use Rattle.wire.specs.declared.request.Request.{Request}
+use Rattle.wire.specs.declared.request.Request.TheVariants.{Define, Put, Get, Remove, Contains, Invoke, InvokeAll, RoundEnd}
+use Rattle.wire.specs.Frames.{request_frame, IsRequest, IsRead, IsPart, of_length, of_text}
+use Rattle.wire.specs.Frames as frames
+use Rattle.serve.specs.declared.fault.ServeFault.{ServeFault}
+use Rattle.serve.specs.declared.fault.ServeFault.TheVariants as fault
+use Rattle.serve.specs.Served.{requests_text, Stand, first_stand, ended, Serves, IsServed, AreOpen, Stops, too_long, cut, input_ended, malformed, reader, frame_memory, memory, Fails, unread, no_memory, writer, IsCutShort, EndsEarly}
+use Rattle.serve.specs.CutShort.{BeginWith, ends, EndAtMost, AnsweredBut, IsTold}
+use Rattle.serve.proofs.Fronts.{OneFront, Compared, shorter, longer, compare, nothing_is_read, no_fault_is_read}
+use Rattle.serve.proofs.Rounds.{each_more, open_requests, end_is_request, nothing_yet}
+
+-- ---- how many rounds end
+
+ends_append : (xs ys : List Request) → ends (xs ++ ys) ≡ ends xs + ends ys
+ends_append [] ys = omega arith
+ends_append (Define bytes ∷ xs) ys = ends_append xs ys
+ends_append (Put key value ∷ xs) ys = ends_append xs ys
+ends_append (Get key ∷ xs) ys = ends_append xs ys
+ends_append (Remove key ∷ xs) ys = ends_append xs ys
+ends_append (Contains key ∷ xs) ys = ends_append xs ys
+ends_append (Invoke class key args ∷ xs) ys = ends_append xs ys
+ends_append (InvokeAll class keys args ∷ xs) ys = ends_append xs ys
+ends_append (RoundEnd ∷ xs) ys = let e = ends_append xs ys in omega (arith, e)
+
+none_ends : (xs : List Request) → AreOpen xs → ends xs ≡ 0
+none_ends [] are = refl
+none_ends (Define bytes ∷ xs) are = none_ends xs are.1
+none_ends (Put key value ∷ xs) are = none_ends xs are.1
+none_ends (Get key ∷ xs) are = none_ends xs are.1
+none_ends (Remove key ∷ xs) are = none_ends xs are.1
+none_ends (Contains key ∷ xs) are = none_ends xs are.1
+none_ends (Invoke class key args ∷ xs) are = none_ends xs are.1
+none_ends (InvokeAll class keys args ∷ xs) are = none_ends xs are.1
+none_ends (RoundEnd ∷ xs) are = absurd (are.0.1 refl)
+
+one_ends : (xs : List Request) → AreOpen xs → ends (ended xs) ≡ 1
+one_ends xs are = let e = ends_append xs (RoundEnd ∷ []) in let n = none_ends xs are in omega (arith, e, n)
+
+-- no whole frame stands first
+abbrev HasNone : List ℕ → Type 0
+HasNone bytes = (r : Request) (rest : List ℕ) → IsRead bytes r rest → ⊥
+
+-- a part of a frame is none
+part_has_none : OneFront → (bytes : List ℕ) → IsPart bytes → HasNone bytes
+part_has_none once [] (of_length short) = nothing_is_read once
+part_has_none once (b ∷ bytes) (of_length short) = no_fault_is_read once (b ∷ bytes) frames.Truncated (frames.cut_length (omega arith) short)
+part_has_none once bytes (of_text n rest is few some) = no_fault_is_read once bytes frames.Truncated (frames.cut_body n rest is (omega (arith, some)) few some)
+
+-- of the whole frames before such bytes no more rounds end than of all of them
+few_end : OneFront → (back : List ℕ) (requests : List Request) (extra : List ℕ) → AllByRecursion IsRequest requests → back ≡ requests_text requests ++ extra → HasNone extra → (n : ℕ) → ends requests ≤ n
+    → EndAtMost n back
+few_end once back requests extra each parts none n few whole b = go (compare once whole requests b.rest extra b.each each (sym b.parts ∙ parts))
+  where
+    go : Compared whole requests b.rest extra → ends whole ≤ n
+    go (shorter zs is) = let e = ap ends is ∙ ends_append whole zs in omega (arith, e, few)
+    go (longer z zs is are more) = absurd (none z (requests_text zs ++ b.rest) (record { parts = more ∙ append_assoc (request_frame z) (requests_text zs) b.rest; request = are.0 }))
+
+unended : OneFront → (back : List ℕ) (requests : List Request) (extra : List ℕ) → AreOpen requests → back ≡ requests_text requests ++ extra → HasNone extra → EndAtMost 0 back
+unended once back requests extra are taken none = let n = none_ends requests are in few_end once back requests extra (open_requests requests are) taken none 0 (omega (arith, n))
+
+last : OneFront → (back : List ℕ) (requests : List Request) → AreOpen requests → back ≡ requests_text (ended requests) → EndAtMost 1 back
+last once back requests are taken =
+    let n = one_ends requests are in
+    few_end once back (ended requests) [] (each_more IsRequest requests RoundEnd (open_requests requests are) end_is_request) (taken ∙ sym (append-nil (requests_text (ended requests)))) (nothing_is_read once) 1 (omega (arith, n))
+
+-- ---- what was told
+
+all_but : (n : ℕ) (input output front back : List ℕ) (s : Stand) → input ≡ front ++ back → Serves front output s → EndAtMost n back → AnsweredBut n input output
+all_but n input output front back s parts v few = record { front = front; back = back; parts = parts; served = record { left = s; serves = v }; unanswered = few }
+
+told_unread : OneFront → (input output front back : List ℕ) (s : Stand) (f : ServeFault) (requests : List Request) (extra : List ℕ) → input ≡ front ++ back → Serves front output s → AreOpen requests
+    → back ≡ requests_text requests ++ extra → Stops requests extra f → IsTold input output f
+told_unread once input output front back s f requests extra parts v are taken (too_long other is) = all_but 0 input output front back s parts v (unended once back requests extra are taken (no_fault_is_read once extra frames.TooLong is))
+told_unread once input output front back s f requests extra parts v are taken (cut other is) = all_but 0 input output front back s parts v (unended once back requests extra are taken (no_fault_is_read once extra frames.Truncated is))
+told_unread once input output front back s f requests extra parts v are taken (input_ended some) = all_but 0 input output front back s parts v (unended once back requests [] are taken (nothing_is_read once))
+told_unread once input output front back s f requests extra parts v are taken (malformed other is) = all_but 0 input output front back s parts v (unended once back requests extra are taken (no_fault_is_read once extra frames.Malformed is))
+told_unread once input output front back s f requests extra parts v are taken (reader other is) = all_but 0 input output front back s parts v (unended once back requests extra are taken (part_has_none once extra is))
+told_unread once input output front back s f requests extra parts v are taken (frame_memory other is) = (front, back, parts, record { left = s; serves = v })
+told_unread once input output front back s f requests extra parts v are taken memory = (front, back, parts, record { left = s; serves = v })
+
+told_of : OneFront → (input output front back told part : List ℕ) (s : Stand) (f : ServeFault) → input ≡ front ++ back → output ≡ told ++ part → Serves front told s → Fails s back part f → IsTold input output f
+told_of once input output front back told part s f parts is v (unread requests extra g are taken given stops) =
+    told_unread once input output front back s g requests extra parts (subst (λ l. Serves front l s) (sym (is ∙ ap (λ l. told ++ l) given ∙ append-nil told)) v) are taken stops
+told_of once input output front back told part s f parts is v (no_memory requests are taken given) =
+    (front, back, parts, subst (IsServed front) (sym (is ∙ ap (λ l. told ++ l) given ∙ append-nil told)) (record { left = s; serves = v }))
+told_of once input output front back told part s f parts is v (writer requests replies t missing are taken round text) =
+    (told, part, is, all_but 1 input told front back s parts v (last once back requests are taken))
+
+cut_short : OneFront → (input output : List ℕ) (f : ServeFault) → IsCutShort input output f → IsTold input output f
+cut_short once input output f c = told_of once input output c.front c.back c.told c.part c.left f c.input_is c.output_is c.serves c.fails
+
+pub is_told : OneFront → (input output : List ℕ) (f : ServeFault) → EndsEarly input output f → IsTold input output f
+is_told once input output fault.TooLong h = cut_short once input output fault.TooLong h
+is_told once input output fault.Truncated h = cut_short once input output fault.Truncated h
+is_told once input output fault.Malformed h = cut_short once input output fault.Malformed h
+is_told once input output fault.Read h = cut_short once input output fault.Read h
+is_told once input output fault.NoMemory h = cut_short once input output fault.NoMemory h
+is_told once input output fault.Write h = cut_short once input output fault.Write h
+is_told once input output fault.BadCount h =
+    let served : Serves [] output first_stand = subst (λ l. Serves [] l first_stand) (sym h.1) (nothing_yet [] (λ k. None) refl (λ k. refl)) in
+    all_but 0 input output [] [] first_stand h.0 served (unended once [] [] [] tt refl (nothing_is_read once))

@@ -1,0 +1,122 @@
+use Rattle.std.proofs.Common.{◌≡◌, ◌≢◌, ℕ, List, [], ◌∷◌, ◌++◌, length, Option, Some, None, Ok, arith, refl, sym, ap, ◌∙◌, subst, append-nil}
+use Rattle.std.proofs.lemmas.List.{length-map}
+use Rattle.std.specs.Io.KnownBytes.{Consumes, IsAtEnd}
+use Rattle.std.proofs.KnownBytes.{Consumes-nil, Consumes-trans}
+use Rattle.wire.specs.declared.request.Request.{Request}
+use Rattle.wire.specs.declared.request.Request.TheVariants.{RoundEnd}
+use Rattle.wire.specs.Frames.{IsRequest, IsRead}
+use Rattle.wire.specs.Reading.{ReadGives}
+use Rattle.serve.specs.Served.{requests_text, Stops, memory, input_ended}
+use Rattle.serve.specs.Kept.{classes_of, calls_in, work_of}
+use Rattle.serve.proofs.Rounds.{each_more, took_more, as_many, begun, gathered_more, stops_of}
+use Rattle.serve.proofs.Begun.{is_none, is_some, nil_of}
+use Rattle.serve.proofs.Devices.{stays_on}
+use Rattle.serve.proofs.reading.read_round.Goals as goal
+
+frame_read : (left : Option (List ℕ)) (bytes : List ℕ) (o : Option Request) (r : Request) → o ≡ Some r → ReadGives left bytes (Ok o) → IsRead bytes r []
+frame_read left bytes o r e h = subst (λ (x : Option Request). ReadGives left bytes (Ok x)) e h
+
+end_read : (left : Option (List ℕ)) (bytes : List ℕ) (o : Option Request) → o ≡ None → ReadGives left bytes (Ok o) → (bytes ≡ []) × IsAtEnd left
+end_read left bytes o e h = subst (λ (x : Option Request). ReadGives left bytes (Ok x)) e h
+
+pub loop-init : goal.loop-init
+loop-init g c = record {
+  known = c.requires;
+  kept = (refl, refl);
+  requests = [];
+  calls = [];
+  are = tt;
+  took = Consumes-nil (g.R.Read.remaining c.args.reader.now.inner);
+  gathered = begun (classes_of c.args.ids.now.items) c.new.result.items c.new.ensures.items;
+  called = ap (calls_in (classes_of c.args.ids.now.items)) c.new-2.ensures.items;
+}
+
+pub loop-preserved : goal.loop-preserved
+loop-preserved g c =
+    let i = c.loop.invariant in
+    let b = c.in-Ok-Some.ensures.bytes in
+    let r : Request = c.in-Ok-Some.request in
+    let f = frame_read (g.R.Read.remaining c.read_request.new.reader.inner) b.0 c.in-Ok-Some.field-0 r c.in-Ok-Some.field-0-is b.2 in
+    let apart : r ≢ RoundEnd = c.is_end.ensures.no c.if-is_end.false in
+    let added = c.in-Ok.ensures.ok in
+    record {
+      known = c.add.ensures.known;
+      kept = stays_on c.args.reader.now c.loop.reader c.read_request.new.reader i.kept c.in-Ok-Some.ensures.counted;
+      requests = i.requests ++ r ∷ [];
+      calls = i.calls ++ added.part.calls;
+      are = each_more (λ x. IsRequest x × (x ≢ RoundEnd)) i.requests r i.are (f.request, apart);
+      took = took_more _ _ _ i.requests r b.0 i.took b.1 f;
+      gathered = gathered_more (classes_of c.args.ids.now.items) (classes_of c.loop.ids.items) (classes_of c.add.new.ids.items) i.requests i.calls r c.loop.plan c.add.new.plan i.gathered i.called added;
+      called = added.calls i.calls i.called;
+    }
+
+pub returns-then-is_end-clause-ok : goal.returns-then-is_end-clause-ok
+returns-then-is_end-clause-ok g c =
+    let i = c.loop.invariant in
+    let b = c.in-Ok-Some.ensures.bytes in
+    let r : Request = c.in-Ok-Some.request in
+    let f = frame_read (g.R.Read.remaining c.read_request.new.reader.inner) b.0 c.in-Ok-Some.field-0 r c.in-Ok-Some.field-0-is b.2 in
+    let is : r ≡ RoundEnd = c.is_end.ensures.yes c.if-is_end.true in
+    record {
+      requests = i.requests;
+      calls = i.calls;
+      are = i.are;
+      took = took_more _ _ _ i.requests RoundEnd b.0 i.took b.1 (subst (λ (x : Request). IsRead b.0 x []) is f);
+      gathered = i.gathered;
+      called = i.called;
+    }
+
+pub returns-in_default-clause-err : goal.returns-in_default-clause-err
+returns-in_default-clause-err g c =
+    let i = c.loop.invariant in
+    let b = c.in-Ok-Some.ensures.bytes in
+    let r : Request = c.in-Ok-Some.request in
+    let f = frame_read (g.R.Read.remaining c.read_request.new.reader.inner) b.0 c.in-Ok-Some.field-0 r c.in-Ok-Some.field-0-is b.2 in
+    let apart : r ≢ RoundEnd = c.is_end.ensures.no c.if-is_end.false in
+    record {
+      requests = i.requests ++ r ∷ [];
+      extra = [];
+      are = each_more (λ x. IsRequest x × (x ≢ RoundEnd)) i.requests r i.are (f.request, apart);
+      took = subst (λ l. Consumes (g.R.Read.remaining c.args.reader.now.inner) (g.R.Read.remaining c.read_request.new.reader.inner) l) (sym (append-nil (requests_text (i.requests ++ r ∷ [])))) (took_more _ _ _ i.requests r b.0 i.took b.1 f);
+      stops = memory;
+    }
+
+pub returns-then-is_empty-clause-ok : goal.returns-then-is_empty-clause-ok
+returns-then-is_empty-clause-ok g c =
+    let i = c.loop.invariant in
+    let b = c.in-Ok-None.ensures.bytes in
+    let e = end_read (g.R.Read.remaining c.read_request.new.reader.inner) b.0 c.in-Ok-None.field-0 c.in-Ok-None.field-0-is b.2 in
+    let count = is_none _ c.is_empty.result c.is_empty.ensures c.if-is_empty.true in
+    let empty : i.requests ≡ [] = nil_of i.requests (sym (as_many i.gathered) ∙ length-map c.loop.plan.works.items work_of ∙ omega (arith, count, c.loop.plan.works.ok.0)) in
+    let first : Consumes (g.R.Read.remaining c.args.reader.now.inner) (g.R.Read.remaining c.loop.reader.inner) [] = subst (λ l. Consumes (g.R.Read.remaining c.args.reader.now.inner) (g.R.Read.remaining c.loop.reader.inner) (requests_text l)) empty i.took in
+    let second : Consumes (g.R.Read.remaining c.loop.reader.inner) (g.R.Read.remaining c.read_request.new.reader.inner) [] = subst (λ l. Consumes (g.R.Read.remaining c.loop.reader.inner) (g.R.Read.remaining c.read_request.new.reader.inner) l) e.0 b.1 in
+    (Consumes-trans _ _ _ [] [] first second, e.1)
+
+pub returns-in-Ok-None-clause-err : goal.returns-in-Ok-None-clause-err
+returns-in-Ok-None-clause-err g c =
+    let i = c.loop.invariant in
+    let b = c.in-Ok-None.ensures.bytes in
+    let e = end_read (g.R.Read.remaining c.read_request.new.reader.inner) b.0 c.in-Ok-None.field-0 c.in-Ok-None.field-0-is b.2 in
+    let count = is_some _ c.is_empty.result c.is_empty.ensures c.if-is_empty.false in
+    let same = as_many i.gathered in
+    let works = length-map c.loop.plan.works.items work_of in
+    record {
+      requests = i.requests;
+      extra = [];
+      are = i.are;
+      took = Consumes-trans _ _ _ (requests_text i.requests) [] i.took (subst (λ l. Consumes (g.R.Read.remaining c.loop.reader.inner) (g.R.Read.remaining c.read_request.new.reader.inner) l) e.0 b.1);
+      stops = input_ended (λ h. let n = ap (λ (l : List Request). length l) h in absurd (count (omega (arith, n, same, works, c.loop.plan.works.ok.0))));
+    }
+
+pub returns-in-Err-clause-err : goal.returns-in-Err-clause-err
+returns-in-Err-clause-err g c =
+    let i = c.loop.invariant in
+    let b = c.in-Err.ensures.bytes in
+    let left = g.R.Read.remaining c.read_request.new.reader.inner in
+    record {
+      requests = i.requests;
+      extra = b.0;
+      are = i.are;
+      took = Consumes-trans _ _ _ (requests_text i.requests) b.0 i.took b.1;
+      stops = subst (λ f. Stops i.requests b.0 f) (sym c.of_wire.ensures) (stops_of left i.requests b.0 c.in-Err.e b.2);
+    }

@@ -1,0 +1,66 @@
+use Rattle.std.proofs.Common.{◌≡◌, ℕ, List, [], ◌++◌, Option, Some, refl, sym, ap, subst}
+use Rattle.std.proofs.lemmas.List.Elements.{All-nil}
+use Rattle.std.proofs.KnownBytes.{Appends-nil, Appends-trans, Consumes-nil, Consumes-trans}
+use Rattle.boxcar.specs.Table.{Where}
+use Rattle.typecheck.specs.Typing.{Class}
+use Rattle.registry.specs.Ids.{IsOf}
+use Rattle.stripe.specs.Stored.{Stored, entry_among}
+use Rattle.serve.specs.Served.{Stand, stand, ended, all_told, requests_text, replies_text}
+use Rattle.serve.specs.Kept.{RoundServed, IsAnswered, AreOf, classes_of}
+use Rattle.serve.proofs.Rounds.{serves_more, nothing_yet}
+use Rattle.serve.proofs.Devices.{stays_on}
+use Rattle.serve.proofs.stream.stream.Goals as goal
+
+one_more : (old new before after : Option (List ℕ)) (s : Stand) (classes : List Class) (o : Option (List Stored)) (tables : List Stored) → o ≡ Some tables → RoundServed old new before after s classes o
+    → IsAnswered old new before after s classes tables
+one_more old new before after s classes o tables e h = subst (λ (x : Option (List Stored)). RoundServed old new before after s classes x) e h
+
+pub loop-init : goal.loop-init
+loop-init g c = record {
+  known = subst (λ (l : List (Where Class)). AreOf c.args.registry.now l) (sym c.new-ids.ensures.items) (All-nil (IsOf c.args.registry.now));
+  read = (refl, refl);
+  wrote = (refl, refl);
+  taken = [];
+  given = [];
+  took = Consumes-nil _;
+  gave = Appends-nil _;
+  serves = nothing_yet (classes_of c.new-ids.result.items) (entry_among c.args.tables) (ap classes_of c.new-ids.ensures.items) c.requires.empty;
+}
+
+pub loop-preserved : goal.loop-preserved
+loop-preserved g c =
+    let i = c.loop.invariant in
+    let s : Stand = stand (classes_of c.loop.ids.items) (entry_among c.loop.tables) in
+    let t : Stand = stand (classes_of c.one_round.new.ids.items) (entry_among c.in-Ok-Some.left) in
+    let o = one_more _ _ _ _ s (classes_of c.one_round.new.ids.items) c.in-Ok-Some.field-0 c.in-Ok-Some.left c.in-Ok-Some.field-0-is c.in-Ok-Some.ensures.ok in
+    record {
+      known = c.one_round.ensures.known;
+      read = stays_on c.args.reader.now c.loop.reader c.one_round.new.reader i.read c.in-Ok-Some.ensures.reads;
+      wrote = stays_on c.args.writer.now c.loop.writer c.one_round.new.writer i.wrote c.in-Ok-Some.ensures.writes;
+      taken = i.taken ++ requests_text (ended o.requests);
+      given = i.given ++ replies_text (all_told o.replies);
+      took = Consumes-trans _ _ _ i.taken (requests_text (ended o.requests)) i.took o.took;
+      gave = Appends-trans _ _ _ i.given (replies_text (all_told o.replies)) i.gave o.gave;
+      serves = serves_more i.taken i.given s t o.requests o.replies i.serves o.are o.round;
+    }
+
+pub returns-in-Err-clause-cut : goal.returns-in-Err-clause-cut
+returns-in-Err-clause-cut g c =
+    let i = c.loop.invariant in
+    let f = c.in-Err.ensures.err in (
+      i.taken ++ f.taken,
+      i.given ++ f.given,
+      Consumes-trans _ _ _ i.taken f.taken i.took f.took,
+      Appends-trans _ _ _ i.given f.given i.gave f.gave,
+      record {
+        front = i.taken;
+        back = f.taken;
+        input_is = refl;
+        told = i.given;
+        part = f.given;
+        output_is = refl;
+        left = stand (classes_of c.loop.ids.items) (entry_among c.loop.tables);
+        serves = i.serves;
+        fails = f.fails;
+      },
+    )

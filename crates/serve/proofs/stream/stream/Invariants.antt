@@ -1,0 +1,20 @@
+-- What was taken so far is served by what was given, and nothing failed.
+use Rattle.std.proofs.Common.{ℕ, List}
+use Rattle.std.specs.Io.KnownBytes.{Consumes, Appends}
+use Rattle.stripe.specs.Stored.{entry_among}
+use Rattle.wire.specs.Counting.{StaysCounted}
+use Rattle.serve.specs.Served.{Serves, stand}
+use Rattle.serve.specs.Kept.{AreOf, classes_of}
+use Rattle.serve.proofs.stream.stream.Given as goal
+
+abbrev pub invariant-loop : goal.invariant-loop
+invariant-loop g l = record {
+  known : AreOf l.registry l.ids.items;
+  read : StaysCounted l.initial.reader l.reader;
+  wrote : StaysCounted l.initial.writer l.writer;
+  taken : List ℕ;
+  given : List ℕ;
+  took : Consumes (g.R.Read.remaining l.initial.reader.inner) (g.R.Read.remaining l.reader.inner) taken;
+  gave : Appends (g.W.Write.contents l.initial.writer.inner) (g.W.Write.contents l.writer.inner) given;
+  serves : Serves taken given (stand (classes_of l.ids.items) (entry_among l.tables));
+}

@@ -1,0 +1,53 @@
+-- Streams that were cut short: how they go on, and which of their rounds were answered.
+use Rattle.std.specs.Prelude.{◌≡◌, ℕ, suc, ◌≤◌, List, [], ◌∷◌, ◌++◌}
+use Rattle.std.specs.List.{AllByRecursion}
+use Rattle.wire.specs.declared.request.Request.{Request}
+use Rattle.wire.specs.declared.request.Request.TheVariants.{RoundEnd}
+use Rattle.wire.specs.Frames.{IsRequest}
+use Rattle.serve.specs.declared.fault.ServeFault.{ServeFault}
+use Rattle.serve.specs.declared.fault.ServeFault.TheVariants as fault
+use Rattle.serve.specs.Served.{requests_text, IsServed}
+
+-- the whole frames of these requests stand first
+pub record BeginWith (bytes : List ℕ) (requests : List Request) : Type 0 where
+  pub each : AllByRecursion IsRequest requests
+  pub rest : List ℕ
+  pub parts : bytes ≡ requests_text requests ++ rest
+
+-- these bytes go on to a stream that is served, and what was written begins its answer
+pub record GoesOn (input output : List ℕ) : Type 0 where
+  pub more : List ℕ
+  pub later : List ℕ
+  pub served : IsServed (input ++ more) (output ++ later)
+
+-- so do the good whole frames that were read, all of them or the first ones
+abbrev pub FramesGoOn : List ℕ → List ℕ → Type 0
+FramesGoOn input output = (requests : List Request) → BeginWith input requests → GoesOn (requests_text requests) output
+
+-- how many rounds end in these requests
+abbrev pub ends : List Request → ℕ
+ends [] = 0
+ends (RoundEnd ∷ requests) = suc (ends requests)
+ends (_ ∷ requests) = ends requests
+
+-- at most so many rounds end in the good whole frames that stand first
+abbrev pub EndAtMost : ℕ → List ℕ → Type 0
+EndAtMost n bytes = (requests : List Request) → BeginWith bytes requests → ends requests ≤ n
+
+-- exactly the rounds of a front part were answered
+abbrev pub RoundsAnswered : List ℕ → List ℕ → Type 0
+RoundsAnswered input output = (front back : List ℕ) × (input ≡ front ++ back) × IsServed front output
+
+-- and behind that part at most so many rounds end
+pub record AnsweredBut (n : ℕ) (input output : List ℕ) : Type 0 where
+  pub front : List ℕ
+  pub back : List ℕ
+  pub parts : input ≡ front ++ back
+  pub served : IsServed front output
+  pub unanswered : EndAtMost n back
+
+-- which rounds were answered before this fault: all whose ends were read; at want of memory those of a front part; at a fault of the writer all but the last, whose answer may have begun
+abbrev pub IsTold : List ℕ → List ℕ → ServeFault → Type 0
+IsTold input output fault.NoMemory = RoundsAnswered input output
+IsTold input output fault.Write = (told part : List ℕ) × (output ≡ told ++ part) × AnsweredBut 1 input told
+IsTold input output _ = AnsweredBut 0 input output

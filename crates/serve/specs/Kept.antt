@@ -1,0 +1,145 @@
+-- What the code keeps, as the definitions see it.
+use Rattle.std.specs.Prelude.{◌≡◌, ◌<◌, ◌≤◌, ℕ, List, [], ◌∷◌, ◌++◌, length, map, Option, Some, None, slice_get, All}
+use Rattle.std.specs.Option.{option_map}
+use Rattle.std.specs.Io.KnownBytes.{Consumes, Appends, IsAtEnd}
+use Rattle.boxcar.specs.Table.{Shelves, Where}
+use Rattle.typecheck.specs.Typing.{Class}
+use Rattle.registry.specs.Ids.{IsOf, class_of}
+use Rattle.stripe.specs.History.{Call, Entries}
+use Rattle.stripe.specs.History as call
+use Rattle.stripe.specs.Stored.{Stored, entry_among}
+use Rattle.stripe.specs.declared.call.Reply.{Reply as Answer}
+use Rattle.outcome.specs.Outcome.{IsDone}
+use Rattle.wire.specs.declared.request.Request.{Request}
+use Rattle.wire.specs.declared.reply.Reply.{Reply}
+use Rattle.wire.specs.declared.reply.Reply.TheVariants as reply
+use Rattle.wire.specs.declared.fault.WireFault.{WireFault}
+use Rattle.wire.specs.declared.fault.WireFault.TheVariants as wire
+use Rattle.serve.specs.declared.fault.ServeFault.{ServeFault}
+use Rattle.serve.specs.declared.fault.ServeFault.TheVariants as fault
+use Rattle.serve.specs.declared.plan.Ask.{Ask}
+use Rattle.serve.specs.declared.plan.Ask.TheVariants as ask
+use Rattle.serve.specs.declared.plan.Work.{Work as Planned}
+use Rattle.serve.specs.declared.plan.Work.TheVariants as planned
+use Rattle.serve.specs.declared.plan.Plan.{Plan}
+use Rattle.serve.specs.Rounds.{Work, Told, Job, JobForEach, Part, Adds, Gathers, work_reply, most_jobs}
+use Rattle.serve.specs.Served.{Stand, stand, IsRound, ended, all_told, AreOpen, Stops, Fails, requests_text, replies_text}
+
+-- ---- faults
+
+-- a fault of a frame is one of its stream
+abbrev pub fault_of_wire : WireFault → ServeFault
+fault_of_wire wire.TooLong = fault.TooLong
+fault_of_wire wire.Truncated = fault.Truncated
+fault_of_wire wire.Malformed = fault.Malformed
+fault_of_wire wire.Read = fault.Read
+fault_of_wire wire.NoMemory = fault.NoMemory
+
+-- ---- classes
+
+abbrev pub classes_of : List (Where Class) → List Class
+classes_of ids = map class_of ids
+
+-- the registry gave each of these ids
+abbrev pub AreOf : Shelves → List (Where Class) → Type 0
+AreOf registry ids = All (IsOf registry) ids
+
+-- ---- plans
+
+abbrev pub work_of : Planned → Work
+work_of (planned.Defined class steps words) = Told (reply.Defined class steps words)
+work_of (planned.Refused refusal) = Told (reply.Refused refusal)
+work_of (planned.Denied denial) = Told (reply.Denied denial)
+work_of (planned.Job at) = Job at
+work_of (planned.JobForEach at keys) = JobForEach at keys
+
+abbrev pub works_of : Plan → List Work
+works_of p = map work_of p.works.items
+
+-- the call of a job, if its class is one of these
+abbrev pub call_in : List Class → Ask → Option Call
+call_in classes (ask.Invoke n key args) = option_map (λ c. call.Invoke c key args) (slice_get classes n)
+call_in classes (ask.Get key) = Some (call.Get key)
+call_in classes (ask.Put key value) = Some (call.Put key value)
+call_in classes (ask.Remove key) = Some (call.Remove key)
+call_in classes (ask.Contains key) = Some (call.Contains key)
+
+abbrev pub calls_in : List Class → List Ask → List (Option Call)
+calls_in classes asks = map (call_in classes) asks
+
+-- the jobs are these calls
+abbrev pub AreCalls : List Class → List Ask → List Call → Type 0
+AreCalls classes asks calls = calls_in classes asks ≡ map Some calls
+
+-- the jobs are calls, as many as a round may have at most
+abbrev pub HasCalls : List Class → Plan → Type 0
+HasCalls classes plan = (calls : List Call) × AreCalls classes plan.asks.items calls × (length calls ≤ most_jobs)
+
+-- the class of a job is one of so many
+abbrev pub IsKnown : ℕ → Ask → Type 0
+IsKnown count (ask.Invoke n key args) = n < count
+IsKnown count _ = Unit {0}
+
+-- a part was added to the plan
+pub record Grows (classes : List Class) (old new : Plan) (p : Part) : Type 0 where
+  pub works : works_of new ≡ works_of old ++ p.work ∷ []
+  pub calls : calls_in classes new.asks.items ≡ calls_in classes old.asks.items ++ map Some p.calls
+
+-- a request was added to the plan
+pub record Adding (classes : List Class) (old : Plan) (r : Request) (new : Plan) (later : List Class) : Type 0 where
+  pub part : Part
+  pub adds : Adds classes (length old.asks.items) r part later
+  pub works : works_of new ≡ works_of old ++ part.work ∷ []
+  pub calls : (calls : List Call) → AreCalls classes old.asks.items calls → AreCalls later new.asks.items (calls ++ part.calls)
+
+-- ---- rounds
+
+-- a round was read to its end
+pub record IsWhole (old new : Option (List ℕ)) (first : List Class) (plan : Plan) (later : List Class) : Type 0 where
+  pub requests : List Request
+  pub calls : List Call
+  pub are : AreOpen requests
+  pub took : Consumes old new (requests_text (ended requests))
+  pub gathered : Gathers first requests (works_of plan) calls later
+  pub called : AreCalls later plan.asks.items calls
+
+-- a round was read to its end, or the input ended before one
+abbrev pub RoundRead : Option (List ℕ) → Option (List ℕ) → List Class → List Class → Option Plan → Type 0
+RoundRead old new first later (Some plan) = IsWhole old new first plan later
+RoundRead old new first later None = Consumes old new [] × IsAtEnd new
+
+-- a round was not read to its end
+pub record IsBroken (old new : Option (List ℕ)) (f : ServeFault) : Type 0 where
+  pub requests : List Request
+  pub extra : List ℕ
+  pub are : AreOpen requests
+  pub took : Consumes old new (requests_text requests ++ extra)
+  pub stops : Stops requests extra f
+
+-- the calls were answered, and this is the text of the round's replies
+pub record IsRun (before : Entries) (calls : List Call) (works : List Work) (after : Entries) (text : List ℕ) : Type 0 where
+  pub answers : List (Option Answer)
+  pub done : IsDone before calls answers after
+  pub text_is : text ≡ replies_text (all_told (map (work_reply answers) works))
+
+-- a round was served from this stand on, and left these classes and tables
+pub record IsAnswered (old new before after : Option (List ℕ)) (s : Stand) (classes : List Class) (tables : List Stored) : Type 0 where
+  pub requests : List Request
+  pub replies : List Reply
+  pub are : AreOpen requests
+  pub took : Consumes old new (requests_text (ended requests))
+  pub gave : Appends before after (replies_text (all_told replies))
+  pub round : IsRound s requests replies (stand classes (entry_among tables))
+
+-- a round was served, or the input ended before one
+abbrev pub RoundServed : Option (List ℕ) → Option (List ℕ) → Option (List ℕ) → Option (List ℕ) → Stand → List Class → Option (List Stored) → Type 0
+RoundServed old new before after s classes (Some tables) = IsAnswered old new before after s classes tables
+RoundServed old new before after s classes None = Consumes old new [] × IsAtEnd new × Appends before after []
+
+-- what a round took and gave that failed
+pub record RoundFailed (old new before after : Option (List ℕ)) (s : Stand) (f : ServeFault) : Type 0 where
+  pub taken : List ℕ
+  pub given : List ℕ
+  pub took : Consumes old new taken
+  pub gave : Appends before after given
+  pub fails : Fails s taken given f

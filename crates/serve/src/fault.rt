@@ -1,0 +1,70 @@
+//! Why a stream ends early.
+
+ghost use Rattle.std.specs.Prelude.{◌≡◌};
+ghost use Rattle.serve.specs.Settings.{fault_number, fault_name};
+ghost use Rattle.serve.specs.Kept.{fault_of_wire};
+
+use wire::WireFault;
+
+/// Why a stream ends early.
+#[derive(Clone, Copy, PartialEq, Eq, Debug)]
+pub enum ServeFault {
+    /// A frame is longer than a frame may be.
+    TooLong,
+    /// The input ends inside a frame, or inside a round.
+    Truncated,
+    /// A frame is whole, and no request has it.
+    Malformed,
+    /// The reader answered an error.
+    Read,
+    NoMemory,
+    /// The writer answered an error, or took no byte.
+    Write,
+    /// There are too many workers, or there can't be so many stripes.
+    BadCount,
+}
+
+impl ServeFault {
+    /// The fault's number, from 1 to 7.
+    pub fn number(self) -> u8
+        ensures { result ≡ fault_number self }
+    {
+        match self {
+            ServeFault::TooLong => 1,
+            ServeFault::Truncated => 2,
+            ServeFault::Malformed => 3,
+            ServeFault::Read => 4,
+            ServeFault::NoMemory => 5,
+            ServeFault::Write => 6,
+            ServeFault::BadCount => 7,
+        }
+    }
+
+    /// The fault's name.
+    pub fn name(self) -> &'static str
+        ensures { result.now ≡ fault_name self }
+    {
+        match self {
+            ServeFault::TooLong => "TooLong",
+            ServeFault::Truncated => "Truncated",
+            ServeFault::Malformed => "Malformed",
+            ServeFault::Read => "Read",
+            ServeFault::NoMemory => "NoMemory",
+            ServeFault::Write => "Write",
+            ServeFault::BadCount => "BadCount",
+        }
+    }
+}
+
+/// The fault of a frame, as one of its stream.
+pub fn of_wire(fault: WireFault) -> ServeFault
+    ensures { result ≡ fault_of_wire fault }
+{
+    match fault {
+        WireFault::TooLong => ServeFault::TooLong,
+        WireFault::Truncated => ServeFault::Truncated,
+        WireFault::Malformed => ServeFault::Malformed,
+        WireFault::Read => ServeFault::Read,
+        WireFault::NoMemory => ServeFault::NoMemory,
+    }
+}

@@ -1,0 +1,172 @@
+//! What a round has to do.
+
+ghost use Rattle.std.specs.Prelude.{◌≡◌, ◌≤◌, ◌++◌, ◌∷◌, [], List, Some, length, map, slice_get, OnOk, IfOk};
+ghost use Rattle.typecheck.specs.Typing.{Class};
+ghost use Rattle.stripe.specs.History.{Call};
+ghost use Rattle.invokeall.specs.Collected.{different, invocations};
+ghost use Rattle.serve.specs.Rounds.{one, each, most_jobs};
+ghost use Rattle.serve.specs.Kept.{call_in, calls_in, Grows};
+
+use indexmap::IndexSet;
+use jtypes::{Args, Refusal};
+use std::alloc::{AllocError, Global};
+use std::marker::Model;
+use wire::Denial;
+
+/// The most jobs of a round.
+pub const MOST_JOBS: usize = 4096;
+
+/// Different keys, at most as many as a round may have jobs.
+#[derive(Drop)]
+pub struct Keys {
+    set: IndexSet<i64>,
+}
+
+impl Model for Keys {
+    ghost use Rattle.std.specs.Prelude.{List, ℤ, ◌≤◌, length};
+    ghost use Rattle.serve.specs.Rounds.{most_jobs};
+
+    ghost Value = { List ℤ };
+
+    ghost view = { λ k. k.set.keys };
+
+    ghost invariant = { λ k. length k.set.keys ≤ most_jobs };
+}
+
+impl Keys {
+    pub fn as_slice(&self) -> &[i64]
+        ensures keys { result.now ≡ self.now }
+        ensures few { length self.now ≤ most_jobs }
+    {
+        self.set.as_slice()
+    }
+}
+
+/// What is told of a request.
+#[derive(Drop)]
+pub enum Work {
+    Defined { class: u32, steps: u32, words: u32 },
+    Refused(Refusal),
+    Denied(Denial),
+    /// The answer to the job at this place.
+    Job(usize),
+    /// The answers to the jobs from this place on, one for each of the keys.
+    JobForEach(usize, Keys),
+}
+
+/// What a job asks. It names its class by the number.
+#[derive(Clone, Copy)]
+pub enum Ask {
+    Invoke { class: usize, key: i64, args: Args },
+    Get { key: i64 },
+    Put { key: i64, value: i64 },
+    Remove { key: i64 },
+    Contains { key: i64 },
+}
+
+/// What is told of each request of a round, and its jobs.
+#[derive(Drop)]
+pub struct Plan {
+    pub works: Vec<Work>,
+    pub asks: Vec<Ask>,
+}
+
+pub fn get(key: &i64) -> Ask
+    ensures { result ≡ Ask.Get key.now }
+{
+    Ask::Get { key: *key }
+}
+
+pub fn put(key: &i64, value: &i64) -> Ask
+    ensures { result ≡ Ask.Put key.now value.now }
+{
+    Ask::Put {
+        key: *key,
+        value: *value,
+    }
+}
+
+pub fn remove(key: &i64) -> Ask
+    ensures { result ≡ Ask.Remove key.now }
+{
+    Ask::Remove { key: *key }
+}
+
+pub fn contains(key: &i64) -> Ask
+    ensures { result ≡ Ask.Contains key.now }
+{
+    Ask::Contains { key: *key }
+}
+
+/// The request has no job.
+pub fn tell(plan: &mut Plan, work: Work) -> Result<(), AllocError>
+    ensures works { OnOk result (plan.new.works.items ≡ plan.old.works.items ++ work ∷ []) }
+    ensures asks { plan.new.asks ≡ plan.old.asks }
+{
+    plan.works.push(work)?;
+    Ok(())
+}
+
+/// The request has this job, if there is room.
+pub fn one_job(plan: &mut Plan, ask: Ask) -> Result<(), AllocError>
+    ensures { (classes : List Class) (call : Call) → call_in classes ask ≡ Some call → OnOk result (Grows classes plan.old plan.new (one (length plan.old.asks.items) call)) }
+{
+    let at = plan.asks.len();
+    if at >= MOST_JOBS {
+        return tell(plan, Work::Denied(Denial::TooManyJobs));
+    }
+    plan.asks.push(ask)?;
+    tell(plan, Work::Job(at))
+}
+
+/// The request has an invocation of a class on each of these keys, doubles dropped, if there is room.
+pub fn many_jobs(
+    alloc: Global,
+    plan: &mut Plan,
+    class: usize,
+    keys: &[i64],
+    args: Args,
+) -> Result<(), AllocError>
+    ensures { (classes : List Class) (c : Class) → slice_get classes class ≡ Some c → OnOk result (Grows classes plan.old plan.new (each (length plan.old.asks.items) (different keys.now) args c)) }
+{
+    let set = once_each(alloc, keys)?;
+    let at = plan.asks.len();
+    if at > MOST_JOBS || set.len() > MOST_JOBS - at {
+        return tell(plan, Work::Denied(Denial::TooManyJobs));
+    }
+    push_jobs(&mut plan.asks, class, set.as_slice(), args)?;
+    tell(plan, Work::JobForEach(at, Keys { set }))
+}
+
+/// An invocation.
+pub fn invocation(class: usize, key: &i64, args: &Args) -> Ask
+    ensures { result ≡ Ask.Invoke class key.now args.now }
+{
+    Ask::Invoke {
+        class,
+        key: *key,
+        args: *args,
+    }
+}
+
+fn push_jobs(asks: &mut Vec<Ask>, class: usize, keys: &[i64], args: Args) -> Result<(), AllocError>
+    ensures { (classes : List Class) (c : Class) → slice_get classes class ≡ Some c → OnOk result (calls_in classes asks.new.items ≡ calls_in classes asks.old.items ++ map Some (invocations c args keys.now)) }
+{
+    for key in keys {
+        asks.push(invocation(class, key, &args))?;
+    }
+    Ok(())
+}
+
+/// Each key once, where it first stands.
+fn once_each(alloc: Global, keys: &[i64]) -> Result<IndexSet<i64>, AllocError>
+    ensures { IfOk result (λ set. set.keys ≡ different keys.now) }
+{
+    let mut set = IndexSet::new(alloc);
+    for key in keys {
+        if set.insert(*key).is_err() {
+            return Err(AllocError);
+        }
+    }
+    Ok(set)
+}

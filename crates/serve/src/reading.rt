@@ -1,0 +1,64 @@
+//! Rounds are read.
+
+ghost use Rattle.std.specs.Prelude.{◌≡◌, ◌≢◌, IfOk, IfErr, true, false, Err};
+ghost use Rattle.std.specs.Io.KnownBytes.{IsAtEnd};
+ghost use Rattle.wire.specs.declared.request.Request.TheVariants.{RoundEnd};
+ghost use Rattle.serve.specs.Devices.{ReadsAreCounted};
+ghost use Rattle.serve.specs.Kept.{AreOf, classes_of, RoundRead, IsBroken};
+
+use crate::adding::add;
+use crate::fault::{ServeFault, of_wire};
+use crate::plan::Plan;
+use registry::{ClassId, Registry};
+use std::alloc::Global;
+use std::io::Read;
+use std::sync::Wait;
+use wire::{Counted, Request, read_request};
+
+fn is_end(request: &Request) -> bool
+    ensures yes { result ≡ true → request.now ≡ RoundEnd }
+    ensures no { result ≡ false → request.now ≢ RoundEnd }
+{
+    matches!(request, Request::RoundEnd)
+}
+
+/// Reads the requests of a round, up to its end; at the end of the input there is none. Classes are defined as they are read.
+pub fn read_round<T: Wait, R: Read>(
+    rt: &T,
+    alloc: Global,
+    registry: &Registry,
+    ids: &mut Vec<ClassId>,
+    reader: &mut Counted<R>,
+) -> Result<Option<Plan>, ServeFault>
+    requires { AreOf registry.now ids.old.items }
+    ensures ok { IfOk result (λ round. RoundRead (R.remaining reader.old.inner) (R.remaining reader.new.inner) (classes_of ids.old.items) (classes_of ids.new.items) round) }
+    ensures err { IfErr result (λ e. IsBroken (R.remaining reader.old.inner) (R.remaining reader.new.inner) e) }
+    ensures end { result ≡ Err ServeFault.Truncated → IsAtEnd (R.remaining reader.new.inner) }
+    ensures counted { ReadsAreCounted result reader.old reader.new }
+    ensures known { AreOf registry.now ids.new.items }
+{
+    let mut plan = Plan {
+        works: Vec::new(alloc),
+        asks: Vec::new(alloc),
+    };
+    for _ in rt.forever() {
+        match read_request(alloc, reader) {
+            Ok(Some(request)) => {
+                if is_end(&request) {
+                    return Ok(Some(plan));
+                }
+                let Ok(()) = add(rt, alloc, registry, ids, &mut plan, request) else {
+                    return Err(ServeFault::NoMemory);
+                };
+            }
+            Ok(None) => {
+                if plan.works.is_empty() {
+                    return Ok(None);
+                }
+                return Err(ServeFault::Truncated);
+            }
+            Err(e) => return Err(of_wire(e)),
+        }
+    }
+    unreachable!()
+}

@@ -1,0 +1,128 @@
+//! Rounds by several workers: orders that may be, and calls that meet.
+
+use crate::Settings;
+use crate::tests::{ROUND_END, define, returned, serve_all, serve_beside};
+use cache::Gate;
+use rowclasses as rows;
+use std::alloc::AllocError;
+use std::sync::atomic::{AtomicBool, Ordering};
+use std::test::Fail;
+use std::thread;
+use std::time::{Clock, Duration};
+
+/// Adds an invocation of class 0 on a key, with the argument 1.
+fn invoke(input: &mut Vec<u8>, high: u8, low: u8) -> Result<(), AllocError> {
+    input.extend_from_slice(&[
+        0, 0, 0, 0x17, 6, 0, 0, 0, 0, 0, 0, 0, 0, 0, 0, high, low, 1, 1, 0, 0, 0, 0, 0, 0, 0, 1,
+    ])
+}
+
+/// Adds a round of a put of 1 on a key and two invocations beside it, and a round that gets what they leave.
+fn beside_a_put(input: &mut Vec<u8>, high: u8, low: u8) -> Result<(), AllocError> {
+    input.extend_from_slice(&[
+        0, 0, 0, 0x11, 2, 0, 0, 0, 0, 0, 0, high, low, 0, 0, 0, 0, 0, 0, 0, 1,
+    ])?;
+    invoke(input, high, low)?;
+    invoke(input, high, low)?;
+    input.extend_from_slice(&ROUND_END)?;
+    input.extend_from_slice(&[0, 0, 0, 9, 3, 0, 0, 0, 0, 0, 0, high, low])?;
+    input.extend_from_slice(&ROUND_END)
+}
+
+/// The bytes of the replies to such rounds.
+const REPLIES: usize = 5 + 15 + 15 + 5 + 14 + 5;
+
+/// Whether the replies say that the put and the two invocations were done in some order.
+fn is_in_some_order(replies: &[u8]) -> bool {
+    if replies.len() != REPLIES {
+        return false;
+    }
+    let (one, other, after) = (replies[19], replies[34], replies[53]);
+    let between = [0, 0, 0, 1, 9, 0, 0, 0, 0x0A, 4, 1, 0, 0, 0, 0, 0, 0, 0];
+    &replies[..5] == &[0, 0, 0, 1, 3][..]
+        && &replies[5..20] == &returned(one)[..]
+        && &replies[20..35] == &returned(other)[..]
+        && &replies[35..53] == &between[..]
+        && matches!(
+            (one, other, after),
+            (2, 3, 3) | (3, 2, 3) | (1, 2, 2) | (2, 1, 2) | (1, 2, 1) | (2, 1, 1)
+        )
+}
+
+#[test]
+fn a_thousand_rounds_are_each_in_some_order(rt: HostRuntime) -> Result<(), Fail> {
+    let alloc = rt.alloc();
+    let mut input = Vec::new(alloc);
+    define(&mut input, &rows::counter(alloc)?)?;
+    input.extend_from_slice(&ROUND_END)?;
+    for high in 0..4 {
+        for low in 0..=249 {
+            beside_a_put(&mut input, high, low)?;
+        }
+    }
+    let ended = serve_all(&rt, alloc, &input, 4);
+    assert_eq!(rt; ended.fault, None);
+    // The class and its round come first.
+    let output = ended.output.as_slice();
+    assert_eq!(rt; output.len(), 22 + 1000 * REPLIES);
+    assert!(rt; output[22..].chunks(REPLIES).all(is_in_some_order));
+    Ok(())
+}
+
+/// Holds job 0 in its begun call until job 1 was answered, for ten seconds at most.
+#[derive(Drop)]
+struct Holding<'s, R> {
+    rt: &'s R,
+    answered: AtomicBool,
+    seen: AtomicBool,
+}
+
+impl<'s, R: Clock> Gate for Holding<'s, R> {
+    fn started(&self, job: usize) {
+        if job != 0 {
+            return;
+        }
+        for _ in 0..100_000 {
+            if self.answered.load(Ordering::Acquire) {
+                self.seen.store(true, Ordering::Release);
+                return;
+            }
+            thread::sleep(self.rt, Duration::from_micros(100));
+        }
+    }
+
+    fn answered(&self, job: usize) {
+        if job == 1 {
+            self.answered.store(true, Ordering::Release);
+        }
+    }
+}
+
+#[test]
+fn two_stripes_work_at_once(rt: HostRuntime) -> Result<(), Fail> {
+    let alloc = rt.alloc();
+    let mut input = Vec::new(alloc);
+    define(&mut input, &rows::counter(alloc)?)?;
+    input.extend_from_slice(&ROUND_END)?;
+    invoke(&mut input, 0, 0)?;
+    invoke(&mut input, 0, 1)?;
+    input.extend_from_slice(&ROUND_END)?;
+    let gate = Holding {
+        rt: &rt,
+        answered: AtomicBool::new(false),
+        seen: AtomicBool::new(false),
+    };
+    let settings = Settings {
+        workers: 2,
+        stripes: 2,
+    };
+    let ended = serve_beside(&rt, alloc, &input, settings, &gate);
+    assert_eq!(rt; ended.fault, None);
+    assert!(rt; gate.seen.load(Ordering::Acquire));
+    // The class and its round come first.
+    let output = ended.output.as_slice();
+    assert_eq!(rt; output.len(), 57);
+    assert_eq!(rt; &output[22..37], &returned(1)[..]);
+    assert_eq!(rt; &output[37..52], &returned(1)[..]);
+    Ok(())
+}

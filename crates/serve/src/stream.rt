@@ -1,0 +1,91 @@
+//! Streams of requests.
+
+ghost use Rattle.std.specs.Prelude.{◌≡◌, ◌≢◌, ◌≤◌, ◌↔◌, ℤ, None, OnOk, IfErr, Err};
+ghost use Rattle.std.specs.Io.KnownBytes.{IsAtEnd};
+ghost use Rattle.stripe.specs.Stored.{entry_among};
+ghost use Rattle.serve.specs.Served.{IsServed, IsCutShort, EndsEarly};
+ghost use Rattle.serve.specs.Settings.{CanServe};
+ghost use Rattle.serve.specs.Devices.{TookAndGave, ReadsAreCounted, WritesAreCounted};
+
+use crate::fault::ServeFault;
+use crate::settings::Settings;
+use crate::turn::one_round;
+use cache::Gate;
+use registry::Registry;
+use std::alloc::Global;
+use std::io::{Read, Write};
+use std::sync::Wait;
+use std::thread::Threads;
+use stripe::{OpenRefusal, Tables};
+use wire::Counted;
+
+/// The most workers.
+const MOST_WORKERS: usize = 16;
+
+/// Serves the requests of the reader, round by round, to its end. The writer is flushed behind each round. Where a fault ends the
+/// stream early, the replies to the rounds before stand.
+pub fn serve<T: Threads + Wait + Sync, R: Read, W: Write, G: Gate + Sync>(
+    rt: &T,
+    alloc: Global,
+    reader: &mut Counted<R>,
+    writer: &mut Counted<W>,
+    settings: Settings,
+    gate: &G,
+) -> Result<(), ServeFault>
+    ensures served { OnOk result (TookAndGave (R.remaining reader.old.inner) (R.remaining reader.new.inner) (W.contents writer.old.inner) (W.contents writer.new.inner) IsServed) }
+    ensures whole { OnOk result (IsAtEnd (R.remaining reader.new.inner)) }
+    ensures cut { IfErr result (λ fault. TookAndGave (R.remaining reader.old.inner) (R.remaining reader.new.inner) (W.contents writer.old.inner) (W.contents writer.new.inner) (λ taken given. EndsEarly taken given fault)) }
+    ensures truncated { result ≡ Err ServeFault.Truncated → IsAtEnd (R.remaining reader.new.inner) }
+    ensures reads { ReadsAreCounted result reader.old reader.new }
+    ensures writes { WritesAreCounted result writer.old writer.new }
+    ensures count { (result ≡ Err ServeFault.BadCount) ↔ (¬ CanServe settings) }
+    ensures untouched { result ≡ Err ServeFault.BadCount → (reader.new ≡ reader.old) × (writer.new ≡ writer.old) }
+{
+    let workers = settings.workers;
+    if workers > MOST_WORKERS {
+        return Err(ServeFault::BadCount);
+    }
+    let tables = match Tables::new(alloc, settings.stripes) {
+        Ok(tables) => tables,
+        Err(OpenRefusal::BadCount) => return Err(ServeFault::BadCount),
+        Err(OpenRefusal::NoMemory) => return Err(ServeFault::NoMemory),
+    };
+    let Ok(registry) = Registry::new(alloc) else {
+        return Err(ServeFault::NoMemory);
+    };
+    stream(rt, alloc, &registry, tables, workers, reader, writer, gate)
+}
+
+/// Serves the requests, on a cache that has no entries.
+fn stream<T: Threads + Wait + Sync, R: Read, W: Write, G: Gate + Sync>(
+    rt: &T,
+    alloc: Global,
+    registry: &Registry,
+    tables: Tables,
+    workers: usize,
+    reader: &mut Counted<R>,
+    writer: &mut Counted<W>,
+    gate: &G,
+) -> Result<(), ServeFault>
+    requires empty { (k : ℤ) → entry_among tables k ≡ None }
+    requires workers { workers ≤ 16 }
+    ensures served { OnOk result (TookAndGave (R.remaining reader.old.inner) (R.remaining reader.new.inner) (W.contents writer.old.inner) (W.contents writer.new.inner) IsServed) }
+    ensures whole { OnOk result (IsAtEnd (R.remaining reader.new.inner)) }
+    ensures cut { IfErr result (λ fault. TookAndGave (R.remaining reader.old.inner) (R.remaining reader.new.inner) (W.contents writer.old.inner) (W.contents writer.new.inner) (λ taken given. IsCutShort taken given fault)) }
+    ensures truncated { result ≡ Err ServeFault.Truncated → IsAtEnd (R.remaining reader.new.inner) }
+    ensures reads { ReadsAreCounted result reader.old reader.new }
+    ensures writes { WritesAreCounted result writer.old writer.new }
+{
+    let mut ids = Vec::new(alloc);
+    let mut tables = tables;
+    for _ in rt.forever() {
+        match one_round(
+            rt, alloc, registry, &mut ids, tables, workers, reader, writer, gate,
+        ) {
+            Ok(Some(left)) => tables = left,
+            Ok(None) => return Ok(()),
+            Err(e) => return Err(e),
+        }
+    }
+    unreachable!()
+}

@@ -1,0 +1,107 @@
+//! One round.
+
+ghost use Rattle.std.specs.Prelude.{◌≡◌, ◌≤◌, List, IfOk, IfErr, OnOk, OnErr, Err};
+ghost use Rattle.std.specs.Io.KnownBytes.{IsAtEnd};
+ghost use Rattle.stripe.specs.History.{Call};
+ghost use Rattle.stripe.specs.Stored.{entry_among};
+ghost use Rattle.wire.specs.Streams.{Wrote, WrotePart};
+ghost use Rattle.serve.specs.Served.{stand};
+ghost use Rattle.serve.specs.Devices.{ReadsAreCounted, WritesAreCounted};
+ghost use Rattle.serve.specs.Kept.{AreOf, AreCalls, HasCalls, IsRun, classes_of, works_of, RoundServed, RoundFailed};
+
+use crate::fault::ServeFault;
+use crate::jobs::{Left, jobs_of, run_jobs};
+use crate::plan::Plan;
+use crate::reading::read_round;
+use crate::telling::text_of;
+use cache::Gate;
+use registry::{ClassId, Registry};
+use std::alloc::{AllocError, Global};
+use std::io::{Read, Write};
+use std::sync::Wait;
+use std::thread::Threads;
+use stripe::Tables;
+use wire::{Counted, WriteFailed, write_bytes};
+
+/// Writes all the bytes, and flushes.
+fn write_all<W: Write>(writer: &mut Counted<W>, bytes: &[u8]) -> Result<(), WriteFailed>
+    ensures ok { OnOk result (Wrote W.contents writer.old writer.new bytes.now) }
+    ensures err { OnErr result (WrotePart W.contents writer.old writer.new bytes.now) }
+{
+    write_bytes(writer, bytes)?;
+    match writer.flush() {
+        Ok(()) => Ok(()),
+        Err(_) => Err(WriteFailed),
+    }
+}
+
+/// Runs a round, and gives the entries that it leaves with the text of its replies.
+fn run_round<T: Threads + Wait + Sync, G: Gate + Sync>(
+    rt: &T,
+    alloc: Global,
+    registry: &Registry,
+    ids: &[ClassId],
+    tables: Tables,
+    workers: usize,
+    plan: Plan,
+    gate: &G,
+) -> Result<(Tables, Vec<u8>), AllocError>
+    requires called { HasCalls (classes_of ids.now) plan }
+    requires known { AreOf registry.now ids.now }
+    requires workers { workers ≤ 16 }
+    ensures { IfOk result (λ run. (calls : List Call) → AreCalls (classes_of ids.now) plan.asks.items calls → IsRun (entry_among tables) calls (works_of plan) (entry_among run.0) run.1.items) }
+{
+    let Plan { works, asks } = plan;
+    let jobs = jobs_of(alloc, ids, asks.as_slice())?;
+    let Ok(left) = run_jobs(rt, alloc, registry, tables, workers, jobs.as_slice(), gate) else {
+        return Err(AllocError);
+    };
+    let Left { tables, replies } = left;
+    let text = text_of(alloc, works, replies.as_slice())?;
+    Ok((tables, text))
+}
+
+/// Reads a round, runs it and writes its replies. It gives the entries that the round left; at the end of the input there is none.
+pub fn one_round<T: Threads + Wait + Sync, R: Read, W: Write, G: Gate + Sync>(
+    rt: &T,
+    alloc: Global,
+    registry: &Registry,
+    ids: &mut Vec<ClassId>,
+    tables: Tables,
+    workers: usize,
+    reader: &mut Counted<R>,
+    writer: &mut Counted<W>,
+    gate: &G,
+) -> Result<Option<Tables>, ServeFault>
+    requires known { AreOf registry.now ids.old.items }
+    requires workers { workers ≤ 16 }
+    ensures ok { IfOk result (λ left. RoundServed (R.remaining reader.old.inner) (R.remaining reader.new.inner) (W.contents writer.old.inner) (W.contents writer.new.inner) (stand (classes_of ids.old.items) (entry_among tables)) (classes_of ids.new.items) left) }
+    ensures err { IfErr result (λ e. RoundFailed (R.remaining reader.old.inner) (R.remaining reader.new.inner) (W.contents writer.old.inner) (W.contents writer.new.inner) (stand (classes_of ids.old.items) (entry_among tables)) e) }
+    ensures end { result ≡ Err ServeFault.Truncated → IsAtEnd (R.remaining reader.new.inner) }
+    ensures reads { ReadsAreCounted result reader.old reader.new }
+    ensures writes { WritesAreCounted result writer.old writer.new }
+    ensures known { AreOf registry.now ids.new.items }
+{
+    let plan = match read_round(rt, alloc, registry, ids, reader) {
+        Ok(Some(plan)) => plan,
+        Ok(None) => return Ok(None),
+        Err(e) => return Err(e),
+    };
+    let Ok(ran) = run_round(
+        rt,
+        alloc,
+        registry,
+        ids.as_slice(),
+        tables,
+        workers,
+        plan,
+        gate,
+    ) else {
+        return Err(ServeFault::NoMemory);
+    };
+    let (left, text) = ran;
+    match write_all(writer, text.as_slice()) {
+        Ok(()) => Ok(Some(left)),
+        Err(_) => Err(ServeFault::Write),
+    }
+}
