@@ -6,16 +6,16 @@ ghost use Rattle.cache.specs.Opened.{AreFresh};
 ghost use Rattle.registry.specs.Ids.{IsOf};
 
 use super::*;
-use jtypes::{Arg, Args};
+use jtypes::{Arg, Args, Outcome};
 use machine::Workspace;
 use registry::{ClassId, Registry};
 use rowclasses as rows;
-use std::alloc::Global;
+use std::alloc::{AllocError, Global};
 use std::sync::{Barrier, Wait};
 use std::test::Fail;
 use std::thread;
 use std::thread::Threads;
-use stripe::{OpenRefusal, Tables};
+use stripe::{OpenRefusal, Reply, Tables};
 
 /// What a worker does, at its place among all.
 trait Shift<W> {
@@ -58,7 +58,7 @@ impl<'s, R: Wait> Gate for Meeting<'s, R> {
 enum Work {
     /// It puts and gets on key 1, 500 times.
     PutAndGet,
-    /// It counts the entry of key 1 up, 100 times.
+    /// It counts the entry of key 0 up, 100 times.
     Count,
     /// The first caller puts on key 0 and the others on key 1. No call ends before two have started.
     Meet,
@@ -105,7 +105,7 @@ fn put_and_get<'a, R: Wait>(rt: &R, cache: &Cache<'a>, seat: &mut Seat<'a>)
     }
 }
 
-/// Counts the entry of key 1 up, 100 times.
+/// Counts the entry of key 0 up, 100 times.
 fn count<'a, R: Wait>(
     rt: &R,
     alloc: Global,
@@ -127,7 +127,7 @@ fn count<'a, R: Wait>(
     }
 }
 
-/// Counts the entry of key 1 up.
+/// Counts the entry of key 0 up.
 fn count_one<'a, R: Wait>(
     rt: &R,
     cache: &Cache<'a>,
@@ -144,7 +144,7 @@ fn count_one<'a, R: Wait>(
     let Some(one) = Args::of(&[Arg::Long(1)]) else {
         return;
     };
-    let _counted = cache.invoke(rt, seat, workspace, counter, 1, one);
+    let _counted = cache.invoke(rt, seat, workspace, counter, 0, one);
 }
 
 /// Puts on key 0 or key 1, when others have started too.
@@ -236,6 +236,39 @@ fn records(closed: &Closed<'_>, stripe: usize) -> Option<usize> {
     }
 }
 
+/// The number that an invocation answered.
+fn count_in(receipt: &Receipt<'_>) -> Option<i64> {
+    match receipt.reply {
+        Reply::Result(Outcome::Returned(Arg::Long(count))) => Some(count),
+        _ => None,
+    }
+}
+
+/// Whether each invocation of a seat answered a greater number than the one before it.
+fn counts_rise(seat: &[Receipt<'_>]) -> bool {
+    let mut last = 0i64;
+    for receipt in seat {
+        match count_in(receipt) {
+            Some(count) if last < count => last = count,
+            _ => return false,
+        }
+    }
+    true
+}
+
+/// The numbers that the invocations of all seats answered.
+fn counts(alloc: Global, closed: &Closed<'_>) -> Result<Vec<i64>, AllocError> {
+    let mut counts = Vec::new(alloc);
+    for seat in &closed.receipts {
+        for receipt in seat {
+            if let Some(count) = count_in(receipt) {
+                counts.push(count)?;
+            }
+        }
+    }
+    Ok(counts)
+}
+
 fn is_sync<T: Sync>(_: &T) {}
 
 fn is_send<T: Send>(_: &T) {}
@@ -283,7 +316,7 @@ fn four_callers_count(rt: HostRuntime) -> Result<(), Fail> {
     };
     assert_eq!(rt; seats_of(&closed, 100), 4);
     assert_eq!(rt; records(&closed, 0), Some(400));
-    assert_eq!(rt; closed.tables.entry(1), Some(400));
+    assert_eq!(rt; closed.tables.entry(0), Some(400));
     Ok(())
 }
 
@@ -299,7 +332,11 @@ fn sixteen_callers_count(rt: HostRuntime) -> Result<(), Fail> {
     };
     assert_eq!(rt; seats_of(&closed, 100), 16);
     assert_eq!(rt; records(&closed, 0), Some(1600));
-    assert_eq!(rt; closed.tables.entry(1), Some(1600));
+    assert_eq!(rt; closed.tables.entry(0), Some(1600));
+    assert!(rt; closed.receipts.iter().all(|seat| counts_rise(seat)));
+    let counts = counts(alloc, &closed)?;
+    assert!(rt; (1..=1600).all(|count| counts.contains(&count)));
+    assert_eq!(rt; counts.len(), 1600);
     Ok(())
 }
 
