@@ -1,13 +1,17 @@
 //! One command.
 
+use crate::calls::{LEAST_KEYS, MOST_KEYS, calls};
 use crate::file::read_class;
 use crate::line::{Call, Request, Work, parse};
 use crate::measure::{runs, verdicts};
-use crate::report::{Failure, cost, of_runs, of_verdicts};
+use crate::report::{Failure, cost, of_calls, of_rounds, of_runs, of_verdicts};
+use crate::rounds::rounds;
 use machine::{Workspace, run};
 use std::alloc::Global;
 use std::rt::Files;
-use std::time::CpuClock;
+use std::sync::Wait;
+use std::thread::Threads;
+use std::time::{Clock, CpuClock};
 use verify::{Verified, verify};
 
 fn running(
@@ -39,8 +43,42 @@ fn verifying(
     Ok(of_verdicts(alloc, times, accepted > 0)?)
 }
 
+/// The most seats of a cache.
+const MOST_SEATS: usize = 16;
+
+/// The most jobs of a round.
+const MOST_JOBS: u32 = 4096;
+
+fn calling<R: Threads + Wait + Clock + Sync>(
+    rt: &R,
+    alloc: Global,
+    bytes: &[u8],
+    keys: u32,
+    seats: usize,
+) -> Result<String, Failure> {
+    if keys < LEAST_KEYS || keys > MOST_KEYS || seats == 0 || seats > MOST_SEATS {
+        return Err(Failure::BadCommandLine);
+    }
+    let times = calls(rt, alloc, bytes, keys, seats)?;
+    Ok(of_calls(alloc, times, seats)?)
+}
+
+fn serving<R: Threads + Wait + Clock + Sync>(
+    rt: &R,
+    alloc: Global,
+    bytes: &[u8],
+    jobs: u32,
+    seats: usize,
+) -> Result<String, Failure> {
+    if jobs == 0 || jobs > MOST_JOBS || seats == 0 || seats > MOST_SEATS {
+        return Err(Failure::BadCommandLine);
+    }
+    let times = rounds(rt, alloc, bytes, jobs, seats)?;
+    Ok(of_rounds(alloc, times, jobs)?)
+}
+
 /// Does what a line asks, and answers the line that tells it.
-pub fn measured<R: CpuClock + Files>(
+pub fn measured<R: CpuClock + Clock + Threads + Wait + Sync + Files>(
     rt: &R,
     alloc: Global,
     words: &[&str],
@@ -55,5 +93,7 @@ pub fn measured<R: CpuClock + Files>(
             Ok(class) => running(rt, alloc, &class, &call, count),
             Err(_) => Err(Failure::Refused),
         },
+        Work::Calling { seats } => calling(rt, alloc, &bytes, count, seats),
+        Work::Serving { seats } => serving(rt, alloc, &bytes, count, seats),
     }
 }

@@ -1,4 +1,4 @@
-//! The command line: `verify FILE COUNT` and `run FILE COUNT KEY VALUE [ARGS..]`, in which all numbers are longs.
+//! The command line: `verify FILE COUNT`, `run FILE COUNT KEY VALUE [ARGS..]`, in which all numbers are longs, `calls FILE KEYS SEATS` and `rounds FILE JOBS SEATS`.
 
 use jtypes::{Arg, Args};
 
@@ -15,9 +15,13 @@ pub struct Call {
 pub enum Work {
     Verifying,
     Running(Call),
+    /// Calls on a cache of as many keys as the count says.
+    Calling { seats: usize },
+    /// Rounds of as many jobs as the count says.
+    Serving { seats: usize },
 }
 
-/// A class file, and how often a round does the work. A count of 0 asks what one invocation takes.
+/// A class file, and a count: how often a round does the work, or of how many keys or jobs it is. A count of 0 asks what one invocation takes.
 #[derive(Clone, Copy, Debug)]
 pub struct Request<'a> {
     pub file: &'a str,
@@ -54,6 +58,12 @@ pub fn parse<'a>(words: &[&'a str]) -> Option<Request<'a>> {
     let work = match (*name, rest) {
         ("verify", []) => Work::Verifying,
         ("run", [key, value, args @ ..]) => Work::Running(call_of(key, value, args)?),
+        ("calls", [seats]) => Work::Calling {
+            seats: seats.parse::<usize>().ok()?,
+        },
+        ("rounds", [seats]) => Work::Serving {
+            seats: seats.parse::<usize>().ok()?,
+        },
         _ => return None,
     };
     Some(Request { file, count, work })

@@ -1,11 +1,14 @@
-//! Loops of `run` and `verify` over one class file, for measuring.
+//! Loops of `run` and `verify` over one class file, of calls on a cache and of rounds, for measuring.
 #![tactic(auto)]
 
+mod calls;
 mod command;
+mod crew;
 mod file;
 mod line;
 mod measure;
 mod report;
+mod rounds;
 #[cfg(test)]
 mod tests;
 

@@ -1,6 +1,6 @@
 //! Rounds of the same work, by the processor time of this thread.
 
-ghost use Rattle.std.specs.Prelude.{◌≡◌, ◌*◌, ◌/◌, ◌<◌};
+ghost use Rattle.std.specs.Prelude.{◌≡◌, ◌*◌, ◌/◌, ◌<◌, length};
 ghost use Rattle.std.specs.Duration.{as_nanos};
 
 use crate::line::Call;
@@ -11,7 +11,7 @@ use std::time::{CpuClock, Duration};
 use verify::{Verified, verify};
 
 /// How many rounds there are.
-const ROUNDS: usize = 9;
+pub const ROUNDS: usize = 9;
 
 /// What one piece of work takes, in tenths of a nanosecond, in the fastest round and in the median one.
 #[derive(Clone, Copy, Debug, PartialEq, Eq)]
@@ -26,6 +26,17 @@ pub fn tenths(time: Duration, count: u32) -> u128
     ensures { result ≡ as_nanos time * 10 / count }
 {
     time.as_nanos() * 10 / u128::from(count)
+}
+
+/// The least and the median of some times.
+pub fn times_of(times: &mut [u128]) -> Times
+    requires { 0 < length times.old }
+{
+    times.sort_unstable();
+    Times {
+        least: times[0],
+        median: times[times.len() / 2],
+    }
 }
 
 /// Runs a call so often, and answers the instructions of all of them.
@@ -72,12 +83,7 @@ fn rounds<F: FnMut(u32) -> u64>(
         told = told.wrapping_add(work(count));
         *time = tenths(now(clock)?.saturating_sub(begin), count);
     }
-    times.sort_unstable();
-    let answer = Times {
-        least: times[0],
-        median: times[ROUNDS / 2],
-    };
-    Ok((answer, told))
+    Ok((times_of(&mut times), told))
 }
 
 /// What running a call takes, and the instructions that all runs took.

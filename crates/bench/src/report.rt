@@ -1,5 +1,6 @@
 //! What the program writes.
 
+use crate::calls::CallTimes;
 use crate::measure::Times;
 use std::alloc::{AllocError, Global};
 
@@ -32,7 +33,7 @@ impl Failure {
     pub fn text(self) -> &'static str {
         match self {
             Failure::BadCommandLine => {
-                "usage: bench run FILE COUNT KEY VALUE [ARGS..] | bench verify FILE COUNT\n"
+                "usage: bench run FILE COUNT KEY VALUE [ARGS..] | bench verify FILE COUNT | bench calls FILE KEYS SEATS | bench rounds FILE JOBS SEATS\n"
             }
             Failure::CannotRead => "error: cannot read the file\n",
             Failure::Refused => "error: the class is refused\n",
@@ -73,6 +74,39 @@ pub fn of_verdicts(alloc: Global, times: Times, accepted: bool) -> Result<String
     let (least, median) = (times.least / 1000, times.median / 1000);
     format!(in alloc;
         "verify {}.{} us, at least {}.{} us, {verdict}\n",
+        median / 10,
+        median % 10,
+        least / 10,
+        least % 10
+    )
+}
+
+/// What each call on a cache took.
+pub fn of_calls(alloc: Global, times: CallTimes, seats: usize) -> Result<String, AllocError> {
+    let CallTimes { invoke, put } = times;
+    format!(in alloc;
+        "invoke {}.{} ns, at least {}.{} ns, put {}.{} ns, at least {}.{} ns, by {seats} seats\n",
+        invoke.median / 10,
+        invoke.median % 10,
+        invoke.least / 10,
+        invoke.least % 10,
+        put.median / 10,
+        put.median % 10,
+        put.least / 10,
+        put.least % 10
+    )
+}
+
+/// What each round of so many jobs took, and the jobs of a second in the median round.
+pub fn of_rounds(alloc: Global, times: Times, jobs: u32) -> Result<String, AllocError> {
+    let (least, median) = (times.least / 1000, times.median / 1000);
+    let each_second = if times.median == 0 {
+        0
+    } else {
+        u128::from(jobs) * 10_000_000_000 / times.median
+    };
+    format!(in alloc;
+        "round {}.{} us, at least {}.{} us, {each_second} jobs a second\n",
         median / 10,
         median % 10,
         least / 10,

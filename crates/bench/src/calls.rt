@@ -1,0 +1,259 @@
+//! Calls on a cache, by the clock on the wall.
+//!
+//! A round is one cache's life. Its calls alone are timed, from the start of the seats' threads to the end of the last; opening and closing are not.
+
+ghost use Rattle.std.specs.Prelude.{◌≡◌, ◌<◌, IfOk};
+ghost use Rattle.cache.specs.Opened.{AreFresh};
+ghost use Rattle.registry.specs.Ids.{IsOf};
+
+use crate::crew::{Callers, Kind, serve_all};
+use crate::measure::{ROUNDS, Times, tenths, times_of};
+use crate::report::Failure;
+use cache::{Cache, Closed, Seat};
+use jtypes::Refusal;
+use registry::{ClassId, Registry};
+use std::alloc::{AllocError, Global};
+use std::sync::Wait;
+use std::thread::Threads;
+use std::time::{Clock, Duration, Instant};
+use stripe::{MOST_RECORDS, Tables};
+
+/// The stripes of a cache.
+const STRIPES: u32 = 16;
+
+/// The calls of a round: as many as the stripes have records.
+const CALLS: u32 = 65_536;
+
+/// How many rows calls behind one another are apart, so that they are far from each other in a table.
+const STEP: u32 = 7919;
+
+pub const LEAST_KEYS: u32 = STRIPES;
+
+pub const MOST_KEYS: u32 = 1_000_000;
+
+/// What an invocation and a put take, in tenths of a nanosecond: the time of all seats' calls, shared out among them all.
+#[derive(Clone, Copy, Debug)]
+pub struct CallTimes {
+    pub invoke: Times,
+    pub put: Times,
+}
+
+/// The time of the clock on the wall.
+pub fn now(clock: &impl Clock) -> Result<Instant, Failure> {
+    match Instant::now(clock) {
+        Ok(time) => Ok(time),
+        Err(_) => Err(Failure::NoClock),
+    }
+}
+
+/// The class of these bytes, in a registry.
+pub fn defined<R: Wait>(
+    rt: &R,
+    alloc: Global,
+    registry: &Registry,
+    bytes: &[u8],
+) -> Result<ClassId, Failure>
+    ensures { IfOk result (λ id. IsOf registry.now id) }
+{
+    match registry.define(rt, alloc, bytes) {
+        Ok(id) => Ok(id),
+        Err(Refusal::NoMemory) => Err(Failure::NoMemory),
+        Err(_) => Err(Failure::Refused),
+    }
+}
+
+/// Empty tables, in so many stripes as a cache has.
+pub fn empty(alloc: Global) -> Result<Tables, Failure> {
+    match Tables::new(alloc, STRIPES as usize) {
+        Ok(tables) => Ok(tables),
+        Err(_) => Err(Failure::NoMemory),
+    }
+}
+
+/// The keys from one to another, for one seat.
+fn part(alloc: Global, from: u32, to: u32) -> Result<Vec<Vec<i64>>, AllocError> {
+    let mut keys = Vec::new(alloc);
+    for key in from..to {
+        keys.push(i64::from(key))?;
+    }
+    let mut plan = Vec::new(alloc);
+    plan.push(keys)?;
+    Ok(plan)
+}
+
+/// A list of no keys for each seat.
+fn no_keys(alloc: Global, seats: usize) -> Result<Vec<Vec<i64>>, AllocError> {
+    let mut plan = Vec::new(alloc);
+    for _ in 0..seats {
+        plan.push(Vec::new(alloc))?;
+    }
+    Ok(plan)
+}
+
+/// The key of a call: the stripes in turn, and in each one row after another that is far from it.
+fn key_at(number: u32, rows: u32) -> i64
+    requires { 0 < rows }
+{
+    let row = (number / STRIPES).wrapping_mul(STEP) % rows;
+    i64::from(row) * i64::from(STRIPES) + i64::from(number % STRIPES)
+}
+
+/// The keys of each seat's calls in a round. No two seats have keys of one stripe.
+pub fn shared_out(
+    alloc: Global,
+    round: u32,
+    keys: u32,
+    seats: usize,
+) -> Result<Vec<Vec<i64>>, AllocError>
+    requires keys { 15 < keys }
+    requires seats { 0 < seats }
+{
+    let mut plan = no_keys(alloc, seats)?;
+    let first = round.wrapping_mul(CALLS);
+    for number in 0..CALLS {
+        let place = (number % STRIPES) as usize % seats;
+        let key = key_at(first.wrapping_add(number), keys / STRIPES);
+        if let Some(list) = plan.get_mut(place) {
+            list.push(key)?;
+        }
+    }
+    Ok(plan)
+}
+
+/// How many calls a plan has.
+fn planned(plan: &[Vec<i64>]) -> usize {
+    let mut calls = 0usize;
+    for keys in plan {
+        calls = calls.wrapping_add(keys.len());
+    }
+    calls
+}
+
+/// How many calls of a cache were answered.
+fn answered(closed: &Closed<'_>) -> usize {
+    let mut calls = 0usize;
+    for receipts in &closed.receipts {
+        calls = calls.wrapping_add(receipts.len());
+    }
+    calls
+}
+
+/// A cache with these entries, and so many seats.
+fn opened<'a>(
+    alloc: Global,
+    registry: &'a Registry,
+    tables: Tables,
+    seats: usize,
+) -> Result<(Cache<'a>, Vec<Seat<'a>>), Failure>
+    ensures registry { IfOk result (λ r. r.0.registry ≡ registry.now) }
+    ensures seats { IfOk result (λ r. AreFresh r.0.table r.0.seats r.1.items) }
+{
+    match Cache::open(alloc, registry, tables, MOST_RECORDS, seats) {
+        Ok(opened) => Ok(opened),
+        Err(_) => Err(Failure::NoMemory),
+    }
+}
+
+/// One cache's life: how long the calls of a plan take, and the entries that they leave.
+pub fn lived<R: Threads + Wait + Clock + Sync>(
+    rt: &R,
+    alloc: Global,
+    registry: &Registry,
+    class: &ClassId,
+    kind: Kind,
+    plan: &[Vec<i64>],
+    tables: Tables,
+) -> Result<(Duration, Tables), Failure>
+    requires { IsOf registry.now class.now }
+{
+    let (cache, mut seats) = opened(alloc, registry, tables, plan.len())?;
+    let callers = Callers {
+        rt,
+        alloc,
+        cache: &cache,
+        class,
+        kind,
+        plan,
+    };
+    let begin = now(rt)?;
+    serve_all(rt, &mut seats, &callers);
+    let time = now(rt)?.saturating_duration_since(begin);
+    let closed = cache.close(seats);
+    if answered(&closed) != planned(plan) {
+        return Err(Failure::NoMemory);
+    }
+    Ok((time, closed.tables))
+}
+
+/// Tables with so many entries, which are put in as many rounds as it takes.
+fn filled<R: Threads + Wait + Clock + Sync>(
+    rt: &R,
+    alloc: Global,
+    registry: &Registry,
+    class: &ClassId,
+    keys: u32,
+) -> Result<Tables, Failure>
+    requires { IsOf registry.now class.now }
+{
+    let mut tables = empty(alloc)?;
+    for round in 0..keys.div_ceil(CALLS) {
+        let from = round.wrapping_mul(CALLS);
+        let plan = part(alloc, from, keys.min(from.wrapping_add(CALLS)))?;
+        let (_time, left) = lived(rt, alloc, registry, class, Kind::Put, &plan, tables)?;
+        tables = left;
+    }
+    Ok(tables)
+}
+
+/// What each call of a kind takes, and the entries afterwards.
+fn timed<R: Threads + Wait + Clock + Sync>(
+    rt: &R,
+    alloc: Global,
+    registry: &Registry,
+    class: &ClassId,
+    kind: Kind,
+    plans: &[Vec<Vec<i64>>],
+    mut tables: Tables,
+) -> Result<(Times, Tables), Failure>
+    requires { IsOf registry.now class.now }
+{
+    let mut times = [0u128; ROUNDS];
+    for (time, plan) in times.iter_mut().zip(plans) {
+        let (taken, left) = lived(rt, alloc, registry, class, kind, plan, tables)?;
+        *time = tenths(taken, CALLS);
+        tables = left;
+    }
+    Ok((times_of(&mut times), tables))
+}
+
+/// The plan of each round.
+fn plans(alloc: Global, keys: u32, seats: usize) -> Result<Vec<Vec<Vec<i64>>>, AllocError>
+    requires keys { 15 < keys }
+    requires seats { 0 < seats }
+{
+    let mut list = Vec::new(alloc);
+    for round in 0..ROUNDS as u32 {
+        list.push(shared_out(alloc, round, keys, seats)?)?;
+    }
+    Ok(list)
+}
+
+/// What calls of 1 to 16 seats take on a cache of so many keys.
+pub fn calls<R: Threads + Wait + Clock + Sync>(
+    rt: &R,
+    alloc: Global,
+    bytes: &[u8],
+    keys: u32,
+    seats: usize,
+) -> Result<CallTimes, Failure>
+    requires keys { 15 < keys }
+    requires seats { 0 < seats }
+{
+    let registry = Registry::new(alloc)?;
+    let class = defined(rt, alloc, &registry, bytes)?;
+    let plans = plans(alloc, keys, seats)?;
+    let tables = filled(rt, alloc, &registry, &class, keys)?;
+    let (invoke, tables) = timed(rt, alloc, &registry, &class, Kind::Invoke, &plans, tables)?;
+    let (put, _tables) = timed(rt, alloc, &registry, &class, Kind::Put, &plans, tables)?;
+    Ok(CallTimes { invoke, put })
+}

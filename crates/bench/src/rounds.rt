@@ -1,0 +1,108 @@
+//! Rounds of jobs, by the clock on the wall: opening a cache, running the jobs and closing it.
+
+ghost use Rattle.std.specs.Prelude.{◌≡◌, ◌<◌, ◌≤◌, length, IfOk};
+ghost use Rattle.std.specs.List.{All};
+ghost use Rattle.boxcar.specs.Table.{Shelves};
+ghost use Rattle.registry.specs.Ids.{IsOf};
+ghost use Rattle.cache.specs.Opened.{IsSeatCount};
+ghost use Rattle.claims.specs.Counters.{IsJobCount};
+ghost use Rattle.invokeall.specs.Jobs.{IsCallable};
+
+use crate::calls::{defined, empty, now};
+use crate::measure::{Times, tenths, times_of};
+use crate::report::Failure;
+use cache::NoGate;
+use invokeall::Job;
+use jtypes::Args;
+use registry::{ClassId, Registry};
+use std::alloc::{AllocError, Global};
+use std::sync::Wait;
+use std::thread::Threads;
+use std::time::{Clock, Duration};
+use stripe::Tables;
+use workers::run_by_workers;
+
+/// How many rounds there are.
+const ROUNDS: usize = 201;
+
+/// So many invocations, each on a key of its own.
+pub fn jobs_of<'j>(
+    alloc: Global,
+    class: &'j ClassId,
+    args: &'j Args,
+    count: u32,
+) -> Result<Vec<Job<'j>>, AllocError>
+    ensures count { IfOk result (λ jobs. length jobs.items ≡ count) }
+    ensures callable { (registry : Shelves) → IsOf registry class.now → IfOk result (λ jobs. All (IsCallable registry) jobs.items) }
+{
+    let mut jobs = Vec::new(alloc);
+    for key in 0..count {
+        let key = i64::from(key);
+        jobs.push(Job::Invoke { class, key, args })?;
+    }
+    Ok(jobs)
+}
+
+/// How long a round takes, and the entries that it leaves.
+pub fn one<R: Threads + Wait + Clock + Sync>(
+    rt: &R,
+    alloc: Global,
+    registry: &Registry,
+    tables: Tables,
+    seats: usize,
+    jobs: &[Job<'_>],
+) -> Result<(Duration, Tables), Failure>
+    requires seats { IsSeatCount seats }
+    requires jobs { IsJobCount (length jobs.now) }
+    requires callable { All (IsCallable registry.now) jobs.now }
+{
+    let begin = now(rt)?;
+    let Ok(left) = run_by_workers(rt, alloc, registry, tables, seats, jobs, &NoGate) else {
+        return Err(Failure::NoMemory);
+    };
+    let time = now(rt)?.saturating_duration_since(begin);
+    if left.replies.iter().any(|reply| reply.is_none()) {
+        return Err(Failure::NoMemory);
+    }
+    Ok((time, left.tables))
+}
+
+/// What each of the rounds takes, in tenths of a nanosecond.
+fn timed<R: Threads + Wait + Clock + Sync>(
+    rt: &R,
+    alloc: Global,
+    registry: &Registry,
+    seats: usize,
+    jobs: &[Job<'_>],
+) -> Result<Times, Failure>
+    requires seats { IsSeatCount seats }
+    requires jobs { IsJobCount (length jobs.now) }
+    requires callable { All (IsCallable registry.now) jobs.now }
+{
+    let mut tables = empty(alloc)?;
+    let mut times = [0u128; ROUNDS];
+    for time in times.iter_mut() {
+        let (taken, left) = one(rt, alloc, registry, tables, seats, jobs)?;
+        *time = tenths(taken, 1);
+        tables = left;
+    }
+    Ok(times_of(&mut times))
+}
+
+/// What a round of so many invocations takes, by 1 to 16 workers.
+pub fn rounds<R: Threads + Wait + Clock + Sync>(
+    rt: &R,
+    alloc: Global,
+    bytes: &[u8],
+    jobs: u32,
+    seats: usize,
+) -> Result<Times, Failure>
+    requires seats { IsSeatCount seats }
+    requires jobs { IsJobCount jobs }
+{
+    let registry = Registry::new(alloc)?;
+    let class = defined(rt, alloc, &registry, bytes)?;
+    let args = Args::none();
+    let jobs = jobs_of(alloc, &class, &args, jobs)?;
+    timed(rt, alloc, &registry, seats, &jobs)
+}
