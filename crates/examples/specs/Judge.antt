@@ -22,9 +22,8 @@ use Rattle.decode.specs.declared.instruction.Placed.{Placed}
 use Rattle.decode.specs.Code.{one}
 use Rattle.decode.specs.Places.{at_place, target_of, falls_through, pushed_before}
 use Rattle.frames.specs.Signatures.{method_signature, is_static, is_public, is_native, is_abstract}
-use Rattle.frames.specs.declared.frame.Frame.{Frame}
 use Rattle.frames.specs.declared.frame.Environment.{Environment}
-use Rattle.frames.specs.Frames.{first_frame, frame_in}
+use Rattle.frames.specs.Frames.{Frame, first_frame, frame_in}
 use Rattle.frames.specs.StackMap.{Listed, table, frames_from, declared_of}
 use Rattle.transfer.specs.Transfer.{transfer}
 use Rattle.typecheck.specs.Typing.{Method, Class, call_of, number_of_process}

@@ -16,7 +16,7 @@ use Rattle.decode.specs.declared.instruction.Placed.{Placed}
 use Rattle.decode.specs.Code.{one}
 use Rattle.frames.specs.declared.signatures.Signature.{Signature}
 use Rattle.frames.specs.Signatures.{method_signature}
-use Rattle.frames.specs.declared.frame.Frame.{Frame}
+use Rattle.frames.specs.Frames.{Frame}
 use Rattle.frames.specs.declared.frame.Environment.{Environment}
 use Rattle.frames.specs.StackMap.{table, frames_from, declared_of}
 use Rattle.typecheck.specs.Typing.{Method, Class}

@@ -7,7 +7,7 @@ use Rattle.jtypes.specs.declared.operations.Kind.TheVariants as kind
 use Rattle.classfile.specs.View.{ClassView}
 use Rattle.decode.specs.declared.instruction.Instruction.TheVariants as instruction
 use Rattle.decode.specs.declared.instruction.Placed.{Placed}
-use Rattle.frames.specs.declared.frame.Frame.{Frame}
+use Rattle.frames.specs.Frames.{Frame}
 use Rattle.frames.specs.declared.frame.Environment.{Environment}
 use Rattle.typecheck.specs.Typing.{Method, Class, IsWellTyped}
 use Rattle.typecheck.specs.Mismatch.{IsMismatch}

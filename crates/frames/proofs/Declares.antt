@@ -1,6 +1,6 @@
 -- What one reading of the tables says of the frames that they declare.
-use Rattle.std.proofs.Common.{◌≡◌, ℕ, zero, suc, ◌-◌, ◌^◌, ◌<◌, true, false, ltb, List, [], ◌∷◌, ◌++◌, length, get_or, Option, Some, None, Result, Ok, Err, refl, sym, ap, subst, ◌∙◌, append_assoc, arith}
-use Rattle.std.specs.Prelude.{All, ◌==◌}
+use Rattle.std.proofs.Common.{◌≡◌, ℕ, zero, suc, ◌-◌, ◌<◌, true, false, ltb, List, [], ◌∷◌, ◌++◌, length, get_or, Option, Some, None, Result, Ok, Err, refl, sym, ap, subst, ◌∙◌, append_assoc, arith}
+use Rattle.std.specs.Prelude.{◌==◌}
 use Rattle.std.proofs.lemmas.Bool.{eqb-true, le-ltb}
 use Rattle.std.proofs.lemmas.List.{append-nil, nil_from_length, length-append, take_at, drop_at}
 use Rattle.jtypes.specs.declared.refusal.Refusal.{Refusal}
@@ -11,16 +11,17 @@ use Rattle.jtypes.proofs.Fit.{only_if_some, then_some_parts}
 use Rattle.jtypes.proofs.Laws.{whole_found}
 use Rattle.classfile.specs.View.{ClassView}
 use Rattle.decode.specs.declared.instruction.Placed.{Placed}
-use Rattle.frames.specs.declared.frame.Frame.{Frame}
+use Rattle.frames.specs.Frames.{Frame}
 use Rattle.frames.specs.declared.frame.Environment.{Environment}
 use Rattle.frames.specs.declared.table.Declared.{Declared}
+use Rattle.frames.specs.declared.table.Frames.{Frames}
 use Rattle.frames.specs.Signatures.{constant_type}
 use Rattle.frames.specs.declared.entries.Change.{Change}
 use Rattle.frames.specs.declared.entries.Change.TheVariants.{Same, Chop}
 use Rattle.frames.specs.declared.entries.Entry.{Entry}
 use Rattle.frames.specs.StackMap.{object_type, class_item, stack_type, local_type, one_item, one_item_extended, with_delta, append, full, entry, table, place_after, declared_of, IsDeclared, without, with_table}
 use Rattle.frames.specs.Reading.{whole, entries_of, next_listed, framed, frames_of}
-use Rattle.frames.specs.Seen.{declared_seen, AreInOrder}
+use Rattle.frames.specs.Seen.{declared_seen, frames_seen, AreRead, AreInOrder}
 use Rattle.frames.proofs.Framed.{mapped, listed_is, place_is, rest_of, framed_found, framed_again}
 
 -- ---- the entries
@@ -171,17 +172,17 @@ framed_rises e code p locals (a ∷ es) ds h =
     let place = place_is (place_after p a.delta) locals a.change x (listed_is e code p locals a x s.1).0 in
     subst (RisesBehind p) t.2 (subst (IsBehind p) (sym place) (is_behind p a.delta), framed_rises e code (Some x.place) x.locals es t.0 t.1)
 
-later : (q : ℕ) (ds : List Declared) → RisesBehind (Some q) (declared_seen ds) → (j : ℕ) (d : Declared) → j < length ds → q < (get_or ds j d).place
-later q [] h j d l = absurd (omega arith)
-later q (x ∷ ds) h zero d l = h.0
-later q (x ∷ ds) h (suc j) d l = let m = later x.place ds h.1 j d (omega arith) in let n : q < x.place = h.0 in omega (arith, m, n)
+later : (kept : List (List JType)) (q : ℕ) (ds : List Declared) → RisesBehind (Some q) (declared_seen kept ds) → (j : ℕ) (d : Declared) → j < length ds → q < (get_or ds j d).place
+later kept q [] h j d l = absurd (omega arith)
+later kept q (x ∷ ds) h zero d l = h.0
+later kept q (x ∷ ds) h (suc j) d l = let m = later kept x.place ds h.1 j d (omega arith) in let n : q < x.place = h.0 in omega (arith, m, n)
 
-rises : (p : Option ℕ) (ds : List Declared) → RisesBehind p (declared_seen ds) → (i j : ℕ) (d : Declared) → i < j → j < length ds → (get_or ds i d).place < (get_or ds j d).place
-rises p [] h i j d l m = absurd (omega arith)
-rises p (x ∷ ds) h zero zero d l m = absurd (omega arith)
-rises p (x ∷ ds) h zero (suc j) d l m = later x.place ds h.1 j d (omega arith)
-rises p (x ∷ ds) h (suc i) zero d l m = absurd (omega arith)
-rises p (x ∷ ds) h (suc i) (suc j) d l m = rises (Some x.place) ds h.1 i j d (omega arith) (omega arith)
+rises : (kept : List (List JType)) (p : Option ℕ) (ds : List Declared) → RisesBehind p (declared_seen kept ds) → (i j : ℕ) (d : Declared) → i < j → j < length ds → (get_or ds i d).place < (get_or ds j d).place
+rises kept p [] h i j d l m = absurd (omega arith)
+rises kept p (x ∷ ds) h zero zero d l m = absurd (omega arith)
+rises kept p (x ∷ ds) h zero (suc j) d l m = later kept x.place ds h.1 j d (omega arith)
+rises kept p (x ∷ ds) h (suc i) zero d l m = absurd (omega arith)
+rises kept p (x ∷ ds) h (suc i) (suc j) d l m = rises kept (Some x.place) ds h.1 i j d (omega arith) (omega arith)
 
 tables_rise : (v : ClassView) (e : Environment) (code : List Placed) (tables : List (List ℕ)) (ds : List (ℕ × Frame)) → Some ds ≡ frames_of v e code tables → RisesBehind None ds
 tables_rise v e code [] ds g = let is : [] ≡ ds = cc g in subst (RisesBehind None) is tt
@@ -190,8 +191,8 @@ tables_rise v e code (content ∷ []) ds g =
     framed_rises e code None e.signature.params s.0 ds s.2
 tables_rise v e code (content ∷ (other ∷ more)) ds g = cc
 
-pub in_order : (v : ClassView) (e : Environment) (code : List Placed) (tables : List (List ℕ)) (ds : List Declared) → All (λ d. d.place < 2 ^ 64) ds → Some (declared_seen ds) ≡ frames_of v e code tables → AreInOrder ds
-in_order v e code tables ds h g = record { rise = rises None ds (tables_rise v e code tables (declared_seen ds) g); fit = h }
+pub in_order : (v : ClassView) (e : Environment) (code : List Placed) (tables : List (List ℕ)) (fs : Frames) → AreRead e fs → Some (frames_seen fs) ≡ frames_of v e code tables → AreInOrder fs.declared.items
+in_order v e code tables fs r g = record { rise = rises fs.first.locals.kept None fs.declared.items (tables_rise v e code tables (frames_seen fs) g); fit = r.fit }
 
 -- ---- the same tables declare the same frames
 

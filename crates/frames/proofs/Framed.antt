@@ -1,6 +1,6 @@
 -- The frames that the entries of a table stand for.
 use Rattle.std.proofs.Common.{◌≡◌, ℕ, zero, suc, ◌+◌, ◌-◌, ◌≤◌, ◌<◌, Bool, true, false, List, [], ◌∷◌, ◌++◌, length, drop, take, Option, Some, None, refl, sym, ap, subst, ◌∙◌, append_assoc, arith}
-use Rattle.std.specs.Prelude.{nat_le, map, option_map, option_and_then, unwrap_or, is_some, IsSome, slice_index_or, All}
+use Rattle.std.specs.Prelude.{nat_le, map, option_map, option_and_then, is_some, IsSome, slice_index_or, All}
 use Rattle.std.proofs.lemmas.Bool.{le-leb, leb-true}
 use Rattle.std.proofs.lemmas.List.{append-nil}
 use Rattle.jtypes.specs.declared.types.JType.{JType}
@@ -9,15 +9,15 @@ use Rattle.jtypes.specs.Types.{is_long, slots_by}
 use Rattle.jtypes.proofs.Fit.{only_if_some, only_if_true, then_some_parts}
 use Rattle.decode.specs.declared.instruction.Placed.{Placed}
 use Rattle.decode.specs.Places.{at_place}
-use Rattle.frames.specs.declared.frame.Frame.{Frame}
+use Rattle.frames.specs.Frames.{Frame}
 use Rattle.frames.specs.declared.frame.Environment.{Environment}
 use Rattle.frames.specs.declared.table.Declared.{Declared}
-use Rattle.frames.specs.Seen.{declared_seen}
+use Rattle.frames.specs.Seen.{declared_seen, frame_kept}
 use Rattle.frames.specs.declared.entries.Change.{Change}
 use Rattle.frames.specs.declared.entries.Change.TheVariants.{Same, OneItem, Chop, Append, Full}
 use Rattle.frames.specs.declared.entries.Entry.{Entry}
 use Rattle.frames.specs.StackMap.{Listed, place_after, frame_of_change, then_rest, frames_from, IsRoomy, declared_of}
-use Rattle.frames.specs.Reading.{standing, within, locals_after, stack_after, locals_or, frame_with, next_listed, Reached, reached, framed}
+use Rattle.frames.specs.Reading.{standing, within, locals_after, stack_after, frame_with, next_listed, Reached, reached, framed}
 use Rattle.frames.proofs.Rows.{drop_at_item, drop_past}
 
 -- ---- one entry
@@ -52,6 +52,13 @@ record Links (s : Option ℕ) (l : Option (List JType)) (w : List JType → Opti
 abbrev chained : Option ℕ → Option (List JType) → (List JType → Option (List JType)) → Option (List JType) → Option Listed
 chained s l w k = option_and_then (λ place. option_and_then (λ after. option_and_then (λ roomy. option_and_then (λ stack. Some (listed_with place stack roomy)) k) (w after)) l) s
 
+-- the same, where the locals that have room are one step
+by_links : (s : Option ℕ) (l : Option (List JType)) (w : List JType → Option (List JType)) (k : Option (List JType))
+    → option_and_then (λ place. option_and_then (λ roomy. option_and_then (λ stack. Some (listed_with place stack roomy)) k) (option_and_then w l)) s ≡ chained s l w k
+by_links None l w k = refl
+by_links (Some place) None w k = refl
+by_links (Some place) (Some after) w k = refl
+
 links : (s : Option ℕ) (l : Option (List JType)) (w : List JType → Option (List JType)) (k : Option (List JType)) (x : Listed) → chained s l w k ≡ Some x → Links s l w k x
 links None l w k x h = cc
 links (Some place) None w k x h = cc
@@ -77,7 +84,8 @@ pub listed_is : (e : Environment) (code : List Placed) (p : Option ℕ) (locals 
 unfolding next_listed
 listed_is e code p locals a x h =
     let at = place_after p a.delta in
-    let l = links (standing code at) (locals_after locals a.change) (within e.max_locals) (within e.max_stack (stack_after a.change)) x h in
+    let four = by_links (standing code at) (locals_after locals a.change) (within e.max_locals) (within e.max_stack (stack_after a.change)) in
+    let l = links (standing code at) (locals_after locals a.change) (within e.max_locals) (within e.max_stack (stack_after a.change)) x (sym four ∙ h) in
     let stands = only_if_some (is_some (at_place code at)) (Some at) l.place l.place_is in
     let same : Some at ≡ Some l.place = stands.1 in
     let roomy = kept e.max_locals l.after l.roomy l.roomy_is in
@@ -124,12 +132,12 @@ regrouped : (fs : List (ℕ × Frame)) (d : ℕ × Frame) (o : Option (List (ℕ
 regrouped fs d (Some gs) = ap (λ (l : List (ℕ × Frame)). Some l) (sym (append_assoc fs (d ∷ []) gs))
 regrouped fs d None = refl
 
-seen_append : (ds others : List Declared) → declared_seen (ds ++ others) ≡ declared_seen ds ++ declared_seen others
-seen_append [] others = refl
-seen_append (d ∷ ds) others = ap (λ (l : List (ℕ × Frame)). (d.place, d.frame) ∷ l) (seen_append ds others)
+seen_append : (kept : List (List JType)) (ds others : List Declared) → declared_seen kept (ds ++ others) ≡ declared_seen kept ds ++ declared_seen kept others
+seen_append kept [] others = refl
+seen_append kept (d ∷ ds) others = ap (λ (l : List (ℕ × Frame)). (d.place, frame_kept kept d) ∷ l) (seen_append kept ds others)
 
-pub seen_more : (ds now : List Declared) (d : Declared) → now ≡ ds ++ d ∷ [] → declared_seen now ≡ declared_seen ds ++ (d.place, d.frame) ∷ []
-seen_more ds now d h = ap declared_seen h ∙ seen_append ds (d ∷ [])
+pub seen_more : (kept : List (List JType)) (ds now : List Declared) (d : Declared) → now ≡ ds ++ d ∷ [] → declared_seen kept now ≡ declared_seen kept ds ++ (d.place, frame_kept kept d) ∷ []
+seen_more kept ds now d h = ap (declared_seen kept) h ∙ seen_append kept ds (d ∷ [])
 
 -- ---- all entries
 
@@ -178,15 +186,6 @@ module _ (e : Environment) (code : List Placed) where
           rw (one, more) (ap (λ (ys : List Listed). Some (map (declared_of e) ys)) m.2)
 
   -- ---- the loop over the entries
-
-  -- the locals that an entry leaves
-  pub locals_next : (p : Option ℕ) (locals after stack : List JType) (a : Entry) (place : ℕ) → option_map reached (next_listed e code p locals a) ≡ Some (record { place = place; locals = after; stack = stack }) → after ≡ locals_or locals a.change
-  locals_next p locals after stack a place h =
-      let r = mapped reached (next_listed e code p locals a) (record { place = place; locals = after; stack = stack }) h in
-      let x = r.0 in
-      let at = place_after p a.delta in
-      let m = mapped (listed_with at (stack_after a.change)) (locals_after locals a.change) x (sym (by_change at locals a.change) ∙ (listed_is e code p locals a x r.1).0) in
-      sym (ap (λ (o : Option (List JType)). unwrap_or o locals) m.1 ∙ ap (λ (y : Listed). y.locals) m.2 ∙ ap (λ (y : Reached). y.locals) r.2)
 
   -- the next entry's frame behind those before it
   pub frames_more : (fs : List (ℕ × Frame)) (es : List Entry) (i : ℕ) (a : Entry) (p : Option ℕ) (locals after stack : List JType) (place : ℕ) (frame : Frame) (total : Option (List (ℕ × Frame))) → i < length es → a ≡ slice_index_or es i a

@@ -1,18 +1,17 @@
 -- What the functions that read a table answer.
-use Rattle.std.specs.Prelude.{ℕ, ◌-◌, ◌==◌, nat_le, List, [], ◌∷◌, ◌++◌, length, take, Option, Some, None, option_map, option_and_then, unwrap_or, reverse, is_some, Result, Ok, Err}
+use Rattle.std.specs.Prelude.{ℕ, ◌-◌, ◌==◌, nat_le, List, [], ◌∷◌, ◌++◌, length, take, Option, Some, None, option_map, option_and_then, reverse, is_some, Result, Ok, Err}
 use Rattle.jtypes.specs.declared.refusal.Refusal.{Refusal}
 use Rattle.jtypes.specs.declared.types.JType.{JType}
-use Rattle.jtypes.specs.declared.types.JType.TheVariants.{Top}
 use Rattle.jtypes.specs.Layout.{first}
-use Rattle.jtypes.specs.Lists.{only_if, padded, ◌>>=◌}
-use Rattle.jtypes.specs.Types.{is_long, slots_by, as_locals}
+use Rattle.jtypes.specs.Lists.{only_if, ◌>>=◌}
+use Rattle.jtypes.specs.Types.{is_long, slots_by}
 use Rattle.classfile.specs.View.{ClassView}
 use Rattle.decode.specs.declared.instruction.Placed.{Placed}
 use Rattle.decode.specs.Places.{at_place}
 use Rattle.frames.specs.declared.entries.Change.{Change}
 use Rattle.frames.specs.declared.entries.Change.TheVariants.{OneItem, Chop, Append, Full}
 use Rattle.frames.specs.declared.entries.Entry.{Entry}
-use Rattle.frames.specs.declared.frame.Frame.{Frame}
+use Rattle.frames.specs.Frames.{Frame, row_with}
 use Rattle.frames.specs.declared.frame.Environment.{Environment}
 use Rattle.frames.specs.StackMap.{table, Listed, place_after, declared_of}
 
@@ -44,20 +43,19 @@ stack_after (OneItem t) = t ∷ []
 stack_after (Full new stack) = stack
 stack_after _ = []
 
--- the locals before, where they can't be changed so
-abbrev pub locals_or : List JType → Change → List JType
-locals_or locals c = unwrap_or (locals_after locals c) locals
+-- the locals after a change, where they have room
+abbrev pub roomy_after : ℕ → List JType → Change → Option (List JType)
+roomy_after max locals c = option_and_then (within max) (locals_after locals c)
 
 -- the frame with these types of locals
 abbrev pub frame_with : ℕ → List JType → List JType → Frame
-frame_with max_locals types stack = record { locals = padded Top max_locals (as_locals is_long (λ t. t) Top types); stack = stack }
+frame_with max_locals types stack = record { locals = row_with max_locals types; stack = stack }
 
 -- the frame of an entry, where it stands at an instruction and has room
 unfoldable pub next_listed : Environment → List Placed → Option ℕ → List JType → Entry → Option Listed
 next_listed e code p locals a = do
   place ← standing code (place_after p a.delta)
-  after ← locals_after locals a.change
-  roomy ← within e.max_locals after
+  roomy ← roomy_after e.max_locals locals a.change
   stack ← within e.max_stack (stack_after a.change)
   Some (record { place = place; locals = roomy; stack = stack })
 

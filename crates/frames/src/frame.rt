@@ -1,14 +1,16 @@
 //! Frames.
 
-ghost use Rattle.std.specs.Prelude.{◌≡◌, IfOk};
+ghost use Rattle.std.specs.Prelude.{◌≡◌, IfOk, Some, None, nat_le, if◌then◌else◌};
 ghost use Rattle.jtypes.specs.Lists.{padded};
-ghost use Rattle.jtypes.specs.Types.{is_long, as_locals};
+ghost use Rattle.jtypes.specs.Types.{is_long, slots_by, as_locals};
 ghost use Rattle.jtypes.specs.declared.types.JType.TheVariants.{Top};
-ghost use Rattle.frames.specs.Frames.{first_frame, locals_of};
+ghost use Rattle.frames.specs.Frames.{HasRoom};
 
-use crate::{Signature, TypeStack};
-use jtypes::{Items, JType};
+use crate::{Signature, TypeStack, slots_of};
+use jtypes::JType;
+use locals::Locals;
 use std::alloc::{AllocError, Global};
+use std::marker::Model;
 
 /// What an instruction knows of its method (JVMS §4.10.1.6).
 #[derive(Debug, Drop)]
@@ -18,16 +20,48 @@ pub struct Environment {
     pub max_locals: u16,
 }
 
-/// The types of a method's locals, of which there are max_locals, and of its operands (JVMS §4.10.1.4). A long is one
-/// operand, and two locals of which the second is `Top`.
+/// The environment of a method whose parameters have room among its locals, so that it has a first frame (JVMS §4.10.1.6).
 #[derive(Debug, Drop)]
-pub struct Frame {
-    pub locals: Items<JType>,
+pub struct MethodStart {
+    environment: Environment,
+}
+
+impl Model for MethodStart {
+    ghost use Rattle.frames.specs.declared.frame.Environment.{Environment};
+    ghost use Rattle.frames.specs.Frames.{HasRoom};
+
+    ghost Value = { Environment };
+
+    ghost view = { λ s. s.environment };
+
+    ghost invariant = { λ s. HasRoom s.environment };
+}
+
+/// A frame that is written in place: the types of a method's locals, of which there are max_locals, and of its operands (JVMS
+/// §4.10.1.4). A long is one operand, and two locals of which the second is `Top`.
+#[derive(Debug, Drop)]
+pub struct Flow {
+    pub locals: Locals,
     pub stack: TypeStack,
 }
 
+/// Whether so many slots have room for the types.
+pub fn have_room(types: &[JType], slots: usize) -> bool
+    ensures { result ≡ nat_le (slots_by is_long types.now) slots }
+{
+    let mut left = slots;
+    for t in types {
+        let size = usize::from(slots_of(*t));
+        if left < size {
+            return false;
+        }
+        left -= size;
+    }
+    true
+}
+
 /// The locals that these types take.
-fn as_locals(alloc: Global, types: &[JType]) -> Result<Vec<JType>, AllocError>
+pub fn as_locals(alloc: Global, types: &[JType]) -> Result<Vec<JType>, AllocError>
     ensures { IfOk result (λ locals. locals.items ≡ as_locals is_long (λ t. t) Top types.now) }
 {
     let mut locals = Vec::new(alloc);
@@ -41,7 +75,7 @@ fn as_locals(alloc: Global, types: &[JType]) -> Result<Vec<JType>, AllocError>
 }
 
 /// The locals with `Top` up to this count.
-fn padded(mut locals: Vec<JType>, count: usize) -> Result<Vec<JType>, AllocError>
+pub fn padded(mut locals: Vec<JType>, count: usize) -> Result<Vec<JType>, AllocError>
     ensures { IfOk result (λ all. all.items ≡ padded Top count locals.items) }
 {
     while locals.len() < count {
@@ -50,33 +84,29 @@ fn padded(mut locals: Vec<JType>, count: usize) -> Result<Vec<JType>, AllocError
     Ok(locals)
 }
 
-/// So many locals, which begin with these types.
-pub fn locals_with(
-    alloc: Global,
-    types: &[JType],
-    max_locals: u16,
-) -> Result<Items<JType>, AllocError>
-    ensures { IfOk result (λ locals. locals ≡ padded Top max_locals (as_locals is_long (λ t. t) Top types.now)) }
-{
-    let locals = as_locals(alloc, types)?;
-    Ok(Items::new(padded(locals, usize::from(max_locals))?))
-}
-
-impl Environment {
-    /// A method's locals, where they begin with these types.
-    pub fn locals(&self, alloc: Global, types: &[JType]) -> Result<Items<JType>, AllocError>
-        ensures { IfOk result (λ locals. locals ≡ locals_of self.now types.now) }
+impl MethodStart {
+    /// The start of a method, unless its parameters have no room.
+    pub fn new(environment: Environment) -> Option<MethodStart>
+        ensures { result ≡ (if nat_le (slots_by is_long environment.signature.params) environment.max_locals then Some environment else None) }
     {
-        locals_with(alloc, types, self.max_locals)
+        let params = environment.signature.params.as_slice();
+        if have_room(params, usize::from(environment.max_locals)) {
+            Some(MethodStart { environment })
+        } else {
+            None
+        }
     }
 
-    /// The frame at the method's start.
-    pub fn first_frame(&self, alloc: Global) -> Result<Frame, AllocError>
-        ensures { IfOk result (λ f. f ≡ first_frame self.now) }
+    pub fn environment(&self) -> &Environment
+        ensures same { result.now ≡ self.now }
+        ensures room { HasRoom self.now }
     {
-        Ok(Frame {
-            locals: self.locals(alloc, self.signature.params.as_slice())?,
-            stack: TypeStack::new(alloc),
-        })
+        &self.environment
+    }
+
+    pub fn into_environment(self) -> Environment
+        ensures { result ≡ self }
+    {
+        self.environment
     }
 }

@@ -1,27 +1,35 @@
 //! The frames that a StackMapTable declares.
 
-ghost use Rattle.std.specs.Prelude.{◌≡◌, ◌≢◌, ◌⊎◌, ◌<◌, ◌^◌, ℕ, List, All, map, nat_le, option_map, IfOk, IfErr, IfSome};
+ghost use Rattle.std.specs.Prelude.{◌≡◌, ◌≢◌, ◌⊎◌, ◌<◌, ◌^◌, ℕ, List, map, option_map, true, IfOk, IfErr, IfSome};
 ghost use Rattle.jtypes.specs.declared.refusal.Refusal.{Refusal};
-ghost use Rattle.jtypes.specs.Types.{slots_by, is_long};
-ghost use Rattle.frames.specs.declared.frame.Frame.{Frame};
+ghost use Rattle.frames.specs.Frames.{Frame, row_with, first_frame};
+ghost use Rattle.frames.specs.Listing.{IsListing, IsKept, IsChanged};
 ghost use Rattle.frames.specs.StackMap.{IsDeclared, place_after};
-ghost use Rattle.frames.specs.Seen.{AreInOrder, declared_seen};
+ghost use Rattle.frames.specs.Seen.{AreInOrder, AreKept, AreRead, frame_seen, frames_seen};
 ghost use Rattle.frames.specs.Reading.{entries_of, standing, next_listed, reached, framed, frames_of};
 
 use crate::entries::{Entry, read_table};
-use crate::table_frame::{TableFrame, change_locals, shared_with, stack_of};
-use crate::{Environment, TypeStack, slots_of};
+use crate::listing::{Listing, stack_of};
+use crate::{Environment, Flow, MethodStart, TypeStack};
 use classfile::ClassView;
 use decode::Code;
-use jtypes::{Cursor, Items, JType, Refusal};
+use jtypes::{Cursor, Items, Refusal};
 use std::alloc::{AllocError, Global};
-use std::rc::Rc;
 
-/// A frame, and the place of the instruction that it is declared for (JVMS §4.7.4).
-#[derive(Drop)]
+/// A frame, and the place of the instruction that it is declared for (JVMS §4.7.4). Its locals are a row that was kept.
+#[derive(Debug, Drop)]
 pub struct Declared {
     pub place: usize,
-    pub frame: TableFrame,
+    /// The number of the row.
+    pub row: usize,
+    pub stack: TypeStack,
+}
+
+/// The frames that a method's tables declare, by rising places, and the method's first frame. Their rows are kept in its locals.
+#[derive(Debug, Drop)]
+pub struct Frames {
+    pub declared: Vec<Declared>,
+    pub first: Flow,
 }
 
 /// The entries of a table, where they fill its bytes.
@@ -65,20 +73,6 @@ fn place_of(code: &Code, before: Option<usize>, delta: u16) -> Option<usize>
     }
 }
 
-/// Whether so many slots have room for the types.
-fn have_room(types: &[JType], max: u16) -> bool
-    ensures { result ≡ nat_le (slots_by is_long types.now) max }
-{
-    let mut left = max;
-    for t in types {
-        if left < slots_of(*t) {
-            return false;
-        }
-        left -= slots_of(*t);
-    }
-    true
-}
-
 /// The place of an entry's frame, and its stack.
 #[derive(Drop)]
 struct Next {
@@ -86,24 +80,28 @@ struct Next {
     stack: TypeStack,
 }
 
-/// The frame of an entry, after the place and the locals before, which become its own; none where it stands at no
-/// instruction or has no room.
+/// The place and the stack of an entry's frame, whose locals become the listed ones; none where it stands at no instruction or
+/// has no room.
 #[tactic(auto, unfolding(crate::specs::Reading::next_listed))]
 fn next_frame(
     alloc: Global,
     environment: &Environment,
     code: &Code,
     before: Option<usize>,
-    locals: &mut Vec<JType>,
+    listing: &mut Listing,
     entry: &Entry,
 ) -> Result<Option<Next>, AllocError>
-    ensures frame { IfOk result (λ next. option_map reached (next_listed environment.now code.now before locals.old.items entry.now) ≡ option_map (λ n. record { place = n.place; locals = locals.new.items; stack = n.stack }) next) }
+    requires listing { IsListing listing.old }
+    requires kept { IsKept listing.old }
+    requires max { listing.old.max_locals ≡ environment.now.max_locals }
+    ensures frame { IfOk result (λ next. option_map reached (next_listed environment.now code.now before listing.old.types.items entry.now) ≡ option_map (λ n. record { place = n.place; locals = listing.new.types.items; stack = n.stack }) next) }
+    ensures changed { IfOk result (λ next. IfSome next (λ _. IsChanged listing.old entry.now.change true listing.new)) }
     ensures fits { IfOk result (λ next. IfSome next (λ n. n.place < 2 ^ 64)) }
 {
     let Some(place) = place_of(code, before, entry.delta) else {
         return Ok(None);
     };
-    if !change_locals(locals, &entry.change)? || !have_room(locals, environment.max_locals) {
+    if !listing.change(&entry.change)? {
         return Ok(None);
     }
     match stack_of(alloc, &entry.change, environment.max_stack)? {
@@ -115,71 +113,72 @@ fn next_frame(
 /// The frames of the entries; none where one has no place or no room.
 fn frames_from(
     alloc: Global,
-    environment: &Environment,
+    start: &MethodStart,
     code: &Code,
     entries: &[Entry],
-) -> Result<Option<Vec<Declared>>, AllocError>
-    ensures fit { IfOk result (λ ds. IfSome ds (λ ds. All (λ d. d.place < 2 ^ 64) ds.items)) }
-    ensures frames { IfOk result (λ ds. option_map (λ ds. declared_seen ds.items) ds ≡ framed environment.now code.now None environment.now.signature.params entries.now) }
+) -> Result<Option<Frames>, AllocError>
+    ensures read { IfOk result (λ fs. IfSome fs (AreRead start.now)) }
+    ensures frames { IfOk result (λ fs. option_map frames_seen fs ≡ framed start.now code.now None start.now.signature.params entries.now) }
 {
     let mut declared = Vec::new(alloc);
     let mut before = None;
-    let params = environment.signature.params.as_slice();
-    let mut locals = Vec::from_slice(alloc, params)?;
-    let mut shared = Rc::new(alloc, Items::from_slice(alloc, params)?)?;
+    let environment = start.environment();
+    let mut listing = Listing::at_start(alloc, start)?;
     for entry in entries {
-        let Some(next) = next_frame(alloc, environment, code, before, &mut locals, entry)? else {
+        let next = next_frame(alloc, environment, code, before, &mut listing, entry)?;
+        let Some(next) = next else {
             return Ok(None);
         };
         let Next { place, stack } = next;
-        shared = shared_with(alloc, &shared, &locals, &entry.change)?;
-        let frame = TableFrame::new(&shared, environment.max_locals, stack)?;
-        declared.push(Declared { place, frame })?;
+        let row = listing.number();
+        declared.push(Declared { place, row, stack })?;
         before = Some(place);
     }
-    Ok(Some(declared))
+    let first = listing.into_first();
+    Ok(Some(Frames { declared, first }))
 }
 
 /// The frames of the one table, if there is one; none where it declares no frames, or there are two.
 fn frames_of(
     alloc: Global,
-    environment: &Environment,
+    start: &MethodStart,
     tables: &[&[u8]],
     code: &Code,
     view: &ClassView<'_>,
-) -> Result<Option<Vec<Declared>>, AllocError>
-    ensures fit { IfOk result (λ ds. IfSome ds (λ ds. All (λ d. d.place < 2 ^ 64) ds.items)) }
-    ensures frames { IfOk result (λ ds. option_map (λ ds. declared_seen ds.items) ds ≡ frames_of view.now environment.now code.now (map (λ t. t.now) tables.now)) }
+) -> Result<Option<Frames>, AllocError>
+    ensures read { IfOk result (λ fs. IfSome fs (AreRead start.now)) }
+    ensures frames { IfOk result (λ fs. option_map frames_seen fs ≡ frames_of view.now start.now code.now (map (λ t. t.now) tables.now)) }
 {
     match tables {
-        [] => Ok(Some(Vec::new(alloc))),
+        [] => frames_from(alloc, start, code, &[]),
         [content] => match entries_of(alloc, view, content)? {
             None => Ok(None),
-            Some(entries) => frames_from(alloc, environment, code, entries.as_slice()),
+            Some(entries) => frames_from(alloc, start, code, entries.as_slice()),
         },
         _ => Ok(None),
     }
 }
 
-/// The frames that a method's StackMapTable attributes declare, of which there may be one. A frame is made when it is asked
-/// for: entries that keep the locals before share them.
+/// The frames that a method's StackMapTable attributes declare, of which there may be one, and its first frame.
 pub fn read_frames(
     alloc: Global,
-    environment: &Environment,
+    start: &MethodStart,
     tables: &[&[u8]],
     code: &Code,
     view: &ClassView<'_>,
-) -> Result<Vec<Declared>, Refusal>
-    // The declared frames, by rising places.
-    ensures declared { IfOk result (λ ds. IsDeclared view.now environment.now code.now (map (λ t. t.now) tables.now) (declared_seen ds.items)) }
-    ensures order { IfOk result (λ ds. AreInOrder ds.items) }
+) -> Result<Frames, Refusal>
+    // The declared frames, by rising places, and the first.
+    ensures declared { IfOk result (λ fs. IsDeclared view.now start.now code.now (map (λ t. t.now) tables.now) (frames_seen fs)) }
+    ensures order { IfOk result (λ fs. AreInOrder fs.declared.items) }
+    ensures first { IfOk result (λ fs. frame_seen fs.first ≡ first_frame start.now) }
+    ensures rows { IfOk result (λ fs. AreKept fs.first.locals.kept fs.declared.items) }
 
     // The one refusal says that no frames are declared.
     ensures one { IfErr result (λ r. (r ≡ Refusal.NoMemory) ⊎ (r ≡ Refusal.BadStackMap)) }
-    ensures refusal { IfErr result (λ r. r ≢ Refusal.NoMemory → (r ≡ Refusal.BadStackMap) × ((ds : List (ℕ × Frame)) → IsDeclared view.now environment.now code.now (map (λ t. t.now) tables.now) ds → ⊥)) }
+    ensures refusal { IfErr result (λ r. r ≢ Refusal.NoMemory → (r ≡ Refusal.BadStackMap) × ((ds : List (ℕ × Frame)) → IsDeclared view.now start.now code.now (map (λ t. t.now) tables.now) ds → ⊥)) }
 {
-    match frames_of(alloc, environment, tables, code, view)? {
-        Some(declared) => Ok(declared),
+    match frames_of(alloc, start, tables, code, view)? {
+        Some(frames) => Ok(frames),
         None => Err(Refusal::BadStackMap),
     }
 }

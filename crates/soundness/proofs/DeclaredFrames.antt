@@ -11,9 +11,8 @@ use Rattle.jtypes.proofs.Fit.{only_if_some}
 use Rattle.classfile.specs.View.{ClassView}
 use Rattle.decode.specs.declared.instruction.Placed.{Placed}
 use Rattle.frames.specs.Signatures.{constant_type}
-use Rattle.frames.specs.declared.frame.Frame.{Frame}
 use Rattle.frames.specs.declared.frame.Environment.{Environment}
-use Rattle.frames.specs.Frames.{frame_in}
+use Rattle.frames.specs.Frames.{Frame, frame_in}
 use Rattle.frames.specs.declared.entries.Change.{Change}
 use Rattle.frames.specs.declared.entries.Change.TheVariants.{Same, OneItem, Chop, Append, Full}
 use Rattle.frames.specs.declared.entries.Entry.{Entry}

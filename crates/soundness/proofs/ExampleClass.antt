@@ -7,7 +7,7 @@ use Rattle.jtypes.specs.declared.types.JType.TheVariants as type
 use Rattle.constpool.specs.Descriptor.{sig_of, read_params, read_type}
 use Rattle.decode.specs.declared.instruction.Instruction.TheVariants.{NewArray}
 use Rattle.decode.specs.Places.{target_of}
-use Rattle.frames.specs.declared.frame.Frame.{Frame}
+use Rattle.frames.specs.Frames.{Frame}
 use Rattle.frames.specs.Signatures.{class_type, field_type, field_types, result_type, signature_of, method_signature}
 use Rattle.typecheck.specs.Typing.{IsTyping, IsProcessOf}
 use Rattle.bounds.specs.Paths.{Cost, Path, falls, ends, IsWithin, AreBounds, last_cost, after_one}

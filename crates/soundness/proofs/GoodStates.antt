@@ -14,8 +14,7 @@ use Rattle.classfile.specs.View.{MethodView}
 use Rattle.decode.specs.declared.instruction.Instruction.TheVariants.{NewArray}
 use Rattle.decode.specs.declared.instruction.Placed.{Placed}
 use Rattle.decode.specs.Places.{at_place, before_place, pushed_by, pushed_before, int_of, AreConsecutive}
-use Rattle.frames.specs.declared.frame.Frame.{Frame}
-use Rattle.frames.specs.Frames.{FrameAssignable}
+use Rattle.frames.specs.Frames.{Frame, FrameAssignable}
 use Rattle.typecheck.specs.Typing.{Method, Class, instruction_at, declared_at, frame_of, frame_at, Enters, IsTyping}
 use Rattle.bounds.specs.Paths.{Cost, Path, Bounds, own_slots, last_cost, after_one, after_call}
 use Rattle.verdict.specs.Checked.{NoTop, IsMember}

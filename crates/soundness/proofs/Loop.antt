@@ -5,7 +5,7 @@ use Rattle.classfile.specs.View.{ClassView}
 use Rattle.decode.specs.declared.instruction.Instruction.TheVariants as instruction
 use Rattle.decode.specs.declared.instruction.Placed.{Placed}
 use Rattle.decode.specs.Places.{is_return, AreConsecutive}
-use Rattle.frames.specs.declared.frame.Frame.{Frame}
+use Rattle.frames.specs.Frames.{Frame}
 use Rattle.typecheck.specs.Typing.{Method, Class, IsTyping, IsFlow, instruction_at}
 use Rattle.bounds.specs.Paths.{Bounds, Cost, Path, ends, jumps, falls, calls}
 use Rattle.verdict.specs.Checked.{NoTop}

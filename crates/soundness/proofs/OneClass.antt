@@ -15,7 +15,7 @@ use Rattle.classfile.specs.View.{ClassView, view_of, tables_of}
 use Rattle.decode.proofs.Runs.{sequence_once}
 use Rattle.decode.specs.declared.instruction.Placed.{Placed}
 use Rattle.frames.specs.declared.frame.Environment.{Environment}
-use Rattle.frames.specs.declared.frame.Frame.{Frame}
+use Rattle.frames.specs.Frames.{Frame}
 use Rattle.frames.specs.declared.signatures.Signature.{Signature}
 use Rattle.frames.specs.StackMap.{IsDeclared}
 use Rattle.typecheck.specs.Typing.{Method, Class}

@@ -7,7 +7,7 @@ use Rattle.classfile.specs.View.{ClassView}
 use Rattle.decode.specs.declared.instruction.Instruction.TheVariants as instruction
 use Rattle.decode.specs.declared.instruction.Placed.{Placed}
 use Rattle.decode.specs.Places.{target_of}
-use Rattle.frames.specs.declared.frame.Frame.{Frame}
+use Rattle.frames.specs.Frames.{Frame}
 use Rattle.frames.specs.declared.signatures.Signature.{Signature}
 use Rattle.typecheck.specs.Typing.{Method, Class, IsTyping, IsWellTyped}
 use Rattle.bounds.specs.Paths.{Bounds, Cost, Path, IsWithin, last_cost}

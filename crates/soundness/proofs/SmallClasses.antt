@@ -9,9 +9,8 @@ use Rattle.constpool.specs.Lookup.{Slot}
 use Rattle.constpool.specs.Descriptor.{sig_of, read_params, read_type}
 use Rattle.classfile.specs.View.{ClassView}
 use Rattle.decode.specs.declared.instruction.Placed.{Placed}
-use Rattle.frames.specs.declared.frame.Frame.{Frame}
 use Rattle.frames.specs.declared.signatures.Signature.{Signature}
-use Rattle.frames.specs.Frames.{FrameAssignable}
+use Rattle.frames.specs.Frames.{Frame, FrameAssignable}
 use Rattle.frames.specs.Signatures.{class_type, field_type, field_types, result_type, signature_of, method_signature}
 use Rattle.typecheck.specs.Typing.{Method, Class}
 use Rattle.bounds.specs.Paths.{Bounds}

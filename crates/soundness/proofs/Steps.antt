@@ -47,9 +47,8 @@ use Rattle.frames.specs.declared.members.Callee.{Callee}
 use Rattle.frames.specs.declared.members.Reached.{Reached}
 use Rattle.frames.specs.declared.members.Reached.TheVariants.{Library, Own}
 use Rattle.frames.specs.Members.{callee_at}
-use Rattle.frames.specs.declared.frame.Frame.{Frame}
 use Rattle.frames.specs.declared.frame.Environment.{Environment}
-use Rattle.frames.specs.Frames.{first_frame}
+use Rattle.frames.specs.Frames.{Frame, first_frame}
 use Rattle.transfer.specs.Forms.{forms_of, rearranged}
 use Rattle.transfer.specs.Transfer.{transfer, take_types, with_stack, take_put, type_of_pushed, loaded, store_type, stored, incremented, returned, returned_void, called, element_of, reference_loaded, has_length, measured, cast as cast_frame, asked}
 use Rattle.transfer.proofs.RearrangedFit.{took, by_forms_fit}

@@ -5,7 +5,7 @@ use Rattle.std.proofs.lemmas.Bool.{eqb-true}
 use Rattle.classfile.specs.View.{ClassView, MethodView}
 use Rattle.decode.specs.declared.instruction.Placed.{Placed}
 use Rattle.decode.specs.Places.{at_place, target_of, falls_through, is_return}
-use Rattle.frames.specs.declared.frame.Frame.{Frame}
+use Rattle.frames.specs.Frames.{Frame}
 use Rattle.typecheck.specs.Typing.{Method, Class, HasOutcome, IsTyping, instruction_at, frame_of, call_of}
 use Rattle.bounds.specs.Recursion.{IsOrdered}
 use Rattle.bounds.specs.Paths.{Cost, StandsAt, Path, ends, jumps, falls, calls, last_cost, after_one, words_at}

@@ -22,7 +22,8 @@ use Rattle.soundness.proofs.SafeRuns.{type_soundness}
 use Rattle.soundness.proofs.AcceptedRanks.{accepted_has_ranks}
 use Rattle.verdict.proofs.Methods.{any_from}
 use Rattle.decode.proofs.Consecutive.{sequence_is_consecutive}
-use Rattle.soundness.proofs.AcceptedClasses.{accepted_is_named, accepted_process_is_instance, accepted_count, accepted_signed, accepted_is_formed, InFile, in_file, one_contains}
+use Rattle.verdict.proofs.ParameterRoom.{one_contains}
+use Rattle.soundness.proofs.AcceptedClasses.{accepted_is_named, accepted_process_is_instance, accepted_count, accepted_signed, accepted_is_formed, InFile, in_file}
 
 -- a code with a byte has a last instruction
 last_of_some : (x : Placed) (xs : List Placed) → IsSome (last (x ∷ xs))

@@ -2,7 +2,7 @@
 use Rattle.std.specs.Prelude.{◌≡◌, ℕ, List}
 use Rattle.classfile.specs.View.{ClassView}
 use Rattle.decode.specs.declared.instruction.Placed.{Placed}
-use Rattle.frames.specs.declared.frame.Frame.{Frame}
+use Rattle.frames.specs.Frames.{Frame}
 use Rattle.frames.specs.declared.frame.Environment.{Environment}
 use Rattle.frames.specs.StackMap.{IsDeclared}
 

@@ -1,11 +1,12 @@
 //! What an instruction makes of a frame.
 
-ghost use Rattle.std.specs.Prelude.{◌≡◌, ◌<◌, ◌≤◌, ◌+◌, ◌&&◌, List, [], ◌∷◌, ◌++◌, length, IfOk, nat_le, if◌then◌else◌, slice_get, option_and_then, Some, None, reverse};
+ghost use Rattle.std.specs.Prelude.{◌≡◌, ◌≢◌, IsTrue, IsFalse, ◌<◌, ◌≤◌, ◌+◌, ◌&&◌, List, [], ◌∷◌, ◌++◌, length, IfOk, nat_le, if◌then◌else◌, slice_get, option_and_then, Some, None, reverse};
 ghost use Rattle.jtypes.specs.Lists.{change_before, result_list, only_if};
 ghost use Rattle.jtypes.specs.Types.{slots_by, slots_if, is_long, type_of_kind};
 ghost use Rattle.transfer.specs.Transfer.{take_types, with_stack, take_put, loaded, stored, store_type, without_long, incremented, returned, returned_void, reference_loaded, has_length, measured, called, cast, asked, transfer};
 ghost use Rattle.frames.specs.Signatures.{constant_type};
 ghost use Rattle.frames.specs.Members.{callee_at};
+ghost use Rattle.frames.specs.Seen.{frame_seen};
 ghost use Rattle.transfer.specs.Forms.{rearranged};
 
 use crate::rearrange::rearrange;
@@ -14,8 +15,9 @@ use crate::types::{
 };
 use classfile::ClassView;
 use decode::Instruction;
-use frames::{Environment, Frame, TypeStack, assignable, callee_at, constant_type, slots_of};
-use jtypes::{Invoke, Items, JType, Kind, Rearrangement, RefType};
+use frames::{Environment, Flow, TypeStack, assignable, callee_at, constant_type, slots_of};
+use jtypes::{Invoke, JType, Kind, Rearrangement, RefType};
+use locals::Locals;
 use std::alloc::{AllocError, Global};
 
 /// Takes an operand of this type.
@@ -67,116 +69,120 @@ fn put(stack: &mut TypeStack, max: u16, operand: Option<JType>) -> Result<bool, 
 /// Takes operands and puts another, or none.
 fn take_put(
     environment: &Environment,
-    frame: &mut Frame,
+    flow: &mut Flow,
     taken: &[JType],
     operand: Option<JType>,
 ) -> Result<bool, AllocError>
-    ensures { IfOk result (λ yes. take_put environment.now frame.old taken.now (result_list operand) ≡ (if yes then Some frame.new else None)) }
+    ensures outcome { IfOk result (λ yes. take_put environment.now (frame_seen flow.old) taken.now (result_list operand) ≡ (if yes then Some (frame_seen flow.new) else None)) }
+    ensures kept { flow.new.locals.kept ≡ flow.old.locals.kept }
 {
-    if !take_all(&mut frame.stack, taken) {
+    if !take_all(&mut flow.stack, taken) {
         return Ok(false);
     }
-    put(&mut frame.stack, environment.max_stack, operand)
+    put(&mut flow.stack, environment.max_stack, operand)
+}
+
+/// Whether a type of so many slots lies among the locals from this one on.
+fn lies_among(locals: &Locals, n: u16, t: JType) -> bool
+    ensures { result ≡ nat_le (n + slots_if (is_long t)) (length locals.now.row) }
+{
+    let last = usize::from(n) + usize::from(slots_of(t)) - 1;
+    locals.get(last).is_some()
 }
 
 /// Pushes a local, both slots of a long lying among the locals.
-fn load(
-    environment: &Environment,
-    frame: &mut Frame,
-    kind: Kind,
-    n: u16,
-) -> Result<bool, AllocError>
-    ensures { IfOk result (λ yes. loaded environment.now frame.old kind n (slice_get frame.old.locals n) ≡ (if yes then Some frame.new else None)) }
+fn load(environment: &Environment, flow: &mut Flow, kind: Kind, n: u16) -> Result<bool, AllocError>
+    ensures outcome { IfOk result (λ yes. loaded environment.now (frame_seen flow.old) kind n (slice_get flow.old.locals.row n) ≡ (if yes then Some (frame_seen flow.new) else None)) }
+    ensures kept { flow.new.locals.kept ≡ flow.old.locals.kept }
 {
-    let n = usize::from(n);
-    let Some(t) = frame.locals.get(n) else {
+    let Some(t) = flow.locals.get(usize::from(n)) else {
         return Ok(false);
     };
-    let count = frame.locals.as_slice().len();
-    if !assignable(t, type_of_kind(kind)) || n + usize::from(slots_of(t)) > count {
+    if !assignable(t, type_of_kind(kind)) || !lies_among(&flow.locals, n, t) {
         return Ok(false);
     }
-    frame.stack.push(t, environment.max_stack)
+    flow.stack.push(t, environment.max_stack)
 }
 
-fn unless_long(t: JType) -> JType
-    ensures { result ≡ without_long t }
+fn holds_long(locals: &Locals, n: usize) -> bool
+    ensures long { IsTrue result → slice_get locals.now.row n ≡ Some JType.Long }
+    ensures other { IsFalse result → slice_get locals.now.row n ≢ Some JType.Long }
 {
-    match t {
-        JType::Long => JType::Top,
-        JType::Top | JType::Int | JType::Null | JType::Ref(_) => t,
-    }
+    matches!(locals.get(n), Some(JType::Long))
 }
 
 /// A long in the local before this one loses its second half.
-fn break_long(locals: &mut Items<JType>, n: usize)
-    requires { n < length locals.old }
-    ensures changed { locals.new ≡ change_before without_long locals.old n }
-    ensures len { length locals.new ≡ length locals.old }
+fn break_long(locals: &mut Locals, n: usize) -> Result<(), AllocError>
+    requires { n < length locals.old.row }
+    ensures changed { IfOk result (λ _. locals.new.row ≡ change_before without_long locals.old.row n) }
+    ensures len { IfOk result (λ _. length locals.new.row ≡ length locals.old.row) }
+    ensures kept { locals.new.kept ≡ locals.old.kept }
 {
-    if 0 < n {
-        let t = locals.as_slice()[n - 1];
-        locals.set(n - 1, unless_long(t));
+    if 0 < n && holds_long(locals, n - 1) {
+        locals.set(n - 1, JType::Top)?;
     }
+    Ok(())
 }
 
 /// Stores a type in a local.
-fn set_local(locals: &mut Items<JType>, n: u16, t: JType)
-    requires { n + slots_if (is_long t) ≤ length locals.old }
-    ensures { locals.new ≡ store_type locals.old n t }
+fn set_local(locals: &mut Locals, n: u16, t: JType) -> Result<(), AllocError>
+    requires { n + slots_if (is_long t) ≤ length locals.old.row }
+    ensures stored { IfOk result (λ _. locals.new.row ≡ store_type locals.old.row n t) }
+    ensures kept { locals.new.kept ≡ locals.old.kept }
 {
     let n = usize::from(n);
-    break_long(locals, n);
-    locals.set(n, t);
+    break_long(locals, n)?;
+    locals.set(n, t)?;
     match t {
         JType::Long => locals.set(n + 1, JType::Top),
-        JType::Top | JType::Int | JType::Null | JType::Ref(_) => {}
+        JType::Top | JType::Int | JType::Null | JType::Ref(_) => Ok(()),
     }
 }
 
 /// Takes an operand into a local, both slots of a long lying among the locals.
-fn store(frame: &mut Frame, kind: Kind, n: u16) -> bool
-    ensures { stored frame.old kind n frame.old.stack ≡ (if result then Some frame.new else None) }
+fn store(flow: &mut Flow, kind: Kind, n: u16) -> Result<bool, AllocError>
+    ensures outcome { IfOk result (λ yes. stored (frame_seen flow.old) kind n flow.old.stack ≡ (if yes then Some (frame_seen flow.new) else None)) }
+    ensures kept { flow.new.locals.kept ≡ flow.old.locals.kept }
 {
-    let Some(t) = frame.stack.pop() else {
-        return false;
+    let Some(t) = flow.stack.pop() else {
+        return Ok(false);
     };
-    let count = frame.locals.as_slice().len();
-    if !assignable(t, type_of_kind(kind)) || usize::from(n) + usize::from(slots_of(t)) > count {
-        return false;
+    if !assignable(t, type_of_kind(kind)) || !lies_among(&flow.locals, n, t) {
+        return Ok(false);
     }
-    set_local(&mut frame.locals, n, t);
-    true
+    set_local(&mut flow.locals, n, t)?;
+    Ok(true)
 }
 
 /// Whether a local holds an int.
-fn holds_int(frame: &Frame, n: u16) -> bool
-    ensures { incremented frame.now (slice_get frame.now.locals n) ≡ (if result then Some frame.now else None) }
+fn holds_int(flow: &Flow, n: u16) -> bool
+    ensures { incremented (frame_seen flow.now) (slice_get flow.now.locals.row n) ≡ (if result then Some (frame_seen flow.now) else None) }
 {
-    matches!(frame.locals.get(usize::from(n)), Some(JType::Int))
+    matches!(flow.locals.get(usize::from(n)), Some(JType::Int))
 }
 
 /// Whether the top may be returned.
-fn may_return(frame: &Frame, kind: Kind, declared: Option<JType>) -> bool
-    ensures { returned frame.now kind declared ≡ (if result then Some frame.now else None) }
+fn may_return(flow: &Flow, kind: Kind, declared: Option<JType>) -> bool
+    ensures { returned (frame_seen flow.now) kind declared ≡ (if result then Some (frame_seen flow.now) else None) }
 {
     let Some(t) = declared else {
         return false;
     };
-    let Some(top) = frame.stack.peek(0) else {
+    let Some(top) = flow.stack.peek(0) else {
         return false;
     };
     assignable(t, type_of_kind(kind)) && assignable(top, t)
 }
 
 /// Pushes an element of an array of references; those of null are null.
-fn load_reference(environment: &Environment, frame: &mut Frame) -> Result<bool, AllocError>
-    ensures { IfOk result (λ yes. reference_loaded environment.now frame.old frame.old.stack ≡ (if yes then Some frame.new else None)) }
+fn load_reference(environment: &Environment, flow: &mut Flow) -> Result<bool, AllocError>
+    ensures outcome { IfOk result (λ yes. reference_loaded environment.now (frame_seen flow.old) flow.old.stack ≡ (if yes then Some (frame_seen flow.new) else None)) }
+    ensures kept { flow.new.locals.kept ≡ flow.old.locals.kept }
 {
-    if !take(&mut frame.stack, JType::Int) {
+    if !take(&mut flow.stack, JType::Int) {
         return Ok(false);
     }
-    let Some(array) = frame.stack.pop() else {
+    let Some(array) = flow.stack.pop() else {
         return Ok(false);
     };
     if !assignable(array, JType::Ref(RefType::ObjectArray)) {
@@ -187,7 +193,7 @@ fn load_reference(environment: &Environment, frame: &mut Frame) -> Result<bool, 
     } else {
         JType::Ref(RefType::Object)
     };
-    frame.stack.push(element, environment.max_stack)
+    flow.stack.push(element, environment.max_stack)
 }
 
 /// Whether values of this type have a length: an array, or null.
@@ -205,28 +211,29 @@ fn has_length(t: JType) -> bool
 }
 
 /// Takes an array and puts its length.
-fn measure(environment: &Environment, frame: &mut Frame) -> Result<bool, AllocError>
-    ensures { IfOk result (λ yes. measured environment.now frame.old frame.old.stack ≡ (if yes then Some frame.new else None)) }
+fn measure(environment: &Environment, flow: &mut Flow) -> Result<bool, AllocError>
+    ensures outcome { IfOk result (λ yes. measured environment.now (frame_seen flow.old) flow.old.stack ≡ (if yes then Some (frame_seen flow.new) else None)) }
+    ensures kept { flow.new.locals.kept ≡ flow.old.locals.kept }
 {
-    let Some(array) = frame.stack.pop() else {
+    let Some(array) = flow.stack.pop() else {
         return Ok(false);
     };
     if !has_length(array) {
         return Ok(false);
     }
-    frame.stack.push(JType::Int, environment.max_stack)
+    flow.stack.push(JType::Int, environment.max_stack)
 }
 
 /// Rearranges the operands, where they have room.
-#[tactic(auto, using(crate::proofs::Steps::frame_with_room))]
 fn rearrange_operands(
     environment: &Environment,
-    frame: &mut Frame,
+    flow: &mut Flow,
     rearrangement: Rearrangement,
 ) -> Result<bool, AllocError>
-    ensures { IfOk result (λ yes. option_and_then (with_stack environment.now frame.old) (rearranged is_long rearrangement frame.old.stack) ≡ (if yes then Some frame.new else None)) }
+    ensures outcome { IfOk result (λ yes. option_and_then (with_stack environment.now (frame_seen flow.old)) (rearranged is_long rearrangement flow.old.stack) ≡ (if yes then Some (frame_seen flow.new) else None)) }
+    ensures kept { flow.new.locals.kept ≡ flow.old.locals.kept }
 {
-    rearrange(&mut frame.stack, rearrangement, environment.max_stack)
+    rearrange(&mut flow.stack, rearrangement, environment.max_stack)
 }
 
 /// Takes a call's arguments and puts its result.
@@ -234,49 +241,52 @@ fn call(
     alloc: Global,
     environment: &Environment,
     view: &ClassView<'_>,
-    frame: &mut Frame,
+    flow: &mut Flow,
     kind: Invoke,
     i: u16,
 ) -> Result<bool, AllocError>
-    ensures { IfOk result (λ yes. called environment.now frame.old (callee_at view.now kind i) ≡ (if yes then Some frame.new else None)) }
+    ensures outcome { IfOk result (λ yes. called environment.now (frame_seen flow.old) (callee_at view.now kind i) ≡ (if yes then Some (frame_seen flow.new) else None)) }
+    ensures kept { flow.new.locals.kept ≡ flow.old.locals.kept }
 {
     let Some(callee) = callee_at(alloc, view, kind, i)? else {
         return Ok(false);
     };
-    if !take_last_first(&mut frame.stack, callee.params.as_slice()) {
+    if !take_last_first(&mut flow.stack, callee.params.as_slice()) {
         return Ok(false);
     }
-    put(&mut frame.stack, environment.max_stack, callee.result)
+    put(&mut flow.stack, environment.max_stack, callee.result)
 }
 
 /// Takes a reference and puts one of the type that a Class constant names.
 fn check_cast(
     environment: &Environment,
     view: &ClassView<'_>,
-    frame: &mut Frame,
+    flow: &mut Flow,
     i: u16,
 ) -> Result<bool, AllocError>
-    ensures { IfOk result (λ yes. cast environment.now frame.old (constant_type view.now i) ≡ (if yes then Some frame.new else None)) }
+    ensures outcome { IfOk result (λ yes. cast environment.now (frame_seen flow.old) (constant_type view.now i) ≡ (if yes then Some (frame_seen flow.new) else None)) }
+    ensures kept { flow.new.locals.kept ≡ flow.old.locals.kept }
 {
     let Some(r) = constant_type(view, i) else {
         return Ok(false);
     };
     let object = JType::Ref(RefType::Object);
-    take_put(environment, frame, &[object], Some(JType::Ref(r)))
+    take_put(environment, flow, &[object], Some(JType::Ref(r)))
 }
 
 /// Takes a reference and puts an int, where a Class constant names a known type.
 fn instance_of(
     environment: &Environment,
     view: &ClassView<'_>,
-    frame: &mut Frame,
+    flow: &mut Flow,
     i: u16,
 ) -> Result<bool, AllocError>
-    ensures { IfOk result (λ yes. asked environment.now frame.old (constant_type view.now i) ≡ (if yes then Some frame.new else None)) }
+    ensures outcome { IfOk result (λ yes. asked environment.now (frame_seen flow.old) (constant_type view.now i) ≡ (if yes then Some (frame_seen flow.new) else None)) }
+    ensures kept { flow.new.locals.kept ≡ flow.old.locals.kept }
 {
     let object = JType::Ref(RefType::Object);
     match constant_type(view, i) {
-        Some(_) => take_put(environment, frame, &[object], Some(JType::Int)),
+        Some(_) => take_put(environment, flow, &[object], Some(JType::Int)),
         None => Ok(false),
     }
 }
@@ -288,37 +298,38 @@ pub fn apply(
     instruction: &Instruction,
     environment: &Environment,
     view: &ClassView<'_>,
-    frame: &mut Frame,
+    flow: &mut Flow,
 ) -> Result<bool, AllocError>
-    ensures { IfOk result (λ yes. transfer view.now environment.now instruction.now frame.old ≡ (if yes then Some frame.new else None)) }
+    ensures outcome { IfOk result (λ yes. transfer view.now environment.now instruction.now (frame_seen flow.old) ≡ (if yes then Some (frame_seen flow.new) else None)) }
+    ensures kept { flow.new.locals.kept ≡ flow.old.locals.kept }
 {
     match *instruction {
         Instruction::Nop | Instruction::Goto(_) => Ok(true),
-        Instruction::Push(p) => take_put(environment, frame, &[], Some(type_of_pushed(p))),
-        Instruction::Load(kind, n) => load(environment, frame, kind, n),
-        Instruction::Store(kind, n) => Ok(store(frame, kind, n)),
-        Instruction::Increment(n, _) => Ok(holds_int(frame, n)),
-        Instruction::Operate(o) => take_put(environment, frame, takes_of(o), Some(puts_of(o))),
-        Instruction::Rearrange(r) => rearrange_operands(environment, frame, r),
-        Instruction::Branch(test, _) => take_put(environment, frame, takes_of_test(test), None),
-        Instruction::Return(kind) => Ok(may_return(frame, kind, environment.signature.result)),
+        Instruction::Push(p) => take_put(environment, flow, &[], Some(type_of_pushed(p))),
+        Instruction::Load(kind, n) => load(environment, flow, kind, n),
+        Instruction::Store(kind, n) => store(flow, kind, n),
+        Instruction::Increment(n, _) => Ok(holds_int(flow, n)),
+        Instruction::Operate(o) => take_put(environment, flow, takes_of(o), Some(puts_of(o))),
+        Instruction::Rearrange(r) => rearrange_operands(environment, flow, r),
+        Instruction::Branch(test, _) => take_put(environment, flow, takes_of_test(test), None),
+        Instruction::Return(kind) => Ok(may_return(flow, kind, environment.signature.result)),
         Instruction::ReturnVoid => Ok(environment.signature.result.is_none()),
-        Instruction::Invoke(kind, i) => call(alloc, environment, view, frame, kind, i),
+        Instruction::Invoke(kind, i) => call(alloc, environment, view, flow, kind, i),
         Instruction::NewArray(k) => {
             let array = JType::Ref(array_type(k));
-            take_put(environment, frame, &[JType::Int], Some(array))
+            take_put(environment, flow, &[JType::Int], Some(array))
         }
         Instruction::ArrayLoad(k) => {
             let taken = [JType::Int, JType::Ref(array_type(k))];
-            take_put(environment, frame, &taken, Some(element_type(k)))
+            take_put(environment, flow, &taken, Some(element_type(k)))
         }
         Instruction::ArrayStore(k) => {
             let taken = [element_type(k), JType::Int, JType::Ref(array_type(k))];
-            take_put(environment, frame, &taken, None)
+            take_put(environment, flow, &taken, None)
         }
-        Instruction::ReferenceLoad => load_reference(environment, frame),
-        Instruction::ArrayLength => measure(environment, frame),
-        Instruction::CheckCast(i) => check_cast(environment, view, frame, i),
-        Instruction::InstanceOf(i) => instance_of(environment, view, frame, i),
+        Instruction::ReferenceLoad => load_reference(environment, flow),
+        Instruction::ArrayLength => measure(environment, flow),
+        Instruction::CheckCast(i) => check_cast(environment, view, flow, i),
+        Instruction::InstanceOf(i) => instance_of(environment, view, flow, i),
     }
 }

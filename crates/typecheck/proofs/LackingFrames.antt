@@ -6,13 +6,10 @@ use Rattle.decode.specs.declared.instruction.Placed.{Placed}
 use Rattle.decode.specs.Places.{at_place, target_of, falls_through, AreConsecutive}
 use Rattle.decode.specs.Reading.{RisesFrom}
 use Rattle.frames.specs.declared.frame.Environment.{Environment}
-use Rattle.frames.specs.declared.frame.Frame.{Frame}
-use Rattle.frames.specs.Frames.{frame_in}
+use Rattle.frames.specs.Frames.{Frame, frame_in}
 use Rattle.typecheck.specs.Typing.{Method, instruction_at, declared_at}
 use Rattle.typecheck.specs.Mismatch.{LacksFrame, at_target, after_end}
-use Rattle.frames.specs.declared.table.Declared.{Declared}
-use Rattle.frames.specs.Seen.{declared_seen}
-use Rattle.typecheck.specs.Seen.{method_seen, target_frame, lacks_target, lacks_at}
+use Rattle.typecheck.specs.Seen.{method_of, target_frame, lacks_target, lacks_at}
 
 -- instructions that rise stand one behind the other
 pub rising_is_consecutive : (at : ℕ) (code : List Placed) → RisesFrom at code → AreConsecutive at code
@@ -95,9 +92,9 @@ none_lacks m none (after_end q p here ends some absent) =
     let no : lacks_at m.code m.declared p ≡ false = subst (λ x. lacks_at m.code m.declared x ≡ false) (k.2 p) (none k.0 p k.1) in
     false≢true (sym no ∙ lacks_is m p (inr (ends, some, absent)))
 
-pub lacking : (e : Environment) (code items : List Placed) (ds : List Declared) → items ≡ code → RisesFrom 0 code → (k : ℕ) (d : Placed) → k < length items → lacks_at code (declared_seen ds) (get_or items k d) ≡ true → LacksFrame (method_seen e code ds)
+pub lacking : (e : Environment) (code items : List Placed) (ds : List (ℕ × Frame)) → items ≡ code → RisesFrom 0 code → (k : ℕ) (d : Placed) → k < length items → lacks_at code ds (get_or items k d) ≡ true → LacksFrame (method_of e code ds)
 lacking e code items ds same rises k d l lacks =
     let inside : k < length code = subst (λ (xs : List Placed). k < length xs) same l in
     let element : get_or items k d ≡ get_or code k d = ap (λ (xs : List Placed). get_or xs k d) same in
     let stands = element_stands 0 code (rising_is_consecutive 0 code rises) k d inside in
-    element_lacks (method_seen e code ds) (get_or code k d) stands.1 (subst (λ p. lacks_at code (declared_seen ds) p ≡ true) element lacks)
+    element_lacks (method_of e code ds) (get_or code k d) stands.1 (subst (λ p. lacks_at code ds p ≡ true) element lacks)

@@ -9,3 +9,4 @@ pub mod CallsFound
 pub mod CallsMade
 pub mod TypedOnly
 pub mod Refusals
+pub mod Flowing

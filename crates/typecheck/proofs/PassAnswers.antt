@@ -10,16 +10,13 @@ use Rattle.decode.specs.declared.instruction.Placed.{Placed}
 use Rattle.decode.specs.Places.{at_place, target_of, falls_through, AreConsecutive}
 use Rattle.decode.specs.Reading.{RisesFrom}
 use Rattle.frames.specs.declared.frame.Environment.{Environment}
-use Rattle.frames.specs.declared.frame.Frame.{Frame}
-use Rattle.frames.specs.declared.table.Declared.{Declared}
 use Rattle.frames.specs.StackMap.{IsDeclared}
-use Rattle.frames.specs.Seen.{declared_seen}
-use Rattle.frames.specs.Frames.{first_frame}
+use Rattle.frames.specs.Frames.{Frame, first_frame}
 use Rattle.transfer.specs.Transfer.{transfer}
 use Rattle.typecheck.specs.Typing.{Method, IsWellTyped, instruction_at, declared_at}
 use Rattle.typecheck.specs.Mismatch.{LacksFrame, at_target, after_end, FallsOffEnd, IsMismatch}
 use Rattle.typecheck.specs.Pass.{frame_fits, or_else, frame_here, misfits, misfits_target, outcome_fails, fails, failure_in, failure_of, IsReady}
-use Rattle.typecheck.specs.Seen.{method_seen, target_frame, mismatch_at, entered, flows, met, branched, left, after, then_passed, passed}
+use Rattle.typecheck.specs.Seen.{method_of, target_frame, mismatch_at, entered, flows, met, branched, left, after, then_passed, passed}
 use Rattle.typecheck.proofs.Consecutive.{skip, first_at}
 use Rattle.typecheck.proofs.DeclaredPlaces.{declared_stands}
 use Rattle.typecheck.proofs.LackingFrames.{rising_is_consecutive}
@@ -302,9 +299,9 @@ module _ (v : ClassView) (m : Method) (ready : IsReady m) where
       go _ (falls_off n s) f = let same : FallsOff ≡ r = cc f in subst IsOfPass same tt
       go _ (fails_at q n) f = let same : mismatch_at q ≡ r = cc f in subst IsOfPass same tt
 
-pub ready_of : (v : ClassView) (e : Environment) (code : List Placed) (tables : List (List ℕ)) (ds : List Declared) → RisesFrom 0 code → IsDeclared v e code tables (declared_seen ds) → (LacksFrame (method_seen e code ds) → ⊥) → IsReady (method_seen e code ds)
+pub ready_of : (v : ClassView) (e : Environment) (code : List Placed) (tables : List (List ℕ)) (ds : List (ℕ × Frame)) → RisesFrom 0 code → IsDeclared v e code tables ds → (LacksFrame (method_of e code ds) → ⊥) → IsReady (method_of e code ds)
 ready_of v e code tables ds rises declared whole = record {
   consecutive = rising_is_consecutive 0 code rises;
-  declared = declared_stands v e code tables (declared_seen ds) declared;
+  declared = declared_stands v e code tables ds declared;
   whole = whole;
 }

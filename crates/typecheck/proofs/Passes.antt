@@ -8,12 +8,12 @@ use Rattle.jtypes.specs.Types.{assignable, EachAssignable}
 use Rattle.classfile.specs.View.{ClassView}
 use Rattle.decode.specs.declared.instruction.Placed.{Placed}
 use Rattle.decode.specs.Places.{at_place, target_of, falls_through, AreConsecutive}
-use Rattle.frames.specs.declared.frame.Frame.{Frame}
-use Rattle.frames.specs.Frames.{FrameAssignable, first_frame}
+use Rattle.frames.specs.Frames.{Frame, FrameAssignable, first_frame}
 use Rattle.transfer.specs.Transfer.{transfer}
 use Rattle.typecheck.specs.Typing.{Method, instruction_at, declared_at, frame_of, frame_at, Enters, HasOutcome, IsWellTyped}
 use Rattle.typecheck.specs.Mismatch.{LacksFrame, at_target, after_end, IsTypedBefore, MisfitsAt, Misfits, Fails, IsMismatch, at_start, at_place_of, FallsOffEnd}
-use Rattle.typecheck.specs.Pass.{each_fits, frame_fits, or_else, frame_here, frame_next, pass, misfits, misfits_target, outcome_fails, fails, failure_in, failure_of, FailsAtMismatch, PassesTyped}
+use Rattle.locals.specs.Fits.{each_fits}
+use Rattle.typecheck.specs.Pass.{frame_fits, or_else, frame_here, frame_next, pass, misfits, misfits_target, outcome_fails, fails, failure_in, failure_of, FailsAtMismatch, PassesTyped}
 use Rattle.typecheck.proofs.Consecutive.{found, skip, skip_frame, first_at, first_frame_at, next_or_last, last_is_last, some_first, frame_found, frame_stands}
 
 -- ---- the tests are the relations

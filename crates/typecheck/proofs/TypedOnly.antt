@@ -5,8 +5,7 @@ use Rattle.std.proofs.lemmas.Bool.{false≢true, eqb-true}
 use Rattle.classfile.specs.View.{ClassView}
 use Rattle.decode.specs.declared.instruction.Placed.{Placed}
 use Rattle.decode.specs.Places.{falls_through, target_of, AreConsecutive}
-use Rattle.frames.specs.declared.frame.Frame.{Frame}
-use Rattle.frames.specs.Frames.{frame_in}
+use Rattle.frames.specs.Frames.{Frame, frame_in}
 use Rattle.frames.specs.StackMap.{IsDeclared}
 use Rattle.typecheck.specs.Typing.{Method, Enters, IsWellTyped, instruction_at, declared_at, HasOutcome}
 use Rattle.typecheck.specs.Mismatch.{LacksFrame, at_target, after_end, IsMismatch, FallsOffEnd}

@@ -1,23 +1,16 @@
 -- One pass over a method's instructions in their order, with the frame that flows from each to the next. Laws tie it to the relations of Typing and Mismatch.
 use Rattle.std.specs.Prelude.{◌≡◌, ◌↔◌, IsSome, ℕ, Bool, true, false, not, ◌&&◌, ◌||◌, List, [], ◌∷◌, Option, Some, None, ℤ, pos, negsuc, if◌then◌else◌}
-use Rattle.jtypes.specs.declared.types.JType.{JType}
-use Rattle.jtypes.specs.Types.{assignable}
+use Rattle.locals.specs.Fits.{each_fits}
 use Rattle.classfile.specs.View.{ClassView}
 use Rattle.decode.specs.declared.instruction.Placed.{Placed}
 use Rattle.decode.specs.Places.{target_of, falls_through, AreConsecutive}
-use Rattle.frames.specs.declared.frame.Frame.{Frame}
-use Rattle.frames.specs.Frames.{first_frame}
+use Rattle.frames.specs.Frames.{Frame, first_frame}
 use Rattle.transfer.specs.Transfer.{transfer}
 use Rattle.jtypes.specs.Lists.{last}
 use Rattle.typecheck.specs.Typing.{Method, declared_at, instruction_at, IsWellTyped}
 use Rattle.typecheck.specs.Mismatch.{LacksFrame, IsMismatch, FallsOffEnd}
 
 -- ---- whether a frame may stand for another, as a test
-
-abbrev pub each_fits : List JType → List JType → Bool
-each_fits [] [] = true
-each_fits (t ∷ ts) (u ∷ us) = assignable t u && each_fits ts us
-each_fits _ _ = false
 
 abbrev pub frame_fits : Frame → Frame → Bool
 frame_fits f g = each_fits f.locals g.locals && each_fits f.stack g.stack

@@ -1,34 +1,40 @@
 -- What the parts of the check answer: the pass by its results.
-use Rattle.std.specs.Prelude.{ℕ, min, Bool, false, not, ◌&&◌, ◌||◌, List, [], ◌∷◌, Option, Some, None, is_some, Result, Ok, Err, ℤ, pos, negsuc, if◌then◌else◌}
+use Rattle.std.specs.Prelude.{ℕ, ◌==◌, min, Bool, false, not, ◌&&◌, ◌||◌, List, [], ◌∷◌, Option, Some, None, is_some, Result, Ok, Err, ℤ, pos, negsuc, if◌then◌else◌}
 use Rattle.jtypes.specs.declared.refusal.Refusal.{Refusal}
 use Rattle.jtypes.specs.declared.refusal.Refusal.TheVariants.{BadStackMap, TypeMismatch, FallsOff}
-use Rattle.jtypes.specs.declared.types.JType.{JType}
-use Rattle.jtypes.specs.Types.{assignable}
 use Rattle.classfile.specs.View.{ClassView}
 use Rattle.decode.specs.declared.instruction.Placed.{Placed}
 use Rattle.decode.specs.Places.{at_place, target_of, falls_through}
 use Rattle.frames.specs.declared.frame.Environment.{Environment}
-use Rattle.frames.specs.declared.frame.Frame.{Frame}
-use Rattle.frames.specs.Frames.{frame_in}
+use Rattle.frames.specs.Frames.{Frame, frame_in}
 use Rattle.transfer.specs.Transfer.{transfer}
 use Rattle.frames.specs.declared.table.Declared.{Declared}
-use Rattle.frames.specs.Seen.{declared_seen}
+use Rattle.frames.specs.declared.frame.Flow.{Flow}
+use Rattle.frames.specs.Seen.{frame_seen}
 use Rattle.typecheck.specs.Typing.{Method}
 use Rattle.typecheck.specs.Pass.{frame_fits}
 
 -- a method by the rows of the code
-abbrev pub method_seen : Environment → List Placed → List Declared → Method
-method_seen e code ds = record { environment = e; code = code; declared = declared_seen ds }
+abbrev pub method_of : Environment → List Placed → List (ℕ × Frame) → Method
+method_of e code ds = record { environment = e; code = code; declared = ds }
 
--- there is a type in both, and the one may stand where the other is
-abbrev pub item_fits : Option JType → Option JType → Bool
-item_fits (Some t) (Some d) = assignable t d
-item_fits _ _ = false
+-- the declared frame of a place, by its row
+abbrev pub declared_row : List Declared → ℕ → Option Declared
+declared_row [] p = None
+declared_row (d ∷ ds) p = if d.place == p then Some d else declared_row ds p
 
 -- the frame declared at a branch's target
 abbrev pub target_frame : List (ℕ × Frame) → ℤ → Option Frame
 target_frame ds (pos q) = frame_in ds q
 target_frame ds (negsuc n) = None
+
+abbrev pub target_row : List Declared → ℤ → Option Declared
+target_row ds (pos q) = declared_row ds q
+target_row ds (negsuc n) = None
+
+-- the frame that flows, if one does
+abbrev pub flowing : Bool → Flow → Option Frame
+flowing flows f = if flows then Some (frame_seen f) else None
 
 -- ---- lacking frames
 
@@ -39,6 +45,14 @@ lacks_target ds (Some z) = not (is_some (target_frame ds z))
 -- no frame is declared at an instruction's target, or behind it where it doesn't fall through
 abbrev pub lacks_at : List Placed → List (ℕ × Frame) → Placed → Bool
 lacks_at code ds p = lacks_target ds (target_of p.instruction) || (not (falls_through p.instruction) && (is_some (at_place code p.next) && not (is_some (frame_in ds p.next))))
+
+-- the same by the rows
+abbrev pub lacks_target_row : List Declared → Option ℤ → Bool
+lacks_target_row ds None = false
+lacks_target_row ds (Some z) = not (is_some (target_row ds z))
+
+abbrev pub lacks_row_at : List Placed → List Declared → Placed → Bool
+lacks_row_at code ds p = lacks_target_row ds (target_of p.instruction) || (not (falls_through p.instruction) && (is_some (at_place code p.next) && not (is_some (declared_row ds p.next))))
 
 -- ---- one instruction of the pass
 

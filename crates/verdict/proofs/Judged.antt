@@ -14,7 +14,7 @@ use Rattle.decode.specs.declared.instruction.Placed.{Placed}
 use Rattle.decode.specs.Code.{IsSequence}
 use Rattle.decode.specs.Places.{at_place, CodeStands}
 use Rattle.decode.proofs.Runs.{sequence_once}
-use Rattle.frames.specs.declared.frame.Frame.{Frame}
+use Rattle.frames.specs.Frames.{Frame}
 use Rattle.frames.specs.declared.frame.Environment.{Environment}
 use Rattle.frames.specs.StackMap.{IsDeclared}
 use Rattle.frames.specs.Signatures.{method_signature}

@@ -18,3 +18,4 @@ pub mod Verdicts
 pub mod Accepted
 pub mod RowsFound
 pub mod Refused
+pub mod ParameterRoom

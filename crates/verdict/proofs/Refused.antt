@@ -18,8 +18,7 @@ use Rattle.decode.specs.Code.{IsSequence}
 use Rattle.decode.specs.Places.{at_place, CodeStands}
 use Rattle.decode.proofs.Unrefused.{members_unread}
 use Rattle.frames.specs.declared.members.Callee.{Callee}
-use Rattle.frames.specs.declared.frame.Frame.{Frame}
-use Rattle.frames.specs.Frames.{frame_in}
+use Rattle.frames.specs.Frames.{Frame, frame_in}
 use Rattle.typecheck.specs.Typing.{Class, IsProcessOf, process_from, number_of_process, call_of, own_of}
 use Rattle.typecheck.specs.Calls.{callee_in, called_by}
 use Rattle.typecheck.specs.Mismatch.{LacksLength, HasLength, HasFrame}

@@ -16,7 +16,7 @@ use Rattle.decode.specs.declared.instruction.Instruction.TheVariants as instruct
 use Rattle.decode.specs.declared.instruction.Placed.{Placed}
 use Rattle.decode.proofs.Runs.{sequence_once}
 use Rattle.decode.proofs.Consecutive.{sequence_is_consecutive}
-use Rattle.frames.specs.declared.frame.Frame.{Frame}
+use Rattle.frames.specs.Frames.{Frame}
 use Rattle.frames.specs.declared.frame.Environment.{Environment}
 use Rattle.frames.specs.declared.signatures.Signature.{Signature}
 use Rattle.frames.specs.StackMap.{IsDeclared}

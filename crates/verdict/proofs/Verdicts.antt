@@ -15,10 +15,9 @@ use Rattle.classfile.specs.View.{ClassView, MethodView, method_view, view_of, ta
 use Rattle.decode.specs.declared.instruction.Placed.{Placed}
 use Rattle.decode.specs.Places.{at_place, target_of, falls_through, HasBackwardTarget}
 use Rattle.decode.proofs.Consecutive.{sequence_is_consecutive}
-use Rattle.frames.specs.declared.frame.Frame.{Frame}
 use Rattle.frames.specs.declared.frame.Environment.{Environment}
 use Rattle.frames.specs.declared.signatures.Signature.{Signature}
-use Rattle.frames.specs.Frames.{frame_in}
+use Rattle.frames.specs.Frames.{Frame, frame_in}
 use Rattle.frames.specs.Signatures.{method_signature}
 use Rattle.frames.specs.StackMap.{IsDeclared, without}
 use Rattle.typecheck.specs.Typing.{Method, Class, IsWellTyped, IsProcessOf, instruction_at, call_of, is_process}

@@ -11,7 +11,7 @@ use Rattle.decode.specs.declared.instruction.Instruction.TheVariants.{NewArray}
 use Rattle.decode.specs.declared.instruction.Placed.{Placed}
 use Rattle.decode.specs.Places.{target_of, AreConsecutive}
 use Rattle.frames.specs.Signatures.{method_signature, is_static}
-use Rattle.frames.specs.declared.frame.Frame.{Frame}
+use Rattle.frames.specs.Frames.{Frame}
 use Rattle.typecheck.specs.Typing.{Method, Class, IsWellTyped, IsProcessOf, instruction_at, declared_at}
 use Rattle.typecheck.specs.Mismatch.{HasLength}
 use Rattle.bounds.specs.Recursion.{IsOrdered}

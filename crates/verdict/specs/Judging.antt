@@ -9,7 +9,7 @@ use Rattle.classfile.specs.View.{ClassView, view_of}
 use Rattle.decode.specs.declared.instruction.Placed.{Placed}
 use Rattle.decode.specs.Code.{IsSequence}
 use Rattle.decode.specs.Places.{at_place}
-use Rattle.frames.specs.declared.frame.Frame.{Frame}
+use Rattle.frames.specs.Frames.{Frame}
 use Rattle.frames.specs.StackMap.{IsDeclared}
 use Rattle.typecheck.specs.Typing.{IsWellTyped}
 use Rattle.typecheck.specs.Calls.{AreCallsOf}

@@ -20,7 +20,7 @@ use bounds::{Bounds, bound};
 use classfile::{ClassFile, ClassView, CodeParts, contents_named, read_class};
 use constpool::names;
 use decode::Code;
-use frames::{Environment, method_signature};
+use frames::{Environment, MethodStart, method_signature};
 use jtypes::Refusal;
 use std::alloc::Global;
 use std::marker::Model;
@@ -124,6 +124,10 @@ fn judge_method(
         max_stack: parts.max_stack,
         max_locals: parts.max_locals,
     };
+    // Fewer locals than the parameters take were refused with the method's shape.
+    let Some(start) = MethodStart::new(environment) else {
+        return Err(Refusal::BadCode);
+    };
     let tables = contents_named(
         alloc,
         &class.pool,
@@ -131,7 +135,7 @@ fn judge_method(
         parts.attributes.as_slice(),
     )?;
     let is_process = is_process(class, member);
-    check_method(alloc, number, is_process, environment, &tables, code, &view)
+    check_method(alloc, number, is_process, start, &tables, code, &view)
 }
 
 /// Checks the types of the methods whose instructions were found.

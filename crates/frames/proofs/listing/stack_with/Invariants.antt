@@ -1,6 +1,6 @@
 use Rattle.std.proofs.Common.{◌≡◌, ◌+◌, ◌≤◌, ◌++◌, drop, reverse}
 use Rattle.frames.proofs.Room.{slots}
-use Rattle.frames.proofs.table_frame.stack_with.Given as goal
+use Rattle.frames.proofs.listing.stack_with.Given as goal
 
 abbrev pub invariant-loop-t : goal.invariant-loop-t
 invariant-loop-t l = record {

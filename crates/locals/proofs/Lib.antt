@@ -1,0 +1,5 @@
+pub mod ByPages
+pub mod Compared
+pub mod Writing
+pub mod Blank
+pub mod Same
