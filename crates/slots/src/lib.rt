@@ -2,13 +2,13 @@
 #![tactic(auto)]
 
 mod calls;
-mod locals;
 mod rearrange;
 mod reference;
 mod rows;
 mod slots;
 #[cfg(test)]
 mod tests;
+mod variables;
 
 pub use reference::Reference;
 pub use rows::Rows;
