@@ -1,11 +1,11 @@
 -- Stripes come back one after the other.
-use Rattle.std.proofs.Common.{◌≡◌, ℕ, zero, suc, ◌+◌, ◌<◌, ◌≤◌, List, [], ◌∷◌, ◌++◌, length, map, take, sym, refl, ap, ◌∙◌, subst, arith}
+use Rattle.std.proofs.Common.{◌≡◌, ℕ, zero, suc, ◌+◌, List, [], ◌∷◌, ◌++◌, length, take, sym, refl, ap, ◌∙◌, subst}
 use Rattle.std.proofs.lemmas.List.{length-map, map-append}
 use mathlib.Core.Option.{some, some-ne-none}
 use lib.ListN.{get_elem?}
 use Rattle.stripe.specs.Kept.{Kept}
 use Rattle.stripe.specs.Tables.{Back, added, IsNext}
-use Rattle.cache.specs.Ends.{tables_of, histories_of, back_of, IsReady}
+use Rattle.cache.specs.Ends.{back_of, IsReady}
 use Rattle.cache.proofs.Puts.{take_at}
 
 pub next_of : (n : ℕ) (ys : List Kept) (y : Kept) (b : Back) → IsReady n (length ys) y → b ≡ back_of n ys → IsNext b y

@@ -1,17 +1,15 @@
 -- Seats are cut and joined.
-use Rattle.std.proofs.Common.{◌≡◌, ◌≢◌, ◌⊎◌, ℕ, ◌+◌, ◌<◌, ◌≤◌, List, [], ◌∷◌, ◌++◌, length, set, Some, None, Bool, sym, refl, ap, ◌∙◌, subst, inl, inr, ⊎_elim, arith, length-set}
-use mathlib.Core.Option.{some, none, some-injective, some-ne-none}
+use Rattle.std.proofs.Common.{◌≡◌, ◌≢◌, ◌⊎◌, ℕ, ◌+◌, ◌<◌, ◌≤◌, List, [], ◌∷◌, ◌++◌, length, set, Some, None, sym, refl, ap, ◌∙◌, subst, inl, inr, ⊎_elim, arith}
+use mathlib.Core.Option.{some, some-injective, some-ne-none}
 use lib.ListN.{get_elem?}
-use Rattle.atomic_table.specs.Table.{State, Splits, Joins}
-use Rattle.atomic_table.proofs.Lists.{at_set, set_here, set_else, at_longer}
-use Rattle.stripe.specs.History.{Record}
+use Rattle.atomic_table.specs.Table.{Splits, Joins}
+use Rattle.atomic_table.proofs.Lists.{at_set, set_else, at_longer}
 use Rattle.stripe.specs.Stored.{Stored}
 use Rattle.stripe.specs.Kept.{Kept}
-use Rattle.cache.specs.Receipts.{Receipt}
 use Rattle.cache.specs.Views.{Part, View, part, none_full, taken, seat_view, cut_left, cut_right, joined, spent}
 use Rattle.cache.specs.Guarded.{IsHome, IsOut, IsPart, Fits, Has, AreOne, HoldsStripe, IsGuarded, Guarded}
 use Rattle.cache.specs.declared.known.Terms.{Terms}
-use Rattle.cache.proofs.Puts.{by_place, within, append_cases, get_length}
+use Rattle.cache.proofs.Puts.{by_place, append_cases, get_length}
 use Rattle.cache.proofs.Keeps.{S, nothing_held, at_one, Placed, one_set, one_less}
 
 -- the views have changed, but not those that hold a stripe

@@ -51,6 +51,13 @@ one_less has views id v w at back old = one_set has views id w (λ h k u apart e
 pub at_more : (tables : List Stored) (journal : ℕ) (h h' : ℕ → List Record) (i : ℕ) (y : Kept) → h' i ≡ h i → IsAt tables journal h i y → IsAt tables journal h' i y
 at_more tables journal h h' i y same a = record { inside = a.inside; stripes = a.stripes; place = a.place; journal_is = a.journal_is; idle = a.idle; kept = a.kept; records = a.records ∙ sym same; few = a.few }
 
+-- the word of a stripe that is held, after another one's change and after its own
+still_held : (words : List ℕ) (i j word : ℕ) → j ≢ i → 0 < get_or words j 0 → 0 < get_or (set words i word) j 0
+still_held words i j word other h = subst (λ (n : ℕ). 0 < n) (sym (get_or-set_other words i j word 0 other)) h
+
+now_held : (words : List ℕ) (i word : ℕ) → i < length words → 0 < word → 0 < get_or (set words i word) i 0
+now_held words i word below above = subst (λ (n : ℕ). 0 < n) (sym (get_or-set_same words i word 0 below)) above
+
 abbrev pub S : Type 0
 S = State Kept View
 
@@ -111,7 +118,7 @@ module _ (tables : List Stored) (journal : ℕ) (s : S) (g : IsGuarded tables jo
               (λ (h : IsOut tables journal g.seats g.history g.receipts g.full s j).
               let apart : h.seat ≢ id = λ e. n (sym (same_stripe i j y h.before (ap (λ (x : View). x.held) (some-injective (holding made p i y) h.view (sym at ∙ subst (λ (k : ℕ). get_elem? s.views k ≡ some h.view) e h.there)) ∙ h.holds))) in
               inr record {
-                held = get_or-set_other s.words i j 0 0 n ∙ h.held;
+                held = still_held s.words i j 0 n h.held;
                 away = set_else s.homes i j (some z) n ∙ h.away;
                 seat = h.seat;
                 view = h.view;
@@ -135,7 +142,7 @@ module _ (tables : List Stored) (journal : ℕ) (s : S) (g : IsGuarded tables jo
                 holds = λ k u e'.
                     let o = old.holds k u e' in
                     let apart : k ≢ i = λ same. a.0 (g.one_holder i j id v (holding made p i y) a.1 at (u, e' ∙ ap (λ (q : ℕ). Some (taken q u)) same) (y, refl)) in
-                    record { held = get_or-set_other s.words i k 0 0 apart ∙ o.held; at = at_more tables journal g.history h' k u (put_else g.history i k z.records apart) o.at; only = o.only };
+                    record { held = still_held s.words i k 0 apart o.held; at = at_more tables journal g.history h' k u (put_else g.history i k z.records apart) o.at; only = o.only };
                 maker = old.maker;
               })
               (at_set s.views id j w v e);
@@ -145,21 +152,21 @@ module _ (tables : List Stored) (journal : ℕ) (s : S) (g : IsGuarded tables jo
 
   -- a stripe that is at home is taken
   module _ (home : IsHome tables journal g.seats g.history g.receipts g.full s i) (at : get_elem? s.views id ≡ some (seat_view made p)) where
-    pub takes_one : IsGuarded tables journal record { words = set s.words i 1; homes = set s.homes i none; views = set s.views id (holding made p i home.stripe) }
-    takes_one =
+    pub takes_one : (word : ℕ) → 0 < word → IsGuarded tables journal record { words = set s.words i word; homes = set s.homes i none; views = set s.views id (holding made p i home.stripe) }
+    takes_one word above =
         let y : Kept = home.stripe in
         let here = home.at in
         let was = g.each_view id (seat_view made p) at in
         let below : i < length tables = here.inside in
         let w : View = holding made p i y in
-        let s' : S = record { words = set s.words i 1; homes = set s.homes i none; views = set s.views id w } in
-        let no_holder : (k : ℕ) (u : View) (a : Kept) → get_elem? s.views k ≡ some u → u.held ≡ Some (taken i a) → ⊥ = λ k u a e h. let one = ((g.each_view k u e).holds i a h).held in let free = home.free in absurd (omega arith) in
+        let s' : S = record { words = set s.words i word; homes = set s.homes i none; views = set s.views id w } in
+        let no_holder : (k : ℕ) (u : View) (a : Kept) → get_elem? s.views k ≡ some u → u.held ≡ Some (taken i a) → ⊥ = λ k u a e h. let one = ((g.each_view k u e).holds i a h).held in let free = home.free in absurd (omega (arith, one, free)) in
         record {
           seats = g.seats;
           history = g.history;
           receipts = g.receipts;
           full = g.full;
-          words = length-set s.words i 1 ∙ g.words;
+          words = length-set s.words i word ∙ g.words;
           homes = length-set s.homes i none ∙ g.homes;
           accounts = g.accounts;
           counted = g.counted;
@@ -168,7 +175,7 @@ module _ (tables : List Stored) (journal : ℕ) (s : S) (g : IsGuarded tables jo
           each_stripe = λ j l'. by_place i j
               (λ e. subst (λ (k : ℕ). Placed tables journal g.seats g.history g.receipts g.full s' k) (sym e)
               (inr record {
-                held = get_or-set_same s.words i 1 0 (omega (arith, g.words));
+                held = now_held s.words i word (omega (arith, g.words)) above;
                 away = set_here s.homes i none (omega (arith, g.homes));
                 seat = id;
                 view = w;
@@ -177,11 +184,11 @@ module _ (tables : List Stored) (journal : ℕ) (s : S) (g : IsGuarded tables jo
                 holds = refl;
               }))
               (λ n. ⊎_elim
-              (λ (h : IsHome tables journal g.seats g.history g.receipts g.full s j). inl record { free = get_or-set_other s.words i j 1 0 n ∙ h.free; stripe = h.stripe; there = set_else s.homes i j none n ∙ h.there; at = h.at })
+              (λ (h : IsHome tables journal g.seats g.history g.receipts g.full s j). inl record { free = get_or-set_other s.words i j word 0 n ∙ h.free; stripe = h.stripe; there = set_else s.homes i j none n ∙ h.there; at = h.at })
               (λ (h : IsOut tables journal g.seats g.history g.receipts g.full s j).
               let apart : h.seat ≢ id = λ e. nothing_held j h.before (ap (λ (x : View). x.held) (some-injective (seat_view made p) h.view (sym at ∙ subst (λ (k : ℕ). get_elem? s.views k ≡ some h.view) e h.there)) ∙ h.holds) in
               inr record {
-                held = get_or-set_other s.words i j 1 0 n ∙ h.held;
+                held = still_held s.words i j word n h.held;
                 away = set_else s.homes i j none n ∙ h.away;
                 seat = h.seat;
                 view = h.view;
@@ -193,7 +200,7 @@ module _ (tables : List Stored) (journal : ℕ) (s : S) (g : IsGuarded tables jo
           each_view = λ j v e. ⊎_elim
               (λ (a : (j ≡ id) × (w ≡ v)). subst (λ (x : ℕ × View). Fits tables journal g.seats g.history g.receipts g.full s' x.0 x.1) (λ k. (sym a.0 k, a.1 k)) (record {
                 parts = λ n x e'. let o = was.parts n x e' in record { caller = o.caller; receipts_are = o.receipts_are; full_is = o.full_is };
-                holds = λ k u e'. subst (λ (x : ℕ × Kept). IsHolder tables journal g.seats g.history g.receipts g.full s' w x.0 x.1) (λ t. (same_stripe i k y u e' t, same_before i k y u e' t)) record { held = get_or-set_same s.words i 1 0 (omega (arith, g.words)); at = here; only = (p, refl) };
+                holds = λ k u e'. subst (λ (x : ℕ × Kept). IsHolder tables journal g.seats g.history g.receipts g.full s' w x.0 x.1) (λ t. (same_stripe i k y u e' t, same_before i k y u e' t)) record { held = now_held s.words i word (omega (arith, g.words)) above; at = here; only = (p, refl) };
                 maker = was.maker;
               }))
               (λ (a : (j ≢ id) × (get_elem? s.views j ≡ some v)).
@@ -202,10 +209,43 @@ module _ (tables : List Stored) (journal : ℕ) (s : S) (g : IsGuarded tables jo
                 holds = λ k u e'.
                     let o = old.holds k u e' in
                     let apart : k ≢ i = λ same. no_holder j v u a.1 (e' ∙ ap (λ (q : ℕ). Some (taken q u)) same) in
-                    record { held = get_or-set_other s.words i k 1 0 apart ∙ o.held; at = o.at; only = o.only };
+                    record { held = still_held s.words i k word apart o.held; at = o.at; only = o.only };
                 maker = old.maker;
               })
               (at_set s.views id j w v e);
           one_holder = λ k. one_set (HoldsStripe k) s.views id w (λ h j u n e h'. no_holder j u h'.0 e (h'.1 ∙ ap (λ (q : ℕ). Some (taken q h'.0)) (sym (same_stripe i k y h.0 h.1)))) (g.one_holder k);
           one_place = λ c. one_less (λ (v : View). Has v c) s.views id (seat_view made p) w at (λ h. h) (g.one_place c);
         }
+
+  -- a stripe that another seat holds is marked
+  pub stays_out : (word : ℕ) → 0 < word → IsOut tables journal g.seats g.history g.receipts g.full s i → IsGuarded tables journal record { words = set s.words i word; homes = s.homes; views = s.views }
+  stays_out word above out =
+      let s' : S = record { words = set s.words i word; homes = s.homes; views = s.views } in
+      let held : (j : ℕ) → j < length tables → 0 < get_or s.words j 0 → 0 < get_or (set s.words i word) j 0 = λ j below h.
+      by_place i j (λ e. subst (λ (k : ℕ). 0 < get_or (set s.words i word) k 0) (sym e) (now_held s.words i word (omega (arith, g.words, e, below)) above)) (λ other. still_held s.words i j word other h) in
+      record {
+        seats = g.seats;
+        history = g.history;
+        receipts = g.receipts;
+        full = g.full;
+        words = length-set s.words i word ∙ g.words;
+        homes = g.homes;
+        accounts = g.accounts;
+        counted = g.counted;
+        no_history = g.no_history;
+        no_receipts = g.no_receipts;
+        each_stripe = λ j below. by_place i j
+            (λ e. subst (λ (k : ℕ). Placed tables journal g.seats g.history g.receipts g.full s' k) (sym e)
+            (inr record { held = now_held s.words i word (omega (arith, g.words, e, below)) above; away = out.away; seat = out.seat; view = out.view; before = out.before; there = out.there; holds = out.holds }))
+            (λ other. ⊎_elim
+            (λ (h : IsHome tables journal g.seats g.history g.receipts g.full s j). inl record { free = get_or-set_other s.words i j word 0 other ∙ h.free; stripe = h.stripe; there = h.there; at = h.at })
+            (λ (h : IsOut tables journal g.seats g.history g.receipts g.full s j). inr record { held = still_held s.words i j word other h.held; away = h.away; seat = h.seat; view = h.view; before = h.before; there = h.there; holds = h.holds })
+            (g.each_stripe j below));
+        each_view = λ j v e. let old = g.each_view j v e in record {
+          parts = λ n x e'. let o = old.parts n x e' in record { caller = o.caller; receipts_are = o.receipts_are; full_is = o.full_is };
+          holds = λ k u e'. let o = old.holds k u e' in record { held = held k o.at.inside o.held; at = o.at; only = o.only };
+          maker = old.maker;
+        };
+        one_holder = g.one_holder;
+        one_place = g.one_place;
+      }

@@ -1,9 +1,8 @@
 -- What the steps on a stripe's lock ask of the table.
-use Rattle.std.proofs.Common.{◌≡◌, ◌≢◌, ◌⊎◌, ℕ, zero, suc, ◌+◌, ◌*◌, ◌<◌, ◌≤◌, List, [], ◌∷◌, ◌++◌, length, set, None, Bool, true, sym, refl, ap, ◌∙◌, subst, ⊎_elim, arith, length-append}
-use Rattle.std.proofs.lemmas.List.{set-get_or}
-use mathlib.Core.Option.{some, none, some-injective}
+use Rattle.std.proofs.Common.{◌≡◌, ℕ, suc, ◌+◌, ◌*◌, ◌<◌, ◌≤◌, List, [], ◌∷◌, ◌++◌, length, set, None, Bool, true, sym, refl, ap, ◌∙◌, subst, ⊎_elim, arith, length-append}
+use mathlib.Core.Option.{none, some-injective}
 use lib.ListN.{get_elem?}
-use Rattle.atomic_table.specs.Table.{State, Me, Allows, step, keeps, takes, gives}
+use Rattle.atomic_table.specs.Table.{Allows, step, keeps, takes, gives}
 use Rattle.atomic_table.proofs.Lists.{set_again}
 use Rattle.stripe.specs.History.{Record}
 use Rattle.stripe.specs.Stored.{Stored}
@@ -18,7 +17,7 @@ use Rattle.cache.specs.declared.known.Terms.{Terms}
 use Rattle.cache.proofs.Puts.{put}
 use Rattle.cache.proofs.Counts.{count_few}
 use Rattle.cache.proofs.Books.{Books, put_is, same_books, more_full, more_books}
-use Rattle.cache.proofs.Keeps.{S, gives_back, takes_one}
+use Rattle.cache.proofs.Keeps.{S, gives_back, takes_one, stays_out}
 
 last_after : (i place : ℕ) (x : Record) (xs : List Record) (r : Record) → last_receipt i place x (xs ++ r ∷ []) ≡ record { stripe = i; place = place + length xs + 1; call = r.call; reply = r.reply }
 last_after i place x [] r = ap (λ (n : ℕ). record { stripe = i; place = n; call = r.call; reply = r.reply }) (omega arith)
@@ -49,8 +48,8 @@ module _ (k : Terms) (n id i : ℕ) where
   tables = k.tables.value
 
   module _ (made : ℕ) (p : Part) where
-    may_take : n ≡ length tables → IsCount (length tables) → IsJournal k.journal → i < length tables → Allows (Guarded k) n id (seat_view made p, []) i (λ _. 1) (on_take (step n i 1 0 none) (seat_view made p, []))
-    may_take slots count size below s g long at fits =
+    may_take : (word : ℕ) → 0 < word → n ≡ length tables → IsCount (length tables) → IsJournal k.journal → i < length tables → Allows (Guarded k) n id (seat_view made p, []) i (λ _. word) (on_take (step n i word 0 none) (seat_view made p, []))
+    may_take word above slots count size below s g long at fits =
         let of = (g.each_view id (seat_view made p) at).parts 0 p refl in
         let few : length p.receipts ≤ 262144 = subst (λ (l : List Receipt). length l ≤ 262144) (sym of.receipts_are) (few_receipts tables k.journal s g p.caller count size) in
         ⊎_elim
@@ -58,7 +57,7 @@ module _ (k : Terms) (n id i : ℕ) where
           holding made p i h.stripe,
           takes i h.stripe,
           h.there,
-          takes_one tables k.journal s g id i made p h at,
+          takes_one tables k.journal s g id i made p h at word above,
           (
             (λ _. (
               h.stripe,
@@ -78,14 +77,14 @@ module _ (k : Terms) (n id i : ℕ) where
           seat_view made p,
           keeps,
           tt,
-          subst (λ (x : List ℕ × List View). IsGuarded tables k.journal record { words = x.0; homes = s.homes; views = x.1 }) (λ t. (sym (ap (set s.words i) (sym h.held) ∙ set-get_or s.words i 0) t, sym (set_again s.views id (seat_view made p) at) t)) g,
-          ((λ none_there. let one = h.held in absurd (omega arith)), (λ _. refl)),
+          subst (λ (x : List View). IsGuarded tables k.journal record { words = set s.words i word; homes = s.homes; views = x }) (sym (set_again s.views id (seat_view made p) at)) (stays_out tables k.journal s g id i made p word above h),
+          ((λ none_there. let one = h.held in absurd (omega (arith, one, none_there))), (λ _. refl)),
         ))
         (g.each_stripe i below)
 
     -- the same, at what the seat is known to be
-    pub may_take_as : (m : Sat) → m ≡ (seat_view made p, []) → n ≡ length tables → IsCount (length tables) → IsJournal k.journal → i < length tables → Allows (Guarded k) n id m i (λ _. 1) (on_take (step n i 1 0 none) m)
-    may_take_as m is slots count size below = subst (λ (x : Sat). Allows (Guarded k) n id x i (λ _. 1) (on_take (step n i 1 0 none) x)) (sym is) (may_take slots count size below)
+    pub may_take_as : (word : ℕ) → 0 < word → (m : Sat) → m ≡ (seat_view made p, []) → n ≡ length tables → IsCount (length tables) → IsJournal k.journal → i < length tables → Allows (Guarded k) n id m i (λ _. word) (on_take (step n i word 0 none) m)
+    may_take_as word above m is slots count size below = subst (λ (x : Sat). Allows (Guarded k) n id x i (λ _. word) (on_take (step n i word 0 none) x)) (sym is) (may_take word above slots count size below)
 
     module _ (y z : Kept) (later : IsLater y z) where
       may_return : z.records ≡ y.records → Allows (Guarded k) n id (holding made p i y, (i, z) ∷ []) i (λ _. 0) (on_return (step n i 0 0 none) (holding made p i y, (i, z) ∷ []))

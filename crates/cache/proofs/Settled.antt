@@ -1,8 +1,8 @@
 -- The last state settles the accounts.
-use Rattle.std.proofs.Common.{◌≡◌, ◌≢◌, ℕ, ℤ, zero, suc, ◌+◌, ◌%◌, ◌<◌, ◌≤◌, List, [], ◌∷◌, length, map, get_or, drop, Some, Bool, sym, refl, ap, ◌∙◌, subst, ⊎_elim, arith}
+use Rattle.std.proofs.Common.{◌≡◌, ℕ, ℤ, zero, suc, ◌<◌, ◌≤◌, List, [], ◌∷◌, length, map, get_or, drop, Some, Bool, sym, refl, ap, ◌∙◌, subst, ⊎_elim, arith}
 use Rattle.std.specs.Prelude.{slice_get, option_and_then, pos, negsuc}
 use Rattle.std.proofs.Math.Nat.{mod-lt}
-use mathlib.Core.Option.{some, none, some-injective, some-ne-none}
+use mathlib.Core.Option.{some, some-injective, some-ne-none}
 use mathlib.Core.Logic.{dite}
 use native.Mathlib.Decide.{dec_le}
 use lib.ListN.{get_elem?}
@@ -16,7 +16,7 @@ use Rattle.cache.specs.Views.{Part, View, none_full}
 use Rattle.cache.specs.Accounts.{Accounts}
 use Rattle.cache.specs.Guarded.{IsAt, IsHome, IsOut, Has, IsGuarded}
 use Rattle.cache.specs.Opened.{Opened, Sitting, part_of, view_of}
-use Rattle.cache.specs.Ends.{tables_of, histories_of, back_of, IsReady, AreReady}
+use Rattle.cache.specs.Ends.{tables_of, histories_of}
 use Rattle.cache.specs.Closing.{history_at, receipts_at, full_at, Settles}
 use Rattle.cache.proofs.Puts.{within}
 use Rattle.cache.proofs.Keeps.{nothing_held}

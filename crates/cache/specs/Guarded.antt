@@ -45,7 +45,7 @@ module _ (tables : List Stored) (journal seats : ℕ) (history : ℕ → List Re
 
   -- a seat holds the stripe
   pub record IsOut (i : ℕ) : Type 0 where
-    pub held : slice_index s.words i ≡ 1
+    pub held : 0 < slice_index s.words i
     pub away : get_elem? s.homes i ≡ some none
     pub seat : ℕ
     pub view : View
@@ -61,7 +61,7 @@ module _ (tables : List Stored) (journal seats : ℕ) (history : ℕ → List Re
 
   -- who holds a stripe is one seat, and the stripe was so when it was taken
   pub record IsHolder (v : View) (i : ℕ) (y : Kept) : Type 0 where
-    pub held : slice_index s.words i ≡ 1
+    pub held : 0 < slice_index s.words i
     pub at : IsAt tables journal history i y
     pub only : (p : Part) × (v.parts ≡ p ∷ [])
 

@@ -1,5 +1,5 @@
 -- What each step on a stripe's lock tells the seat.
-use Rattle.std.specs.Prelude.{◌≡◌, ◌≢◌, ℕ, suc, ◌≤◌, List, [], ◌∷◌, ◌++◌, Some, None, length, map}
+use Rattle.std.specs.Prelude.{◌≡◌, ◌≢◌, ℕ, suc, ◌≤◌, List, [], ◌∷◌, Some, None, length, map}
 use Rattle.atomic_table.specs.Table.{Me, Step, rest}
 use Rattle.stripe.specs.History.{Record}
 use Rattle.stripe.specs.Kept.{Kept}

@@ -1,6 +1,5 @@
 -- What is asked and told of the steps of a call.
-use Rattle.std.specs.Prelude.{◌≡◌, ◌≢◌, ℕ, ℤ, ◌+◌, ◌<◌, ◌≤◌, List, [], ◌∷◌, ◌++◌, Option, Some, None, length}
-use Rattle.atomic_table.specs.Table.{Me}
+use Rattle.std.specs.Prelude.{◌≡◌, ◌≢◌, ℕ, ℤ, ◌≤◌, List, [], ◌∷◌, ◌++◌, None, length}
 use Rattle.jtypes.specs.Entry.{Entry}
 use Rattle.stripe.specs.History.{Begun, Record, Entries, key_of}
 use Rattle.stripe.specs.Kept.{Kept, IsKept, IsOf, IsRecord, begun, committed, entry_of}

@@ -4,7 +4,7 @@ use crate::known::{Known, Terms};
 use atomic_table::{Join, Play, Split, TableRule};
 use stripe::Stripe;
 
-/// A word for each stripe is 0 where the stripe is free, and 1 where a seat holds it.
+/// A word for each stripe is 0 where the stripe is free, and another number where a seat holds it.
 pub struct Locks;
 
 impl<'a> TableRule<Stripe<'a>, Known, Terms> for Locks {

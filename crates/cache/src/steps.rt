@@ -1,6 +1,6 @@
 //! A stripe is taken, worked on and given back.
 
-ghost use Rattle.std.specs.Prelude.{◌≡◌, ◌<◌, ◌∷◌, [], ℕ, length, Some, Err, IfOk, OnErr};
+ghost use Rattle.std.specs.Prelude.{◌≡◌, ◌<◌, ◌∷◌, [], ℕ, length, Some, Err, IfOk, OnErr, IsTrue, IsFalse};
 ghost use Rattle.stripe.specs.History.{Begun, key_of};
 ghost use Rattle.stripe.specs.Kept.{Kept, CanCommit};
 ghost use Rattle.stripe.specs.Seen.{call_of, record_of};
@@ -22,7 +22,41 @@ pub type Board<'a> = Shared<Stripe<'a>, Known, Terms, Locks>;
 /// What a seat steps with.
 pub type Place<'a> = Pass<Stripe<'a>, Known>;
 
+/// A stripe's word where no seat holds it.
+const FREE: u64 = 0;
+
+/// Where a seat holds it, and nobody is known to wait.
+const HELD: u64 = 1;
+
+/// Where a seat holds it, and another one may sleep until it is given back.
+const AWAITED: u64 = 2;
+
+/// Takes a stripe if it is free. Its word becomes the mark in any case.
+fn try_take<'a>(board: &Board<'a>, pass: &mut Place<'a>, index: usize, mark: u64) -> bool
+    requires table { pass.old.table_id ≡ board.now.table_id }
+    requires board { IsBoard board.now.table_id board.now.key }
+    requires index { index < board.now.table_id.words }
+    requires idle { IsIdle pass.old.me }
+    requires some { 0 < mark }
+    ensures table { pass.new.table_id ≡ pass.old.table_id }
+    ensures taken { IsTrue result → (made : ℕ) (p : Part) → pass.old.me ≡ (seat_view made p, []) → HasTaken board.now.table_id.slots index made p pass.new.me }
+    ensures left { IsFalse result → pass.new.me ≡ pass.old.me }
+{
+    board.swap::<Take>(pass, index, mark) == FREE
+}
+
+/// Wakes a seat that sleeps until the stripe is given back, where its word told that one may.
+fn wake(board: &Board<'_>, index: usize, word: u64)
+    requires { index < board.now.table_id.words }
+{
+    if word == AWAITED {
+        board.wake_one(index);
+    }
+}
+
 /// Takes a stripe. Who finds it taken sleeps until it is given back.
+///
+/// Who has waited takes it as one that is awaited, since others may sleep still; so whoever sleeps is woken in the end.
 pub fn take<'a, R: Wait>(rt: &R, board: &Board<'a>, pass: &mut Place<'a>, index: usize)
     requires table { pass.old.table_id ≡ board.now.table_id }
     requires board { IsBoard board.now.table_id board.now.key }
@@ -31,11 +65,14 @@ pub fn take<'a, R: Wait>(rt: &R, board: &Board<'a>, pass: &mut Place<'a>, index:
     ensures table { pass.new.table_id ≡ pass.old.table_id }
     ensures taken { (made : ℕ) (p : Part) → pass.old.me ≡ (seat_view made p, []) → HasTaken board.now.table_id.slots index made p pass.new.me }
 {
+    if try_take(board, pass, index, HELD) {
+        return;
+    }
     for _ in rt.forever() {
-        if board.swap::<Take>(pass, index, 1) == 0 {
+        if try_take(board, pass, index, AWAITED) {
             return;
         }
-        board.park(rt, index, 1);
+        board.park(rt, index, AWAITED as u32);
     }
     unreachable!()
 }
@@ -86,8 +123,8 @@ pub fn tell<'a>(board: &Board<'a>, pass: &mut Place<'a>, index: usize)
     ensures table { pass.new.table_id ≡ pass.old.table_id }
     ensures given { HasTold index pass.old.me pass.new.me }
 {
-    board.swap::<Tell>(pass, index, 0);
-    board.wake_one(index);
+    let word = board.swap::<Tell>(pass, index, FREE);
+    wake(board, index, word);
 }
 
 /// Gives the stripe back as it was.
@@ -98,8 +135,8 @@ pub fn give_back<'a>(board: &Board<'a>, pass: &mut Place<'a>, index: usize)
     ensures table { pass.new.table_id ≡ pass.old.table_id }
     ensures given { (made : ℕ) (p : Part) (y : Kept) → pass.old.me.0 ≡ holding made p index y → pass.new.me ≡ (seat_view made p, []) }
 {
-    board.swap::<Return>(pass, index, 0);
-    board.wake_one(index);
+    let word = board.swap::<Return>(pass, index, FREE);
+    wake(board, index, word);
 }
 
 /// Gives the stripe back as it was. Its history is full.
@@ -110,6 +147,6 @@ pub fn give_full<'a>(board: &Board<'a>, pass: &mut Place<'a>, index: usize)
     ensures table { pass.new.table_id ≡ pass.old.table_id }
     ensures given { (made : ℕ) (p : Part) (y : Kept) → pass.old.me.0 ≡ holding made p index y → pass.new.me ≡ (seat_view made (filled_part p index), []) }
 {
-    board.swap::<Fill>(pass, index, 0);
-    board.wake_one(index);
+    let word = board.swap::<Fill>(pass, index, FREE);
+    wake(board, index, word);
 }

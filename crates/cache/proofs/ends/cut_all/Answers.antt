@@ -1,9 +1,9 @@
-use Rattle.std.proofs.Common.{rules, ◌≡◌, ◌≤◌, ◌+◌, ◌++◌, ◌∷◌, [], ℕ, List, suc, length, vec_capacity, arith, refl, sym, ap, ◌∙◌, subst, ⊎_elim, length-append}
+use Rattle.std.proofs.Common.{rules, ◌≡◌, ◌++◌, ◌∷◌, [], ℕ, List, suc, length, arith, sym, ap, ◌∙◌, subst, ⊎_elim, length-append}
 use mathlib.Core.Option.{some}
 use lib.ListN.{get_elem?}
 use Rattle.atomic_table.specs.Table.{Splits}
 use Rattle.cache.specs.Receipts.{receipts_of}
-use Rattle.cache.specs.Views.{seat_view, part, none_full, cut_left, cut_right}
+use Rattle.cache.specs.Views.{part, none_full, cut_left, cut_right}
 use Rattle.cache.specs.Guarded.{Guarded}
 use Rattle.cache.specs.Opened.{Sitting, fresh_seat}
 use Rattle.cache.specs.Plays.{Sat}

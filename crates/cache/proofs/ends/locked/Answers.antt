@@ -1,4 +1,4 @@
-use Rattle.std.proofs.Common.{rules, ◌≡◌, ◌≤◌, arith, sym, ℕ, length, ◌∙◌}
+use Rattle.std.proofs.Common.{◌≡◌, arith, sym, ℕ, length, ◌∙◌}
 use Rattle.std.proofs.lemmas.Grind.{common_steps}
 use Rattle.cache.proofs.Starts.{begins_at, long, zeros_long}
 use Rattle.cache.proofs.ends.locked.Goals as goal

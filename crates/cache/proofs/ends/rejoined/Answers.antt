@@ -1,6 +1,4 @@
-use Rattle.std.proofs.Common.{rules, ◌≡◌, ◌++◌, [], ◌∷◌, ℕ, List, length, arith, refl, sym, ap, ◌∙◌, append_assoc}
-use mathlib.Core.Option.{some}
-use lib.ListN.{get_elem?}
+use Rattle.std.proofs.Common.{◌≡◌, ◌++◌, [], ◌∷◌, List, length, sym, ap, ◌∙◌, append_assoc}
 use Rattle.std.specs.Vec.Iter.{into_iter_items}
 use Rattle.stripe.specs.Kept.{Kept}
 use Rattle.cache.proofs.Puts.{at_yielded}

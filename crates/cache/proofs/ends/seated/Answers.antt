@@ -1,6 +1,4 @@
-use Rattle.std.proofs.Common.{rules, ◌≡◌, ◌∷◌, ℕ, List, suc, length, ap, sym, subst, ◌∙◌, arith}
-use mathlib.Core.Option.{some}
-use lib.ListN.{get_elem?}
+use Rattle.std.proofs.Common.{ℕ, List, ap, sym, subst, ◌∙◌}
 use Rattle.cache.specs.Opened.{Sitting, AreFresh, fresh_seat}
 use Rattle.cache.proofs.Starts.{fresh_all}
 use Rattle.cache.proofs.ends.seated.Goals as goal

@@ -1,5 +1,4 @@
-use Rattle.std.proofs.Common.{rules, ◌≡◌, ◌≢◌, ◌<◌, ◌≤◌, ◌+◌, ◌++◌, [], ◌∷◌, ℕ, List, true, false, take, set, get_or, arith, refl, sym, ap, ◌∙◌, subst, get_or-set_other, get_or-set_same}
-use mathlib.Core.Option.{some}
+use Rattle.std.proofs.Common.{◌<◌, ◌+◌, ℕ, List, false, take, set, get_or, arith, sym, ap, ◌∙◌, get_or-set_other, get_or-set_same}
 use lib.ListN.{get_elem?}
 use Rattle.stripe.specs.Kept.{Kept}
 use Rattle.cache.specs.Ends.{back_of}

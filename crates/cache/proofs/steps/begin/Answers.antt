@@ -1,6 +1,5 @@
-use Rattle.std.proofs.Common.{rules, ◌≡◌, ◌≢◌, ◌∷◌, [], List, ℕ, length, get_or, Some, None, refl, ap, sym, subst, ◌∙◌}
+use Rattle.std.proofs.Common.{◌∷◌, ap, sym, ◌∙◌}
 use Rattle.atomic_table.specs.Table.{rest}
-use Rattle.stripe.specs.Kept.{Kept, IsOf}
 use Rattle.cache.proofs.steps.begin.Goals as goal
 
 pub slot_mut-requires : goal.slot_mut-requires

@@ -2,5 +2,5 @@ use Rattle.std.proofs.Common.{rules}
 use Rattle.cache.proofs.Moves.{may_fill_as}
 use Rattle.cache.proofs.steps.give_full.Goals as goal
 
-pub swap-requires : goal.swap-requires
-swap-requires c = (search rules, search rules, may_fill_as c.args.board.now.key c.args.board.now.table_id.slots c.args.pass.now.id c.args.index c.args.pass.now.me c.requires.held)
+pub swap-word-requires : goal.swap-word-requires
+swap-word-requires c = (search rules, search rules, may_fill_as c.args.board.now.key c.args.board.now.table_id.slots c.args.pass.now.id c.args.index c.args.pass.now.me c.requires.held)

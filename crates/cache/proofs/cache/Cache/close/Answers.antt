@@ -1,5 +1,4 @@
-use Rattle.std.proofs.Common.{rules, ◌≡◌, ◌<◌, ◌∷◌, List, ℕ, suc, length, arith, refl, sym, ap, subst, ◌∙◌}
-use mathlib.Core.Option.{some}
+use Rattle.std.proofs.Common.{◌≡◌, ◌<◌, List, suc, length, arith, sym, ap, subst, ◌∙◌}
 use lib.ListN.{get_elem?}
 use Rattle.atomic_table.specs.Table.{Final, Seen}
 use Rattle.stripe.specs.History.{Record}

@@ -1,8 +1,8 @@
-use Rattle.std.proofs.Common.{rules, refl, ap, sym, subst, ◌∙◌, ◌≡◌, ◌≤◌, ◌<◌, ◌++◌, [], ◌∷◌, List, ℕ, ℤ, length, map, Err, true, set, arith, length-append, length-set}
+use Rattle.std.proofs.Common.{refl, ap, sym, subst, ◌∙◌, ◌≡◌, ◌≤◌, ◌++◌, [], ◌∷◌, List, ℕ, ℤ, length, Err, true, set, arith, length-append, length-set}
 use Rattle.std.proofs.lemmas.Grind.{common_steps}
 use Rattle.std.proofs.lemmas.List.{length-map, map-append}
 use Rattle.stripe.specs.History.{Begun, Record, key_of, stripe_of}
-use Rattle.stripe.specs.Kept.{Kept, IsEnd, begun, committed}
+use Rattle.stripe.specs.Kept.{IsEnd, begun, committed}
 use Rattle.stripe.specs.Seen.{call_of, record_of}
 use Rattle.jtypes.specs.Entry.{Entry}
 use Rattle.cache.specs.Receipts.{Receipt, receipt_of, receipts_of, receipt_behind}

@@ -1,4 +1,4 @@
-use Rattle.std.proofs.Common.{rules, ◌≡◌, ◌≤◌, ◌<◌, arith, ap, sym, subst, ℕ, List, length, ◌∙◌}
+use Rattle.std.proofs.Common.{◌≡◌, arith, ap, sym, subst, List, length, ◌∙◌}
 use Rattle.std.proofs.lemmas.Grind.{common_steps}
 use Rattle.stripe.specs.Stored.{Stored}
 use Rattle.stripe.specs.Tables.{IsCount, none_back}

@@ -1,4 +1,4 @@
-use Rattle.std.proofs.Common.{rules, sym, subst, Option}
+use Rattle.std.proofs.Common.{sym, subst, Option}
 use Rattle.machine.specs.declared.done.Done.{Done}
 use Rattle.stripe.specs.Kept.{IsEnd}
 use Rattle.stripe.specs.Seen.{call_of}
