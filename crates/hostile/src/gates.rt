@@ -1,0 +1,95 @@
+//! Sixteen calls at once.
+
+use cache::Gate;
+use rowclasses as rows;
+use serve::{Settings, serve};
+use std::alloc::{AllocError, Global};
+use std::sync::atomic::{AtomicUsize, Ordering};
+use std::test::Fail;
+use std::thread;
+use std::time::{Clock, Duration};
+use wire::Counted;
+
+/// How many jobs there are, each on a stripe of its own.
+const JOBS: usize = 16;
+
+/// Holds all jobs but the last in their begun calls until the last was answered, for ten seconds at most.
+#[derive(Drop)]
+struct Holding<'s, R> {
+    rt: &'s R,
+    /// How often the last job was answered.
+    last: AtomicUsize,
+    /// How many jobs saw that.
+    saw: AtomicUsize,
+}
+
+impl<'s, R: Clock> Gate for Holding<'s, R> {
+    fn started(&self, job: usize) {
+        if job == JOBS - 1 {
+            return;
+        }
+        for _ in 0..100_000 {
+            if self.last.load(Ordering::SeqCst) > 0 {
+                self.saw.fetch_add(1, Ordering::SeqCst);
+                return;
+            }
+            thread::sleep(self.rt, Duration::from_micros(100));
+        }
+    }
+
+    fn answered(&self, job: usize) {
+        if job == JOBS - 1 {
+            self.last.fetch_add(1, Ordering::SeqCst);
+        }
+    }
+}
+
+static ROUND_END: [u8; 5] = [0, 0, 0, 1, 8];
+
+/// A class that counts the entry up is defined, and in a second round invoked on as many keys as there are jobs.
+fn script(alloc: Global) -> Result<Vec<u8>, AllocError> {
+    let mut input = Vec::new(alloc);
+    input.extend_from_slice(&[0, 0, 2, 0xFD, 1])?;
+    input.extend_from_slice(&rows::counter(alloc)?)?;
+    input.extend_from_slice(&ROUND_END)?;
+    for key in 0..16 {
+        input.extend_from_slice(&[
+            0, 0, 0, 0x17, 6, 0, 0, 0, 0, 0, 0, 0, 0, 0, 0, 0, key, 1, 1, 0, 0, 0, 0, 0, 0, 0, 1,
+        ])?;
+    }
+    input.extend_from_slice(&ROUND_END)?;
+    Ok(input)
+}
+
+/// The result of an invocation that returned 1 as a Long.
+static ONE: [u8; 15] = [0, 0, 0, 0x0B, 6, 0, 1, 0, 0, 0, 0, 0, 0, 0, 1];
+
+#[test]
+fn sixteen_stripes_work_at_once(rt: HostRuntime) -> Result<(), Fail> {
+    let alloc = rt.alloc();
+    let input = script(alloc)?;
+    let gate = Holding {
+        rt: &rt,
+        last: AtomicUsize::new(0),
+        saw: AtomicUsize::new(0),
+    };
+    let settings = Settings {
+        workers: 16,
+        stripes: 16,
+    };
+    let mut reader = Counted::new(input.as_slice());
+    let mut writer = Counted::new(Vec::new(alloc));
+    let result = serve(&rt, alloc, &mut reader, &mut writer, settings, &gate);
+    assert_eq!(rt; result, Ok(()));
+    assert_eq!(rt; gate.last.load(Ordering::SeqCst), 1);
+    assert_eq!(rt; gate.saw.load(Ordering::SeqCst), JOBS - 1);
+    // The class and its round come first, and an end last.
+    let output = writer.into_inner();
+    assert_eq!(rt; output.len(), 22 + 15 * JOBS + 5);
+    assert!(rt;
+        output[22..22 + 15 * JOBS]
+            .chunks(15)
+            .all(|reply| reply == &ONE[..])
+    );
+    Ok(())
+}
