@@ -101,12 +101,15 @@ def reply_line(text):
     return {3: "done", 9: "end"}[kind]
 
 
+def frame(text):
+    return struct.pack(">I", len(text)) + text
+
+
 def write_requests():
     for line in sys.stdin:
         words = line.split()
         if words and not words[0].startswith("#"):
-            text = request_text(*words)
-            sys.stdout.buffer.write(struct.pack(">I", len(text)) + text)
+            sys.stdout.buffer.write(frame(request_text(*words)))
             if words[0] == "end":
                 sys.stdout.buffer.flush()
 
@@ -117,9 +120,10 @@ def write_replies():
         print(reply_line(sys.stdin.buffer.read(length)), flush=True)
 
 
-if sys.argv[1:] == ["--replies"]:
-    write_replies()
-elif not sys.argv[1:]:
-    write_requests()
-else:
-    sys.exit(__doc__)
+if __name__ == "__main__":
+    if sys.argv[1:] == ["--replies"]:
+        write_replies()
+    elif not sys.argv[1:]:
+        write_requests()
+    else:
+        sys.exit(__doc__)
