@@ -1,12 +1,14 @@
 //! The methods that a class's instructions may call.
 
-ghost use Rattle.std.specs.Prelude.{◌≡◌, IfOk, option_map, map};
-ghost use Rattle.frames.specs.Members.{library_rows, is_row_of, row_of, library_params, library_callee, is_method, numbered, pairs_with, own_callee, member_at, callee_at};
-ghost use Rattle.frames.specs.Seen.{member_seen, method_seen, row_seen};
+ghost use Rattle.std.specs.Prelude.{◌≡◌, ℕ, IfOk, Some, option_map, map, slice_get};
+ghost use Rattle.jtypes.specs.Lists.{same_bytes};
+ghost use Rattle.frames.specs.Members.{library_rows, is_row_of, row_of, library_params, library_callee, numbered, pairs_with, own_callee, member_at, callee_at};
+ghost use Rattle.frames.specs.Seen.{member_seen, row_seen};
+ghost use Rattle.frames.specs.Signed.{AreNamesakes, method_of, method_at};
 
-use crate::Signature;
-use crate::signatures::{class_type, is_private, is_static, method_signature, signature_of};
-use classfile::{ClassView, MethodView};
+use crate::signatures::{class_type, is_private, is_static, signature_of};
+use crate::signed::SignedMethod;
+use crate::{MemberView, Signature};
 use constpool::{MemberRef, Pool, names, same_bytes};
 use jtypes::{Invoke, Items, JType, Native, RefType};
 use std::alloc::{AllocError, Global};
@@ -259,52 +261,68 @@ fn pairs_with(kind: Invoke, flags: u16) -> bool
     }
 }
 
-/// Whether a member names this method.
-fn is_method(member: &MemberRef<'_>, method: &MethodView<'_>) -> bool
-    ensures { result ≡ is_method (member_seen member.now) (method_seen method.now) }
+/// Whether a method has this name, which those before it have or have not.
+fn is_named(method: &SignedMethod<'_>, name: &[u8], named: &[bool]) -> bool
+    requires { (j : ℕ) → method.now.namesake ≡ Some j → slice_get named.now j ≡ Some (same_bytes name.now method.now.method.name.now) }
+    ensures { result ≡ same_bytes name.now method.now.method.name.now }
 {
-    same_bytes(member.name, method.name) && same_bytes(member.descriptor, method.descriptor)
-}
-
-/// A method of the class by its name and descriptor, with its number.
-fn numbered<'a>(view: &ClassView<'a>, member: &MemberRef<'_>) -> Option<(usize, MethodView<'a>)>
-    ensures { option_map (λ found. (found.0, method_seen found.1)) result ≡ numbered 0 view.now.methods (member_seen member.now) }
-{
-    for k in 0..view.method_count() {
-        if let Some(method) = view.method(k) {
-            if is_method(member, &method) {
-                return Some((k, method));
-            }
+    if let Some(j) = method.namesake {
+        if let Some(is) = named.get(j) {
+            return *is;
         }
     }
-    None
+    same_bytes(name, method.method.name)
+}
+
+/// A method of the class by its name and descriptor, by its number. Methods of one name are compared with it once.
+fn numbered(
+    alloc: Global,
+    methods: &[SignedMethod<'_>],
+    member: &MemberRef<'_>,
+) -> Result<Option<usize>, AllocError>
+    requires { AreNamesakes methods.now }
+    ensures { IfOk result (λ found. method_at methods.now found ≡ numbered 0 (map method_of methods.now) (member_seen member.now)) }
+{
+    let mut named = Vec::new(alloc);
+    for k in 0..methods.len() {
+        let method = &methods[k];
+        let is = is_named(method, member.name, &named);
+        if is && same_bytes(member.descriptor, method.method.descriptor) {
+            return Ok(Some(k));
+        }
+        named.push(is)?;
+    }
+    Ok(None)
 }
 
 fn own_callee(
     alloc: Global,
-    view: &ClassView<'_>,
+    view: &MemberView<'_>,
     kind: Invoke,
     member: &MemberRef<'_>,
 ) -> Result<Option<Callee>, AllocError>
     ensures { IfOk result (λ c. c ≡ own_callee view.now kind (member_seen member.now)) }
 {
-    if !same_bytes(member.class, view.name()) || same_bytes(member.name, names::INIT) {
+    if !same_bytes(member.class, view.class().name()) || same_bytes(member.name, names::INIT) {
         return Ok(None);
     }
-    let Some((k, method)) = numbered(view, member) else {
+    let methods = view.methods();
+    let Some(k) = numbered(alloc, methods, member)? else {
         return Ok(None);
     };
-    if !pairs_with(kind, method.flags) {
+    let Some(found) = methods.get(k) else {
+        return Ok(None);
+    };
+    if !pairs_with(kind, found.method.flags) {
         return Ok(None);
     }
-    let Some(s) = method_signature(alloc, view, &method)? else {
+    let Some(s) = &found.signature else {
         return Ok(None);
     };
-    let Signature { params, result, .. } = s;
     Ok(Some(Callee {
         reached: Reached::Own(k),
-        params,
-        result,
+        params: Items::from_slice(alloc, s.params.as_slice())?,
+        result: s.result,
     }))
 }
 
@@ -323,7 +341,7 @@ fn member_at(pool: &Pool, kind: Invoke, i: u16) -> Option<MemberRef<'_>>
 #[tactic(auto, unfolding(crate::specs::Members::callee_at))]
 pub fn callee_at(
     alloc: Global,
-    view: &ClassView<'_>,
+    view: &MemberView<'_>,
     kind: Invoke,
     i: u16,
 ) -> Result<Option<Callee>, AllocError>
@@ -333,7 +351,7 @@ pub fn callee_at(
         return Ok(None);
     };
     match row_of(kind, &member) {
-        Some(row) => library_callee(alloc, view.name(), row),
+        Some(row) => library_callee(alloc, view.class().name(), row),
         None => own_callee(alloc, view, kind, &member),
     }
 }

@@ -13,9 +13,10 @@ use crate::rearrange::rearrange;
 use crate::types::{
     array_type, element_type, puts_of, takes_of, takes_of_test, type_of_kind, type_of_pushed,
 };
-use classfile::ClassView;
 use decode::Instruction;
-use frames::{Environment, Flow, TypeStack, assignable, callee_at, constant_type, slots_of};
+use frames::{
+    Environment, Flow, MemberView, TypeStack, assignable, callee_at, constant_type, slots_of,
+};
 use jtypes::{Invoke, JType, Kind, Rearrangement, RefType};
 use locals::Locals;
 use std::alloc::{AllocError, Global};
@@ -240,7 +241,7 @@ fn rearrange_operands(
 fn call(
     alloc: Global,
     environment: &Environment,
-    view: &ClassView<'_>,
+    view: &MemberView<'_>,
     flow: &mut Flow,
     kind: Invoke,
     i: u16,
@@ -260,14 +261,14 @@ fn call(
 /// Takes a reference and puts one of the type that a Class constant names.
 fn check_cast(
     environment: &Environment,
-    view: &ClassView<'_>,
+    view: &MemberView<'_>,
     flow: &mut Flow,
     i: u16,
 ) -> Result<bool, AllocError>
     ensures outcome { IfOk result (λ yes. cast environment.now (frame_seen flow.old) (constant_type view.now i) ≡ (if yes then Some (frame_seen flow.new) else None)) }
     ensures kept { flow.new.locals.kept ≡ flow.old.locals.kept }
 {
-    let Some(r) = constant_type(view, i) else {
+    let Some(r) = constant_type(view.class(), i) else {
         return Ok(false);
     };
     let object = JType::Ref(RefType::Object);
@@ -277,7 +278,7 @@ fn check_cast(
 /// Takes a reference and puts an int, where a Class constant names a known type.
 fn instance_of(
     environment: &Environment,
-    view: &ClassView<'_>,
+    view: &MemberView<'_>,
     flow: &mut Flow,
     i: u16,
 ) -> Result<bool, AllocError>
@@ -285,7 +286,7 @@ fn instance_of(
     ensures kept { flow.new.locals.kept ≡ flow.old.locals.kept }
 {
     let object = JType::Ref(RefType::Object);
-    match constant_type(view, i) {
+    match constant_type(view.class(), i) {
         Some(_) => take_put(environment, flow, &[object], Some(JType::Int)),
         None => Ok(false),
     }
@@ -297,7 +298,7 @@ pub fn apply(
     alloc: Global,
     instruction: &Instruction,
     environment: &Environment,
-    view: &ClassView<'_>,
+    view: &MemberView<'_>,
     flow: &mut Flow,
 ) -> Result<bool, AllocError>
     ensures outcome { IfOk result (λ yes. transfer view.now environment.now instruction.now (frame_seen flow.old) ≡ (if yes then Some (frame_seen flow.new) else None)) }

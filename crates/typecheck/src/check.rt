@@ -16,9 +16,10 @@ ghost use Rattle.typecheck.specs.Seen.{advanced, branched, declared_row, entered
 
 use crate::assign::frame_assignable;
 use crate::{Called, Typed};
-use classfile::ClassView;
 use decode::{Code, Instruction, Placed};
-use frames::{Declared, Environment, Flow, Frames, MethodStart, callee_at, read_frames};
+use frames::{
+    Declared, Environment, Flow, Frames, MemberView, MethodStart, callee_at, read_frames,
+};
 use jtypes::Refusal;
 use std::alloc::{AllocError, Global};
 use transfer::apply;
@@ -141,7 +142,7 @@ fn leave(declared: &[Declared], p: &Placed, outcome: &mut Flow) -> Result<bool, 
 fn advance(
     alloc: Global,
     environment: &Environment,
-    view: &ClassView<'_>,
+    view: &MemberView<'_>,
     declared: &[Declared],
     p: &Placed,
     from: usize,
@@ -166,7 +167,7 @@ fn advance(
 fn pass(
     alloc: Global,
     environment: &Environment,
-    view: &ClassView<'_>,
+    view: &MemberView<'_>,
     code: &Code,
     declared: &[Declared],
     flow: &mut Flow,
@@ -192,7 +193,7 @@ fn pass(
 }
 
 /// The call of an instruction that is one, with what it reaches.
-fn called_at(alloc: Global, view: &ClassView<'_>, p: &Placed) -> Result<Option<Called>, Refusal>
+fn called_at(alloc: Global, view: &MemberView<'_>, p: &Placed) -> Result<Option<Called>, Refusal>
     ensures ok { IfOk result (λ call. call ≡ call_at view.now p.now) }
     ensures err { IfErr result (λ r. (r ≡ Refusal.NoMemory) ⊎ ((r ≡ Refusal.UnknownMember) × CallsUnknown view.now p.now.instruction)) }
 {
@@ -209,7 +210,7 @@ fn called_at(alloc: Global, view: &ClassView<'_>, p: &Placed) -> Result<Option<C
 }
 
 /// The calls of a code, with what they reach.
-fn calls_of(alloc: Global, view: &ClassView<'_>, code: &Code) -> Result<Vec<Called>, Refusal>
+fn calls_of(alloc: Global, view: &MemberView<'_>, code: &Code) -> Result<Vec<Called>, Refusal>
     ensures ok { IfOk result (λ calls. AreCallsOf view.now code.now calls.items) }
     ensures err { IfErr result (λ r. (r ≡ Refusal.NoMemory) ⊎ ((r ≡ Refusal.UnknownMember) × Any (λ p. CallsUnknown view.now p.instruction) code.now)) }
 {
@@ -242,7 +243,7 @@ pub fn check_method(
     start: MethodStart,
     tables: &[&[u8]],
     code: Code,
-    view: &ClassView<'_>,
+    view: &MemberView<'_>,
 ) -> Result<Typed, Refusal>
     // What is answered is the method that was given.
     ensures method { IfOk result (λ t. (t.number ≡ number) × (t.is_process ≡ is_process)) }
@@ -258,7 +259,7 @@ pub fn check_method(
     ensures calls { IfOk result (λ t. AreCallsOf view.now t.code t.calls.items) }
     ensures declared { IfOk result (λ t. (ds : List (ℕ × Frame)) × IsDeclared view.now start code (map (λ t. t.now) tables.now) ds × ArePlacesOf ds t.declared.items) }
 {
-    let frames = read_frames(alloc, &start, tables, &code, view)?;
+    let frames = read_frames(alloc, &start, tables, &code, view.class())?;
     let Frames {
         declared,
         first: mut flow,

@@ -7,9 +7,9 @@ ghost use Rattle.verdict.specs.Judging.{AreFound, IsGoodCode};
 ghost use Rattle.verdict.specs.Shaping.{HasGoodShape};
 ghost use Rattle.classfile.specs.View.{view_of};
 
-use classfile::{ClassFile, ClassView, CodeParts};
+use classfile::{ClassFile, CodeParts};
 use decode::{Code, Instruction, decode};
-use frames::{callee_at, constant_type};
+use frames::{MemberView, callee_at, constant_type};
 use jtypes::Refusal;
 use std::alloc::{AllocError, Global};
 
@@ -23,7 +23,7 @@ pub struct Found {
 /// Whether the member that an instruction names is known.
 fn is_known(
     alloc: Global,
-    view: &ClassView<'_>,
+    view: &MemberView<'_>,
     instruction: &Instruction,
 ) -> Result<bool, AllocError>
     ensures { IfOk result (λ b. b ≡ is_known view.now instruction.now) }
@@ -31,14 +31,14 @@ fn is_known(
     match *instruction {
         Instruction::Invoke(kind, i) => Ok(callee_at(alloc, view, kind, i)?.is_some()),
         Instruction::CheckCast(i) | Instruction::InstanceOf(i) => {
-            Ok(constant_type(view, i).is_some())
+            Ok(constant_type(view.class(), i).is_some())
         }
         _ => Ok(true),
     }
 }
 
 /// The instructions of one method.
-fn judge_code(alloc: Global, view: &ClassView<'_>, bytes: &[u8]) -> Result<Code, Refusal>
+fn judge_code(alloc: Global, view: &MemberView<'_>, bytes: &[u8]) -> Result<Code, Refusal>
     ensures ok { IfOk result (λ code. IsGoodCode view.now bytes.now code) }
     ensures err { IfErr result (λ r. (r ≡ Refusal.NoMemory) ⊎ InstructionStands view.now bytes.now r) }
 {
@@ -55,18 +55,19 @@ fn judge_code(alloc: Global, view: &ClassView<'_>, bytes: &[u8]) -> Result<Code,
 pub fn judge_instructions(
     alloc: Global,
     class: &ClassFile,
+    view: &MemberView<'_>,
     codes: &[CodeParts],
     constructor: usize,
 ) -> Result<Vec<Found>, Refusal>
-    requires { HasGoodShape class.now.pool class.now.parts codes.now constructor }
+    requires shape { HasGoodShape class.now.pool class.now.parts codes.now constructor }
+    requires view { view.now ≡ view_of class.now.pool class.now.parts }
     ensures ok { IfOk result (λ found. AreFound (view_of class.now.pool class.now.parts) codes.now constructor (length codes.now) found.items) }
     ensures err { IfErr result (λ r. (r ≡ Refusal.NoMemory) ⊎ InstructionsStand class.now.pool class.now.parts r) }
 {
-    let view = class.view();
     let mut found = Vec::new(alloc);
     for number in 0..codes.len() {
         if number != constructor {
-            let code = judge_code(alloc, &view, codes[number].code.as_slice())?;
+            let code = judge_code(alloc, view, codes[number].code.as_slice())?;
             found.push(Found { number, code })?;
         }
     }

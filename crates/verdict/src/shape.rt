@@ -337,12 +337,18 @@ fn judge_constructors(
     Ok(number)
 }
 
-/// Whether two methods have one name and one descriptor (JVMS §4.6).
+/// Whether two methods have one name and one descriptor (JVMS §4.6). What is shorter is compared first: of many methods one name or
+/// one descriptor may take half of the class.
 fn are_doubles(class: &ClassFile, m: &Member, n: &Member) -> bool
     ensures { result ≡ are_doubles class.now.pool m.now n.now }
 {
-    same_bytes(class.method_name(m), class.method_name(n))
-        && same_bytes(class.method_descriptor(m), class.method_descriptor(n))
+    let name = class.method_name(m);
+    let descriptor = class.method_descriptor(m);
+    if name.len() < descriptor.len() {
+        same_bytes(name, class.method_name(n)) && same_bytes(descriptor, class.method_descriptor(n))
+    } else {
+        same_bytes(descriptor, class.method_descriptor(n)) && same_bytes(name, class.method_name(n))
+    }
 }
 
 fn is_double(class: &ClassFile, m: &Member, others: &[Member]) -> bool

@@ -20,7 +20,7 @@ use bounds::{Bounds, bound};
 use classfile::{ClassFile, ClassView, CodeParts, contents_named, read_class};
 use constpool::names;
 use decode::Code;
-use frames::{Environment, MethodStart, method_signature};
+use frames::{Environment, MemberView, MethodStart, method_signature};
 use jtypes::Refusal;
 use std::alloc::Global;
 use std::marker::Model;
@@ -100,11 +100,13 @@ impl JudgedClass {
 fn judge_method(
     alloc: Global,
     class: &ClassFile,
+    members: &MemberView<'_>,
     number: usize,
     parts: &CodeParts,
     code: Code,
 ) -> Result<Typed, Refusal>
-    requires { HasInstructionsOf class.now.pool class.now.parts number parts.now code }
+    requires members { members.now ≡ view_of class.now.pool class.now.parts }
+    requires code { HasInstructionsOf class.now.pool class.now.parts number parts.now code }
     ensures number { IfOk result (λ t. t.number ≡ number) }
     ensures row { IfOk result (λ t. IsTypedRow class.now.pool class.now.parts t) }
     ensures err { IfErr result (λ r. (r ≡ Refusal.NoMemory) ⊎ TypesStand class.now.pool class.now.parts r) }
@@ -135,17 +137,19 @@ fn judge_method(
         parts.attributes.as_slice(),
     )?;
     let is_process = is_process(class, member);
-    check_method(alloc, number, is_process, start, &tables, code, &view)
+    check_method(alloc, number, is_process, start, &tables, code, members)
 }
 
 /// Checks the types of the methods whose instructions were found.
 fn judge_types(
     alloc: Global,
     class: &ClassFile,
+    members: &MemberView<'_>,
     codes: &[CodeParts],
     found: Vec<Found>,
     constructor: usize,
 ) -> Result<Vec<Typed>, Refusal>
+    requires members { members.now ≡ view_of class.now.pool class.now.parts }
     requires shape { HasGoodShape class.now.pool class.now.parts codes.now constructor }
     requires found { AreFound (view_of class.now.pool class.now.parts) codes.now constructor (length codes.now) found.items }
     ensures ok { IfOk result (λ rows. AreTyped class.now.pool class.now.parts constructor (length codes.now) rows.items) }
@@ -153,7 +157,7 @@ fn judge_types(
 {
     let mut methods = Vec::new(alloc);
     for Found { number, code } in found {
-        methods.push(judge_method(alloc, class, number, &codes[number], code)?)?;
+        methods.push(judge_method(alloc, class, members, number, &codes[number], code)?)?;
     }
     Ok(methods)
 }
@@ -181,8 +185,24 @@ pub fn judge(alloc: Global, bytes: &[u8]) -> Result<JudgedClass, Refusal>
 {
     let class = read_class(alloc, bytes)?;
     let shape = judge_shape(alloc, &class)?;
-    let instructions = judge_instructions(alloc, &class, &shape.codes, shape.constructor)?;
-    let methods = judge_types(alloc, &class, &shape.codes, instructions, shape.constructor)?;
+    let methods = {
+        let members = MemberView::new(alloc, &class)?;
+        let instructions = judge_instructions(
+            alloc,
+            &class,
+            &members,
+            &shape.codes,
+            shape.constructor,
+        )?;
+        judge_types(
+            alloc,
+            &class,
+            &members,
+            &shape.codes,
+            instructions,
+            shape.constructor,
+        )?
+    };
     let bounds = bound(alloc, &methods)?;
     Ok(JudgedClass {
         class,

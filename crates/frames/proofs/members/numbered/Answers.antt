@@ -1,17 +1,42 @@
-use Rattle.std.proofs.Common.{◌<◌, length, arith, sym, ◌∙◌}
-use Rattle.frames.proofs.Methods.{number_found, number_later, none_within}
-use Rattle.frames.proofs.members.numbered.Goals.{in-Some+else-is_method, in_default}
+use Rattle.std.proofs.Common.{◌≡◌, ◌∷◌, ◌++◌, [], length, false, true, ◌&&◌, refl, sym, ap, ◌∙◌, arith, rules}
+use Rattle.std.specs.Prelude.{slice_get}
+use Rattle.std.proofs.lemmas.Option.{slice_get_read}
+use Rattle.jtypes.specs.Lists.{same_bytes}
+use Rattle.frames.specs.Seen.{member_seen}
+use Rattle.frames.specs.Signed.{method_of}
+use Rattle.frames.proofs.Named.{asked_before, asked_more, found_at, later_than}
+use Rattle.frames.proofs.members.numbered.Goals.{else-is-via-then-is+else-same_bytes, else-is-via-else-is}
 use Rattle.frames.proofs.members.numbered.Goals as goal
 
-pub returns-then-is_method : goal.returns-then-is_method
-returns-then-is_method c =
-    number_found c.args.view.now.methods _ c.loop-k.k _ _ (sym c.in-Some.ensures) (sym c.is_method.ensures ∙ c.if-is_method.true) c.loop-k.invariant
+pub is_named-is-requires : goal.is_named-is-requires
+is_named-is-requires c j is =
+    let ms = c.args.methods.now in
+    let s = c.index-methods-k.result in
+    let at = slice_get_read ms (length ms) c.loop-k.k s refl (omega arith) c.index-methods-k.is in
+    ap (λ l. slice_get l j) (c.deref.ensures.value ∙ c.loop-k.invariant.1) ∙ asked_before c.args.member.now.name.now ms c.loop-k.k j s c.requires at is
+
+pub returns-then-same_bytes : goal.returns-then-same_bytes
+returns-then-same_bytes c =
+    let ms = c.args.methods.now in
+    let s = c.index-methods-k.result in
+    let at = slice_get_read ms (length ms) c.loop-k.k s refl (omega arith) c.index-methods-k.is in
+    let m = member_seen c.args.member.now in
+    let name : same_bytes m.name s.method.name.now ≡ true = sym c.is_named-is.ensures ∙ c.if-is.true in
+    let descriptor : same_bytes m.descriptor s.method.descriptor.now ≡ true = sym c.same_bytes.ensures ∙ c.if-same_bytes.true in
+    found_at ms m c.loop-k.k s _ at (ap (λ b. b && same_bytes m.descriptor s.method.descriptor.now) name ∙ descriptor) c.loop-k.invariant.0
 
 pub loop-k-preserved : goal.loop-k-preserved
 loop-k-preserved c =
-    elim c.match-method.branch [
-      | in-Some+else-is_method w ↦ number_later c.args.view.now.methods _ c.loop-k.k _ _ (sym w.in-Some.ensures) (sym w.is_method.ensures ∙ w.if-is_method.false) c.loop-k.invariant
-      | in_default w ↦
-          let within : c.loop-k.k < length c.args.view.now.methods = omega (arith, c.method_count-k-end.ensures) in
-          absurd (none_within c.args.view.now.methods c.loop-k.k within (sym w.in_default.ensures))
-    ]
+    let ms = c.args.methods.now in
+    let m = member_seen c.args.member.now in
+    let k = c.loop-k.k in
+    let s = c.index-methods-k.result in
+    let at = slice_get_read ms (length ms) k s refl (omega arith) c.index-methods-k.is in
+    let named : c.is_named-is.result ≡ same_bytes m.name s.method.name.now = c.is_named-is.ensures in
+    let isnt : (same_bytes m.name s.method.name.now && same_bytes m.descriptor s.method.descriptor.now) ≡ false =
+    elim c.else-is.branch [
+      | else-is-via-then-is+else-same_bytes w ↦ cc
+      | else-is-via-else-is w ↦ cc
+    ] in
+    let more = asked_more m.name ms k s c.loop-k.named.items at c.loop-k.invariant.1 in
+    (later_than ms m k s _ at isnt c.loop-k.invariant.0, c.in_ok-push.ensures.items ∙ ap (λ b. c.loop-k.named.items ++ b ∷ []) named ∙ more)

@@ -24,7 +24,7 @@ loop-number-preserved c =
       | then-number-constructor+in_ok-code+in_ok-push w ↦
           let parts : CodeParts = w.index-codes-number.result in
           let one : Found = record { number = n; code = w.in_ok-code.code } in
-          let good : IsGoodCode v parts.code w.in_ok-code.code = subst (λ (x : ClassView). IsGoodCode x parts.code w.in_ok-code.code) c.view-view.ensures (subst (λ (b : List ℕ). IsGoodCode c.view-view.result b w.in_ok-code.code) (w.as_slice.ensures ∙ ap (λ (x : CodeParts). x.code) (sym w.index-codes-number.is)) w.in_ok-code.ensures.ok) in
+          let good : IsGoodCode v parts.code w.in_ok-code.code = subst (λ (x : ClassView). IsGoodCode x parts.code w.in_ok-code.code) c.requires.view (subst (λ (b : List ℕ). IsGoodCode c.args.view.now b w.in_ok-code.code) (w.as_slice.ensures ∙ ap (λ (x : CodeParts). x.code) (sym w.index-codes-number.is)) w.in_ok-code.ensures.ok) in
           let there = slice_get-get_or codes n parts c.loop-number-test.true ∙ ap (λ (x : CodeParts). Some x) (sym w.index-codes-number.is) in
           rw w.found-is (rw w.in_ok-push.ensures.items (next_numbered (λ (f : Found). f.number) (IsFoundIn v codes) constructor n c.loop-number.found.items one so_far w.if-number-constructor.true refl (record { parts = parts; there = there; good = good })))
       | else-number-constructor w ↦ rw w.found-is (skip_numbered (λ (f : Found). f.number) (IsFoundIn v codes) constructor n c.loop-number.found.items so_far (search rules))
@@ -41,6 +41,6 @@ returns-in_err-code-clause-err c =
     let refusal : Refusal = c.in_err-code.field-0.0 in
     let there = slice_get-get_or codes n parts c.loop-number-test.true ∙ ap (λ (x : CodeParts). Some x) (sym c.index-codes-number.is) in
     let bytes = c.as_slice.ensures ∙ ap (λ (x : CodeParts). x.code) (sym c.index-codes-number.is) in
-    let stands : (refusal ≡ NoMemory) ⊎ InstructionStands v parts.code refusal = subst (λ (x : ClassView). (refusal ≡ NoMemory) ⊎ InstructionStands x parts.code refusal) c.view-view.ensures (subst (λ (b : List ℕ). (refusal ≡ NoMemory) ⊎ InstructionStands c.view-view.result b refusal) bytes c.in_err-code.ensures.err) in
+    let stands : (refusal ≡ NoMemory) ⊎ InstructionStands v parts.code refusal = subst (λ (x : ClassView). (refusal ≡ NoMemory) ⊎ InstructionStands x parts.code refusal) c.requires.view (subst (λ (b : List ℕ). (refusal ≡ NoMemory) ⊎ InstructionStands c.args.view.now b refusal) bytes c.in_err-code.ensures.err) in
     let e = err_from_is_err_and c.from_residual.result c.from_residual.ensures.1 in
-    rw (e.1, e.2) (method_refused pool p c.args.constructor codes c.requires n parts there c.if-number-constructor.true refusal stands)
+    rw (e.1, e.2) (method_refused pool p c.args.constructor codes c.requires.shape n parts there c.if-number-constructor.true refusal stands)

@@ -27,8 +27,8 @@ returns-clause-row c =
     let tables : List (List ℕ) = map (λ t. t.now) c.deref.result.now in
     let are = ap (map (λ t. t.now)) c.deref.ensures.value ∙ c.in_ok-tables.ensures ∙ ap (contents_named pool stack_map_name) c.as_slice-2.ensures in
     let started : c.in-Some-new.start ≡ e = starts_so _ e c.in-Some-new.start (sym c.new.ensures ∙ c.in-Some-new.is) in
-    let checked = rw (c.view-view.ensures, started) at c.check_method.ensures in
-    let body = body_judged pool p c.args.number parts c.args.code c.requires m there e signed refl refl tables are in
+    let checked = rw (c.requires.members, started) at c.check_method.ensures in
+    let body = body_judged pool p c.args.number parts c.args.code c.requires.code m there e signed refl refl tables are in
     row_judged pool p c.args.number c.args.code m there e tables body c.is_process-is_process.result c.is_process-is_process.ensures c.check_method.result checked.method checked.body checked.typed checked.starts checked.calls checked.declared
 
 pub returns-clause-err : goal.returns-clause-err
@@ -47,9 +47,9 @@ returns-clause-err c =
     let tables : List (List ℕ) = map (λ t. t.now) c.deref.result.now in
     let are = ap (map (λ t. t.now)) c.deref.ensures.value ∙ c.in_ok-tables.ensures ∙ ap (contents_named pool stack_map_name) c.as_slice-2.ensures in
     let started : c.in-Some-new.start ≡ e = starts_so _ e c.in-Some-new.start (sym c.new.ensures ∙ c.in-Some-new.is) in
-    let checked = rw (c.view-view.ensures, started) at c.check_method.ensures in
-    let body = body_judged pool p c.args.number parts c.args.code c.requires m there e signed refl refl tables are in
-    method_judged pool p c.args.number parts c.args.code c.requires m there e tables body c.check_method.result checked.refused
+    let checked = rw (c.requires.members, started) at c.check_method.ensures in
+    let body = body_judged pool p c.args.number parts c.args.code c.requires.code m there e signed refl refl tables are in
+    method_judged pool p c.args.number parts c.args.code c.requires.code m there e tables body c.check_method.result checked.refused
 
 pub returns-in_default-2-clause-err : goal.returns-in_default-2-clause-err
 returns-in_default-2-clause-err c =
@@ -60,7 +60,7 @@ returns-in_default-2-clause-err c =
     let w : MethodView = record { flags = c.in-Some.method.flags; name = c.in-Some.method.name.now; descriptor = c.in-Some.method.descriptor.now } in
     let viewed : Some w ≡ slice_get (view_of pool p).methods c.args.number = c.in-Some.ensures ∙ ap (λ (v : ClassView). slice_get v.methods c.args.number) c.view-view.ensures in
     let signed = c.in_ok-signature.ensures ∙ ap (λ (v : ClassView). method_signature v w) c.view-view.ensures in
-    absurd (signature_is pool p c.args.number c.args.parts.now c.args.code c.requires m there w (same_view pool p c.args.number m w there viewed) c.in_ok-signature.field-0 signed c.in_default-2.not-Some)
+    absurd (signature_is pool p c.args.number c.args.parts.now c.args.code c.requires.code m there w (same_view pool p c.args.number m w there viewed) c.in_ok-signature.field-0 signed c.in_default-2.not-Some)
 
 pub returns-in_default-new-clause-err : goal.returns-in_default-new-clause-err
 returns-in_default-new-clause-err c =
@@ -75,4 +75,4 @@ returns-in_default-new-clause-err c =
     let signed : method_signature (view_of pool p) (method_view pool m) ≡ Some e.signature =
     ap (method_signature (view_of pool p)) (same_view pool p c.args.number m w there viewed) ∙ ap (λ (v : ClassView). method_signature v w) (sym c.view-view.ensures) ∙ sym c.in_ok-signature.ensures ∙ c.in-Some-2.is
     in
-    absurd (has_start e (judged_room pool p c.args.number parts c.args.code c.requires m there e signed refl) (sym c.new.ensures ∙ c.in_default-new.is))
+    absurd (has_start e (judged_room pool p c.args.number parts c.args.code c.requires.code m there e signed refl) (sym c.new.ensures ∙ c.in_default-new.is))

@@ -11,8 +11,8 @@ use Rattle.verdict.specs.declared.instructions.Found.{Found}
 use Rattle.typecheck.specs.declared.typed.Typed.{Typed}
 use Rattle.verdict.proofs.verdict.judge_types.Goals as goal
 
-pub judge_method-requires : goal.judge_method-requires
-judge_method-requires c =
+pub judge_method-requires-clause-code : goal.judge_method-requires-clause-code
+judge_method-requires-clause-code c =
     let pool = c.args.class.now.pool in
     let p = c.args.class.now.parts in
     let f = c.in-Some.field-0 in
