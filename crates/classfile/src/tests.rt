@@ -133,10 +133,18 @@ fn answers_or_lacks_memory(rt: HostRuntime) {
         }
         Err(refusal) => assert_eq!(rt; refusal, Refusal::NoMemory),
     }
-    let cut = read_class(rt.alloc(), &CLASS[..97]);
-    assert!(rt; matches!(cut, Err(Refusal::Truncated | Refusal::NoMemory)));
-    let unnamed = read_class(rt.alloc(), &changed(81, 2));
-    assert!(rt; matches!(unnamed, Err(Refusal::BadPool | Refusal::NoMemory)));
+}
+
+#[test]
+fn refuses_or_lacks_memory(rt: HostRuntime) {
+    let cut = read_class(rt.alloc(), &CLASS[..97]).err();
+    assert!(rt; matches!(cut, Some(Refusal::Truncated | Refusal::NoMemory)));
+    let unnamed = read_class(rt.alloc(), &changed(81, 2)).err();
+    assert!(rt; matches!(unnamed, Some(Refusal::BadPool | Refusal::NoMemory)));
+}
+
+#[test]
+fn reads_the_parts_of_a_code_or_lacks_memory(rt: HostRuntime) {
     let parts = parts_of_code(rt.alloc(), &CLASS[67..87]);
     assert!(rt; matches!(parts, Ok(Some(_)) | Err(_)));
 }
