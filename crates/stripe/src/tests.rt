@@ -337,34 +337,47 @@ fn plain_calls_are_made_at_once(rt: HostRuntime) -> Result<(), Fail> {
 #[test]
 fn an_exception_changes_nothing(rt: HostRuntime) -> Result<(), Fail> {
     let alloc = rt.alloc();
-    let Some(args) = Args::of(&[Arg::Long(1)]) else {
-        panic!(rt; "too many arguments");
-    };
     let none = Args::none();
     let plus = verified(alloc, rows::plus(alloc)?)?;
-    let counter = verified(alloc, rows::counter(alloc)?)?;
     let calls = [
         invoke(&plus, 7, &none),
-        invoke(&counter, 7, &args),
-        invoke(&counter, 7, &none),
+        Call::Put { key: 7, value: 1 },
         invoke(&plus, 7, &none),
         invoke(&plus, -1, &none),
     ];
     let (told, entry) = made_all(alloc, &calls, -1)?;
     let null = Reply::Result(Outcome::Threw(JavaFault::NullPointer));
-    let outside = Reply::Result(Outcome::Threw(JavaFault::ArrayIndexOutOfBounds));
     assert!(rt;
         told.as_slice()
             == [
                 Some((null, None)),
-                Some((returned(1), Some(1))),
-                Some((outside, Some(1))),
+                Some((Reply::Done, Some(1))),
                 Some((returned(2), Some(2))),
                 Some((null, None)),
             ]
             .as_slice()
     );
     assert_eq!(rt; entry, None);
+    Ok(())
+}
+
+#[test]
+fn an_exception_leaves_an_entry(rt: HostRuntime) -> Result<(), Fail> {
+    let alloc = rt.alloc();
+    let Some(args) = Args::of(&[Arg::Long(1)]) else {
+        panic!(rt; "too many arguments");
+    };
+    let counter = verified(alloc, rows::counter(alloc)?)?;
+    let calls = [
+        invoke(&counter, 7, &args),
+        invoke(&counter, 7, &Args::none()),
+    ];
+    let (told, entry) = made_all(alloc, &calls, 7)?;
+    let outside = Reply::Result(Outcome::Threw(JavaFault::ArrayIndexOutOfBounds));
+    assert!(rt;
+        told.as_slice() == [Some((returned(1), Some(1))), Some((outside, Some(1)))].as_slice()
+    );
+    assert_eq!(rt; entry, Some(1));
     Ok(())
 }
 
