@@ -80,19 +80,6 @@ fn give_back<'a>(rest: &mut Rest<'a>, stripe: Stripe<'a>) {
     }
 }
 
-/// The tables, if all stripes are back, and how many records each history has.
-fn finished(alloc: Global, rest: Rest<'_>) -> Result<Option<(Tables, Vec<usize>)>, AllocError> {
-    if rest.tables.len() != rest.stripes {
-        return Ok(None);
-    }
-    let (tables, histories) = rest.finish();
-    let mut counts = Vec::new(alloc);
-    for history in &histories {
-        counts.push(history.len())?;
-    }
-    Ok(Some((tables, counts)))
-}
-
 /// The last of so many stripes, the others, and what takes them back.
 fn last_stripe<'a>(
     alloc: Global,
@@ -111,24 +98,35 @@ fn last_stripe<'a>(
     Some((last, split, rest))
 }
 
-/// Makes calls on one stripe, one after the other, each with number 0; what they were told, and the entry of a key at the end.
-fn made_all(
-    alloc: Global,
-    calls: &[Call<'_>],
-    key: i64,
-) -> Result<(Vec<Told>, Option<i64>), AllocError> {
-    let mut workspace = Workspace::new(alloc)?;
-    let mut told = Vec::new(alloc);
-    let Some((mut stripe, _split, mut rest)) = last_stripe(alloc, 1, 16) else {
-        return Ok((told, None));
-    };
-    for call in calls {
-        told.push(made(&mut stripe, 0, *call, &mut workspace))?;
-    }
+/// The entry of a key when the only stripe is back.
+fn entry_back<'a>(mut rest: Rest<'a>, stripe: Stripe<'a>, key: i64) -> Option<i64> {
     give_back(&mut rest, stripe);
-    match finished(alloc, rest)? {
-        Some((tables, _counts)) => Ok((told, tables.entry(key))),
-        None => Ok((told, None)),
+    if rest.tables.len() != rest.stripes {
+        return None;
+    }
+    let (tables, _histories) = rest.finish();
+    tables.entry(key)
+}
+
+/// Makes up to four calls on a stripe, each with number 0.
+fn made_four<'a>(alloc: Global, stripe: &mut Stripe<'a>, calls: &[Call<'a>]) -> [Told; 4] {
+    let mut told = [None; 4];
+    if let Ok(mut workspace) = Workspace::new(alloc) {
+        for place in 0..calls.len().min(4) {
+            told[place] = made(stripe, 0, calls[place], &mut workspace);
+        }
+    }
+    told
+}
+
+/// What up to four calls on one stripe were told, and the entry of a key at the end.
+fn made_all(alloc: Global, calls: &[Call<'_>], key: i64) -> ([Told; 4], Option<i64>) {
+    match last_stripe(alloc, 1, 16) {
+        Some((mut stripe, _split, rest)) => {
+            let told = made_four(alloc, &mut stripe, calls);
+            (told, entry_back(rest, stripe, key))
+        }
+        None => ([None; 4], None),
     }
 }
 
@@ -165,242 +163,309 @@ fn keys_have_stripes(rt: HostRuntime) {
     }
 }
 
-#[test]
-fn counts_outside_are_refused(rt: HostRuntime) -> Result<(), Fail> {
-    let alloc = rt.alloc();
-    for stripes in [0, 65, usize::MAX] {
-        let refused = match Tables::new(alloc, stripes) {
+/// Why there are not so many tables.
+fn refused(alloc: Global, stripes: usize) -> Option<OpenRefusal> {
+    Tables::new(alloc, stripes).err()
+}
+
+/// Why tables are not split for so many records, and how many tables come back.
+fn not_split(alloc: Global, stripes: usize, journal: usize) -> Option<(OpenRefusal, usize)> {
+    match Tables::new(alloc, stripes) {
+        Ok(tables) => match tables.split(alloc, journal) {
             Ok(_) => None,
-            Err(refusal) => Some(refusal),
-        };
-        assert_eq!(rt; refused, Some(OpenRefusal::BadCount));
+            Err((refusal, again)) => Some((refusal, again.stripes())),
+        },
+        Err(_) => None,
+    }
+}
+
+/// How many tables there are, how many stripes they are split into, and how many histories come back with those.
+fn split_and_back(alloc: Global, stripes: usize, journal: usize) -> Option<[usize; 3]> {
+    let tables = Tables::new(alloc, stripes).ok()?;
+    let count = tables.stripes();
+    let (split, rest) = tables.split(alloc, journal).ok()?;
+    let parts = split.len();
+    Some([count, parts, all_back(rest, split)?])
+}
+
+/// How many histories come back with all stripes.
+fn all_back<'a>(mut rest: Rest<'a>, split: Vec<Stripe<'a>>) -> Option<usize> {
+    for stripe in split {
+        give_back(&mut rest, stripe);
+    }
+    if rest.tables.len() != rest.stripes {
+        return None;
+    }
+    let (_tables, histories) = rest.finish();
+    Some(histories.len())
+}
+
+#[test]
+fn counts_outside_are_refused(rt: HostRuntime) {
+    for stripes in [0, 65, usize::MAX] {
+        assert_eq!(rt; refused(rt.alloc(), stripes), Some(OpenRefusal::BadCount));
     }
     for stripes in [1, 64] {
-        let Ok(mut tables) = Tables::new(alloc, stripes) else {
-            panic!(rt; "no tables");
-        };
-        assert_eq!(rt; tables.stripes(), stripes);
         for journal in [0, 4097, usize::MAX] {
-            match tables.split(alloc, journal) {
-                Ok(_) => panic!(rt; "split with a bad count"),
-                Err((refusal, again)) => {
-                    assert_eq!(rt; refusal, OpenRefusal::BadCount);
-                    tables = again;
-                }
-            }
+            let told = not_split(rt.alloc(), stripes, journal);
+            assert_eq!(rt; told, Some((OpenRefusal::BadCount, stripes)));
         }
+    }
+}
+
+#[test]
+fn counts_inside_are_taken(rt: HostRuntime) {
+    for stripes in [1, 64] {
         for journal in [1, 4096] {
-            let Ok((split, mut rest)) = tables.split(alloc, journal) else {
-                panic!(rt; "no stripes");
-            };
-            assert_eq!(rt; split.len(), stripes);
-            for stripe in split {
-                give_back(&mut rest, stripe);
+            let told = split_and_back(rt.alloc(), stripes, journal);
+            assert_eq!(rt; told, Some([stripes; 3]));
+        }
+    }
+}
+
+/// Makes eight calls on a stripe, with the numbers from 0 on.
+fn made_in_row<'a>(
+    alloc: Global,
+    stripe: &mut Stripe<'a>,
+    calls: &[Call<'a>; 8],
+) -> Option<[Told; 8]> {
+    match Workspace::new(alloc) {
+        Ok(mut workspace) => {
+            let mut told = [None; 8];
+            for place in 0..8 {
+                told[place] = made(stripe, place as u32, calls[place], &mut workspace);
             }
-            let Some((again, counts)) = finished(alloc, rest)? else {
-                panic!(rt; "not all are back");
-            };
-            assert_eq!(rt; counts.len(), stripes);
-            tables = again;
+            Some(told)
         }
+        Err(_) => None,
     }
-    Ok(())
+}
+
+/// What calls on a stripe leave.
+#[derive(Clone, Copy, PartialEq, Eq, Debug)]
+struct Seen {
+    /// The entries of the keys 1 and -7.
+    entries: (Option<i64>, Option<i64>),
+    records: usize,
+    /// The caller, the number and the key of the last record.
+    last: Option<(u8, u32, i64)>,
+}
+
+fn left_on(stripe: &Stripe<'_>) -> Seen {
+    let history = stripe.history();
+    Seen {
+        entries: (stripe.entry(1), stripe.entry(-7)),
+        records: history.len(),
+        last: match history.last() {
+            Some(record) => Some((record.caller, record.number, record.call.key())),
+            None => None,
+        },
+    }
+}
+
+/// What eight calls on the last of two stripes were told, and what they left.
+fn told_and_seen(alloc: Global, calls: &[Call<'_>; 8]) -> Option<(Option<[Told; 8]>, Seen)> {
+    match last_stripe(alloc, 2, 8) {
+        Some((mut odd, _split, _rest)) => {
+            let told = made_in_row(alloc, &mut odd, calls);
+            Some((told, left_on(&odd)))
+        }
+        None => None,
+    }
 }
 
 #[test]
-fn calls_on_one_key(rt: HostRuntime) -> Result<(), Fail> {
-    let alloc = rt.alloc();
-    let mut workspace = Workspace::new(alloc)?;
-    let Some((mut odd, _split, _rest)) = last_stripe(alloc, 2, 8) else {
-        panic!(rt; "no stripes");
-    };
+fn calls_on_one_key(rt: HostRuntime) {
     let key = -7;
-    let put = made(&mut odd, 0, Call::Put { key, value: 5 }, &mut workspace);
-    assert_eq!(rt; put, Some((Reply::Done, Some(5))));
-    let got = made(&mut odd, 1, Call::Get { key }, &mut workspace);
-    assert_eq!(rt; got, Some((Reply::Value(Some(5)), Some(5))));
-    let there = made(&mut odd, 2, Call::Contains { key }, &mut workspace);
-    assert_eq!(rt; there, Some((Reply::Flag(true), Some(5))));
-    let other = made(&mut odd, 3, Call::Put { key: 1, value: 6 }, &mut workspace);
-    assert_eq!(rt; other, Some((Reply::Done, Some(6))));
-    let removed = made(&mut odd, 4, Call::Remove { key }, &mut workspace);
-    assert_eq!(rt; removed, Some((Reply::Flag(true), None)));
-    let got = made(&mut odd, 5, Call::Get { key }, &mut workspace);
-    assert_eq!(rt; got, Some((Reply::Value(None), None)));
-    let there = made(&mut odd, 6, Call::Contains { key }, &mut workspace);
-    assert_eq!(rt; there, Some((Reply::Flag(false), None)));
-    let removed = made(&mut odd, 7, Call::Remove { key }, &mut workspace);
-    assert_eq!(rt; removed, Some((Reply::Flag(false), None)));
-    assert_eq!(rt; odd.entry(1), Some(6));
-    assert_eq!(rt; odd.entry(key), None);
-    assert_eq!(rt; odd.history().len(), 8);
-    let Some(last) = odd.history().last() else {
-        panic!(rt; "no record");
+    let calls = [
+        Call::Put { key, value: 5 },
+        Call::Get { key },
+        Call::Contains { key },
+        Call::Put { key: 1, value: 6 },
+        Call::Remove { key },
+        Call::Get { key },
+        Call::Contains { key },
+        Call::Remove { key },
+    ];
+    let told = [
+        Some((Reply::Done, Some(5))),
+        Some((Reply::Value(Some(5)), Some(5))),
+        Some((Reply::Flag(true), Some(5))),
+        Some((Reply::Done, Some(6))),
+        Some((Reply::Flag(true), None)),
+        Some((Reply::Value(None), None)),
+        Some((Reply::Flag(false), None)),
+        Some((Reply::Flag(false), None)),
+    ];
+    let left = Seen {
+        entries: (Some(6), None),
+        records: 8,
+        last: Some((7, 7, key)),
     };
-    assert_eq!(rt; (last.caller, last.number, last.call.key()), (7, 7, key));
-    Ok(())
+    assert!(rt; told_and_seen(rt.alloc(), &calls) == Some((Some(told), left)));
 }
 
-#[test]
-fn stripes_come_back(rt: HostRuntime) -> Result<(), Fail> {
-    let alloc = rt.alloc();
-    let mut workspace = Workspace::new(alloc)?;
-    let Some((mut odd, mut split, mut rest)) = last_stripe(alloc, 2, 1) else {
-        panic!(rt; "no stripes");
-    };
-    let put = made(&mut odd, 0, Call::Put { key: 1, value: 6 }, &mut workspace);
-    assert_eq!(rt; put, Some((Reply::Done, Some(6))));
-    // The history is full, and the entries stay.
-    let refused = made(&mut odd, 1, Call::Put { key: 1, value: 7 }, &mut workspace);
-    assert_eq!(rt; refused, None);
-    // A key of the other stripe.
-    let other = made(&mut odd, 1, Call::Get { key: 2 }, &mut workspace);
-    assert_eq!(rt; other, None);
-    if let Some(even) = split.pop() {
-        give_back(&mut rest, even);
+/// What a put of 6 on key 1 was told, then a put where the history is full, and a call on a key of the other stripe.
+fn three_told(alloc: Global, odd: &mut Stripe<'_>) -> Option<[Told; 3]> {
+    match Workspace::new(alloc) {
+        Ok(mut workspace) => Some([
+            made(odd, 0, Call::Put { key: 1, value: 6 }, &mut workspace),
+            made(odd, 1, Call::Put { key: 1, value: 7 }, &mut workspace),
+            made(odd, 1, Call::Get { key: 2 }, &mut workspace),
+        ]),
+        Err(_) => None,
     }
+}
+
+/// What two stripes leave that come back: the entries of the keys 1, -7 and 2, and how many records each history has.
+fn back<'a>(
+    mut rest: Rest<'a>,
+    even: Stripe<'a>,
+    odd: Stripe<'a>,
+) -> Option<([Option<i64>; 3], [usize; 2])> {
+    give_back(&mut rest, even);
     give_back(&mut rest, odd);
-    let Some((tables, counts)) = finished(alloc, rest)? else {
-        panic!(rt; "not all are back");
-    };
-    assert!(rt; counts.as_slice() == [0, 1].as_slice());
-    assert_eq!(rt; tables.entry(1), Some(6));
-    assert_eq!(rt; tables.entry(-7), None);
-    assert_eq!(rt; tables.entry(2), None);
-    Ok(())
-}
-
-#[test]
-fn an_open_call_is_told(rt: HostRuntime) -> Result<(), Fail> {
-    let alloc = rt.alloc();
-    let Some((mut stripe, _split, _rest)) = last_stripe(alloc, 1, 2) else {
-        panic!(rt; "no stripe");
-    };
-    assert!(rt; stripe.open().is_none());
-    if !is_ready(&stripe, 5) {
-        panic!(rt; "not ready");
+    if rest.tables.len() != rest.stripes {
+        return None;
     }
-    let begun = stripe.begin(3, 9, Call::Put { key: 5, value: 6 });
-    assert_eq!(rt; begun, Ok(None));
-    let Some(open) = stripe.open() else {
-        panic!(rt; "no call is open");
-    };
-    assert_eq!(rt;
-        (open.caller, open.number, open.call.key(), open.before),
-        (3, 9, 5, None)
-    );
-    Ok(())
+    let (tables, histories) = rest.finish();
+    let entries = [tables.entry(1), tables.entry(-7), tables.entry(2)];
+    match histories.as_slice() {
+        [even, odd] => Some((entries, [even.len(), odd.len()])),
+        _ => None,
+    }
 }
 
 #[test]
-fn plain_calls_are_made_at_once(rt: HostRuntime) -> Result<(), Fail> {
-    let alloc = rt.alloc();
-    let Ok(tables) = Tables::new(alloc, 1) else {
-        panic!(rt; "no tables");
-    };
-    let Ok((mut split, _rest)) = tables.split(alloc, 4) else {
+fn stripes_come_back(rt: HostRuntime) {
+    let Some((mut odd, mut split, rest)) = last_stripe(rt.alloc(), 2, 1) else {
         panic!(rt; "no stripes");
     };
-    let Some(mut stripe) = split.pop() else {
+    let told = three_told(rt.alloc(), &mut odd);
+    let left = match split.pop() {
+        Some(even) => back(rest, even, odd),
+        None => None,
+    };
+    assert!(rt; told == Some([Some((Reply::Done, Some(6))), None, None]));
+    assert!(rt; left == Some(([Some(6), None, None], [0, 1])));
+}
+
+/// The caller, the number and the key of the call that is open, and the entry that it found.
+fn open_in(stripe: &Stripe<'_>) -> Option<(u8, u32, i64, Option<i64>)> {
+    match stripe.open() {
+        Some(open) => Some((open.caller, open.number, open.call.key(), open.before)),
+        None => None,
+    }
+}
+
+/// Whether a put of 6 on key 5 begins on a stripe without an entry.
+fn begins(stripe: &mut Stripe<'_>) -> bool {
+    is_ready(stripe, 5) && stripe.begin(3, 9, Call::Put { key: 5, value: 6 }) == Ok(None)
+}
+
+#[test]
+fn an_open_call_is_told(rt: HostRuntime) {
+    let Some((mut stripe, _split, _rest)) = last_stripe(rt.alloc(), 1, 2) else {
         panic!(rt; "no stripe");
     };
-    let mut replies = Vec::new(alloc);
-    for number in 0..5 {
-        if !is_ready(&stripe, -3) {
-            panic!(rt; "not ready");
-        }
-        let made = match number {
-            0 => stripe.put(0, number, -3, i64::MIN),
-            1 => stripe.get(0, number, -3),
-            2 => stripe.remove(0, number, -3),
-            _ => stripe.contains(0, number, -3),
-        };
-        replies.push(match made {
-            Ok(record) => Some((record.reply, record.after)),
-            Err(_) => None,
-        })?;
+    assert_eq!(rt; open_in(&stripe), None);
+    assert!(rt; begins(&mut stripe));
+    assert_eq!(rt; open_in(&stripe), Some((3, 9, 5, None)));
+}
+
+/// What one of five plain calls on key -3 was told: a put, a get, and a removal, and whether the key is there.
+fn plain_told(stripe: &mut Stripe<'_>, number: u32) -> Told {
+    if !is_ready(stripe, -3) {
+        return None;
     }
-    assert!(rt;
-        replies.as_slice()
-            == [
-                Some((Reply::Done, Some(i64::MIN))),
-                Some((Reply::Value(Some(i64::MIN)), Some(i64::MIN))),
-                Some((Reply::Flag(true), None)),
-                Some((Reply::Flag(false), None)),
-                None,
-            ]
-            .as_slice()
-    );
-    Ok(())
+    let made = match number {
+        0 => stripe.put(0, number, -3, i64::MIN),
+        1 => stripe.get(0, number, -3),
+        2 => stripe.remove(0, number, -3),
+        _ => stripe.contains(0, number, -3),
+    };
+    match made {
+        Ok(record) => Some((record.reply, record.after)),
+        Err(_) => None,
+    }
+}
+
+#[test]
+fn plain_calls_are_made_at_once(rt: HostRuntime) {
+    let Some((mut stripe, _split, _rest)) = last_stripe(rt.alloc(), 1, 4) else {
+        panic!(rt; "no stripe");
+    };
+    let mut told = [None; 5];
+    for number in 0..5 {
+        told[number] = plain_told(&mut stripe, number as u32);
+    }
+    let wanted = [
+        Some((Reply::Done, Some(i64::MIN))),
+        Some((Reply::Value(Some(i64::MIN)), Some(i64::MIN))),
+        Some((Reply::Flag(true), None)),
+        Some((Reply::Flag(false), None)),
+        None,
+    ];
+    assert!(rt; told == wanted);
 }
 
 #[test]
 fn an_exception_changes_nothing(rt: HostRuntime) -> Result<(), Fail> {
-    let alloc = rt.alloc();
     let none = Args::none();
-    let plus = verified(alloc, rows::plus(alloc)?)?;
+    let plus = verified(rt.alloc(), rows::plus(rt.alloc())?)?;
     let calls = [
         invoke(&plus, 7, &none),
         Call::Put { key: 7, value: 1 },
         invoke(&plus, 7, &none),
         invoke(&plus, -1, &none),
     ];
-    let (told, entry) = made_all(alloc, &calls, -1)?;
     let null = Reply::Result(Outcome::Threw(JavaFault::NullPointer));
-    assert!(rt;
-        told.as_slice()
-            == [
-                Some((null, None)),
-                Some((Reply::Done, Some(1))),
-                Some((returned(2), Some(2))),
-                Some((null, None)),
-            ]
-            .as_slice()
-    );
-    assert_eq!(rt; entry, None);
+    let told = [
+        Some((null, None)),
+        Some((Reply::Done, Some(1))),
+        Some((returned(2), Some(2))),
+        Some((null, None)),
+    ];
+    assert!(rt; made_all(rt.alloc(), &calls, -1) == (told, None));
     Ok(())
 }
 
 #[test]
 fn an_exception_leaves_an_entry(rt: HostRuntime) -> Result<(), Fail> {
-    let alloc = rt.alloc();
     let Some(args) = Args::of(&[Arg::Long(1)]) else {
         panic!(rt; "too many arguments");
     };
-    let counter = verified(alloc, rows::counter(alloc)?)?;
+    let counter = verified(rt.alloc(), rows::counter(rt.alloc())?)?;
     let calls = [
         invoke(&counter, 7, &args),
         invoke(&counter, 7, &Args::none()),
     ];
-    let (told, entry) = made_all(alloc, &calls, 7)?;
     let outside = Reply::Result(Outcome::Threw(JavaFault::ArrayIndexOutOfBounds));
-    assert!(rt;
-        told.as_slice() == [Some((returned(1), Some(1))), Some((outside, Some(1)))].as_slice()
-    );
-    assert_eq!(rt; entry, Some(1));
+    let told = [
+        Some((returned(1), Some(1))),
+        Some((outside, Some(1))),
+        None,
+        None,
+    ];
+    assert!(rt; made_all(rt.alloc(), &calls, 7) == (told, Some(1)));
     Ok(())
 }
 
 #[test]
 fn a_set_entry_is_removed(rt: HostRuntime) -> Result<(), Fail> {
-    let alloc = rt.alloc();
     let none = Args::none();
-    let set_remove = verified(alloc, bytes_of(alloc, "SetRemove")?)?;
+    let set_remove = verified(rt.alloc(), bytes_of(rt.alloc(), "SetRemove")?)?;
     let calls = [
         invoke(&set_remove, 7, &none),
         Call::Put { key: 7, value: 5 },
         invoke(&set_remove, 7, &none),
     ];
-    let (told, entry) = made_all(alloc, &calls, 7)?;
-    assert!(rt;
-        told.as_slice()
-            == [
-                Some((returned(2), None)),
-                Some((Reply::Done, Some(5))),
-                Some((returned(3), None)),
-            ]
-            .as_slice()
-    );
-    assert_eq!(rt; entry, None);
+    let told = [
+        Some((returned(2), None)),
+        Some((Reply::Done, Some(5))),
+        Some((returned(3), None)),
+        None,
+    ];
+    assert!(rt; made_all(rt.alloc(), &calls, 7) == (told, None));
     Ok(())
 }
