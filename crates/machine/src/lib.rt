@@ -17,6 +17,3 @@ mod workspace;
 
 pub use done::{Done, Going};
 pub use workspace::{Workspace, one_state_runs, run};
-
-#[cfg(test)]
-mod tests;

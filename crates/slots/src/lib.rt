@@ -6,8 +6,6 @@ mod rearrange;
 mod reference;
 mod rows;
 mod slots;
-#[cfg(test)]
-mod tests;
 mod variables;
 
 pub use reference::Reference;

@@ -10,8 +10,6 @@ mod reading;
 mod reply;
 mod reply_texts;
 mod request;
-#[cfg(test)]
-mod tests;
 mod text;
 mod writing;
 

@@ -8,7 +8,7 @@ use Rattle.slots.specs.declared.slots.Slots.{Slots}
 use Rattle.slots.specs.Reads.{Reads, given}
 use Rattle.slots.specs.Leaving.{Leaves}
 use Rattle.slots.proofs.Arrays.{reads_top}
-use Rattle.slots.proofs.tests.call.Goals as goal
+use Rattle.runs.proofs.places.call.Goals as goal
 
 -- the locals of the caller, before and after the store, and those of the method that is called
 abbrev before_store : List (Option Value)

@@ -2,7 +2,7 @@
 
 ghost use Rattle.slots.specs.Reads.{HasRows};
 
-use super::*;
+use slots::Slots;
 use std::test::Fail;
 
 /// An int goes into a local, and from there through a call; the caller's place, and the int.

@@ -1,4 +1,4 @@
-use Rattle.machine.proofs.tests.stepped.Goals as goal
+use Rattle.runs.proofs.classes.steps.stepped.Goals as goal
 
 pub loop-count-preserved : goal.loop-count-preserved
 loop-count-preserved c =

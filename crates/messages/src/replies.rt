@@ -1,0 +1,140 @@
+//! Replies that are written.
+
+ghost use Rattle.std.specs.Prelude.{IfOk};
+ghost use Rattle.wire.specs.Frames.{IsReply};
+
+mod writers;
+
+use jtypes::{Arg, Items, JavaFault, Outcome, Refusal};
+use std::alloc::{AllocError, Global};
+use std::test::Fail;
+use wire::{Counted, Denial, JobOutcome, Reply, write_reply};
+
+/// Whether the frame of a reply is these bytes.
+fn is_written(alloc: Global, reply: Reply, frame: &[u8]) -> bool
+    requires { IsReply reply }
+{
+    let mut writer = Counted::new(Vec::new(alloc));
+    let result = write_reply(&mut writer, &reply);
+    let bytes = writer.into_inner();
+    result.is_ok() && bytes.as_slice() == frame
+}
+
+#[test]
+fn definitions_are_written(rt: HostRuntime) {
+    let defined = Reply::Defined {
+        class: 0,
+        steps: 0x18,
+        words: 0,
+    };
+    let counter = [0, 0, 0, 13, 1, 0, 0, 0, 0, 0, 0, 0, 0x18, 0, 0, 0, 0];
+    assert!(rt; is_written(rt.alloc(), defined, &counter));
+}
+
+#[test]
+fn refusals_are_written(rt: HostRuntime) {
+    for (refusal, number, detail) in [
+        (Refusal::TypeMismatch(1), 22, 1),
+        (Refusal::OutsideProfile(0xCA), 17, 0xCA),
+        (Refusal::Recursive, 25, 0),
+    ] {
+        let frame = [0, 0, 0, 6, 2, number, 0, 0, 0, detail];
+        assert!(rt; is_written(rt.alloc(), Reply::Refused(refusal), &frame));
+    }
+}
+
+#[test]
+fn replies_are_written(rt: HostRuntime) {
+    assert!(rt; is_written(rt.alloc(), Reply::Done, &[0, 0, 0, 1, 3]));
+    assert!(rt; is_written(rt.alloc(), Reply::RoundEnd, &[0, 0, 0, 1, 9]));
+    for (flag, byte) in [(true, 1), (false, 0)] {
+        assert!(rt; is_written(rt.alloc(), Reply::Flag(flag), &[0, 0, 0, 2, 5, byte]));
+    }
+}
+
+#[test]
+fn values_are_written(rt: HostRuntime) {
+    let one = [0, 0, 0, 10, 4, 1, 0, 0, 0, 0, 0, 0, 0, 1];
+    assert!(rt; is_written(rt.alloc(), Reply::Value(Some(1)), &one));
+    assert!(rt; is_written(rt.alloc(), Reply::Value(None), &[0, 0, 0, 2, 4, 0]));
+}
+
+/// Outcomes, each with its frame.
+static OUTCOMES: [(Outcome, &[u8]); 4] = [
+    (
+        Outcome::Returned(Arg::Long(42)),
+        &[0, 0, 0, 11, 6, 0, 1, 0, 0, 0, 0, 0, 0, 0, 0x2A],
+    ),
+    (
+        Outcome::Returned(Arg::Integer(-2)),
+        &[0, 0, 0, 7, 6, 0, 2, 255, 255, 255, 254],
+    ),
+    (Outcome::Returned(Arg::Null), &[0, 0, 0, 3, 6, 0, 0]),
+    (Outcome::Threw(JavaFault::ClassCast), &[0, 0, 0, 3, 6, 1, 4]),
+];
+
+#[test]
+fn outcomes_are_written(rt: HostRuntime) {
+    for (outcome, frame) in OUTCOMES {
+        assert!(rt; is_written(rt.alloc(), Reply::Result(outcome), frame));
+    }
+}
+
+#[test]
+fn denials_are_written(rt: HostRuntime) {
+    for (denial, number) in [
+        (Denial::UnknownClass, 1),
+        (Denial::JournalFull, 2),
+        (Denial::NoMemory, 3),
+        (Denial::TooManyClasses, 4),
+        (Denial::TooManyJobs, 5),
+    ] {
+        let frame = [0, 0, 0, 2, 8, number];
+        assert!(rt; is_written(rt.alloc(), Reply::Denied(denial), &frame));
+        assert_eq!(rt; denial.number(), number);
+    }
+}
+
+/// Key 1 returned the long 0, key 2 threw fault 1, and key 3 was denied for memory.
+fn results(alloc: Global) -> Result<Reply, AllocError>
+    ensures { IfOk result (λ r. IsReply r) }
+{
+    let jobs = [
+        (1, JobOutcome::Ended(Outcome::Returned(Arg::Long(0)))),
+        (2, JobOutcome::Ended(Outcome::Threw(JavaFault::Arithmetic))),
+        (3, JobOutcome::Denied(Denial::NoMemory)),
+    ];
+    Ok(Reply::Results(Items::from_slice(alloc, &jobs)?))
+}
+
+static RESULTS: [u8; 45] = [
+    0, 0, 0, 0x29, 7, 0, 3, //
+    0, 0, 0, 0, 0, 0, 0, 1, 0, 1, 0, 0, 0, 0, 0, 0, 0, 0, //
+    0, 0, 0, 0, 0, 0, 0, 2, 1, 1, //
+    0, 0, 0, 0, 0, 0, 0, 3, 2, 3,
+];
+
+#[test]
+fn results_are_written(rt: HostRuntime) -> Result<(), Fail> {
+    assert!(rt; is_written(rt.alloc(), results(rt.alloc())?, &RESULTS));
+    let none = Reply::Results(Items::new(Vec::new(rt.alloc())));
+    assert!(rt; is_written(rt.alloc(), none, &[0, 0, 0, 3, 7, 0, 0]));
+    Ok(())
+}
+
+/// How long the frame of so many results is.
+fn length_of_most(alloc: Global) -> Result<usize, AllocError> {
+    let job = (-1, JobOutcome::Ended(Outcome::Returned(Arg::Long(-1))));
+    let most = Reply::Results(Items::new(vec![in alloc; job; 4096]?));
+    let mut writer = Counted::new(Vec::new(alloc));
+    match write_reply(&mut writer, &most) {
+        Ok(()) => Ok(writer.into_inner().len()),
+        Err(_) => Ok(0),
+    }
+}
+
+#[test]
+fn the_most_results_are_written(rt: HostRuntime) -> Result<(), Fail> {
+    assert_eq!(rt; length_of_most(rt.alloc())?, 7 + 18 * 4096);
+    Ok(())
+}

@@ -1,0 +1,48 @@
+//! Readers that fail.
+
+use super::PUT;
+use std::alloc::Global;
+use std::io;
+use std::io::Read;
+use wire::{Counted, Request, WireFault, read_request};
+
+/// Gives its bytes one at a time, and then fails.
+#[derive(Drop)]
+struct Drops<'a> {
+    rest: &'a [u8],
+    error: io::ErrorKind,
+}
+
+impl<'a> Read for Drops<'a> {
+    fn read(&mut self, buf: &mut [u8]) -> io::Result<usize> {
+        match self.rest {
+            [first, rest @ ..] if !buf.is_empty() => {
+                buf[0] = *first;
+                self.rest = rest;
+                Ok(1)
+            }
+            _ => Err(io::Error::from(self.error)),
+        }
+    }
+}
+
+/// What is read from such a reader: the fault, or whether it is the put; and how many reads failed.
+fn read_from(alloc: Global, rest: &[u8], error: io::ErrorKind) -> (Result<bool, WireFault>, u64) {
+    let mut reader = Counted::new(Drops { rest, error });
+    let told = match read_request(alloc, &mut reader) {
+        Ok(Some(Request::Put { key, value })) => Ok(key == 5 && value == 1),
+        Ok(_) => Ok(false),
+        Err(fault) => Err(fault),
+    };
+    (told, reader.failures())
+}
+
+#[test]
+fn a_failed_read_is_counted(rt: HostRuntime) {
+    for n in 0..PUT.len() {
+        let told = read_from(rt.alloc(), &PUT[..n], io::ErrorKind::Interrupted);
+        assert_eq!(rt; told, (Err(WireFault::Read), 1));
+    }
+    let told = read_from(rt.alloc(), &PUT, io::ErrorKind::BrokenPipe);
+    assert_eq!(rt; told, (Ok(true), 0));
+}

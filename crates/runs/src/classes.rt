@@ -1,0 +1,44 @@
+//! Small classes: what is linked of them, and their invocations.
+
+mod linking;
+mod steps;
+mod whole;
+
+use jtypes::{Arg, Effect, JavaFault, Outcome};
+use machine::Done;
+use rowclasses as rows;
+use std::alloc::{AllocError, Global};
+use verify::{Verified, verify};
+
+/// The bytes of the class with this name, none where there is no such class.
+fn bytes_of(alloc: Global, name: &str) -> Result<Vec<u8>, AllocError> {
+    match name {
+        "Plus" => rows::plus(alloc),
+        "Counter" => rows::counter(alloc),
+        _ => Ok(rows::class_named(alloc, name)?.unwrap_or(Vec::new(alloc))),
+    }
+}
+
+/// The class with this name, verified; none where it is refused.
+fn class_named(alloc: Global, name: &str) -> Option<Verified> {
+    match bytes_of(alloc, name) {
+        Ok(bytes) => verify(alloc, &bytes).ok(),
+        Err(_) => None,
+    }
+}
+
+/// What Plus makes of 41.
+const MADE_42: Done = Done {
+    outcome: Outcome::Returned(Arg::Long(42)),
+    effect: Effect::Put(42),
+    steps: 14,
+    words: 0,
+};
+
+/// The fault of NestFault, a division by zero in a called method.
+const THREW: Done = Done {
+    outcome: Outcome::Threw(JavaFault::Arithmetic),
+    effect: Effect::Keep,
+    steps: 10,
+    words: 0,
+};

@@ -1,0 +1,101 @@
+//! Classes that are verified, with their bounds and their linked code.
+
+use super::class_named;
+use jtypes::{Binary, Comparison, Native, RefType, Refusal};
+use linked::Linked;
+use rowclasses as rows;
+use std::test::Fail;
+use verify::{Verified, is_checked, verify};
+
+/// The instruction with a number.
+fn linked_at(class: &Verified, number: usize) -> Option<Linked> {
+    class.linked().code.get(number).copied()
+}
+
+/// Where the method with a number begins.
+fn start_of(class: &Verified, number: usize) -> Option<u32> {
+    Some(class.linked().methods.get(number)?.start)
+}
+
+/// The bounds of a class: steps, words, slots and depth.
+fn bounds_of(class: &Verified) -> (u32, u32, u32, u32) {
+    let bounds = class.bounds();
+    (bounds.steps, bounds.words, bounds.slots, bounds.depth)
+}
+
+/// The entrance of `process`: its start, its parameters and its locals.
+fn process_of(class: &Verified) -> (u32, u16, u16) {
+    let process = class.linked().process;
+    (process.start, process.params, process.locals)
+}
+
+/// The instructions of Plus.
+static PLUS: [Linked; 14] = [
+    Linked::LoadReference(1),
+    Linked::CallLibrary(Native::GetValue),
+    Linked::CheckCast(RefType::Long),
+    Linked::CallLibrary(Native::LongValue),
+    Linked::PushLong(1),
+    Linked::OnLongs(Binary::Add),
+    Linked::StoreLong(3),
+    Linked::LoadReference(1),
+    Linked::LoadLong(3),
+    Linked::CallLibrary(Native::LongValueOf),
+    Linked::CallLibrary(Native::SetValue),
+    Linked::LoadLong(3),
+    Linked::CallLibrary(Native::LongValueOf),
+    Linked::ReturnReference,
+];
+
+#[test]
+fn plus_is_verified(rt: HostRuntime) {
+    let Some(class) = class_named(rt.alloc(), "Plus") else {
+        panic!(rt; "plus is refused");
+    };
+    is_checked(&class);
+    assert_eq!(rt; bounds_of(&class), (14, 0, 9, 1));
+    assert!(rt; class.linked().code.as_slice() == &PLUS[..]);
+    assert_eq!(rt; process_of(&class), (0, 3, 5));
+}
+
+#[test]
+fn branches_lead_to_numbers(rt: HostRuntime) {
+    let Some(class) = class_named(rt.alloc(), "Counter") else {
+        panic!(rt; "counter is refused");
+    };
+    for (number, linked) in [
+        (2, Some(Linked::IfZero(Comparison::Equal, 8))),
+        (7, Some(Linked::Goto(9))),
+        (8, Some(Linked::PushLong(0))),
+        (25, None),
+    ] {
+        assert!(rt; linked_at(&class, number) == linked);
+    }
+}
+
+#[test]
+fn calls_name_methods_by_their_numbers(rt: HostRuntime) {
+    let Some(class) = class_named(rt.alloc(), "NestFault") else {
+        panic!(rt; "the class is refused");
+    };
+    assert!(rt; linked_at(&class, 6) == Some(Linked::CallStatic(2)));
+    for (method, start) in [(1, Some(0)), (2, Some(9)), (3, None)] {
+        assert_eq!(rt; start_of(&class, method), start);
+    }
+}
+
+#[test]
+fn process_may_stand_behind_another(rt: HostRuntime) {
+    let Some(class) = class_named(rt.alloc(), "Bridge") else {
+        panic!(rt; "the class is refused");
+    };
+    assert_eq!(rt; class.linked().process.start, 3);
+    assert!(rt; linked_at(&class, 6) == Some(Linked::CallInstance(1)));
+}
+
+#[test]
+fn a_class_is_refused(rt: HostRuntime) -> Result<(), Fail> {
+    let bytes = rows::falls(rt.alloc())?;
+    assert_eq!(rt; verify(rt.alloc(), &bytes).err(), Some(Refusal::FallsOff));
+    Ok(())
+}

@@ -1,0 +1,104 @@
+//! Invocations of small classes, each run whole.
+
+use super::{MADE_42, THREW, class_named};
+use jtypes::{Arg, Args, Effect, JavaFault, Outcome};
+use machine::{Done, Workspace, run};
+use std::alloc::Global;
+use verify::Verified;
+
+/// How invocations of a class on key 7 end, one with each of two entries, in one workspace.
+fn run_twice(
+    alloc: Global,
+    class: &Verified,
+    entries: [Option<i64>; 2],
+    args: &Args,
+) -> Option<[Done; 2]> {
+    match Workspace::new(alloc) {
+        Ok(mut workspace) => {
+            let first = run(class, 7, entries[0], args, &mut workspace);
+            let second = run(class, 7, entries[1], args, &mut workspace);
+            Some([first, second])
+        }
+        Err(_) => None,
+    }
+}
+
+/// The same of the class with a name, without arguments.
+fn done_twice(alloc: Global, name: &str, entries: [Option<i64>; 2]) -> Option<[Done; 2]> {
+    match class_named(alloc, name) {
+        Some(class) => run_twice(alloc, &class, entries, &Args::none()),
+        None => None,
+    }
+}
+
+#[test]
+fn plus_adds_one(rt: HostRuntime) {
+    let done = done_twice(rt.alloc(), "Plus", [Some(41), Some(41)]);
+    assert_eq!(rt; done, Some([MADE_42, MADE_42]));
+}
+
+#[test]
+fn an_exception_changes_nothing(rt: HostRuntime) {
+    let done = done_twice(rt.alloc(), "NestFault", [Some(41), None]);
+    assert_eq!(rt; done, Some([THREW, THREW]));
+}
+
+/// The outcomes of two invocations, and what they do to the entry.
+fn outcomes(done: Option<[Done; 2]>) -> Option<[(Outcome, Effect); 2]> {
+    match done {
+        Some(done) => Some([
+            (done[0].outcome, done[0].effect),
+            (done[1].outcome, done[1].effect),
+        ]),
+        None => None,
+    }
+}
+
+#[test]
+fn an_entry_is_removed(rt: HostRuntime) {
+    let removed = (Outcome::Returned(Arg::Long(3)), Effect::Delete);
+    let never_there = (Outcome::Returned(Arg::Long(2)), Effect::Keep);
+    let done = done_twice(rt.alloc(), "SetRemove", [Some(5), None]);
+    assert_eq!(rt; outcomes(done), Some([removed, never_there]));
+}
+
+/// What an array of all the words makes.
+const MADE_65535: Done = Done {
+    outcome: Outcome::Returned(Arg::Long(65_535)),
+    effect: Effect::Keep,
+    steps: 9,
+    words: 65_536,
+};
+
+#[test]
+fn all_words_are_there_for_the_next_run(rt: HostRuntime) {
+    let done = done_twice(rt.alloc(), "CallArr", [None, None]);
+    assert_eq!(rt; done, Some([MADE_65535, MADE_65535]));
+}
+
+/// How an invocation of Counter with these arguments ends, and its steps.
+fn counted(alloc: Global, args: &[Arg]) -> Option<(Outcome, u32)> {
+    let args = Args::of(args)?;
+    match class_named(alloc, "Counter") {
+        Some(class) => {
+            let [done, _] = run_twice(alloc, &class, [Some(41), Some(41)], &args)?;
+            Some((done.outcome, done.steps))
+        }
+        None => None,
+    }
+}
+
+/// Arguments, each with what Counter makes of them and in how many steps.
+static COUNTED: [(&[Arg], Outcome, u32); 4] = [
+    (&[Arg::Long(1)], Outcome::Returned(Arg::Long(42)), 24),
+    (&[Arg::Integer(1)], Outcome::Threw(JavaFault::ClassCast), 14),
+    (&[Arg::Null], Outcome::Threw(JavaFault::NullPointer), 15),
+    (&[], Outcome::Threw(JavaFault::ArrayIndexOutOfBounds), 13),
+];
+
+#[test]
+fn arguments_are_given(rt: HostRuntime) {
+    for (args, outcome, steps) in COUNTED {
+        assert_eq!(rt; counted(rt.alloc(), args), Some((outcome, steps)));
+    }
+}

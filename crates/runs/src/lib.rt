@@ -1,0 +1,7 @@
+//! Tests: classes that are verified, the rows of an invocation, and invocations whole and step by step.
+#![tactic(auto)]
+
+#[cfg(test)]
+mod classes;
+#[cfg(test)]
+mod places;
