@@ -11,6 +11,7 @@ use jtypes::{Native, Outcome, Value};
 use slots::Slots;
 
 /// Puts a value.
+#[inline(always)]
 fn push(slots: &mut Slots, value: Value)
     requires { CanPush (Some value) slots.old }
     ensures pushes { Pushes (Some value) slots.old slots.new }
@@ -24,6 +25,7 @@ fn push(slots: &mut Slots, value: Value)
 }
 
 /// Puts what the library answers, if it answers a value.
+#[inline(always)]
 fn push_answer(slots: &mut Slots, answer: Option<Value>)
     requires { CanPush answer slots.old }
     ensures pushes { Pushes answer slots.old slots.new }
@@ -35,6 +37,7 @@ fn push_answer(slots: &mut Slots, answer: Option<Value>)
 }
 
 /// Calls the library on values that were taken, the receiver first, and puts what it answers.
+#[inline(always)]
 fn answer(machine: &mut Machine, native: Native, values: &[Value]) -> Result<(), Outcome>
     requires { CanAnswer native values.now machine.old }
     ensures told { Answers native values.now machine.old machine.new result }
@@ -49,6 +52,7 @@ fn answer(machine: &mut Machine, native: Native, values: &[Value]) -> Result<(),
     }
 }
 
+#[inline(always)]
 fn call_on_int(machine: &mut Machine, native: Native) -> Result<(), Outcome>
     requires { CanCallOn native IsInt machine.old }
     ensures told { CallsOn native IsInt machine.old machine.new result }
@@ -58,6 +62,7 @@ fn call_on_int(machine: &mut Machine, native: Native) -> Result<(), Outcome>
     answer(machine, native, &[Value::Int(a)])
 }
 
+#[inline(always)]
 fn call_on_long(machine: &mut Machine, native: Native) -> Result<(), Outcome>
     requires { CanCallOn native IsLong machine.old }
     ensures told { CallsOn native IsLong machine.old machine.new result }
@@ -67,6 +72,7 @@ fn call_on_long(machine: &mut Machine, native: Native) -> Result<(), Outcome>
     answer(machine, native, &[Value::Long(a)])
 }
 
+#[inline(always)]
 fn call_on_ints(machine: &mut Machine, native: Native) -> Result<(), Outcome>
     requires { CanCallOn native AreInts machine.old }
     ensures told { CallsOn native AreInts machine.old machine.new result }
@@ -77,6 +83,7 @@ fn call_on_ints(machine: &mut Machine, native: Native) -> Result<(), Outcome>
     answer(machine, native, &[Value::Int(a), Value::Int(b)])
 }
 
+#[inline(always)]
 fn call_on_longs(machine: &mut Machine, native: Native) -> Result<(), Outcome>
     requires { CanCallOn native AreLongs machine.old }
     ensures told { CallsOn native AreLongs machine.old machine.new result }
@@ -87,6 +94,7 @@ fn call_on_longs(machine: &mut Machine, native: Native) -> Result<(), Outcome>
     answer(machine, native, &[Value::Long(a), Value::Long(b)])
 }
 
+#[inline(always)]
 fn call_on_reference(machine: &mut Machine, native: Native) -> Result<(), Outcome>
     requires { CanCallOn native IsRef machine.old }
     ensures told { CallsOn native IsRef machine.old machine.new result }
@@ -96,6 +104,7 @@ fn call_on_reference(machine: &mut Machine, native: Native) -> Result<(), Outcom
     answer(machine, native, &[Value::Ref(a)])
 }
 
+#[inline(always)]
 fn call_on_references(machine: &mut Machine, native: Native) -> Result<(), Outcome>
     requires { CanCallOn native AreRefs machine.old }
     ensures told { CallsOn native AreRefs machine.old machine.new result }

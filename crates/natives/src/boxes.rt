@@ -9,6 +9,7 @@ ghost use Rattle.natives.specs.Answer.{given};
 use jtypes::{Native, RefValue, Value};
 
 /// What `intValue` and `longValue` answer (Java API, `Number`).
+#[inline(always)]
 pub fn box_call(native: Native, receiver: RefValue) -> Option<Value>
     ensures { (now : Entry) → box_reply native now receiver ≡ given result now }
 {
@@ -22,6 +23,7 @@ pub fn box_call(native: Native, receiver: RefValue) -> Option<Value>
 }
 
 /// The low 32 bits of a long (JVMS 6.5, l2i).
+#[inline(always)]
 fn low_int(n: i64) -> i32
     ensures { result ≡ low_int n }
 {

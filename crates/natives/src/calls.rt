@@ -15,6 +15,7 @@ use mutentry::EntryState;
 /// the entry. A fault changes nothing.
 ///
 /// The caller sees to it that the values are of the types that the call takes.
+#[inline(always)]
 pub fn call(
     native: Native,
     key: i64,
@@ -41,6 +42,7 @@ pub fn call(
 }
 
 /// A call on a receiver: null throws (JVMS 6.5, invokevirtual and invokeinterface).
+#[inline(always)]
 fn instance_call(
     native: Native,
     key: i64,

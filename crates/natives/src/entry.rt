@@ -9,6 +9,7 @@ use jtypes::{JavaFault, Native, RefValue, Value};
 use mutentry::EntryState;
 
 /// What a call of the entry answers, and does to it (JSR 107, `MutableEntry` and `Cache.Entry`).
+#[inline(always)]
 pub fn entry_call(
     native: Native,
     key: i64,
@@ -35,6 +36,7 @@ pub fn entry_call(
 }
 
 /// A value of the entry as a reference: null stands for none.
+#[inline(always)]
 fn reference(value: Option<i64>) -> RefValue
     ensures { Ref result ≡ value_of_entry value }
 {

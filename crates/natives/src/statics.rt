@@ -8,6 +8,7 @@ ghost use Rattle.natives.specs.Answer.{given};
 use jtypes::{Native, RefValue, Value};
 
 /// What a static call answers to arguments of the taken types.
+#[inline(always)]
 pub fn static_call(native: Native, arguments: &[Value]) -> Option<Value>
     ensures { (now : Entry) → static_reply native now arguments.now ≡ given result now }
 {
