@@ -17,8 +17,3 @@ pub use gate::{Gate, NoGate};
 pub use receipt::Receipt;
 pub use refusal::InvokeRefusal;
 pub use seat::Seat;
-
-#[cfg(test)]
-mod tests;
-#[cfg(test)]
-mod thread_tests;

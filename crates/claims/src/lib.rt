@@ -9,6 +9,3 @@ mod rule;
 
 pub use claimer::Claimer;
 pub use counter::{Counter, open};
-
-#[cfg(test)]
-mod tests;

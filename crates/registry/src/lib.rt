@@ -4,6 +4,3 @@
 mod registry;
 
 pub use registry::{ClassId, Registry};
-
-#[cfg(test)]
-mod tests;

@@ -9,6 +9,3 @@ mod world;
 
 pub use event::{Applied, Event};
 pub use world::World;
-
-#[cfg(test)]
-mod tests;

@@ -1,11 +1,11 @@
 //! Calls of caches, in several threads.
 
-ghost use Rattle.std.specs.Prelude.{◌≡◌, ◌<◌, ℕ, length, slice_index_or, IfOk, IfSome};
+ghost use Rattle.std.specs.Prelude.{◌≡◌, ◌<◌, ℕ, length, slice_index_or, IfOk};
 ghost use Rattle.std.specs.List.{All};
 ghost use Rattle.cache.specs.Opened.{AreFresh};
 ghost use Rattle.registry.specs.Ids.{IsOf};
 
-use super::*;
+use cache::{Cache, Closed, Gate, Receipt, Seat};
 use jtypes::{Arg, Args, Outcome};
 use machine::Workspace;
 use registry::{ClassId, Registry};
@@ -206,19 +206,6 @@ fn worked<'a, R: Threads + Wait + Sync>(
     Ok(cache.close(seats))
 }
 
-/// Defines the class Counter.
-fn counter_in<R: Wait>(rt: &R, alloc: Global, registry: &Registry) -> Option<ClassId>
-    ensures { IfSome result (λ id. IsOf registry.now id) }
-{
-    let Ok(bytes) = rows::counter(alloc) else {
-        return None;
-    };
-    match registry.define(rt, alloc, &bytes) {
-        Ok(id) => Some(id),
-        Err(_) => None,
-    }
-}
-
 /// How many seats have so many receipts.
 fn seats_of(closed: &Closed<'_>, receipts: usize) -> usize {
     closed
@@ -269,89 +256,141 @@ fn counts(alloc: Global, closed: &Closed<'_>) -> Result<Vec<i64>, AllocError> {
     Ok(counts)
 }
 
+/// What is left of the work of so many callers.
+#[derive(Clone, Copy, PartialEq, Eq, Debug)]
+struct Sums {
+    /// How many seats have as many receipts as were asked for.
+    seats: usize,
+    /// How many records the stripes 0 and 1 have.
+    records: (Option<usize>, Option<usize>),
+    /// The entries of the keys 0 and 1.
+    entries: (Option<i64>, Option<i64>),
+    /// Whether the invocations answered the numbers 1 to 1,600, each once and rising in each seat.
+    are_numbered: bool,
+}
+
+/// Whether the invocations answered the numbers 1 to 1,600, each once and rising in each seat.
+fn are_numbered(alloc: Global, closed: &Closed<'_>) -> bool {
+    match counts(alloc, closed) {
+        Ok(counts) => {
+            counts.len() == 1600
+                && (1..=1600).all(|count| counts.contains(&count))
+                && closed.receipts.iter().all(|seat| counts_rise(seat))
+        }
+        Err(_) => false,
+    }
+}
+
+fn sums_of(alloc: Global, closed: &Closed<'_>, receipts: usize) -> Sums {
+    Sums {
+        seats: seats_of(closed, receipts),
+        records: (records(closed, 0), records(closed, 1)),
+        entries: (closed.tables.entry(0), closed.tables.entry(1)),
+        are_numbered: are_numbered(alloc, closed),
+    }
+}
+
+/// What is left of the work of callers, where each seat is to have so many receipts.
+fn summed<R: Threads + Wait + Sync>(
+    rt: &R,
+    alloc: Global,
+    bytes: &[u8],
+    stripes: usize,
+    seats: usize,
+    work: Work,
+    receipts: usize,
+) -> Option<Sums> {
+    match Registry::new(alloc) {
+        Ok(registry) => match registry.define(rt, alloc, bytes) {
+            Ok(counter) => {
+                match worked(rt, alloc, &registry, &counter, stripes, seats, work) {
+                    Ok(closed) => Some(sums_of(alloc, &closed, receipts)),
+                    Err(_) => None,
+                }
+            }
+            Err(_) => None,
+        },
+        Err(_) => None,
+    }
+}
+
 fn is_sync<T: Sync>(_: &T) {}
 
 fn is_send<T: Send>(_: &T) {}
 
+/// How many seats a cache hands to threads, which share it.
+fn seats_handed(alloc: Global, registry: &Registry) -> Option<usize> {
+    match opened(alloc, registry, 2, 2) {
+        Ok((cache, seats)) => {
+            is_sync(&cache);
+            for seat in &seats {
+                is_send(seat);
+            }
+            Some(seats.len())
+        }
+        Err(_) => None,
+    }
+}
+
 #[test]
 fn threads_share_a_cache_and_hand_seats_on(rt: HostRuntime) -> Result<(), Fail> {
-    let alloc = rt.alloc();
-    let registry = Registry::new(alloc)?;
-    let Ok((cache, seats)) = opened(alloc, &registry, 2, 2) else {
-        panic!(rt; "no cache");
-    };
-    is_sync(&cache);
-    for seat in &seats {
-        is_send(seat);
-    }
-    assert_eq!(rt; seats.len(), 2);
+    let registry = Registry::new(rt.alloc())?;
+    assert_eq!(rt; seats_handed(rt.alloc(), &registry), Some(2));
     Ok(())
 }
 
 #[test]
 fn two_callers_put_and_get(rt: HostRuntime) -> Result<(), Fail> {
-    let alloc = rt.alloc();
-    let registry = Registry::new(alloc)?;
-    let Some(counter) = counter_in(&rt, alloc, &registry) else {
-        panic!(rt; "counter is refused");
+    let counter = rows::counter(rt.alloc())?;
+    let wanted = Sums {
+        seats: 2,
+        records: (Some(2000), None),
+        entries: (None, Some(499)),
+        are_numbered: false,
     };
-    let Ok(closed) = worked(&rt, alloc, &registry, &counter, 1, 2, Work::PutAndGet) else {
-        panic!(rt; "no cache");
-    };
-    assert_eq!(rt; seats_of(&closed, 1000), 2);
-    assert_eq!(rt; records(&closed, 0), Some(2000));
-    assert_eq!(rt; closed.tables.entry(1), Some(499));
+    let sums = summed(&rt, rt.alloc(), &counter, 1, 2, Work::PutAndGet, 1000);
+    assert_eq!(rt; sums, Some(wanted));
     Ok(())
 }
 
 #[test]
 fn four_callers_count(rt: HostRuntime) -> Result<(), Fail> {
-    let alloc = rt.alloc();
-    let registry = Registry::new(alloc)?;
-    let Some(counter) = counter_in(&rt, alloc, &registry) else {
-        panic!(rt; "counter is refused");
+    let counter = rows::counter(rt.alloc())?;
+    let wanted = Sums {
+        seats: 4,
+        records: (Some(400), None),
+        entries: (Some(400), None),
+        are_numbered: false,
     };
-    let Ok(closed) = worked(&rt, alloc, &registry, &counter, 1, 4, Work::Count) else {
-        panic!(rt; "no cache");
-    };
-    assert_eq!(rt; seats_of(&closed, 100), 4);
-    assert_eq!(rt; records(&closed, 0), Some(400));
-    assert_eq!(rt; closed.tables.entry(0), Some(400));
+    let sums = summed(&rt, rt.alloc(), &counter, 1, 4, Work::Count, 100);
+    assert_eq!(rt; sums, Some(wanted));
     Ok(())
 }
 
 #[test]
 fn sixteen_callers_count(rt: HostRuntime) -> Result<(), Fail> {
-    let alloc = rt.alloc();
-    let registry = Registry::new(alloc)?;
-    let Some(counter) = counter_in(&rt, alloc, &registry) else {
-        panic!(rt; "counter is refused");
+    let counter = rows::counter(rt.alloc())?;
+    let wanted = Sums {
+        seats: 16,
+        records: (Some(1600), None),
+        entries: (Some(1600), None),
+        are_numbered: true,
     };
-    let Ok(closed) = worked(&rt, alloc, &registry, &counter, 1, 16, Work::Count) else {
-        panic!(rt; "no cache");
-    };
-    assert_eq!(rt; seats_of(&closed, 100), 16);
-    assert_eq!(rt; records(&closed, 0), Some(1600));
-    assert_eq!(rt; closed.tables.entry(0), Some(1600));
-    assert!(rt; closed.receipts.iter().all(|seat| counts_rise(seat)));
-    let counts = counts(alloc, &closed)?;
-    assert!(rt; (1..=1600).all(|count| counts.contains(&count)));
-    assert_eq!(rt; counts.len(), 1600);
+    let sums = summed(&rt, rt.alloc(), &counter, 1, 16, Work::Count, 100);
+    assert_eq!(rt; sums, Some(wanted));
     Ok(())
 }
 
 #[test]
 fn calls_on_two_stripes_meet(rt: HostRuntime) -> Result<(), Fail> {
-    let alloc = rt.alloc();
-    let registry = Registry::new(alloc)?;
-    let Some(counter) = counter_in(&rt, alloc, &registry) else {
-        panic!(rt; "counter is refused");
+    let counter = rows::counter(rt.alloc())?;
+    let wanted = Sums {
+        seats: 2,
+        records: (Some(1), Some(1)),
+        entries: (Some(7), Some(7)),
+        are_numbered: false,
     };
-    let Ok(closed) = worked(&rt, alloc, &registry, &counter, 2, 2, Work::Meet) else {
-        panic!(rt; "no cache");
-    };
-    assert_eq!(rt; seats_of(&closed, 1), 2);
-    assert_eq!(rt; records(&closed, 0), Some(1));
-    assert_eq!(rt; records(&closed, 1), Some(1));
+    let sums = summed(&rt, rt.alloc(), &counter, 2, 2, Work::Meet, 1);
+    assert_eq!(rt; sums, Some(wanted));
     Ok(())
 }

@@ -3,7 +3,7 @@ use mathlib.Core.Option.{some}
 use lib.ListN.{get_elem?}
 use Rattle.atomic_table.proofs.Lists.{at_index, at_set}
 use Rattle.claims.specs.Counters.{Share}
-use Rattle.claims.proofs.tests.claim.Goals as goal
+use Rattle.calls.proofs.claimed.claim.Goals as goal
 
 pub claim-requires : goal.claim-requires
 claim-requires c =

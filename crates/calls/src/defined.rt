@@ -3,8 +3,8 @@
 ghost use Rattle.std.specs.Prelude.{All, IfOk};
 ghost use Rattle.registry.specs.Ids.{IsOf};
 
-use crate::{ClassId, Registry};
 use jtypes::Refusal;
+use registry::{ClassId, Registry};
 use rowclasses as rows;
 use std::alloc::Global;
 use std::sync::Wait;

@@ -2,7 +2,7 @@
 
 ghost use Rattle.claims.specs.Counters.{IsJobCount, IsWorkerCount, AreAll};
 
-use super::*;
+use claims::{Claimer, Counter, open};
 use std::alloc::{AllocError, Global};
 use std::test::Fail;
 

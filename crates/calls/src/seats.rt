@@ -4,7 +4,7 @@ ghost use Rattle.std.specs.Prelude.{◌≡◌, IfOk};
 ghost use Rattle.cache.specs.Opened.{IsSeat};
 ghost use Rattle.registry.specs.Ids.{IsOf};
 
-use super::*;
+use cache::{Cache, Closed, InvokeRefusal, Receipt, Seat};
 use jtypes::{Arg, Args, Outcome};
 use machine::Workspace;
 use registry::{ClassId, Registry};
@@ -149,6 +149,26 @@ fn are_answers(told: &[Told; 5]) -> bool {
         .as_slice()
 }
 
+/// The same in a workspace of its own; none where there is no memory for it.
+fn asked_in_new<'a, R: Wait>(
+    rt: &R,
+    alloc: Global,
+    cache: &Cache<'a>,
+    seat: &mut Seat<'a>,
+    plus: &ClassId,
+) -> Option<[Told; 5]>
+    requires seat { seat.old.table ≡ cache.now.table }
+    requires class { IsOf cache.now.registry plus.now }
+    ensures table { seat.new.table ≡ seat.old.table }
+    ensures caller { seat.new.caller ≡ seat.old.caller }
+    ensures made { seat.new.made ≡ seat.old.made }
+{
+    match Workspace::new(alloc) {
+        Ok(mut workspace) => Some(asked_all(rt, cache, seat, &mut workspace, plus, 1)),
+        Err(_) => None,
+    }
+}
+
 /// What a cache of two stripes hands out after these calls on key 1; none where one was told something else.
 fn called<'a, R: Wait>(
     rt: &R,
@@ -158,18 +178,15 @@ fn called<'a, R: Wait>(
 ) -> Option<Closed<'a>>
     requires { IsOf registry.now plus.now }
 {
-    let Ok(mut workspace) = Workspace::new(alloc) else {
-        return None;
-    };
-    let Ok((cache, mut seat)) = opened(alloc, registry, 2, 16) else {
-        return None;
-    };
-    let told = asked_all(rt, &cache, &mut seat, &mut workspace, plus, 1);
-    if !are_answers(&told) {
-        return None;
-    }
-    match closed(alloc, cache, seat) {
-        Ok(closed) => Some(closed),
+    match opened(alloc, registry, 2, 16) {
+        Ok((cache, mut seat)) => {
+            let told = asked_in_new(rt, alloc, &cache, &mut seat, plus);
+            let closed = closed(alloc, cache, seat);
+            match told {
+                Some(told) if are_answers(&told) => closed.ok(),
+                _ => None,
+            }
+        }
         Err(_) => None,
     }
 }
@@ -206,13 +223,11 @@ fn named(closed: &Closed<'_>, stripe: usize, place: usize) -> Option<Reply> {
 
 /// The same, at five places.
 fn named_all(closed: &Closed<'_>, stripe: usize) -> [Option<Reply>; 5] {
-    [
-        named(closed, stripe, 0),
-        named(closed, stripe, 1),
-        named(closed, stripe, 2),
-        named(closed, stripe, 3),
-        named(closed, stripe, 4),
-    ]
+    let mut told = [None; 5];
+    for place in 0..5 {
+        told[place] = named(closed, stripe, place);
+    }
+    told
 }
 
 /// Whether the receipts of these calls name the five records of stripe 1.
@@ -253,34 +268,58 @@ fn counts_outside_are_refused(rt: HostRuntime) -> Result<(), Fail> {
     Ok(())
 }
 
+/// Whether the calls are told what they mean, and their receipts name the records, and no entry is left.
+fn one_key<R: Wait>(rt: &R, alloc: Global, registry: &Registry, plus: &ClassId) -> bool
+    requires { IsOf registry.now plus.now }
+{
+    match called(rt, alloc, registry, plus) {
+        Some(closed) => are_receipts(&closed) && closed.tables.entry(1) == None,
+        None => false,
+    }
+}
+
+/// The same on a registry of its own.
+fn one_key_is_right<R: Wait>(rt: &R, alloc: Global, bytes: &[u8]) -> bool {
+    match Registry::new(alloc) {
+        Ok(registry) => match registry.define(rt, alloc, bytes) {
+            Ok(plus) => one_key(rt, alloc, &registry, &plus),
+            Err(_) => false,
+        },
+        Err(_) => false,
+    }
+}
+
 #[test]
 fn calls_on_one_key(rt: HostRuntime) -> Result<(), Fail> {
-    let alloc = rt.alloc();
-    let registry = Registry::new(alloc)?;
-    let Ok(plus) = registry.define(&rt, alloc, &rows::plus(alloc)?) else {
-        panic!(rt; "plus is refused");
-    };
-    let Some(closed) = called(&rt, alloc, &registry, &plus) else {
-        panic!(rt; "another answer");
-    };
-    assert!(rt; are_receipts(&closed));
-    assert_eq!(rt; closed.tables.entry(1), None);
+    let plus = rows::plus(rt.alloc())?;
+    assert!(rt; one_key_is_right(&rt, rt.alloc(), &plus));
     Ok(())
+}
+
+/// What a put of 5 and a get on key 1 were told where a stripe may have one record, and what is left: the entry, and how many records and receipts there are.
+type Full = (Told, Told, Option<(Option<i64>, Option<(usize, usize)>)>);
+
+fn full<R: Wait>(rt: &R, alloc: Global, registry: &Registry) -> Option<Full> {
+    match opened(alloc, registry, 1, 1) {
+        Ok((cache, mut seat)) => {
+            let put = asked(rt, &cache, &mut seat, 1, Plain::Put(5));
+            let got = asked(rt, &cache, &mut seat, 1, Plain::Get);
+            let left = match closed(alloc, cache, seat) {
+                Ok(closed) => Some((closed.tables.entry(1), counts(&closed, 0))),
+                Err(_) => None,
+            };
+            Some((put, got, left))
+        }
+        Err(_) => None,
+    }
 }
 
 #[test]
 fn a_full_stripe_refuses(rt: HostRuntime) -> Result<(), Fail> {
-    let alloc = rt.alloc();
-    let registry = Registry::new(alloc)?;
-    let Ok((cache, mut seat)) = opened(alloc, &registry, 1, 1) else {
-        panic!(rt; "no cache");
-    };
-    let put = asked(&rt, &cache, &mut seat, 1, Plain::Put(5));
-    assert_eq!(rt; put, Ok(Reply::Done));
-    let got = asked(&rt, &cache, &mut seat, 1, Plain::Get);
-    assert_eq!(rt; got, Err(InvokeRefusal::JournalFull));
-    let closed = closed(alloc, cache, seat)?;
-    assert_eq!(rt; closed.tables.entry(1), Some(5));
-    assert_eq!(rt; counts(&closed, 0), Some((1, 1)));
+    let registry = Registry::new(rt.alloc())?;
+    let put = Ok(Reply::Done);
+    let got = Err(InvokeRefusal::JournalFull);
+    let left = Some((Some(5), Some((1, 1))));
+    assert!(rt; full(&rt, rt.alloc(), &registry) == Some((put, got, left)));
     Ok(())
 }

@@ -1,4 +1,4 @@
-use Rattle.std.proofs.Common.{◌≡◌, ℕ, zero, suc, ◌<◌, List, [], ◌∷◌, length, slice_index_or, sym, subst, ap, ◌∙◌, arith}
+use Rattle.std.proofs.Common.{◌≡◌, ℕ, zero, suc, ◌<◌, List, [], ◌∷◌, length, slice_index_or, sym, refl, subst, ap, ◌∙◌, arith}
 use Rattle.std.specs.List.{All}
 use mathlib.Core.Option.{some, some-injective, some-ne-none}
 use lib.ListN.{get_elem?}
@@ -6,9 +6,17 @@ use Rattle.atomic_table.specs.Seated.{TableId}
 use Rattle.boxcar.specs.Table.{Shelves}
 use Rattle.registry.specs.Ids.{IsOf}
 use Rattle.cache.specs.Opened.{Opened, Sitting, fresh_seat, AreFresh, AreSeats}
-use Rattle.cache.proofs.Puts.{within}
-use Rattle.cache.proofs.Starts.{there}
-use Rattle.cache.proofs.thread_tests.worked.Goals as goal
+use Rattle.calls.proofs.threads.worked.Goals as goal
+
+there : {A : Type 0} (l : List A) (i : ℕ) → i < length l → (a : A) × (get_elem? l i ≡ some a)
+there [] i h = absurd (omega arith)
+there (x ∷ xs) zero h = (x, refl)
+there (x ∷ xs) (suc i) h = there xs i (omega arith)
+
+within : {A : Type 0} (l : List A) (i : ℕ) (a : A) → get_elem? l i ≡ some a → i < length l
+within [] i a e = absurd (some-ne-none a (sym e))
+within (x ∷ xs) zero a e = omega arith
+within (x ∷ xs) (suc i) a e = let h = within xs i a e in omega arith
 
 found : {A : Type 0} (xs : List A) (i : ℕ) (a d : A) → get_elem? xs i ≡ some a → slice_index_or xs i d ≡ a
 found [] i a d e = absurd (some-ne-none a (sym e))
