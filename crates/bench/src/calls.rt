@@ -70,14 +70,19 @@ pub fn empty(alloc: Global) -> Result<Tables, Failure> {
     }
 }
 
-/// The keys from one to another, for one seat.
-fn part(alloc: Global, from: u32, to: u32) -> Result<Vec<Vec<i64>>, AllocError> {
+/// The keys from one to another.
+pub fn keys_from(alloc: Global, from: u32, to: u32) -> Result<Vec<i64>, AllocError> {
     let mut keys = Vec::new(alloc);
     for key in from..to {
         keys.push(i64::from(key))?;
     }
+    Ok(keys)
+}
+
+/// The keys from one to another, for one seat.
+fn part(alloc: Global, from: u32, to: u32) -> Result<Vec<Vec<i64>>, AllocError> {
     let mut plan = Vec::new(alloc);
-    plan.push(keys)?;
+    plan.push(keys_from(alloc, from, to)?)?;
     Ok(plan)
 }
 
@@ -90,11 +95,18 @@ fn no_keys(alloc: Global, seats: usize) -> Result<Vec<Vec<i64>>, AllocError> {
     Ok(plan)
 }
 
-/// The key of a call: the stripes in turn, and in each one row after another that is far from it.
+/// The row of a call on one stripe: one row after another that is far from it.
+pub fn row_at(number: u32, rows: u32) -> u32
+    requires { 0 < rows }
+{
+    number.wrapping_mul(STEP) % rows
+}
+
+/// The key of a call: the stripes in turn, and in each one its rows.
 fn key_at(number: u32, rows: u32) -> i64
     requires { 0 < rows }
 {
-    let row = (number / STRIPES).wrapping_mul(STEP) % rows;
+    let row = row_at(number / STRIPES, rows);
     i64::from(row) * i64::from(STRIPES) + i64::from(number % STRIPES)
 }
 

@@ -1,10 +1,11 @@
 //! One command.
 
+use crate::alone::on_stripe;
 use crate::calls::{LEAST_KEYS, MOST_KEYS, calls};
 use crate::file::read_class;
 use crate::line::{Call, Request, Work, parse};
 use crate::measure::{runs, verdicts};
-use crate::report::{Failure, cost, of_calls, of_rounds, of_runs, of_verdicts};
+use crate::report::{Failure, cost, of_calls, of_rounds, of_runs, of_stripe, of_verdicts};
 use crate::rounds::rounds;
 use machine::{Workspace, run};
 use std::alloc::Global;
@@ -77,6 +78,19 @@ fn serving<R: Threads + Wait + Clock + Sync>(
     Ok(of_rounds(alloc, times, jobs)?)
 }
 
+fn striping(
+    clock: &impl CpuClock,
+    alloc: Global,
+    class: &Verified,
+    keys: u32,
+) -> Result<String, Failure> {
+    if keys == 0 || keys > MOST_KEYS {
+        return Err(Failure::BadCommandLine);
+    }
+    let times = on_stripe(clock, alloc, class, keys)?;
+    Ok(of_stripe(alloc, times, keys)?)
+}
+
 /// Does what a line asks, and answers the line that tells it.
 pub fn measured<R: CpuClock + Clock + Threads + Wait + Sync + Files>(
     rt: &R,
@@ -91,6 +105,10 @@ pub fn measured<R: CpuClock + Clock + Threads + Wait + Sync + Files>(
         Work::Verifying => verifying(rt, alloc, &bytes, count),
         Work::Running(call) => match verify(alloc, &bytes) {
             Ok(class) => running(rt, alloc, &class, &call, count),
+            Err(_) => Err(Failure::Refused),
+        },
+        Work::Striping => match verify(alloc, &bytes) {
+            Ok(class) => striping(rt, alloc, &class, count),
             Err(_) => Err(Failure::Refused),
         },
         Work::Calling { seats } => calling(rt, alloc, &bytes, count, seats),

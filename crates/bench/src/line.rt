@@ -1,4 +1,4 @@
-//! The command line: `verify FILE COUNT`, `run FILE COUNT KEY VALUE [ARGS..]`, in which all numbers are longs, `calls FILE KEYS SEATS` and `rounds FILE JOBS SEATS`.
+//! The command line: `verify FILE COUNT`, `run FILE COUNT KEY VALUE [ARGS..]`, in which all numbers are longs, `calls FILE KEYS SEATS`, `rounds FILE JOBS SEATS` and `stripe FILE KEYS`.
 
 use jtypes::{Arg, Args};
 
@@ -19,6 +19,8 @@ pub enum Work {
     Calling { seats: usize },
     /// Rounds of as many jobs as the count says.
     Serving { seats: usize },
+    /// Calls on one stripe of as many keys as the count says.
+    Striping,
 }
 
 /// A class file, and a count: how often a round does the work, or of how many keys or jobs it is. A count of 0 asks what one invocation takes.
@@ -64,6 +66,7 @@ pub fn parse<'a>(words: &[&'a str]) -> Option<Request<'a>> {
         ("rounds", [seats]) => Work::Serving {
             seats: seats.parse::<usize>().ok()?,
         },
+        ("stripe", []) => Work::Striping,
         _ => return None,
     };
     Some(Request { file, count, work })

@@ -1,6 +1,7 @@
-//! Loops of `run` and `verify` over one class file, of calls on a cache and of rounds, for measuring.
+//! Loops of `run` and `verify` over one class file, of calls on a stripe and on a cache, and of rounds, for measuring.
 #![tactic(auto)]
 
+mod alone;
 mod calls;
 mod command;
 mod crew;

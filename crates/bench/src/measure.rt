@@ -60,7 +60,8 @@ fn verify_often(alloc: Global, bytes: &[u8], count: u32) -> u64 {
     accepted
 }
 
-fn now(clock: &impl CpuClock) -> Result<Duration, Failure> {
+/// The processor time of this thread.
+pub fn now(clock: &impl CpuClock) -> Result<Duration, Failure> {
     match clock.thread_cpu_time() {
         Ok(time) => Ok(time),
         Err(_) => Err(Failure::NoClock),
@@ -68,7 +69,7 @@ fn now(clock: &impl CpuClock) -> Result<Duration, Failure> {
 }
 
 /// The fastest and the median of the rounds, and what the rounds told, added up.
-fn rounds<F: FnMut(u32) -> u64>(
+pub fn rounds<F: FnMut(u32) -> u64>(
     clock: &impl CpuClock,
     count: u32,
     mut work: F,

@@ -1,5 +1,6 @@
 //! What the program writes.
 
+use crate::alone::StripeTimes;
 use crate::calls::CallTimes;
 use crate::measure::Times;
 use std::alloc::{AllocError, Global};
@@ -33,7 +34,7 @@ impl Failure {
     pub fn text(self) -> &'static str {
         match self {
             Failure::BadCommandLine => {
-                "usage: bench run FILE COUNT KEY VALUE [ARGS..] | bench verify FILE COUNT | bench calls FILE KEYS SEATS | bench rounds FILE JOBS SEATS\n"
+                "usage: bench run FILE COUNT KEY VALUE [ARGS..] | bench verify FILE COUNT | bench calls FILE KEYS SEATS | bench rounds FILE JOBS SEATS | bench stripe FILE KEYS\n"
             }
             Failure::CannotRead => "error: cannot read the file\n",
             Failure::Refused => "error: the class is refused\n",
@@ -94,6 +95,35 @@ pub fn of_calls(alloc: Global, times: CallTimes, seats: usize) -> Result<String,
         put.median % 10,
         put.least / 10,
         put.least % 10
+    )
+}
+
+/// What each call on one stripe of so many keys took.
+pub fn of_stripe(alloc: Global, times: StripeTimes, keys: u32) -> Result<String, AllocError> {
+    let StripeTimes {
+        there,
+        absent,
+        invoke,
+        run,
+    } = times;
+    format!(in alloc;
+        "put {}.{} ns, at least {}.{} ns, of an absent key {}.{} ns, at least {}.{} ns, invoke {}.{} ns, at least {}.{} ns, its run {}.{} ns, at least {}.{} ns, on {keys} keys\n",
+        there.median / 10,
+        there.median % 10,
+        there.least / 10,
+        there.least % 10,
+        absent.median / 10,
+        absent.median % 10,
+        absent.least / 10,
+        absent.least % 10,
+        invoke.median / 10,
+        invoke.median % 10,
+        invoke.least / 10,
+        invoke.least % 10,
+        run.median / 10,
+        run.median % 10,
+        run.least / 10,
+        run.least % 10
     )
 }
 

@@ -1,5 +1,6 @@
 //! Lines, and the work that is measured.
 
+use crate::alone::on_stripe;
 use crate::calls::{defined, empty, lived, shared_out};
 use crate::crew::Kind;
 use crate::line::{Call, Work, parse};
@@ -44,6 +45,11 @@ fn lines_are_read(rt: HostRuntime) -> Result<(), Fail> {
     };
     assert_eq!(rt; request.count, 8);
     assert!(rt; matches!(request.work, Work::Serving { seats: 2 }));
+    let Some(request) = parse(&["stripe", "e.class", "5"]) else {
+        panic!(rt; "a line is refused");
+    };
+    assert!(rt; matches!(request.work, Work::Striping));
+    assert!(rt; parse(&["stripe", "e.class", "5", "1"]).is_none());
     assert!(rt; parse(&["calls", "c.class", "1000"]).is_none());
     assert!(rt; parse(&["rounds", "d.class", "8", "two"]).is_none());
     Ok(())
@@ -150,6 +156,21 @@ fn a_round_leaves_its_entries(rt: HostRuntime) -> Result<(), Fail> {
     };
     assert_eq!(rt; tables.entry(0), Some(3));
     assert_eq!(rt; tables.entry(1), Some(3));
+    Ok(())
+}
+
+#[test]
+fn calls_on_one_stripe_are_timed(rt: HostRuntime) -> Result<(), Fail> {
+    let alloc = rt.alloc();
+    let bytes = rows::plus(alloc)?;
+    let Ok(class) = verify(alloc, &bytes) else {
+        panic!(rt; "plus is refused");
+    };
+    let Ok(told) = on_stripe(&rt, alloc, &class, 3) else {
+        panic!(rt; "no times");
+    };
+    assert!(rt; told.there.least <= told.there.median && told.absent.least <= told.absent.median);
+    assert!(rt; told.run.least <= told.run.median && told.invoke.least <= told.invoke.median);
     Ok(())
 }
 

@@ -1,0 +1,284 @@
+//! Calls on one stripe, by the processor time of this thread.
+//!
+//! A round makes as many calls as the stripe's history may have records. The calls alone are timed; that the tables become a stripe, and the stripe tables again, is not.
+
+ghost use Rattle.std.specs.Prelude.{◌≡◌, ◌<◌, None, length, IfOk};
+ghost use Rattle.stripe.specs.History.{stripe_of};
+ghost use Rattle.stripe.specs.Kept.{IsEnd};
+ghost use Rattle.stripe.specs.Seen.{call_of};
+
+use crate::calls::{MOST_KEYS, keys_from, row_at};
+use crate::measure::{ROUNDS, Times, now, rounds, tenths, times_of};
+use crate::report::Failure;
+use jtypes::Args;
+use machine::{Done, Workspace, run};
+use std::alloc::{AllocError, Global};
+use std::time::{CpuClock, Duration};
+use stripe::{ArgRow, Call, MOST_RECORDS, Stripe, Tables, stripe_of};
+use verify::Verified;
+
+/// The calls of a round: as many as a stripe has records.
+const CALLS: u32 = MOST_RECORDS as u32;
+
+/// What each call of a round is.
+#[derive(Clone, Copy, Debug)]
+pub enum Kind<'a> {
+    Put,
+    Remove,
+    Invoke(&'a Verified),
+}
+
+/// What the calls take, in tenths of a nanosecond: a put on a key that is there and on one that is absent, an invocation, and of an invocation the run of its class.
+#[derive(Clone, Copy, Debug)]
+pub struct StripeTimes {
+    pub there: Times,
+    pub absent: Times,
+    pub invoke: Times,
+    pub run: Times,
+}
+
+/// Each key is of the one stripe.
+fn has_one_stripe(key: i64)
+    ensures { stripe_of 1 key ≡ 0 }
+{
+    let _place = stripe_of(1, key);
+}
+
+/// How a call ends that found this entry, an invocation by a run of its class.
+fn end_of(call: &Call<'_>, before: Option<i64>, workspace: &mut Workspace) -> Option<Done>
+    ensures { IsEnd before (call_of call.now) result }
+{
+    match call {
+        Call::Invoke { class, key, args } => {
+            Some(run(class, *key, before, &args.args(), workspace))
+        }
+        Call::Get { .. } => None,
+        Call::Put { .. } => None,
+        Call::Remove { .. } => None,
+        Call::Contains { .. } => None,
+    }
+}
+
+/// Makes a call: it begins, a class that it invokes is run, and it ends.
+fn make<'a>(stripe: &mut Stripe<'a>, number: u32, call: Call<'a>, workspace: &mut Workspace)
+    requires one { (stripe.old.stripes ≡ 1) × (stripe.old.place ≡ 0) }
+    requires idle { stripe.old.running ≡ None }
+    ensures one { (stripe.new.stripes ≡ 1) × (stripe.new.place ≡ 0) }
+    ensures idle { stripe.new.running ≡ None }
+{
+    has_one_stripe(call.key());
+    let Ok(before) = stripe.begin(0, number, call) else {
+        return;
+    };
+    let done = end_of(&call, before, workspace);
+    let _record = stripe.commit(done);
+}
+
+/// Makes a call of a kind.
+fn ask<'a>(
+    stripe: &mut Stripe<'a>,
+    number: u32,
+    kind: Kind<'a>,
+    key: i64,
+    workspace: &mut Workspace,
+)
+    requires one { (stripe.old.stripes ≡ 1) × (stripe.old.place ≡ 0) }
+    requires idle { stripe.old.running ≡ None }
+    ensures one { (stripe.new.stripes ≡ 1) × (stripe.new.place ≡ 0) }
+    ensures idle { stripe.new.running ≡ None }
+{
+    has_one_stripe(key);
+    match kind {
+        Kind::Put => {
+            let _told = stripe.put(0, number, key, 7);
+        }
+        Kind::Remove => {
+            let _told = stripe.remove(0, number, key);
+        }
+        Kind::Invoke(class) => {
+            let args = ArgRow::of(&Args::none());
+            make(stripe, number, Call::Invoke { class, key, args }, workspace);
+        }
+    }
+}
+
+/// Makes a call of a kind on each key.
+fn ask_all<'a>(stripe: &mut Stripe<'a>, kind: Kind<'a>, keys: &[i64], workspace: &mut Workspace)
+    requires one { (stripe.old.stripes ≡ 1) × (stripe.old.place ≡ 0) }
+    requires idle { stripe.old.running ≡ None }
+    ensures one { (stripe.new.stripes ≡ 1) × (stripe.new.place ≡ 0) }
+    ensures idle { stripe.new.running ≡ None }
+{
+    let mut number = 0u32;
+    for key in keys {
+        ask(stripe, number, kind, *key, workspace);
+        number = number.wrapping_add(1);
+    }
+}
+
+/// One round: how long its calls take, and the entries that they leave.
+fn asked<'a>(
+    clock: &impl CpuClock,
+    alloc: Global,
+    kind: Kind<'a>,
+    keys: &[i64],
+    tables: Tables,
+    workspace: &mut Workspace,
+) -> Result<(Duration, Tables), Failure>
+    requires { length tables ≡ 1 }
+    ensures { IfOk result (λ r. length r.1 ≡ 1) }
+{
+    let Ok((mut stripes, mut rest)) = tables.split(alloc, MOST_RECORDS) else {
+        return Err(Failure::NoMemory);
+    };
+    let mut stripe = stripes.remove(0);
+    let begin = now(clock)?;
+    ask_all(&mut stripe, kind, keys, workspace);
+    let time = now(clock)?.saturating_sub(begin);
+    let answered = stripe.history().len();
+    rest.add(stripe);
+    let (tables, _histories) = rest.finish();
+    if answered != keys.len() {
+        return Err(Failure::NoMemory);
+    }
+    Ok((time, tables))
+}
+
+/// A table with so many entries, which are put in as many rounds as it takes.
+fn filled(
+    clock: &impl CpuClock,
+    alloc: Global,
+    keys: u32,
+    workspace: &mut Workspace,
+) -> Result<Tables, Failure>
+    ensures { IfOk result (λ tables. length tables ≡ 1) }
+{
+    let Ok(mut tables) = Tables::new(alloc, 1) else {
+        return Err(Failure::NoMemory);
+    };
+    for round in 0..keys.div_ceil(CALLS) {
+        let from = round.wrapping_mul(CALLS);
+        let list = keys_from(alloc, from, keys.min(from.wrapping_add(CALLS)))?;
+        let (_time, left) = asked(clock, alloc, Kind::Put, &list, tables, workspace)?;
+        tables = left;
+    }
+    Ok(tables)
+}
+
+/// The keys of a round, of so many from the first on.
+fn plan(alloc: Global, round: u32, first: u32, keys: u32) -> Result<Vec<i64>, AllocError>
+    requires { 0 < keys }
+{
+    let mut list = Vec::new(alloc);
+    let from = round.wrapping_mul(CALLS);
+    for number in 0..CALLS {
+        let row = row_at(from.wrapping_add(number), keys);
+        list.push(i64::from(first) + i64::from(row))?;
+    }
+    Ok(list)
+}
+
+/// The keys of each round, of so many from the first on.
+fn plans(alloc: Global, first: u32, keys: u32) -> Result<Vec<Vec<i64>>, AllocError>
+    requires { 0 < keys }
+{
+    let mut list = Vec::new(alloc);
+    for round in 0..ROUNDS as u32 {
+        list.push(plan(alloc, round, first, keys)?)?;
+    }
+    Ok(list)
+}
+
+/// What each call of a kind takes, and the entries afterwards.
+fn timed<'a>(
+    clock: &impl CpuClock,
+    alloc: Global,
+    kind: Kind<'a>,
+    plans: &[Vec<i64>],
+    mut tables: Tables,
+    workspace: &mut Workspace,
+) -> Result<(Times, Tables), Failure>
+    requires { length tables ≡ 1 }
+    ensures { IfOk result (λ r. length r.1 ≡ 1) }
+{
+    let mut times = [0u128; ROUNDS];
+    for (time, keys) in times.iter_mut().zip(plans) {
+        let (taken, left) = asked(clock, alloc, kind, keys, tables, workspace)?;
+        *time = tenths(taken, CALLS);
+        tables = left;
+    }
+    Ok((times_of(&mut times), tables))
+}
+
+/// What a put on an absent key takes. After each round the keys are taken out again.
+fn timed_absent(
+    clock: &impl CpuClock,
+    alloc: Global,
+    plans: &[Vec<i64>],
+    mut tables: Tables,
+    workspace: &mut Workspace,
+) -> Result<Times, Failure>
+    requires { length tables ≡ 1 }
+{
+    let mut times = [0u128; ROUNDS];
+    for (time, keys) in times.iter_mut().zip(plans) {
+        let (taken, more) = asked(clock, alloc, Kind::Put, keys, tables, workspace)?;
+        let (_time, left) = asked(clock, alloc, Kind::Remove, keys, more, workspace)?;
+        *time = tenths(taken, CALLS);
+        tables = left;
+    }
+    Ok(times_of(&mut times))
+}
+
+/// The entries of some keys.
+fn found(
+    alloc: Global,
+    tables: &Tables,
+    keys: &[i64],
+) -> Result<Vec<(i64, Option<i64>)>, AllocError> {
+    let mut entries = Vec::new(alloc);
+    for key in keys {
+        entries.push((*key, tables.entry(*key)))?;
+    }
+    Ok(entries)
+}
+
+/// Runs a class on each of some entries, and answers the instructions of all runs.
+fn run_on_each(class: &Verified, entries: &[(i64, Option<i64>)], workspace: &mut Workspace) -> u64 {
+    let args = Args::none();
+    let mut steps = 0u64;
+    for (key, before) in entries {
+        let done = run(class, *key, *before, &args, workspace);
+        steps = steps.wrapping_add(u64::from(done.steps));
+    }
+    steps
+}
+
+/// What calls on one stripe of so many keys take.
+pub fn on_stripe(
+    clock: &impl CpuClock,
+    alloc: Global,
+    class: &Verified,
+    keys: u32,
+) -> Result<StripeTimes, Failure>
+    requires { 0 < keys }
+{
+    let mut workspace = Workspace::new(alloc)?;
+    let some = plans(alloc, 0, keys)?;
+    let others = plans(alloc, keys, MOST_KEYS)?;
+    let tables = filled(clock, alloc, keys, &mut workspace)?;
+    let entries = found(alloc, &tables, &plan(alloc, 0, 0, keys)?)?;
+    let kind = Kind::Invoke(class);
+    let (invoke, tables) = timed(clock, alloc, kind, &some, tables, &mut workspace)?;
+    let (run, _steps) = rounds(clock, CALLS, |_count| {
+        run_on_each(class, &entries, &mut workspace)
+    })?;
+    let (there, tables) = timed(clock, alloc, Kind::Put, &some, tables, &mut workspace)?;
+    let absent = timed_absent(clock, alloc, &others, tables, &mut workspace)?;
+    Ok(StripeTimes {
+        there,
+        absent,
+        invoke,
+        run,
+    })
+}
