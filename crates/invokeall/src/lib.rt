@@ -13,6 +13,3 @@ pub use all::invoke_all;
 pub use job::{Job, JobReply};
 pub use room::{Room, room_for};
 pub use round::{run_in, run_round};
-
-#[cfg(test)]
-mod tests;

@@ -16,8 +16,3 @@ pub use fault::ServeFault;
 pub use laws::cut_streams_go_on;
 pub use settings::Settings;
 pub use stream::serve;
-
-#[cfg(test)]
-mod round_tests;
-#[cfg(test)]
-mod tests;

@@ -5,6 +5,3 @@ mod course;
 mod run;
 
 pub use run::{Left, run_in_turns};
-
-#[cfg(test)]
-mod tests;

@@ -5,6 +5,3 @@ mod crew;
 mod room;
 
 pub use crew::{Left, run_by_workers};
-
-#[cfg(test)]
-mod tests;

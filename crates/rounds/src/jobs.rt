@@ -9,8 +9,8 @@ ghost use Rattle.cache.specs.Opened.{AreSeats};
 ghost use Rattle.invokeall.specs.Jobs.{IsCallable};
 ghost use Rattle.invokeall.specs.Rounds.{IsAtHome};
 
-use super::*;
 use cache::{Cache, Gate, NoGate, Seat};
+use invokeall::{Job, JobReply, invoke_all, run_round};
 use jtypes::{Arg, Args, JavaFault, Outcome};
 use machine::Workspace;
 use registry::{ClassId, Registry};
@@ -126,6 +126,68 @@ fn ran<R: Threads + Wait + Sync, G: Gate + Sync>(
 }
 
 /// The same, by what the jobs ask, on a class with one argument 1 or none.
+fn done<R: Threads + Wait + Sync, G: Gate + Sync>(
+    rt: &R,
+    alloc: Global,
+    registry: &Registry,
+    class: &ClassId,
+    tables: Tables,
+    seats: usize,
+    asks: &[Ask],
+    gate: &G,
+) -> Option<Left>
+    requires { IsOf registry.now class.now }
+{
+    match Args::of(&[Arg::Long(1)]) {
+        Some(args) => match jobs_of(alloc, class, &args, asks) {
+            Ok(jobs) => ran(rt, alloc, registry, tables, seats, &jobs, gate),
+            Err(_) => None,
+        },
+        None => None,
+    }
+}
+
+/// What a round by one worker leaves on so many empty stripes.
+fn begun<R: Threads + Wait + Sync>(
+    rt: &R,
+    alloc: Global,
+    registry: &Registry,
+    class: &ClassId,
+    stripes: usize,
+    first: &[Ask],
+) -> Option<Tables>
+    requires { IsOf registry.now class.now }
+{
+    match Tables::new(alloc, stripes) {
+        Ok(tables) => match done(rt, alloc, registry, class, tables, 1, first, &NoGate) {
+            Some(left) => Some(left.tables),
+            None => None,
+        },
+        Err(_) => None,
+    }
+}
+
+/// A round behind another by one worker.
+fn behind<R: Threads + Wait + Sync, G: Gate + Sync>(
+    rt: &R,
+    alloc: Global,
+    registry: &Registry,
+    class: &ClassId,
+    stripes: usize,
+    first: &[Ask],
+    seats: usize,
+    asks: &[Ask],
+    gate: &G,
+) -> Option<Left>
+    requires { IsOf registry.now class.now }
+{
+    match begun(rt, alloc, registry, class, stripes, first) {
+        Some(tables) => done(rt, alloc, registry, class, tables, seats, asks, gate),
+        None => None,
+    }
+}
+
+/// The same, with a registry of its own.
 fn asked<R: Threads + Wait + Sync, G: Gate + Sync>(
     rt: &R,
     alloc: Global,
@@ -136,14 +198,17 @@ fn asked<R: Threads + Wait + Sync, G: Gate + Sync>(
     asks: &[Ask],
     gate: &G,
 ) -> Option<Left> {
-    let registry = Registry::new(alloc).ok()?;
-    let class = registry.define(rt, alloc, bytes).ok()?;
-    let args = Args::of(&[Arg::Long(1)])?;
-    let tables = Tables::new(alloc, stripes).ok()?;
-    let before = jobs_of(alloc, &class, &args, first).ok()?;
-    let left = ran(rt, alloc, &registry, tables, 1, &before, &NoGate)?;
-    let jobs = jobs_of(alloc, &class, &args, asks).ok()?;
-    ran(rt, alloc, &registry, left.tables, seats, &jobs, gate)
+    match Registry::new(alloc) {
+        Ok(registry) => match registry.define(rt, alloc, bytes) {
+            Ok(class) => {
+                behind(
+                    rt, alloc, &registry, &class, stripes, first, seats, asks, gate,
+                )
+            }
+            Err(_) => None,
+        },
+        Err(_) => None,
+    }
 }
 
 /// A put of each key below 100 to its own entry.
@@ -180,13 +245,69 @@ fn hundred<R: Threads + Wait + Sync>(rt: &R, alloc: Global, plus: &[u8], seats: 
 fn each_job_has_its_own_answer(rt: HostRuntime) -> Result<(), Fail> {
     let alloc = rt.alloc();
     let plus = rows::plus(alloc)?;
-    assert!(rt; hundred(&rt, alloc, &plus, 1));
-    assert!(rt; hundred(&rt, alloc, &plus, 2));
-    assert!(rt; hundred(&rt, alloc, &plus, 16));
+    let are_right = [
+        hundred(&rt, alloc, &plus, 1),
+        hundred(&rt, alloc, &plus, 2),
+        hundred(&rt, alloc, &plus, 16),
+    ];
+    assert_eq!(rt; are_right, [true; 3]);
     Ok(())
 }
 
-/// What `invoke_all` of a class gives on these keys, after these puts.
+/// What `invoke_all` of a class gives on these keys of a cache with these tables.
+fn gathered<R: Threads + Wait + Sync>(
+    rt: &R,
+    alloc: Global,
+    registry: &Registry,
+    class: &ClassId,
+    tables: Tables,
+    seats: usize,
+    keys: &[i64],
+) -> Option<Vec<(i64, JobReply)>>
+    requires { IsOf registry.now class.now }
+{
+    if keys.len() > 4096 {
+        return None;
+    }
+    let (cache, mut seats) = opened(alloc, registry, tables, seats)?;
+    let Ok(mut spaces) = workspaces(alloc, seats.len()) else {
+        return None;
+    };
+    match invoke_all(
+        rt,
+        alloc,
+        &cache,
+        class,
+        keys,
+        Args::none(),
+        &mut seats,
+        &mut spaces,
+        &NoGate,
+    ) {
+        Ok(results) => Some(results),
+        Err(_) => None,
+    }
+}
+
+/// The same, after these puts on four stripes.
+fn gathered_behind<R: Threads + Wait + Sync>(
+    rt: &R,
+    alloc: Global,
+    registry: &Registry,
+    class: &ClassId,
+    first: &[Ask],
+    seats: usize,
+    keys: &[i64],
+) -> Option<Vec<(i64, JobReply)>>
+    requires { IsOf registry.now class.now }
+{
+    match begun(rt, alloc, registry, class, 4, first) {
+        Some(tables) => gathered(rt, alloc, registry, class, tables, seats, keys),
+        None => None,
+    }
+}
+
+/// The same, with a registry of its own.
 fn collected<R: Threads + Wait + Sync>(
     rt: &R,
     alloc: Global,
@@ -195,29 +316,13 @@ fn collected<R: Threads + Wait + Sync>(
     seats: usize,
     keys: &[i64],
 ) -> Option<Vec<(i64, JobReply)>> {
-    if keys.len() > 4096 {
-        return None;
+    match Registry::new(alloc) {
+        Ok(registry) => match registry.define(rt, alloc, bytes) {
+            Ok(class) => gathered_behind(rt, alloc, &registry, &class, first, seats, keys),
+            Err(_) => None,
+        },
+        Err(_) => None,
     }
-    let registry = Registry::new(alloc).ok()?;
-    let class = registry.define(rt, alloc, bytes).ok()?;
-    let args = Args::none();
-    let tables = Tables::new(alloc, 4).ok()?;
-    let before = jobs_of(alloc, &class, &args, first).ok()?;
-    let left = ran(rt, alloc, &registry, tables, 1, &before, &NoGate)?;
-    let (cache, mut seats) = opened(alloc, &registry, left.tables, seats)?;
-    let mut spaces = workspaces(alloc, seats.len()).ok()?;
-    invoke_all(
-        rt,
-        alloc,
-        &cache,
-        &class,
-        keys,
-        Args::none(),
-        &mut seats,
-        &mut spaces,
-        &NoGate,
-    )
-    .ok()
 }
 
 /// Whether Ratio on keys 1, 2, 2 and 3 gives a Long, an exception and, of key 3, nothing.
@@ -230,15 +335,23 @@ fn are_ratios<R: Threads + Wait + Sync>(rt: &R, alloc: Global, ratio: &[u8], sea
     results.as_slice() == [(1, returned(0)), (2, threw)].as_slice()
 }
 
+/// The same by 1, 2 and 4 seats.
+fn ratios_by_each<R: Threads + Wait + Sync>(rt: &R, alloc: Global, ratio: &[u8]) -> [bool; 3] {
+    [
+        are_ratios(rt, alloc, ratio, 1),
+        are_ratios(rt, alloc, ratio, 2),
+        are_ratios(rt, alloc, ratio, 4),
+    ]
+}
+
 #[test]
 fn doubles_and_nulls_are_dropped(rt: HostRuntime) -> Result<(), Fail> {
     let alloc = rt.alloc();
-    let Some(ratio) = rows::class_named(alloc, "Ratio")? else {
-        panic!(rt; "no Ratio");
+    let are_right = match rows::class_named(alloc, "Ratio")? {
+        Some(ratio) => Some(ratios_by_each(&rt, alloc, &ratio)),
+        None => None,
     };
-    assert!(rt; are_ratios(&rt, alloc, &ratio, 1));
-    assert!(rt; are_ratios(&rt, alloc, &ratio, 2));
-    assert!(rt; are_ratios(&rt, alloc, &ratio, 4));
+    assert_eq!(rt; are_right, Some([true; 3]));
     Ok(())
 }
 
@@ -250,17 +363,29 @@ fn long_of(answers: &[JobReply], job: usize) -> Option<i64> {
     }
 }
 
-/// What two invocations of Counter beside a put of 1 returned, and the entry that they left.
+/// What two invocations beside a put returned, and the entry that they left.
+fn outcome_of(left: &Left) -> Option<(i64, i64, i64)> {
+    match (
+        long_of(&left.answers, 1),
+        long_of(&left.answers, 2),
+        left.tables.entry(5),
+    ) {
+        (Some(one), Some(other), Some(after)) => Some((one, other, after)),
+        _ => None,
+    }
+}
+
+/// The same of Counter, beside a put of 1.
 fn beside_a_put<R: Threads + Wait + Sync>(
     rt: &R,
     alloc: Global,
     counter: &[u8],
 ) -> Option<(i64, i64, i64)> {
     let asks = [Ask::Put(5, 1), Ask::Run(5), Ask::Run(5)];
-    let left = asked(rt, alloc, counter, 1, &[], 4, &asks, &NoGate)?;
-    let one = long_of(&left.answers, 1)?;
-    let other = long_of(&left.answers, 2)?;
-    Some((one, other, left.tables.entry(5)?))
+    match asked(rt, alloc, counter, 1, &[], 4, &asks, &NoGate) {
+        Some(left) => outcome_of(&left),
+        None => None,
+    }
 }
 
 /// Whether the three calls may have had this outcome, one after the other in some order.
@@ -336,7 +461,10 @@ fn meet<R: Threads + Wait + Clock + Sync>(
 fn stripes_do_not_wait_for_one_another(rt: HostRuntime) -> Result<(), Fail> {
     let alloc = rt.alloc();
     let counter = rows::counter(alloc)?;
-    assert!(rt; meet(&rt, alloc, &counter, 2));
-    assert!(rt; meet(&rt, alloc, &counter, 16));
+    let meet_by = [
+        meet(&rt, alloc, &counter, 2),
+        meet(&rt, alloc, &counter, 16),
+    ];
+    assert_eq!(rt; meet_by, [true; 2]);
     Ok(())
 }

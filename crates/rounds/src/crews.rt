@@ -6,7 +6,6 @@ ghost use Rattle.boxcar.specs.Table.{Shelves};
 ghost use Rattle.registry.specs.Ids.{IsOf};
 ghost use Rattle.invokeall.specs.Jobs.{IsCallable};
 
-use super::*;
 use cache::NoGate;
 use invokeall::Job;
 use jtypes::{Arg, Args, Outcome};
@@ -17,6 +16,7 @@ use std::sync::Wait;
 use std::test::Fail;
 use std::thread::Threads;
 use stripe::{Reply, Tables};
+use workers::{Left, run_by_workers};
 
 /// An invocation returned this Long.
 fn returned(n: i64) -> Option<Reply> {
@@ -37,7 +37,10 @@ fn round<R: Threads + Wait + Sync>(
     if workers == 0 || workers > 16 || jobs.len() > 4096 {
         return None;
     }
-    run_by_workers(rt, alloc, registry, tables, workers, jobs, &NoGate).ok()
+    match run_by_workers(rt, alloc, registry, tables, workers, jobs, &NoGate) {
+        Ok(left) => Some(left),
+        Err(_) => None,
+    }
 }
 
 /// Three entries are put.
@@ -95,10 +98,13 @@ fn behind_puts<R: Threads + Wait + Sync>(
 ) -> Option<Left>
     requires { All (IsCallable registry.now) jobs.now }
 {
-    let tables = Tables::new(alloc, 2).ok()?;
-    let puts = three_puts();
-    let left = round(rt, alloc, registry, tables, workers, &puts)?;
-    round(rt, alloc, registry, left.tables, workers, jobs)
+    match Tables::new(alloc, 2) {
+        Ok(tables) => match round(rt, alloc, registry, tables, workers, &three_puts()) {
+            Some(left) => round(rt, alloc, registry, left.tables, workers, jobs),
+            None => None,
+        },
+        Err(_) => None,
+    }
 }
 
 /// The entries of the keys 1 to 5.
@@ -112,24 +118,36 @@ fn entries_in(tables: &Tables) -> [Option<i64>; 5] {
     ]
 }
 
+/// Whether a round behind three puts leaves these replies and entries.
+fn leaves<R: Threads + Wait + Sync>(
+    rt: &R,
+    alloc: Global,
+    registry: &Registry,
+    workers: usize,
+    jobs: &[Job<'_>],
+    replies: &[Option<Reply>],
+    entries: [Option<i64>; 5],
+) -> bool
+    requires { All (IsCallable registry.now) jobs.now }
+{
+    match behind_puts(rt, alloc, registry, workers, jobs) {
+        Some(left) => left.replies.as_slice() == replies && entries_in(&left.tables) == entries,
+        None => false,
+    }
+}
+
 /// Whether a round of jobs on keys of their own leaves what it has to.
 fn own_keys_are_right<R: Threads + Wait + Sync>(
     rt: &R,
     alloc: Global,
-    plus: &[u8],
+    registry: &Registry,
+    class: &ClassId,
     workers: usize,
-) -> bool {
-    let Ok(registry) = Registry::new(alloc) else {
-        return false;
-    };
-    let Ok(class) = registry.define(rt, alloc, plus) else {
-        return false;
-    };
+) -> bool
+    requires { IsOf registry.now class.now }
+{
     let args = Args::none();
-    let jobs = on_own_keys(&class, &args);
-    let Some(left) = behind_puts(rt, alloc, &registry, workers, &jobs) else {
-        return false;
-    };
+    let jobs = on_own_keys(class, &args);
     let replies = [
         Some(Reply::Done),
         returned(42),
@@ -137,32 +155,47 @@ fn own_keys_are_right<R: Threads + Wait + Sync>(
         Some(Reply::Flag(false)),
         Some(Reply::Flag(true)),
     ];
-    left.replies.as_slice() == replies.as_slice()
-        && entries_in(&left.tables) == [Some(5), Some(42), Some(7), None, None]
+    let entries = [Some(5), Some(42), Some(7), None, None];
+    leaves(rt, alloc, registry, workers, &jobs, &replies, entries)
+}
+
+/// The same by 1 and by 4 workers.
+fn own_keys_by_each<R: Threads + Wait + Sync>(
+    rt: &R,
+    alloc: Global,
+    plus: &[u8],
+) -> Option<[bool; 2]> {
+    match Registry::new(alloc) {
+        Ok(registry) => match registry.define(rt, alloc, plus) {
+            Ok(class) => Some([
+                own_keys_are_right(rt, alloc, &registry, &class, 1),
+                own_keys_are_right(rt, alloc, &registry, &class, 4),
+            ]),
+            Err(_) => None,
+        },
+        Err(_) => None,
+    }
 }
 
 #[test]
 fn jobs_on_own_keys_have_one_outcome(rt: HostRuntime) -> Result<(), Fail> {
     let alloc = rt.alloc();
     let plus = rows::plus(alloc)?;
-    assert!(rt; own_keys_are_right(&rt, alloc, &plus, 1));
-    assert!(rt; own_keys_are_right(&rt, alloc, &plus, 4));
+    assert_eq!(rt; own_keys_by_each(&rt, alloc, &plus), Some([true; 2]));
     Ok(())
 }
 
 /// Whether one worker runs jobs on two keys in their order.
-fn two_keys_are_right<R: Threads + Wait + Sync>(rt: &R, alloc: Global, plus: &[u8]) -> bool {
-    let Ok(registry) = Registry::new(alloc) else {
-        return false;
-    };
-    let Ok(class) = registry.define(rt, alloc, plus) else {
-        return false;
-    };
+fn two_keys_are_right<R: Threads + Wait + Sync>(
+    rt: &R,
+    alloc: Global,
+    registry: &Registry,
+    class: &ClassId,
+) -> bool
+    requires { IsOf registry.now class.now }
+{
     let args = Args::none();
-    let jobs = on_two_keys(&class, &args);
-    let Some(left) = behind_puts(rt, alloc, &registry, 1, &jobs) else {
-        return false;
-    };
+    let jobs = on_two_keys(class, &args);
     let replies = [
         Some(Reply::Done),
         returned(6),
@@ -170,33 +203,43 @@ fn two_keys_are_right<R: Threads + Wait + Sync>(rt: &R, alloc: Global, plus: &[u
         Some(Reply::Flag(true)),
         Some(Reply::Flag(false)),
     ];
-    left.replies.as_slice() == replies.as_slice()
-        && entries_in(&left.tables) == [Some(6), Some(41), None, None, Some(50)]
+    let entries = [Some(6), Some(41), None, None, Some(50)];
+    leaves(rt, alloc, registry, 1, &jobs, &replies, entries)
+}
+
+/// The same, with a registry of its own.
+fn two_keys<R: Threads + Wait + Sync>(rt: &R, alloc: Global, plus: &[u8]) -> Option<bool> {
+    match Registry::new(alloc) {
+        Ok(registry) => match registry.define(rt, alloc, plus) {
+            Ok(class) => Some(two_keys_are_right(rt, alloc, &registry, &class)),
+            Err(_) => None,
+        },
+        Err(_) => None,
+    }
 }
 
 #[test]
 fn one_worker_keeps_the_order(rt: HostRuntime) -> Result<(), Fail> {
     let alloc = rt.alloc();
     let plus = rows::plus(alloc)?;
-    assert!(rt; two_keys_are_right(&rt, alloc, &plus));
+    assert_eq!(rt; two_keys(&rt, alloc, &plus), Some(true));
     Ok(())
 }
 
-/// Whether a round without jobs leaves the entries as they were.
-fn nothing_is_left<R: Threads + Wait + Sync>(rt: &R, alloc: Global, workers: usize) -> bool {
-    let Ok(registry) = Registry::new(alloc) else {
-        return false;
-    };
-    let Some(left) = behind_puts(rt, alloc, &registry, workers, &[]) else {
-        return false;
-    };
-    left.replies.is_empty() && entries_in(&left.tables) == [None, Some(41), Some(7), None, Some(50)]
+/// Whether a round without jobs leaves the entries as they were, by 1 and by 4 workers.
+fn no_jobs_by_each<R: Threads + Wait + Sync>(rt: &R, alloc: Global) -> Option<[bool; 2]> {
+    let entries = [None, Some(41), Some(7), None, Some(50)];
+    match Registry::new(alloc) {
+        Ok(registry) => Some([
+            leaves(rt, alloc, &registry, 1, &[], &[], entries),
+            leaves(rt, alloc, &registry, 4, &[], &[], entries),
+        ]),
+        Err(_) => None,
+    }
 }
 
 #[test]
 fn no_jobs_leave_the_entries(rt: HostRuntime) -> Result<(), Fail> {
-    let alloc = rt.alloc();
-    assert!(rt; nothing_is_left(&rt, alloc, 1));
-    assert!(rt; nothing_is_left(&rt, alloc, 4));
+    assert_eq!(rt; no_jobs_by_each(&rt, rt.alloc()), Some([true; 2]));
     Ok(())
 }

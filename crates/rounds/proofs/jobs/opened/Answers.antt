@@ -1,5 +1,5 @@
 use Rattle.invokeall.proofs.Homes.{fresh_seats, seats_home}
-use Rattle.invokeall.proofs.tests.opened.Goals as goal
+use Rattle.rounds.proofs.jobs.opened.Goals as goal
 
 pub returns-in-Ok-clause-home : goal.returns-in-Ok-clause-home
 returns-in-Ok-clause-home c =

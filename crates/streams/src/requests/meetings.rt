@@ -1,13 +1,15 @@
 //! Rounds by several workers: orders that may be, and calls that meet.
 
-use crate::Settings;
-use crate::tests::{ROUND_END, define, returned, serve_all, serve_beside};
+use super::{Ended, ROUND_END, define, defined, returned, serve_all, serve_beside};
 use cache::Gate;
 use rowclasses as rows;
-use std::alloc::AllocError;
+use serve::{ServeFault, Settings};
+use std::alloc::{AllocError, Global};
+use std::sync::Wait;
 use std::sync::atomic::{AtomicBool, Ordering};
 use std::test::Fail;
 use std::thread;
+use std::thread::Threads;
 use std::time::{Clock, Duration};
 
 /// Adds an invocation of class 0 on a key, with the argument 1.
@@ -49,23 +51,38 @@ fn is_in_some_order(replies: &[u8]) -> bool {
         )
 }
 
+/// Adds a thousand of them, each pair on a key of its own.
+fn add_thousand(input: &mut Vec<u8>) -> Result<(), AllocError> {
+    for high in 0..4 {
+        for low in 0..=249 {
+            beside_a_put(input, high, low)?;
+        }
+    }
+    Ok(())
+}
+
+/// The stream of Counter, a round's end and a thousand of them.
+fn thousand(alloc: Global, counter: &[u8]) -> Result<Vec<u8>, AllocError> {
+    let mut input = defined(alloc, counter, &ROUND_END)?;
+    add_thousand(&mut input)?;
+    Ok(input)
+}
+
+/// Whether it ended without fault, each round in some order.
+fn are_in_some_order(ended: &Ended) -> bool {
+    // The class and its round come first.
+    let output = ended.output.as_slice();
+    ended.fault == None
+        && output.len() == 22 + 1000 * REPLIES
+        && output[22..].chunks(REPLIES).all(is_in_some_order)
+}
+
 #[test]
 fn a_thousand_rounds_are_each_in_some_order(rt: HostRuntime) -> Result<(), Fail> {
     let alloc = rt.alloc();
-    let mut input = Vec::new(alloc);
-    define(&mut input, &rows::counter(alloc)?)?;
-    input.extend_from_slice(&ROUND_END)?;
-    for high in 0..4 {
-        for low in 0..=249 {
-            beside_a_put(&mut input, high, low)?;
-        }
-    }
-    let ended = serve_all(&rt, alloc, &input, 4);
-    assert_eq!(rt; ended.fault, None);
-    // The class and its round come first.
-    let output = ended.output.as_slice();
-    assert_eq!(rt; output.len(), 22 + 1000 * REPLIES);
-    assert!(rt; output[22..].chunks(REPLIES).all(is_in_some_order));
+    let counter = rows::counter(alloc)?;
+    let input = thousand(alloc, &counter)?;
+    assert!(rt; are_in_some_order(&serve_all(&rt, alloc, &input, 4)));
     Ok(())
 }
 
@@ -98,17 +115,29 @@ impl<'s, R: Clock> Gate for Holding<'s, R> {
     }
 }
 
-#[test]
-fn two_stripes_work_at_once(rt: HostRuntime) -> Result<(), Fail> {
-    let alloc = rt.alloc();
-    let mut input = Vec::new(alloc);
-    define(&mut input, &rows::counter(alloc)?)?;
-    input.extend_from_slice(&ROUND_END)?;
+/// The stream of Counter, a round's end, two invocations on two stripes, and a round's end.
+fn two_calls(alloc: Global, counter: &[u8]) -> Result<Vec<u8>, AllocError> {
+    let mut input = defined(alloc, counter, &ROUND_END)?;
     invoke(&mut input, 0, 0)?;
     invoke(&mut input, 0, 1)?;
     input.extend_from_slice(&ROUND_END)?;
+    Ok(input)
+}
+
+/// Whether both invocations returned 1.
+fn both_returned(output: &[u8]) -> bool {
+    // The class and its round come first.
+    output.len() == 57 && &output[22..37] == &returned(1)[..] && &output[37..52] == &returned(1)[..]
+}
+
+/// How a stream of two calls ends, whether the held one saw the other's answer, and whether both returned 1.
+fn met<R: Threads + Wait + Clock + Sync>(
+    rt: &R,
+    alloc: Global,
+    input: &[u8],
+) -> (Option<ServeFault>, bool, bool) {
     let gate = Holding {
-        rt: &rt,
+        rt,
         answered: AtomicBool::new(false),
         seen: AtomicBool::new(false),
     };
@@ -116,13 +145,19 @@ fn two_stripes_work_at_once(rt: HostRuntime) -> Result<(), Fail> {
         workers: 2,
         stripes: 2,
     };
-    let ended = serve_beside(&rt, alloc, &input, settings, &gate);
-    assert_eq!(rt; ended.fault, None);
-    assert!(rt; gate.seen.load(Ordering::Acquire));
-    // The class and its round come first.
-    let output = ended.output.as_slice();
-    assert_eq!(rt; output.len(), 57);
-    assert_eq!(rt; &output[22..37], &returned(1)[..]);
-    assert_eq!(rt; &output[37..52], &returned(1)[..]);
+    let ended = serve_beside(rt, alloc, input, settings, &gate);
+    (
+        ended.fault,
+        gate.seen.load(Ordering::Acquire),
+        both_returned(&ended.output),
+    )
+}
+
+#[test]
+fn two_stripes_work_at_once(rt: HostRuntime) -> Result<(), Fail> {
+    let alloc = rt.alloc();
+    let counter = rows::counter(alloc)?;
+    let input = two_calls(alloc, &counter)?;
+    assert_eq!(rt; met(&rt, alloc, &input), (None, true, true));
     Ok(())
 }
