@@ -6,6 +6,9 @@ pub mod Turning
 pub mod Quotients
 pub mod Bounded
 pub mod Hopping
+pub mod Strode
+pub mod UnderWay
+pub mod Rows
 pub mod Counted
 pub mod Begun
 pub mod Castings

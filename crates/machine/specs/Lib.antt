@@ -1,10 +1,12 @@
 pub mod Holds
 pub mod Operated
 pub mod Plain
+pub mod Within
 pub mod Acts
 pub mod Ended
 pub mod Entering
 pub mod Turns
+pub mod Strides
 pub mod Running
 pub mod Elements
 pub mod Replies

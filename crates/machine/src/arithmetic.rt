@@ -9,11 +9,13 @@ ghost use Rattle.jtypes.specs.declared.operations.Operation.TheVariants.{OnInts,
 ghost use Rattle.jtypes.specs.Values.{Arrays};
 ghost use Rattle.jtypes.specs.Arithmetic.{binary, divide, divided, shift, int_count, long_count, low_int, order};
 ghost use Rattle.verdict.specs.Machine.{Activation};
+ghost use Rattle.slots.specs.declared.slots.Slots.{Slots};
 ghost use Rattle.slots.specs.Reads.{Reads, AreSame};
+ghost use Rattle.slots.specs.Seen.{IsSame, seen};
 ghost use Rattle.machine.specs.Operated.{CanOperate, Operated, HasInts, HasLongs, Divides};
 
 use jtypes::{Binary, Conversion, Division, Shift};
-use slots::Slots;
+use slots::{Slots, Window};
 
 /// All results are made and one is taken: that is faster than a jump that is hard to foretell.
 fn int_of(operation: Binary, a: i32, b: i32) -> i32
@@ -110,99 +112,107 @@ fn order(a: i64, b: i64) -> i32
     }
 }
 
-pub fn on_ints(slots: &mut Slots, operation: Binary)
-    requires { CanOperate (OnInts operation) slots.old }
-    ensures operated { Operated (OnInts operation) slots.old slots.new }
-    ensures same { AreSame slots.old slots.new }
+#[inline(always)]
+pub fn on_ints(window: &mut Window<'_>, operation: Binary)
+    requires { (s : Slots) × CanOperate (OnInts operation) (seen s window.old) }
+    ensures operated { (s : Slots) → Operated (OnInts operation) (seen s window.old) (seen s window.new) }
+    ensures same { IsSame window.old window.new }
 {
-    let b = slots.pop_int();
-    let a = slots.pop_int();
-    slots.push_int(int_of(operation, a, b));
+    let b = window.pop_int();
+    let a = window.pop_int();
+    window.push_int(int_of(operation, a, b));
 }
 
-pub fn on_longs(slots: &mut Slots, operation: Binary)
-    requires { CanOperate (OnLongs operation) slots.old }
-    ensures operated { Operated (OnLongs operation) slots.old slots.new }
-    ensures same { AreSame slots.old slots.new }
+#[inline(always)]
+pub fn on_longs(window: &mut Window<'_>, operation: Binary)
+    requires { (s : Slots) × CanOperate (OnLongs operation) (seen s window.old) }
+    ensures operated { (s : Slots) → Operated (OnLongs operation) (seen s window.old) (seen s window.new) }
+    ensures same { IsSame window.old window.new }
 {
-    let b = slots.pop_long();
-    let a = slots.pop_long();
-    slots.push_long(long_of(operation, a, b));
+    let b = window.pop_long();
+    let a = window.pop_long();
+    window.push_long(long_of(operation, a, b));
 }
 
-pub fn negate_int(slots: &mut Slots)
-    requires { CanOperate NegateInt slots.old }
-    ensures operated { Operated NegateInt slots.old slots.new }
-    ensures same { AreSame slots.old slots.new }
+#[inline(always)]
+pub fn negate_int(window: &mut Window<'_>)
+    requires { (s : Slots) × CanOperate NegateInt (seen s window.old) }
+    ensures operated { (s : Slots) → Operated NegateInt (seen s window.old) (seen s window.new) }
+    ensures same { IsSame window.old window.new }
 {
-    let a = slots.pop_int();
-    slots.push_int(a.wrapping_neg());
+    let a = window.pop_int();
+    window.push_int(a.wrapping_neg());
 }
 
-pub fn negate_long(slots: &mut Slots)
-    requires { CanOperate NegateLong slots.old }
-    ensures operated { Operated NegateLong slots.old slots.new }
-    ensures same { AreSame slots.old slots.new }
+#[inline(always)]
+pub fn negate_long(window: &mut Window<'_>)
+    requires { (s : Slots) × CanOperate NegateLong (seen s window.old) }
+    ensures operated { (s : Slots) → Operated NegateLong (seen s window.old) (seen s window.new) }
+    ensures same { IsSame window.old window.new }
 {
-    let a = slots.pop_long();
-    slots.push_long(a.wrapping_neg());
+    let a = window.pop_long();
+    window.push_long(a.wrapping_neg());
 }
 
-pub fn shift_int(slots: &mut Slots, direction: Shift)
-    requires { CanOperate (ShiftInt direction) slots.old }
-    ensures operated { Operated (ShiftInt direction) slots.old slots.new }
-    ensures same { AreSame slots.old slots.new }
+#[inline(always)]
+pub fn shift_int(window: &mut Window<'_>, direction: Shift)
+    requires { (s : Slots) × CanOperate (ShiftInt direction) (seen s window.old) }
+    ensures operated { (s : Slots) → Operated (ShiftInt direction) (seen s window.old) (seen s window.new) }
+    ensures same { IsSame window.old window.new }
 {
-    let count = slots.pop_int();
-    let a = slots.pop_int();
-    slots.push_int(int_shifted(direction, a, count));
+    let count = window.pop_int();
+    let a = window.pop_int();
+    window.push_int(int_shifted(direction, a, count));
 }
 
-pub fn shift_long(slots: &mut Slots, direction: Shift)
-    requires { CanOperate (ShiftLong direction) slots.old }
-    ensures operated { Operated (ShiftLong direction) slots.old slots.new }
-    ensures same { AreSame slots.old slots.new }
+#[inline(always)]
+pub fn shift_long(window: &mut Window<'_>, direction: Shift)
+    requires { (s : Slots) × CanOperate (ShiftLong direction) (seen s window.old) }
+    ensures operated { (s : Slots) → Operated (ShiftLong direction) (seen s window.old) (seen s window.new) }
+    ensures same { IsSame window.old window.new }
 {
-    let count = slots.pop_int();
-    let a = slots.pop_long();
-    slots.push_long(long_shifted(direction, a, count));
+    let count = window.pop_int();
+    let a = window.pop_long();
+    window.push_long(long_shifted(direction, a, count));
 }
 
-pub fn compare_longs(slots: &mut Slots)
-    requires { CanOperate CompareLongs slots.old }
-    ensures operated { Operated CompareLongs slots.old slots.new }
-    ensures same { AreSame slots.old slots.new }
+#[inline(always)]
+pub fn compare_longs(window: &mut Window<'_>)
+    requires { (s : Slots) × CanOperate CompareLongs (seen s window.old) }
+    ensures operated { (s : Slots) → Operated CompareLongs (seen s window.old) (seen s window.new) }
+    ensures same { IsSame window.old window.new }
 {
-    let b = slots.pop_long();
-    let a = slots.pop_long();
-    slots.push_int(order(a, b));
+    let b = window.pop_long();
+    let a = window.pop_long();
+    window.push_int(order(a, b));
 }
 
-pub fn convert(slots: &mut Slots, conversion: Conversion)
-    requires { CanOperate (Convert conversion) slots.old }
-    ensures operated { Operated (Convert conversion) slots.old slots.new }
-    ensures same { AreSame slots.old slots.new }
+#[inline(always)]
+pub fn convert(window: &mut Window<'_>, conversion: Conversion)
+    requires { (s : Slots) × CanOperate (Convert conversion) (seen s window.old) }
+    ensures operated { (s : Slots) → Operated (Convert conversion) (seen s window.old) (seen s window.new) }
+    ensures same { IsSame window.old window.new }
 {
     match conversion {
         Conversion::IntToLong => {
-            let a = slots.pop_int();
-            slots.push_long(i64::from(a));
+            let a = window.pop_int();
+            window.push_long(i64::from(a));
         }
         Conversion::LongToInt => {
-            let a = slots.pop_long();
-            slots.push_int(low_int(a));
+            let a = window.pop_long();
+            window.push_int(low_int(a));
         }
         Conversion::IntToByte => {
-            let a = slots.pop_int();
-            slots.push_int(byte_of(a));
+            let a = window.pop_int();
+            window.push_int(byte_of(a));
         }
         Conversion::IntToChar => {
-            let a = slots.pop_int();
-            slots.push_int(char_of(a));
+            let a = window.pop_int();
+            window.push_int(char_of(a));
         }
         Conversion::IntToShort => {
-            let a = slots.pop_int();
-            slots.push_int(short_of(a));
+            let a = window.pop_int();
+            window.push_int(short_of(a));
         }
     }
 }

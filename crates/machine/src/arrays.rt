@@ -4,14 +4,17 @@ ghost use Rattle.std.specs.Prelude.{◌≡◌, ◌<◌, ◌^◌, ℕ, pos};
 ghost use Rattle.jtypes.specs.declared.types.Value.{Value};
 ghost use Rattle.jtypes.specs.Values.{value_of_arg, item_at};
 ghost use Rattle.arena.specs.Placing.{FitsElement};
-ghost use Rattle.slots.specs.Reads.{AreSame};
+ghost use Rattle.slots.specs.declared.slots.Slots.{Slots};
+ghost use Rattle.slots.specs.Seen.{IsSame, seen};
 ghost use Rattle.machine.specs.Elements.{CanPushElement, PushesElement, CanPopElement, PopsElement};
 ghost use Rattle.machine.specs.Holds.{Keeps};
+ghost use Rattle.machine.specs.Within.{AreWordsKept, within};
 ghost use Rattle.machine.specs.Acts.{CanTake, Takes, CanTakeAnywhere, TakesAnywhere, threw, array_made, item_loaded, item_stored, argument_loaded, length_measured};
 
 use crate::machine::Machine;
+use arena::Arena;
 use jtypes::{Arg, Args, ArrayKind, JavaFault, Outcome, RefValue};
-use slots::Slots;
+use slots::Window;
 
 /// The length that an int tells.
 fn size_of(count: i32) -> u32
@@ -47,43 +50,43 @@ fn int_of(n: i64) -> i32
 
 /// Puts an element of an array.
 #[inline(always)]
-fn push_element(slots: &mut Slots, kind: ArrayKind, n: i64)
-    requires { CanPushElement kind n slots.old }
-    ensures pushes { PushesElement kind n slots.old slots.new }
-    ensures same { AreSame slots.old slots.new }
+fn push_element(window: &mut Window<'_>, kind: ArrayKind, n: i64)
+    requires { (s : Slots) × CanPushElement kind n (seen s window.old) }
+    ensures pushes { (s : Slots) → PushesElement kind n (seen s window.old) (seen s window.new) }
+    ensures same { IsSame window.old window.new }
 {
     match kind {
-        ArrayKind::Int => slots.push_int(int_of(n)),
-        ArrayKind::Long => slots.push_long(n),
+        ArrayKind::Int => window.push_int(int_of(n)),
+        ArrayKind::Long => window.push_long(n),
     }
 }
 
 /// Takes a number for an element of an array.
 #[inline(always)]
-fn pop_element(slots: &mut Slots, kind: ArrayKind) -> i64
-    requires { CanPopElement kind slots.old }
-    ensures pops { PopsElement kind slots.old slots.new result }
-    ensures same { AreSame slots.old slots.new }
+fn pop_element(window: &mut Window<'_>, kind: ArrayKind) -> i64
+    requires { (s : Slots) × CanPopElement kind (seen s window.old) }
+    ensures pops { (s : Slots) → PopsElement kind (seen s window.old) (seen s window.new) result }
+    ensures same { IsSame window.old window.new }
 {
     match kind {
-        ArrayKind::Int => i64::from(slots.pop_int()),
-        ArrayKind::Long => slots.pop_long(),
+        ArrayKind::Int => i64::from(window.pop_int()),
+        ArrayKind::Long => window.pop_long(),
     }
 }
 
 /// Puts the element at an index of an array.
 #[inline(always)]
-pub fn load_item(machine: &mut Machine, kind: ArrayKind) -> Result<(), JavaFault>
-    requires { CanTakeAnywhere (item_loaded kind) machine.old }
-    ensures told { TakesAnywhere (item_loaded kind) machine.old machine.new (threw result) }
-    ensures keeps { Keeps machine.old machine.new }
+pub fn load_item(window: &mut Window<'_>, arena: &Arena, kind: ArrayKind) -> Result<(), JavaFault>
+    requires { (m : Machine) × CanTakeAnywhere (item_loaded kind) (within m window.old arena.now) }
+    ensures told { (m : Machine) → TakesAnywhere (item_loaded kind) (within m window.old arena.now) (within m window.new arena.now) (threw result) }
+    ensures same { IsSame window.old window.new }
 {
-    let index = machine.slots.pop_int();
-    match machine.slots.pop_array() {
+    let index = window.pop_int();
+    match window.pop_array() {
         None => Err(JavaFault::NullPointer),
-        Some(id) => match machine.arena.get(id, index) {
+        Some(id) => match arena.get(id, index) {
             Ok(n) => {
-                push_element(&mut machine.slots, kind, n);
+                push_element(window, kind, n);
                 Ok(())
             }
             Err(fault) => Err(fault),
@@ -93,16 +96,21 @@ pub fn load_item(machine: &mut Machine, kind: ArrayKind) -> Result<(), JavaFault
 
 /// Changes the element at an index of an array.
 #[inline(always)]
-pub fn store_item(machine: &mut Machine, kind: ArrayKind) -> Result<(), JavaFault>
-    requires { CanTakeAnywhere (item_stored kind) machine.old }
-    ensures told { TakesAnywhere (item_stored kind) machine.old machine.new (threw result) }
-    ensures keeps { Keeps machine.old machine.new }
+pub fn store_item(
+    window: &mut Window<'_>,
+    arena: &mut Arena,
+    kind: ArrayKind,
+) -> Result<(), JavaFault>
+    requires { (m : Machine) × CanTakeAnywhere (item_stored kind) (within m window.old arena.old) }
+    ensures told { (m : Machine) → TakesAnywhere (item_stored kind) (within m window.old arena.old) (within m window.new arena.new) (threw result) }
+    ensures same { IsSame window.old window.new }
+    ensures words { AreWordsKept arena.old arena.new }
 {
-    let n = pop_element(&mut machine.slots, kind);
-    let index = machine.slots.pop_int();
-    match machine.slots.pop_array() {
+    let n = pop_element(window, kind);
+    let index = window.pop_int();
+    match window.pop_array() {
         None => Err(JavaFault::NullPointer),
-        Some(id) => match machine.arena.set(id, index, n) {
+        Some(id) => match arena.set(id, index, n) {
             Ok(()) => Ok(()),
             Err(fault) => Err(fault),
         },

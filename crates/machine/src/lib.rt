@@ -13,6 +13,7 @@ mod library;
 mod machine;
 mod plain;
 mod returns;
+mod turn;
 mod workspace;
 
 pub use done::{Done, Going};

@@ -2,26 +2,50 @@
 
 ghost use Rattle.slots.specs.Reads.{HasRows};
 
-use slots::Slots;
+use slots::{Slots, Window};
 use std::test::Fail;
 
-/// An int goes into a local, and from there through a call; the caller's place, and the int.
+/// An int goes to a method that is called and comes back; the caller's place, and the int.
 fn call(slots: &mut Slots, n: i32) -> (Option<usize>, i32)
     requires { HasRows slots.old }
 {
     slots.begin(4);
     slots.push_int(n);
-    slots.store_int(3);
-    slots.load_int(3);
     slots.enter(40, 1, 2);
-    slots.load_int(0);
+    slots.push_int(n);
     let place = slots.leave_int();
     (place, slots.pop_int())
+}
+
+/// An int goes into a local and back.
+fn through_a_local(slots: &mut Slots, n: i32) -> i32
+    requires { HasRows slots.old }
+{
+    slots.begin(4);
+    let words = slots.words.as_mut_slice();
+    let kinds = slots.kinds.as_mut_slice();
+    let mut window = Window {
+        words,
+        kinds,
+        base: slots.base,
+        top: slots.top,
+    };
+    window.push_int(n);
+    window.store_int(3);
+    window.load_int(3);
+    window.pop_int()
 }
 
 #[test]
 fn an_int_goes_through_a_call(rt: HostRuntime) -> Result<(), Fail> {
     let mut slots = Slots::new(rt.alloc())?;
     assert_eq!(rt; call(&mut slots, -7), (Some(40), -7));
+    Ok(())
+}
+
+#[test]
+fn an_int_goes_through_a_local(rt: HostRuntime) -> Result<(), Fail> {
+    let mut slots = Slots::new(rt.alloc())?;
+    assert_eq!(rt; through_a_local(&mut slots, -7), -7);
     Ok(())
 }

@@ -7,3 +7,4 @@ pub mod Arrays
 pub mod Receiver
 pub mod Formed
 pub mod Rearranged
+pub mod Seen

@@ -1,4 +1,5 @@
 pub mod Standing
 pub mod Reads
+pub mod Seen
 pub mod Leaving
 pub mod Picking

@@ -6,8 +6,9 @@ mod rearrange;
 mod reference;
 mod rows;
 mod slots;
-mod variables;
+mod window;
 
 pub use reference::Reference;
 pub use rows::Rows;
 pub use slots::{Caller, Slots};
+pub use window::Window;

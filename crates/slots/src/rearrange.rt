@@ -8,18 +8,19 @@ ghost use Rattle.jtypes.specs.Types.{slots_by};
 ghost use Rattle.jtypes.specs.Values.{Arrays, is_long_value};
 ghost use Rattle.transfer.specs.Forms.{rearranged};
 ghost use Rattle.verdict.specs.Machine.{Activation};
-ghost use Rattle.slots.specs.Reads.{Reads, AreSame};
+ghost use Rattle.slots.specs.declared.slots.Caller.{Caller};
+ghost use Rattle.slots.specs.Seen.{Sees, IsSame};
 ghost use Rattle.slots.specs.Picking.{CanPick, ArePicked, IsCopied};
 
-use crate::Slots;
+use crate::Window;
 use jtypes::Rearrangement;
 
-impl Slots {
+impl Window<'_> {
     /// Copies a slot, its word and its kind.
     fn copy(&mut self, from: usize, to: usize)
-        requires from { from < length self.old.words.items }
-        requires to { to < length self.old.words.items }
-        requires lengths { length self.old.words.items ≡ length self.old.kinds.items }
+        requires from { from < length self.old.words.now }
+        requires to { to < length self.old.words.now }
+        requires lengths { length self.old.words.now ≡ length self.old.kinds.now }
         ensures { IsCopied self.old self.new from to }
     {
         self.words[to] = self.words[from];
@@ -122,10 +123,11 @@ impl Slots {
     }
 
     /// Rearranges the topmost operands.
+    #[inline(always)]
     pub fn rearrange(&mut self, r: Rearrangement)
-        requires { (arrays : Arrays) × (ls : List (Option Value)) × (vs : List Value) × (ws : List Value) × (below : List Activation) × Reads arrays self.old ls vs below × (rearranged is_long_value r vs ≡ Some ws) × (self.old.base + length ls + slots_by is_long_value ws ≤ length self.old.words.items) }
-        ensures reads { (arrays : Arrays) (ls : List (Option Value)) (vs ws : List Value) (below : List Activation) → Reads arrays self.old ls vs below → rearranged is_long_value r vs ≡ Some ws → Reads arrays self.new ls ws below }
-        ensures same { AreSame self.old self.new }
+        requires { (arrays : Arrays) × (callers : List Caller) × (ls : List (Option Value)) × (vs : List Value) × (ws : List Value) × (below : List Activation) × Sees arrays callers self.old ls vs below × (rearranged is_long_value r vs ≡ Some ws) × (self.old.base + length ls + slots_by is_long_value ws ≤ length self.old.words.now) }
+        ensures reads { (arrays : Arrays) (callers : List Caller) (ls : List (Option Value)) (vs ws : List Value) (below : List Activation) → Sees arrays callers self.old ls vs below → rearranged is_long_value r vs ≡ Some ws → Sees arrays callers self.new ls ws below }
+        ensures same { IsSame self.old self.new }
     {
         match r {
             Rearrangement::Pop => self.pop(),

@@ -11,58 +11,61 @@ use Rattle.jtypes.specs.declared.types.Outcome.TheVariants.{Threw}
 use Rattle.arena.specs.Held.{Held, words_taken}
 use Rattle.slots.proofs.Arrays.{reads_changed}
 use Rattle.verdict.specs.Machine.{store_item, store_number, with_element, next_with, throws, ends}
+use Rattle.slots.specs.Seen.{seen}
+use Rattle.slots.proofs.Seen.{same_seen}
 use Rattle.machine.specs.Holds.{at_spot}
-use Rattle.machine.proofs.Allotted.{told_arena, keeps_arena}
+use Rattle.machine.specs.Within.{within}
+use Rattle.machine.proofs.Allotted.{told_arena}
 use Rattle.machine.proofs.Taken.{reads_as, same_same}
 use Rattle.machine.proofs.Referred.{is_null_ref, is_array_ref, stored_there, changed_array, stored_in, words_changed, set_inside, set_outside}
 use Rattle.machine.proofs.arrays.store_item.Goals as goal
 
 pub pop_element-n-requires : goal.pop_element-n-requires
 pop_element-n-requires c =
-    let (place, steps, (k, r)) = c.requires in
-    let m = at_spot c.args.machine.now place steps in
+    let (mm, (place, steps, (k, r))) = c.requires in
+    let m = at_spot (within mm c.args.window.now c.args.arena.now) place steps in
     let t = stored_there k c.args.kind k.top.operands r.next r.is in
-    (k.state.arrays, k.top.locals, t.number, Int t.at ∷ Ref t.value ∷ t.rest, k.below, reads_as k.state.arrays m.slots k.top.locals k.top.operands _ k.below t.operands r.at.reads)
+    (mm.slots, (k.state.arrays, k.top.locals, t.number, Int t.at ∷ Ref t.value ∷ t.rest, k.below, reads_as k.state.arrays m.slots k.top.locals k.top.operands _ k.below t.operands r.at.reads))
 
 pub pop_int-index-requires : goal.pop_int-index-requires
 pop_int-index-requires c =
-    let (place, steps, (k, r)) = c.requires in
-    let m = at_spot c.args.machine.now place steps in
+    let (mm, (place, steps, (k, r))) = c.requires in
+    let m = at_spot (within mm c.args.window.now c.args.arena.now) place steps in
     let t = stored_there k c.args.kind k.top.operands r.next r.is in
-    let popped = c.pop_element-n.ensures.pops k.state.arrays k.top.locals t.number (Int t.at ∷ Ref t.value ∷ t.rest) k.below (reads_as k.state.arrays m.slots k.top.locals k.top.operands _ k.below t.operands r.at.reads) in
-    (k.state.arrays, k.top.locals, t.at, Ref t.value ∷ t.rest, k.below, popped.2)
+    let popped = c.pop_element-n.ensures.pops mm.slots k.state.arrays k.top.locals t.number (Int t.at ∷ Ref t.value ∷ t.rest) k.below (reads_as k.state.arrays m.slots k.top.locals k.top.operands _ k.below t.operands r.at.reads) in
+    (k.state.arrays, mm.slots.callers.0, k.top.locals, t.at, Ref t.value ∷ t.rest, k.below, popped.2)
 
 pub pop_array-requires : goal.pop_array-requires
 pop_array-requires c =
-    let (place, steps, (k, r)) = c.requires in
-    let m = at_spot c.args.machine.now place steps in
+    let (mm, (place, steps, (k, r))) = c.requires in
+    let m = at_spot (within mm c.args.window.now c.args.arena.now) place steps in
     let t = stored_there k c.args.kind k.top.operands r.next r.is in
-    let popped = c.pop_element-n.ensures.pops k.state.arrays k.top.locals t.number (Int t.at ∷ Ref t.value ∷ t.rest) k.below (reads_as k.state.arrays m.slots k.top.locals k.top.operands _ k.below t.operands r.at.reads) in
-    let h = c.pop_int-index.ensures.reads k.state.arrays k.top.locals t.at (Ref t.value ∷ t.rest) k.below popped.2 in
+    let popped = c.pop_element-n.ensures.pops mm.slots k.state.arrays k.top.locals t.number (Int t.at ∷ Ref t.value ∷ t.rest) k.below (reads_as k.state.arrays m.slots k.top.locals k.top.operands _ k.below t.operands r.at.reads) in
+    let h = c.pop_int-index.ensures.reads k.state.arrays mm.slots.callers.0 k.top.locals t.at (Ref t.value ∷ t.rest) k.below popped.2 in
     let from = stored_in k c.args.kind t.number t.at t.value t.rest r.next (sym t.step ∙ r.is) in
-    (k.state.arrays, k.top.locals, t.value, t.rest, k.below, from, h.1)
+    (k.state.arrays, mm.slots.callers.0, k.top.locals, t.value, t.rest, k.below, from, h.1)
 
 pub returns-in-None-clause-told : goal.returns-in-None-clause-told
-returns-in-None-clause-told c place steps k r =
-    let m = at_spot c.args.machine.now place steps in
+returns-in-None-clause-told c mm place steps k r =
+    let m = at_spot (within mm c.args.window.now c.args.arena.now) place steps in
     let t = stored_there k c.args.kind k.top.operands r.next r.is in
-    let popped = c.pop_element-n.ensures.pops k.state.arrays k.top.locals t.number (Int t.at ∷ Ref t.value ∷ t.rest) k.below (reads_as k.state.arrays m.slots k.top.locals k.top.operands _ k.below t.operands r.at.reads) in
-    let h = c.pop_int-index.ensures.reads k.state.arrays k.top.locals t.at (Ref t.value ∷ t.rest) k.below popped.2 in
+    let popped = c.pop_element-n.ensures.pops mm.slots k.state.arrays k.top.locals t.number (Int t.at ∷ Ref t.value ∷ t.rest) k.below (reads_as k.state.arrays m.slots k.top.locals k.top.operands _ k.below t.operands r.at.reads) in
+    let h = c.pop_int-index.ensures.reads k.state.arrays mm.slots.callers.0 k.top.locals t.at (Ref t.value ∷ t.rest) k.below popped.2 in
     let from = stored_in k c.args.kind t.number t.at t.value t.rest r.next (sym t.step ∙ r.is) in
-    let g = c.in-None.ensures.reads k.state.arrays k.top.locals t.value t.rest k.below from h.1 in
+    let g = c.in-None.ensures.reads k.state.arrays mm.slots.callers.0 k.top.locals t.value t.rest k.below from h.1 in
     let null = is_null_ref k.state.arrays t.value g.0 in
     let e = r.at.rest in
     (k.state, record { call = e.call; now = e.now; steps = e.steps; arrays = e.arrays; words = e.words; left = e.left }, t.step ∙ ap (λ v. store_number k.class k.state k.top k.below c.args.kind (Some t.number) (Int t.at ∷ Ref v ∷ t.rest)) null)
 
 pub set-requires : goal.set-requires
 set-requires c =
-    let (place, steps, (k, r)) = c.requires in
-    let m = at_spot c.args.machine.now place steps in
+    let (mm, (place, steps, (k, r))) = c.requires in
+    let m = at_spot (within mm c.args.window.now c.args.arena.now) place steps in
     let t = stored_there k c.args.kind k.top.operands r.next r.is in
-    let popped = c.pop_element-n.ensures.pops k.state.arrays k.top.locals t.number (Int t.at ∷ Ref t.value ∷ t.rest) k.below (reads_as k.state.arrays m.slots k.top.locals k.top.operands _ k.below t.operands r.at.reads) in
-    let h = c.pop_int-index.ensures.reads k.state.arrays k.top.locals t.at (Ref t.value ∷ t.rest) k.below popped.2 in
+    let popped = c.pop_element-n.ensures.pops mm.slots k.state.arrays k.top.locals t.number (Int t.at ∷ Ref t.value ∷ t.rest) k.below (reads_as k.state.arrays m.slots k.top.locals k.top.operands _ k.below t.operands r.at.reads) in
+    let h = c.pop_int-index.ensures.reads k.state.arrays mm.slots.callers.0 k.top.locals t.at (Ref t.value ∷ t.rest) k.below popped.2 in
     let from = stored_in k c.args.kind t.number t.at t.value t.rest r.next (sym t.step ∙ r.is) in
-    let g = c.in-Some.ensures.reads k.state.arrays k.top.locals t.value t.rest k.below from h.1 in
+    let g = c.in-Some.ensures.reads k.state.arrays mm.slots.callers.0 k.top.locals t.value t.rest k.below from h.1 in
     let there = is_array_ref k.state.arrays t.value c.in-Some.id g.0 in
     let at = subst (λ arrays. IsArrayAt arrays there.0 c.in-Some.id) (sym r.at.rest.arrays) there.2 in
     let on = store_number k.class k.state k.top k.below c.args.kind (Some t.number) in
@@ -77,13 +80,13 @@ set-requires c =
     (there.0, found.array, at, held, subst (FitsElement found.array.kind) (sym number) fits)
 
 pub returns-in-Ok-clause-told : goal.returns-in-Ok-clause-told
-returns-in-Ok-clause-told c place steps k r =
-    let m = at_spot c.args.machine.now place steps in
+returns-in-Ok-clause-told c mm place steps k r =
+    let m = at_spot (within mm c.args.window.now c.args.arena.now) place steps in
     let t = stored_there k c.args.kind k.top.operands r.next r.is in
-    let popped = c.pop_element-n.ensures.pops k.state.arrays k.top.locals t.number (Int t.at ∷ Ref t.value ∷ t.rest) k.below (reads_as k.state.arrays m.slots k.top.locals k.top.operands _ k.below t.operands r.at.reads) in
-    let h = c.pop_int-index.ensures.reads k.state.arrays k.top.locals t.at (Ref t.value ∷ t.rest) k.below popped.2 in
+    let popped = c.pop_element-n.ensures.pops mm.slots k.state.arrays k.top.locals t.number (Int t.at ∷ Ref t.value ∷ t.rest) k.below (reads_as k.state.arrays m.slots k.top.locals k.top.operands _ k.below t.operands r.at.reads) in
+    let h = c.pop_int-index.ensures.reads k.state.arrays mm.slots.callers.0 k.top.locals t.at (Ref t.value ∷ t.rest) k.below popped.2 in
     let from = stored_in k c.args.kind t.number t.at t.value t.rest r.next (sym t.step ∙ r.is) in
-    let g = c.in-Some.ensures.reads k.state.arrays k.top.locals t.value t.rest k.below from h.1 in
+    let g = c.in-Some.ensures.reads k.state.arrays mm.slots.callers.0 k.top.locals t.value t.rest k.below from h.1 in
     let there = is_array_ref k.state.arrays t.value c.in-Some.id g.0 in
     let at = subst (λ arrays. IsArrayAt arrays there.0 c.in-Some.id) (sym r.at.rest.arrays) there.2 in
     let on = store_number k.class k.state k.top k.below c.args.kind (Some t.number) in
@@ -100,21 +103,21 @@ returns-in-Ok-clause-told c place steps k r =
     let within : is_some (item_at found.array.items t.at) ≡ true = ap (λ i. is_some (item_at found.array.items i)) (sym ei) ∙ inside in
     let arrays : Arrays = change (with_element t.at t.number) k.state.arrays there.0 in
     let step = to ∙ found.step ∙ ap (λ b. if b then next_with k.class (record k.state { arrays = arrays }) k.top k.below t.rest else throws k.state ArrayIndexOutOfBounds) within in
-    let same = same_same m.slots c.pop_element-n.new.slots c.pop_array.new.self c.pop_element-n.ensures.same (same_same c.pop_element-n.new.slots c.pop_int-index.new.self c.pop_array.new.self c.pop_int-index.ensures.same c.pop_array.ensures.same) in
+    let same = same_same m.slots (seen mm.slots c.pop_element-n.new.window) (seen mm.slots c.pop_array.new.self) (same_seen mm.slots _ _ c.pop_element-n.ensures.same) (same_same (seen mm.slots c.pop_element-n.new.window) (seen mm.slots c.pop_int-index.new.self) (seen mm.slots c.pop_array.new.self) (same_seen mm.slots _ _ c.pop_int-index.ensures.same) (same_seen mm.slots _ _ c.pop_array.ensures.same)) in
     let words = c.in-Ok.ensures.words in
     let left = r.at.rest.left in
-    told_arena k m c.pop_array.new.self c.set.new.self arrays k.state.words t.rest _ r.at same
-    (reads_changed k.state.arrays t.at t.number there.0 c.pop_array.new.self k.top.locals t.rest k.below g.1) changed (r.at.rest.words ∙ sym (words_changed k.state.arrays there.0 t.at t.number)) (omega (arith, words, left)) step
+    told_arena k m (seen mm.slots c.pop_array.new.self) c.set.new.self arrays k.state.words t.rest _ r.at same
+    (reads_changed k.state.arrays t.at t.number there.0 (seen mm.slots c.pop_array.new.self) k.top.locals t.rest k.below g.1) changed (r.at.rest.words ∙ sym (words_changed k.state.arrays there.0 t.at t.number)) (omega (arith, words, left)) step
 
-pub returns-in-Ok-clause-keeps : goal.returns-in-Ok-clause-keeps
-returns-in-Ok-clause-keeps c =
-    let (place, steps, (k, r)) = c.requires in
-    let m = at_spot c.args.machine.now place steps in
+pub returns-in-Ok-clause-words : goal.returns-in-Ok-clause-words
+returns-in-Ok-clause-words c =
+    let (mm, (place, steps, (k, r))) = c.requires in
+    let m = at_spot (within mm c.args.window.now c.args.arena.now) place steps in
     let t = stored_there k c.args.kind k.top.operands r.next r.is in
-    let popped = c.pop_element-n.ensures.pops k.state.arrays k.top.locals t.number (Int t.at ∷ Ref t.value ∷ t.rest) k.below (reads_as k.state.arrays m.slots k.top.locals k.top.operands _ k.below t.operands r.at.reads) in
-    let h = c.pop_int-index.ensures.reads k.state.arrays k.top.locals t.at (Ref t.value ∷ t.rest) k.below popped.2 in
+    let popped = c.pop_element-n.ensures.pops mm.slots k.state.arrays k.top.locals t.number (Int t.at ∷ Ref t.value ∷ t.rest) k.below (reads_as k.state.arrays m.slots k.top.locals k.top.operands _ k.below t.operands r.at.reads) in
+    let h = c.pop_int-index.ensures.reads k.state.arrays mm.slots.callers.0 k.top.locals t.at (Ref t.value ∷ t.rest) k.below popped.2 in
     let from = stored_in k c.args.kind t.number t.at t.value t.rest r.next (sym t.step ∙ r.is) in
-    let g = c.in-Some.ensures.reads k.state.arrays k.top.locals t.value t.rest k.below from h.1 in
+    let g = c.in-Some.ensures.reads k.state.arrays mm.slots.callers.0 k.top.locals t.value t.rest k.below from h.1 in
     let there = is_array_ref k.state.arrays t.value c.in-Some.id g.0 in
     let at = subst (λ arrays. IsArrayAt arrays there.0 c.in-Some.id) (sym r.at.rest.arrays) there.2 in
     let on = store_number k.class k.state k.top k.below c.args.kind (Some t.number) in
@@ -127,19 +130,19 @@ returns-in-Ok-clause-keeps c =
     let number : to_z w64 (of_z w64 rn) ≡ t.number = to_z-of_z w64 rn (record { sfits = c.pop_element-n.type_inv }) ∙ popped.0 in
     let changed : c.set.new.self.arrays ≡ change (with_element t.at t.number) k.state.arrays there.0 =
     c.in-Ok.ensures.ok there.0 found.array at held ∙ (λ i. change (with_element (ei i) (number i)) (r.at.rest.arrays i) there.0) in
-    let same = same_same m.slots c.pop_element-n.new.slots c.pop_array.new.self c.pop_element-n.ensures.same (same_same c.pop_element-n.new.slots c.pop_int-index.new.self c.pop_array.new.self c.pop_int-index.ensures.same c.pop_array.ensures.same) in
+    let same = same_same m.slots (seen mm.slots c.pop_element-n.new.window) (seen mm.slots c.pop_array.new.self) (same_seen mm.slots _ _ c.pop_element-n.ensures.same) (same_same (seen mm.slots c.pop_element-n.new.window) (seen mm.slots c.pop_int-index.new.self) (seen mm.slots c.pop_array.new.self) (same_seen mm.slots _ _ c.pop_int-index.ensures.same) (same_seen mm.slots _ _ c.pop_array.ensures.same)) in
     let taken : words_taken c.set.new.self.arrays ≡ words_taken m.arena.arrays = ap words_taken changed ∙ words_changed k.state.arrays there.0 t.at t.number ∙ ap words_taken (sym r.at.rest.arrays) in
     let words = c.in-Ok.ensures.words in
-    keeps_arena c.args.machine.now c.pop_array.new.self c.set.new.self same (omega (arith, taken, words))
+    omega (arith, taken, words)
 
 pub returns-in-Err-clause-told : goal.returns-in-Err-clause-told
-returns-in-Err-clause-told c place steps k r =
-    let m = at_spot c.args.machine.now place steps in
+returns-in-Err-clause-told c mm place steps k r =
+    let m = at_spot (within mm c.args.window.now c.args.arena.now) place steps in
     let t = stored_there k c.args.kind k.top.operands r.next r.is in
-    let popped = c.pop_element-n.ensures.pops k.state.arrays k.top.locals t.number (Int t.at ∷ Ref t.value ∷ t.rest) k.below (reads_as k.state.arrays m.slots k.top.locals k.top.operands _ k.below t.operands r.at.reads) in
-    let h = c.pop_int-index.ensures.reads k.state.arrays k.top.locals t.at (Ref t.value ∷ t.rest) k.below popped.2 in
+    let popped = c.pop_element-n.ensures.pops mm.slots k.state.arrays k.top.locals t.number (Int t.at ∷ Ref t.value ∷ t.rest) k.below (reads_as k.state.arrays m.slots k.top.locals k.top.operands _ k.below t.operands r.at.reads) in
+    let h = c.pop_int-index.ensures.reads k.state.arrays mm.slots.callers.0 k.top.locals t.at (Ref t.value ∷ t.rest) k.below popped.2 in
     let from = stored_in k c.args.kind t.number t.at t.value t.rest r.next (sym t.step ∙ r.is) in
-    let g = c.in-Some.ensures.reads k.state.arrays k.top.locals t.value t.rest k.below from h.1 in
+    let g = c.in-Some.ensures.reads k.state.arrays mm.slots.callers.0 k.top.locals t.value t.rest k.below from h.1 in
     let there = is_array_ref k.state.arrays t.value c.in-Some.id g.0 in
     let at = subst (λ arrays. IsArrayAt arrays there.0 c.in-Some.id) (sym r.at.rest.arrays) there.2 in
     let on = store_number k.class k.state k.top k.below c.args.kind (Some t.number) in
