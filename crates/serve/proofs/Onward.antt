@@ -19,7 +19,7 @@ use Rattle.serve.specs.declared.fault.ServeFault.TheVariants as fault
 use Rattle.serve.specs.Rounds.{Work, Part, Adds, Gathers, told, work_reply, most_classes}
 use Rattle.serve.specs.Rounds as rounds
 use Rattle.serve.specs.Served.{requests_text, replies_text, Stand, stand, first_stand, IsRound, ended, all_told, Serves, IsServed, AreOpen, Fails, unread, no_memory, writer, IsCutShort, EndsEarly}
-use Rattle.serve.specs.CutShort.{BeginWith, GoesOn, FramesGoOn}
+use Rattle.serve.specs.CutShort.{GoesOn, FramesGoOn}
 use Rattle.serve.proofs.Fronts.{OneFront, Compared, shorter, longer, compare}
 use Rattle.serve.proofs.Rounds.{each_more, texts_append, texts_more, serves_more, nothing_yet}
 

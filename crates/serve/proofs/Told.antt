@@ -1,15 +1,19 @@
 -- Which rounds of a stream that was cut short were answered.
-use Rattle.std.proofs.Common.{◌≡◌, ℕ, ◌+◌, ◌≤◌, List, [], ◌∷◌, ◌++◌, None, refl, sym, ap, ◌∙◌, subst, arith, append_assoc, append-nil}
+use Rattle.std.proofs.Common.{◌≡◌, ℕ, ◌+◌, ◌≤◌, length, List, [], ◌∷◌, ◌++◌, None, refl, sym, ap, ◌∙◌, subst, arith, append_assoc, append-nil}
 use Rattle.std.specs.List.{AllByRecursion}
 use Rattle.wire.specs.declared.request.Request.{Request}
 use Rattle.wire.specs.declared.request.Request.TheVariants.{Define, Put, Get, Remove, Contains, Invoke, InvokeAll, RoundEnd}
-use Rattle.wire.specs.Frames.{request_frame, IsRequest, IsRead, IsPart, of_length, of_text}
+use Rattle.std.specs.Int.{bytes_high_first}
+use Rattle.std.proofs.lemmas.List.{length-append}
+use Rattle.wire.specs.Frames.{request_frame, request_text, IsRequest, IsRead, IsPart, IsBegun, of_length, of_text}
+use Rattle.wire.proofs.Parsed.{same_numbers}
 use Rattle.wire.specs.Frames as frames
 use Rattle.serve.specs.declared.fault.ServeFault.{ServeFault}
 use Rattle.serve.specs.declared.fault.ServeFault.TheVariants as fault
-use Rattle.serve.specs.Served.{requests_text, Stand, first_stand, ended, Serves, IsServed, AreOpen, Stops, too_long, cut, input_ended, malformed, reader, frame_memory, memory, Fails, unread, no_memory, writer, IsCutShort, EndsEarly}
-use Rattle.serve.specs.CutShort.{BeginWith, ends, EndAtMost, AnsweredBut, IsTold}
+use Rattle.serve.specs.Served.{requests_text, Stand, first_stand, ended, Serves, AreOpen, Stops, too_long, cut, input_ended, malformed, reader, frame_memory, memory, Fails, unread, no_memory, writer, IsCutShort, EndsEarly}
+use Rattle.serve.specs.CutShort.{ends, EndAtMost, AnsweredBut, IsTold}
 use Rattle.serve.proofs.Fronts.{OneFront, Compared, shorter, longer, compare, nothing_is_read, no_fault_is_read}
+use Rattle.serve.proofs.Begun.{nil_of}
 use Rattle.serve.proofs.Rounds.{each_more, open_requests, end_is_request, nothing_yet}
 
 -- ---- how many rounds end
@@ -66,6 +70,42 @@ last once back requests are taken =
     let n = one_ends requests are in
     few_end once back (ended requests) [] (each_more IsRequest requests RoundEnd (open_requests requests are) end_is_request) (taken ∙ sym (append-nil (requests_text (ended requests)))) (nothing_is_read once) 1 (omega (arith, n))
 
+-- of a frame, or a beginning of one, nothing stands behind a whole frame
+nothing_behind : (extra : List ℕ) → IsBegun extra → (r : Request) (tail : List ℕ) → IsRequest r → extra ≡ request_frame r ++ tail → tail ≡ []
+nothing_behind extra b r tail is e =
+    let short = b.short in
+    let other = is.short in
+    let same = same_numbers 4 b.length_is (length (request_text r)) b.rest (request_text r ++ tail) (omega (arith, short)) (omega (arith, other)) (sym b.parts ∙ e ∙ append_assoc (bytes_high_first 4 (length (request_text r))) (request_text r) tail) in
+    let count : length b.rest ≡ length (request_text r) + length tail = ap length same.1 ∙ length-append (request_text r) tail in
+    let length_is = same.0 in
+    let within = b.within in
+    nil_of tail (omega (arith, count, length_is, within))
+
+-- so at most one round ends in it
+one_at_most : OneFront → (extra : List ℕ) → IsBegun extra → (r : Request) (requests : List Request) (rest : List ℕ) → AllByRecursion IsRequest (r ∷ requests) → extra ≡ requests_text (r ∷ requests) ++ rest → ends (r ∷ requests) ≤ 1
+one_at_most once extra b r requests rest are parts = alone requests are.1 (nothing_behind extra b r (requests_text requests ++ rest) are.0 (parts ∙ append_assoc (request_frame r) (requests_text requests) rest))
+  where
+    ends_once : (r : Request) → ends (r ∷ []) ≤ 1
+    ends_once (Define bytes) = omega arith
+    ends_once (Put key value) = omega arith
+    ends_once (Get key) = omega arith
+    ends_once (Remove key) = omega arith
+    ends_once (Contains key) = omega arith
+    ends_once (Invoke class key args) = omega arith
+    ends_once (InvokeAll class keys args) = omega arith
+    ends_once RoundEnd = omega arith
+
+    alone : (xs : List Request) → AllByRecursion IsRequest xs → requests_text xs ++ rest ≡ [] → ends (r ∷ xs) ≤ 1
+    alone [] all e = ends_once r
+    alone (x ∷ xs) all e = absurd (nothing_is_read once x (requests_text xs ++ rest) (record { parts = sym e ∙ append_assoc (request_frame x) (requests_text xs) rest; request = all.0 }))
+
+begun : OneFront → (back : List ℕ) (requests : List Request) (extra : List ℕ) → AreOpen requests → back ≡ requests_text requests ++ extra → IsBegun extra → EndAtMost 1 back
+begun once back requests extra are taken is whole b = go (compare once whole requests b.rest extra b.each (open_requests requests are) (sym b.parts ∙ taken))
+  where
+    go : Compared whole requests b.rest extra → ends whole ≤ 1
+    go (shorter zs parts) = let e = ap ends parts ∙ ends_append whole zs in let n = none_ends requests are in omega (arith, e, n)
+    go (longer z zs parts each more) = let e = ap ends parts ∙ ends_append requests (z ∷ zs) in let n = none_ends requests are in let one = one_at_most once extra is z zs b.rest each more in omega (arith, e, n, one)
+
 -- ---- what was told
 
 all_but : (n : ℕ) (input output front back : List ℕ) (s : Stand) → input ≡ front ++ back → Serves front output s → EndAtMost n back → AnsweredBut n input output
@@ -78,14 +118,14 @@ told_unread once input output front back s f requests extra parts v are taken (c
 told_unread once input output front back s f requests extra parts v are taken (input_ended some) = all_but 0 input output front back s parts v (unended once back requests [] are taken (nothing_is_read once))
 told_unread once input output front back s f requests extra parts v are taken (malformed other is) = all_but 0 input output front back s parts v (unended once back requests extra are taken (no_fault_is_read once extra frames.Malformed is))
 told_unread once input output front back s f requests extra parts v are taken (reader other is) = all_but 0 input output front back s parts v (unended once back requests extra are taken (part_has_none once extra is))
-told_unread once input output front back s f requests extra parts v are taken (frame_memory other is) = (front, back, parts, record { left = s; serves = v })
-told_unread once input output front back s f requests extra parts v are taken memory = (front, back, parts, record { left = s; serves = v })
+told_unread once input output front back s f requests extra parts v are taken (frame_memory other is) = all_but 1 input output front back s parts v (begun once back requests extra are taken is)
+told_unread once input output front back s f requests extra parts v are taken memory = all_but 1 input output front back s parts v (few_end once back requests [] (open_requests requests are) taken (nothing_is_read once) 1 (let n = none_ends requests are in omega (arith, n)))
 
 told_of : OneFront → (input output front back told part : List ℕ) (s : Stand) (f : ServeFault) → input ≡ front ++ back → output ≡ told ++ part → Serves front told s → Fails s back part f → IsTold input output f
 told_of once input output front back told part s f parts is v (unread requests extra g are taken given stops) =
     told_unread once input output front back s g requests extra parts (subst (λ l. Serves front l s) (sym (is ∙ ap (λ l. told ++ l) given ∙ append-nil told)) v) are taken stops
 told_of once input output front back told part s f parts is v (no_memory requests are taken given) =
-    (front, back, parts, subst (IsServed front) (sym (is ∙ ap (λ l. told ++ l) given ∙ append-nil told)) (record { left = s; serves = v }))
+    all_but 1 input output front back s parts (subst (λ l. Serves front l s) (sym (is ∙ ap (λ l. told ++ l) given ∙ append-nil told)) v) (last once back requests are taken)
 told_of once input output front back told part s f parts is v (writer requests replies t missing are taken round text) =
     (told, part, is, all_but 1 input told front back s parts v (last once back requests are taken))
 

@@ -34,11 +34,7 @@ ends (_ ∷ requests) = ends requests
 abbrev pub EndAtMost : ℕ → List ℕ → Type 0
 EndAtMost n bytes = (requests : List Request) → BeginWith bytes requests → ends requests ≤ n
 
--- exactly the rounds of a front part were answered
-abbrev pub RoundsAnswered : List ℕ → List ℕ → Type 0
-RoundsAnswered input output = (front back : List ℕ) × (input ≡ front ++ back) × IsServed front output
-
--- and behind that part at most so many rounds end
+-- exactly the rounds of a front part were answered, and behind that part at most so many rounds end
 pub record AnsweredBut (n : ℕ) (input output : List ℕ) : Type 0 where
   pub front : List ℕ
   pub back : List ℕ
@@ -46,8 +42,8 @@ pub record AnsweredBut (n : ℕ) (input output : List ℕ) : Type 0 where
   pub served : IsServed front output
   pub unanswered : EndAtMost n back
 
--- which rounds were answered before this fault: all whose ends were read; at want of memory those of a front part; at a fault of the writer all but the last, whose answer may have begun
+-- which rounds were answered before this fault: all whose ends were read; at want of memory all but the last; at a fault of the writer all but the last, whose answer may have begun
 abbrev pub IsTold : List ℕ → List ℕ → ServeFault → Type 0
-IsTold input output fault.NoMemory = RoundsAnswered input output
+IsTold input output fault.NoMemory = AnsweredBut 1 input output
 IsTold input output fault.Write = (told part : List ℕ) × (output ≡ told ++ part) × AnsweredBut 1 input told
 IsTold input output _ = AnsweredBut 0 input output
