@@ -1,17 +1,9 @@
 //! Calls and returns: the topmost slots become the first locals of the method that is called, and nothing moves.
 
-ghost use Rattle.std.specs.Prelude.{◌≡◌, ◌<◌, ◌≤◌, ◌+◌, ◌-◌, ◌%◌, ℕ, ℤ, pos, List, [], ◌∷◌, ◌++◌, length, reverse, Option, Some, None};
+ghost use Rattle.std.specs.Prelude.{◌≡◌, ◌<◌, ◌≤◌, ◌+◌, ◌-◌, ◌%◌, pos, ◌∷◌, length};
 ghost use Rattle.std.specs.Int.{w32, cast_unsigned};
-ghost use Rattle.jtypes.specs.declared.types.RefValue.{RefValue};
-ghost use Rattle.jtypes.specs.declared.types.Value.{Value};
 ghost use Rattle.jtypes.specs.declared.types.Value.TheVariants.{Int, Long, Ref};
-ghost use Rattle.jtypes.specs.Lists.{padded};
-ghost use Rattle.jtypes.specs.Types.{slots_by, as_locals};
-ghost use Rattle.jtypes.specs.Values.{Arrays, is_long_value};
-ghost use Rattle.verdict.specs.Machine.{Activation};
-ghost use Rattle.slots.specs.Standing.{is_null};
-ghost use Rattle.slots.specs.Reads.{Reads};
-ghost use Rattle.slots.specs.Leaving.{Leaves};
+ghost use Rattle.slots.specs.Operands.{HasTop, Enters, HasReceiver, TellsReceiver, LeavesWith, LeavesVoid};
 
 use crate::{Caller, Reference, Slots};
 
@@ -21,7 +13,7 @@ impl Slots {
         requires callers { 0 < self.old.callers.1 }
         requires params { params ≤ self.old.top }
         requires room { self.old.top - params + locals ≤ length self.old.words.items }
-        ensures reads { (arrays : Arrays) (a : Activation) (taken : List Value) (below : List Activation) → Reads arrays self.old a.locals (taken ++ a.operands) below → slots_by is_long_value taken ≡ params → params ≤ locals → Reads arrays self.new (padded None locals (as_locals is_long_value (λ v. Some v) None (reverse taken))) [] (a ∷ below) }
+        ensures reads { Enters params locals self.old self.new }
         ensures words { length self.new.words.items ≡ length self.old.words.items }
         ensures kinds { length self.new.kinds.items ≡ length self.old.kinds.items }
         ensures base { self.new.base + params ≡ self.old.top }
@@ -38,16 +30,16 @@ impl Slots {
 
     /// Whether the receiver of a call is null: the first of the arguments, which take `params` slots. It lies lowest of them.
     pub fn null_below(&self, params: u16) -> bool
-        requires { (arrays : Arrays) × (ls : List (Option Value)) × (taken : List Value) × (v : RefValue) × (others : List Value) × (rest : List Value) × (below : List Activation) × (reverse taken ≡ Ref v ∷ others) × (slots_by is_long_value taken ≡ params) × Reads arrays self.now ls (taken ++ rest) below }
-        ensures { (arrays : Arrays) (ls : List (Option Value)) (taken : List Value) (v : RefValue) (others : List Value) (rest : List Value) (below : List Activation) → reverse taken ≡ Ref v ∷ others → slots_by is_long_value taken ≡ params → Reads arrays self.now ls (taken ++ rest) below → result ≡ is_null v }
+        requires { HasReceiver params self.now }
+        ensures { TellsReceiver params self.now result }
     {
         matches!(self.kinds[self.top - usize::from(params)], Reference::Null)
     }
 
     /// Goes back to the caller with an int (JVMS §6.5, ireturn), and answers its place; none where there is no caller.
     pub fn leave_int(&mut self) -> Option<usize>
-        requires { (arrays : Arrays) × (ls : List (Option Value)) × (i : ℤ) × (vs : List Value) × (below : List Activation) × Reads arrays self.old ls (Int i ∷ vs) below }
-        ensures reads { (arrays : Arrays) (ls : List (Option Value)) (i : ℤ) (vs : List Value) (below : List Activation) → Reads arrays self.old ls (Int i ∷ vs) below → Leaves arrays (Int i ∷ []) self.old self.new below result }
+        requires { HasTop Int self.old }
+        ensures reads { LeavesWith Int Int self.old self.new result }
         ensures words { length self.new.words.items ≡ length self.old.words.items }
         ensures kinds { length self.new.kinds.items ≡ length self.old.kinds.items }
         ensures cells { length self.new.callers.0 + self.new.callers.1 ≡ length self.old.callers.0 + self.old.callers.1 }
@@ -65,8 +57,8 @@ impl Slots {
 
     /// Goes back to the caller with the low bit of an int, as `ireturn` does from a method whose result is a boolean.
     pub fn leave_boolean(&mut self) -> Option<usize>
-        requires { (arrays : Arrays) × (ls : List (Option Value)) × (i : ℤ) × (vs : List Value) × (below : List Activation) × Reads arrays self.old ls (Int i ∷ vs) below }
-        ensures reads { (arrays : Arrays) (ls : List (Option Value)) (i : ℤ) (vs : List Value) (below : List Activation) → Reads arrays self.old ls (Int i ∷ vs) below → Leaves arrays (Int (pos (cast_unsigned w32 i % 2)) ∷ []) self.old self.new below result }
+        requires { HasTop Int self.old }
+        ensures reads { LeavesWith Int (λ i. Int (pos (cast_unsigned w32 i % 2))) self.old self.new result }
         ensures words { length self.new.words.items ≡ length self.old.words.items }
         ensures kinds { length self.new.kinds.items ≡ length self.old.kinds.items }
         ensures cells { length self.new.callers.0 + self.new.callers.1 ≡ length self.old.callers.0 + self.old.callers.1 }
@@ -84,8 +76,8 @@ impl Slots {
 
     /// Goes back to the caller with a long (JVMS §6.5, lreturn).
     pub fn leave_long(&mut self) -> Option<usize>
-        requires { (arrays : Arrays) × (ls : List (Option Value)) × (i : ℤ) × (vs : List Value) × (below : List Activation) × Reads arrays self.old ls (Long i ∷ vs) below }
-        ensures reads { (arrays : Arrays) (ls : List (Option Value)) (i : ℤ) (vs : List Value) (below : List Activation) → Reads arrays self.old ls (Long i ∷ vs) below → Leaves arrays (Long i ∷ []) self.old self.new below result }
+        requires { HasTop Long self.old }
+        ensures reads { LeavesWith Long Long self.old self.new result }
         ensures words { length self.new.words.items ≡ length self.old.words.items }
         ensures kinds { length self.new.kinds.items ≡ length self.old.kinds.items }
         ensures cells { length self.new.callers.0 + self.new.callers.1 ≡ length self.old.callers.0 + self.old.callers.1 }
@@ -103,8 +95,8 @@ impl Slots {
 
     /// Goes back to the caller with a reference (JVMS §6.5, areturn).
     pub fn leave_reference(&mut self) -> Option<usize>
-        requires { (arrays : Arrays) × (ls : List (Option Value)) × (v : RefValue) × (vs : List Value) × (below : List Activation) × Reads arrays self.old ls (Ref v ∷ vs) below }
-        ensures reads { (arrays : Arrays) (ls : List (Option Value)) (v : RefValue) (vs : List Value) (below : List Activation) → Reads arrays self.old ls (Ref v ∷ vs) below → Leaves arrays (Ref v ∷ []) self.old self.new below result }
+        requires { HasTop Ref self.old }
+        ensures reads { LeavesWith Ref Ref self.old self.new result }
         ensures words { length self.new.words.items ≡ length self.old.words.items }
         ensures kinds { length self.new.kinds.items ≡ length self.old.kinds.items }
         ensures cells { length self.new.callers.0 + self.new.callers.1 ≡ length self.old.callers.0 + self.old.callers.1 }
@@ -123,7 +115,7 @@ impl Slots {
 
     /// Goes back to the caller without a result (JVMS §6.5, return).
     pub fn leave_void(&mut self) -> Option<usize>
-        ensures reads { (arrays : Arrays) (ls : List (Option Value)) (vs : List Value) (below : List Activation) → Reads arrays self.old ls vs below → Leaves arrays [] self.old self.new below result }
+        ensures reads { LeavesVoid self.old self.new result }
         ensures words { length self.new.words.items ≡ length self.old.words.items }
         ensures kinds { length self.new.kinds.items ≡ length self.old.kinds.items }
         ensures cells { length self.new.callers.0 + self.new.callers.1 ≡ length self.old.callers.0 + self.old.callers.1 }

@@ -1,15 +1,10 @@
 //! The stack instructions, from pop to swap (JVMS §6.5). They copy slots whatever lies in them, so that none asks for the
 //! sizes of values: a long is two slots.
 
-ghost use Rattle.std.specs.Prelude.{◌≡◌, ◌<◌, ◌≤◌, ◌+◌, List, length, Option, Some};
+ghost use Rattle.std.specs.Prelude.{◌≡◌, ◌<◌, length};
 ghost use Rattle.jtypes.specs.declared.operations.Rearrangement.TheVariants.{Pop, Pop2, Dup, DupX1, DupX2, Dup2, Dup2X1, Dup2X2, Swap};
-ghost use Rattle.jtypes.specs.declared.types.Value.{Value};
-ghost use Rattle.jtypes.specs.Types.{slots_by};
-ghost use Rattle.jtypes.specs.Values.{Arrays, is_long_value};
-ghost use Rattle.transfer.specs.Forms.{rearranged};
-ghost use Rattle.verdict.specs.Machine.{Activation};
-ghost use Rattle.slots.specs.declared.slots.Caller.{Caller};
-ghost use Rattle.slots.specs.Seen.{Sees, IsSame};
+ghost use Rattle.slots.specs.Seen.{IsSame};
+ghost use Rattle.slots.specs.Windowed.{ShowsForm, Rearranges};
 ghost use Rattle.slots.specs.Picking.{CanPick, ArePicked, IsCopied};
 
 use crate::Window;
@@ -125,8 +120,8 @@ impl Window<'_> {
     /// Rearranges the topmost operands.
     #[inline(always)]
     pub fn rearrange(&mut self, r: Rearrangement)
-        requires { (arrays : Arrays) × (callers : List Caller) × (ls : List (Option Value)) × (vs : List Value) × (ws : List Value) × (below : List Activation) × Sees arrays callers self.old ls vs below × (rearranged is_long_value r vs ≡ Some ws) × (self.old.base + length ls + slots_by is_long_value ws ≤ length self.old.words.now) }
-        ensures reads { (arrays : Arrays) (callers : List Caller) (ls : List (Option Value)) (vs ws : List Value) (below : List Activation) → Sees arrays callers self.old ls vs below → rearranged is_long_value r vs ≡ Some ws → Sees arrays callers self.new ls ws below }
+        requires { ShowsForm r self.old }
+        ensures reads { Rearranges r self.old self.new }
         ensures same { IsSame self.old self.new }
     {
         match r {
