@@ -1,3 +1,4 @@
+pub mod OneMeaning
 pub mod MeaningAndRanks
 pub mod Small
 pub mod Fit

@@ -1,11 +1,16 @@
 //! Laws of the definitions.
 
-ghost use Rattle.examples.specs.Statements.{FitsAssignable, OrderedEnds, PassedFits, RunsMean};
+ghost use Rattle.examples.specs.Statements.{FitsAssignable, OneMeaning, OrderedEnds, PassedFits, RunsMean};
 ghost use Rattle.examples.specs.Small.{GivesEntry};
 
 /// What a run computes is the meaning.
 pub fn runs_mean()
     ensures { RunsMean }
+{}
+
+/// A call has one meaning at most: one outcome, one entry that it leaves, and one count of steps and of words.
+pub fn one_meaning()
+    ensures { OneMeaning }
 {}
 
 /// Ranks of methods exclude recursion.

@@ -4,5 +4,5 @@
 mod laws;
 mod rows;
 
-pub use laws::{ordered_ends, references_fit, runs_mean, two_instructions};
+pub use laws::{one_meaning, ordered_ends, references_fit, runs_mean, two_instructions};
 pub use rows::{all_definitions, all_examples};
