@@ -3,7 +3,5 @@
 
 mod arena;
 mod header;
-#[cfg(test)]
-mod tests;
 
 pub use arena::{Arena, WordsFull};

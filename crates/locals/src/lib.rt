@@ -5,8 +5,6 @@ mod assignability;
 mod compare;
 mod locals;
 mod pages;
-#[cfg(test)]
-mod tests;
 
 pub use assignability::{assignable, ref_assignable};
 pub use locals::Locals;

@@ -2,7 +2,5 @@
 #![tactic(auto)]
 
 mod state;
-#[cfg(test)]
-mod tests;
 
 pub use state::{EntryState, effect_leads_from_before_to_now};

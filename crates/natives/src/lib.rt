@@ -6,8 +6,6 @@ mod calls;
 mod casts;
 mod entry;
 mod statics;
-#[cfg(test)]
-mod tests;
 
 pub use calls::call;
 pub use casts::passes;

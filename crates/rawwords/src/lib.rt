@@ -2,8 +2,6 @@
 #![tactic(auto)]
 
 mod block;
-#[cfg(test)]
-mod tests;
 mod words;
 
 pub use words::RawWords;

@@ -1,4 +1,4 @@
-use super::*;
+use constpool::*;
 use jtypes::Refusal;
 use std::alloc::Global;
 use std::test::Fail;

@@ -1,6 +1,6 @@
 //! Each call on a row of words once, with the extremes.
 
-use super::*;
+use rawwords::*;
 use std::test::Fail;
 
 #[test]

@@ -1,7 +1,7 @@
 //! Rows of locals that are written, kept, entered and compared.
 
-use super::*;
 use jtypes::{JType, RefType};
+use locals::*;
 use std::alloc::Global;
 use std::process::Abort;
 

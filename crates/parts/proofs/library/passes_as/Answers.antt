@@ -1,4 +1,4 @@
-use Rattle.natives.proofs.tests.passes_as.Goals as goal
+use Rattle.parts.proofs.library.passes_as.Goals as goal
 
 pub passes-requires : goal.passes-requires
 passes-requires c = (c.args.value, c.requires)

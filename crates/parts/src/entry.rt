@@ -1,7 +1,7 @@
 //! Each call on an entry once, with the extremes.
 
-use super::*;
 use jtypes::{Effect, JavaFault, RefValue};
+use mutentry::*;
 
 #[test]
 fn an_absent_entry_is_made_and_removed(rt: HostRuntime) {

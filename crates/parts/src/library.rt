@@ -3,10 +3,10 @@
 ghost use Rattle.std.specs.Prelude.{ℕ};
 ghost use Rattle.arena.specs.Placing.{IsArrayAt, IsReference};
 
-use super::*;
 use arena::Arena;
 use jtypes::{ArrayId, ArrayKind, JavaFault, Native, RefType, RefValue, Value};
 use mutentry::EntryState;
+use natives::*;
 use std::test::Fail;
 
 const KEY: i64 = i64::MIN;

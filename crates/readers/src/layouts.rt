@@ -1,4 +1,4 @@
-use super::*;
+use classfile::*;
 use constpool::{names, same_bytes};
 use jtypes::Refusal;
 use std::test::Fail;

@@ -1,6 +1,6 @@
 //! Each call on an arena once, with the extremes.
 
-use super::*;
+use arena::*;
 use jtypes::{ArrayKind, JavaFault};
 use std::test::Fail;
 

@@ -1,0 +1,11 @@
+//! Tests: the entry, the words and arrays, and the library calls of an invocation.
+#![tactic(auto)]
+
+#[cfg(test)]
+mod arrays;
+#[cfg(test)]
+mod entry;
+#[cfg(test)]
+mod library;
+#[cfg(test)]
+mod words;
