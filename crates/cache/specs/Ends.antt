@@ -10,10 +10,10 @@ use Rattle.stripe.specs.Tables.{Back}
 use Rattle.cache.specs.Views.{View}
 use Rattle.cache.specs.Guarded.{Guarded}
 use Rattle.cache.specs.declared.known.Terms.{Terms}
-use Rattle.cache.specs.declared.cache.Room.{Room}
+use Rattle.cache.specs.declared.cache.SeatRoom.{SeatRoom}
 
 -- the room for so many seats
-pub record HasRoom (seats : ℕ) (r : Room) : Type 0 where
+pub record HasRoom (seats : ℕ) (r : SeatRoom) : Type 0 where
   pub list : r.list.items ≡ []
   pub list_room : seats ≤ vec_capacity r.list
   pub receipts : r.receipts.items ≡ []

@@ -56,16 +56,16 @@ pub struct Closed<'a> {
 
 /// The room that a cache takes beside its stripes.
 #[derive(Drop)]
-struct Room<'a> {
+struct SeatRoom<'a> {
     list: Vec<Seat<'a>>,
     receipts: Vec<Vec<Receipt<'a>>>,
 }
 
 /// The room for so many seats.
-fn room_for<'a>(alloc: Global, seats: usize) -> Result<Room<'a>, AllocError>
+fn room_for<'a>(alloc: Global, seats: usize) -> Result<SeatRoom<'a>, AllocError>
     ensures { IfOk result (HasRoom seats) }
 {
-    Ok(Room {
+    Ok(SeatRoom {
         list: Vec::with_capacity(alloc, seats)?,
         receipts: Vec::with_capacity(alloc, seats)?,
     })
@@ -105,7 +105,7 @@ impl<'a> Cache<'a> {
         };
         match locked(alloc, stripes, &terms) {
             Ok((table, pass)) => {
-                let Room { list, receipts } = room;
+                let SeatRoom { list, receipts } = room;
                 let list = seated(alloc, &table.shared, pass, list, seats);
                 let cache = Cache {
                     table,

@@ -5,7 +5,7 @@ use Rattle.std.specs.List.{All}
 use Rattle.claims.specs.Counters.{Share, AreFresh}
 use Rattle.cache.specs.Opened.{Sitting}
 use Rattle.invokeall.specs.declared.work.Worker.{Worker}
-use Rattle.invokeall.specs.declared.room.Room.{Room}
+use Rattle.invokeall.specs.declared.room.RoundRoom.{RoundRoom}
 use Rattle.invokeall.specs.Rounds.{Answer}
 
 abbrev pub Row : Type 0
@@ -45,7 +45,7 @@ abbrev pub HasRoom : {A : Type 0} → ℕ → Vec A Global → Type 0
 HasRoom n v = (v.items ≡ []) × (n ≤ vec_capacity v)
 
 -- room for a round of so many jobs by so many workers
-pub record IsRoom (jobs count : ℕ) (r : Room) : Type 0 where
+pub record IsRoom (jobs count : ℕ) (r : RoundRoom) : Type 0 where
   pub jobs_are : r.counter.jobs ≡ jobs
   pub workers_are : r.counter.workers ≡ count
   pub claimers : AreFresh r.counter r.claimers.items

@@ -11,5 +11,5 @@ mod work;
 
 pub use all::invoke_all;
 pub use job::{Job, JobReply};
-pub use room::{Room, room_for};
+pub use room::{RoundRoom, room_for};
 pub use round::{run_in, run_round};

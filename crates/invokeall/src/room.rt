@@ -17,7 +17,7 @@ pub type Row = Vec<(usize, JobReply)>;
 
 /// What a round needs. It is made before the first claim.
 #[derive(Drop)]
-pub struct Room<'a> {
+pub struct RoundRoom<'a> {
     pub counter: Counter,
     pub claimers: Vec<Claimer>,
     pub lists: Vec<Row>,
@@ -31,7 +31,7 @@ pub struct Room<'a> {
 }
 
 /// Room for a round of so many jobs and workers, which `run_in` uses.
-pub fn room_for<'a>(alloc: Global, jobs: usize, count: usize) -> Result<Room<'a>, AllocError>
+pub fn room_for<'a>(alloc: Global, jobs: usize, count: usize) -> Result<RoundRoom<'a>, AllocError>
     requires jobs { IsJobCount jobs }
     requires workers { IsWorkerCount count }
     ensures { IfOk result (IsRoom jobs count) }
@@ -45,7 +45,7 @@ pub fn room_for<'a>(alloc: Global, jobs: usize, count: usize) -> Result<Room<'a>
     let places = no_answers(alloc, jobs)?;
     let answers = Vec::with_capacity(alloc, jobs)?;
     let (counter, claimers) = open(alloc, jobs, count)?;
-    Ok(Room {
+    Ok(RoundRoom {
         counter,
         claimers,
         lists,

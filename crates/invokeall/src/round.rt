@@ -9,7 +9,7 @@ ghost use Rattle.invokeall.specs.Rooms.{IsRoom};
 
 use crate::crew::run_all;
 use crate::job::{Job, JobReply};
-use crate::room::{Room, collect, filled, gather, hire, room_for};
+use crate::room::{RoundRoom, collect, filled, gather, hire, room_for};
 use cache::{Cache, Gate, Seat};
 use machine::Workspace;
 use std::alloc::{AllocError, Global};
@@ -50,7 +50,7 @@ pub fn run_in<'a, 'j, R: Threads + Wait + Sync, G: Gate + Sync>(
     jobs: &[Job<'j>],
     seats: &mut Vec<Seat<'a>>,
     workspaces: &mut Vec<Workspace>,
-    room: Room<'a>,
+    room: RoundRoom<'a>,
     gate: &G,
 ) -> Vec<JobReply>
     requires some_seat { 0 < length seats.old.items }
@@ -61,7 +61,7 @@ pub fn run_in<'a, 'j, R: Threads + Wait + Sync, G: Gate + Sync>(
     ensures round { IsRound cache.now (calls_of jobs.now) seats.old.items seats.new.items result.items }
     ensures workspaces { length workspaces.new.items ≡ length workspaces.old.items }
 {
-    let Room {
+    let RoundRoom {
         counter,
         claimers,
         lists,

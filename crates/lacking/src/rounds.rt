@@ -144,7 +144,7 @@ fn opened<'a>(
 }
 
 /// What was answered, if the round was run, and the tables afterwards.
-type Left<A> = (Option<Vec<A>>, Tables);
+type AnswersLeft<A> = (Option<Vec<A>>, Tables);
 
 /// Does a round on a cache that is opened for it.
 fn round<R: Threads + Wait + Sync>(
@@ -154,7 +154,7 @@ fn round<R: Threads + Wait + Sync>(
     tables: Tables,
     count: usize,
     jobs: &[Job<'_>],
-) -> Left<JobReply>
+) -> AnswersLeft<JobReply>
     requires callable { All (IsCallable registry.now) jobs.now }
     requires few { length jobs.now ≡ 48 }
 {
@@ -188,7 +188,7 @@ fn plus_on_all<R: Threads + Wait + Sync>(
     tables: Tables,
     count: usize,
     class: &ClassId,
-) -> Left<(i64, JobReply)>
+) -> AnswersLeft<(i64, JobReply)>
     requires { IsOf registry.now class.now }
 {
     let (cache, mut seats) = match opened(alloc, registry, tables, count) {

@@ -5,8 +5,8 @@ pub mod Families
 pub mod Turning
 pub mod Quotients
 pub mod Bounded
-pub mod Hopping
-pub mod Strode
+pub mod Performing
+pub mod DidCommon
 pub mod UnderWay
 pub mod Rows
 pub mod Counted

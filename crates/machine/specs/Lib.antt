@@ -6,7 +6,7 @@ pub mod Acts
 pub mod Ended
 pub mod Entering
 pub mod Turns
-pub mod Strides
+pub mod Commons
 pub mod Running
 pub mod Elements
 pub mod Replies

@@ -16,7 +16,7 @@ use std::sync::Wait;
 use std::test::Fail;
 use std::thread::Threads;
 use stripe::{Reply, Tables};
-use workers::{Left, run_by_workers};
+use workers::{CrewLeft, run_by_workers};
 
 /// An invocation returned this Long.
 fn returned(n: i64) -> Option<Reply> {
@@ -31,7 +31,7 @@ fn round<R: Threads + Wait + Sync>(
     tables: Tables,
     workers: usize,
     jobs: &[Job<'_>],
-) -> Option<Left>
+) -> Option<CrewLeft>
     requires { All (IsCallable registry.now) jobs.now }
 {
     if workers == 0 || workers > 16 || jobs.len() > 4096 {
@@ -95,7 +95,7 @@ fn behind_puts<R: Threads + Wait + Sync>(
     registry: &Registry,
     workers: usize,
     jobs: &[Job<'_>],
-) -> Option<Left>
+) -> Option<CrewLeft>
     requires { All (IsCallable registry.now) jobs.now }
 {
     match Tables::new(alloc, 2) {

@@ -34,7 +34,7 @@ enum Ask {
 
 /// What a round leaves: its tables and its answers.
 #[derive(Drop)]
-struct Left {
+struct AfterRound {
     tables: Tables,
     answers: Vec<JobReply>,
 }
@@ -106,7 +106,7 @@ fn ran<R: Threads + Wait + Sync, G: Gate + Sync>(
     seats: usize,
     jobs: &[Job<'_>],
     gate: &G,
-) -> Option<Left>
+) -> Option<AfterRound>
     requires { All (IsCallable registry.now) jobs.now }
 {
     if jobs.len() > 4096 {
@@ -117,7 +117,7 @@ fn ran<R: Threads + Wait + Sync, G: Gate + Sync>(
         return None;
     };
     match run_round(rt, alloc, &cache, jobs, &mut seats, &mut spaces, gate) {
-        Ok(answers) => Some(Left {
+        Ok(answers) => Some(AfterRound {
             tables: cache.close(seats).tables,
             answers,
         }),
@@ -135,7 +135,7 @@ fn done<R: Threads + Wait + Sync, G: Gate + Sync>(
     seats: usize,
     asks: &[Ask],
     gate: &G,
-) -> Option<Left>
+) -> Option<AfterRound>
     requires { IsOf registry.now class.now }
 {
     match Args::of(&[Arg::Long(1)]) {
@@ -178,7 +178,7 @@ fn behind<R: Threads + Wait + Sync, G: Gate + Sync>(
     seats: usize,
     asks: &[Ask],
     gate: &G,
-) -> Option<Left>
+) -> Option<AfterRound>
     requires { IsOf registry.now class.now }
 {
     match begun(rt, alloc, registry, class, stripes, first) {
@@ -197,7 +197,7 @@ fn asked<R: Threads + Wait + Sync, G: Gate + Sync>(
     seats: usize,
     asks: &[Ask],
     gate: &G,
-) -> Option<Left> {
+) -> Option<AfterRound> {
     match Registry::new(alloc) {
         Ok(registry) => match registry.define(rt, alloc, bytes) {
             Ok(class) => {
@@ -364,7 +364,7 @@ fn long_of(answers: &[JobReply], job: usize) -> Option<i64> {
 }
 
 /// What two invocations beside a put returned, and the entry that they left.
-fn outcome_of(left: &Left) -> Option<(i64, i64, i64)> {
+fn outcome_of(left: &AfterRound) -> Option<(i64, i64, i64)> {
     match (
         long_of(&left.answers, 1),
         long_of(&left.answers, 2),

@@ -23,7 +23,7 @@ use workers::run_by_workers;
 
 /// What a round leaves: the entries, and the answer to each job. A job without an answer found no memory.
 #[derive(Drop)]
-pub struct Left {
+pub struct RoundLeft {
     pub tables: Tables,
     pub replies: Vec<Option<Reply>>,
 }
@@ -110,7 +110,7 @@ fn run_alone(
     registry: &Registry,
     tables: Tables,
     jobs: &[Job<'_>],
-) -> Result<Left, Tables>
+) -> Result<RoundLeft, Tables>
     requires jobs { length jobs.now ≤ 4096 }
     requires callable { All (IsCallable registry.now) jobs.now }
     ensures done { IfOk result (λ left. IsDone (entry_among tables) (calls_of jobs.now) left.replies.items (entry_among left.tables)) }
@@ -121,7 +121,7 @@ fn run_alone(
         return Err(tables);
     };
     match run_in_turns(alloc, tables, calls.as_slice()) {
-        Ok(turns::Left { tables, replies }) => Ok(Left { tables, replies }),
+        Ok(turns::TurnsLeft { tables, replies }) => Ok(RoundLeft { tables, replies }),
         Err(tables) => Err(tables),
     }
 }
@@ -136,7 +136,7 @@ pub fn run_jobs<T: Threads + Wait + Sync, G: Gate + Sync>(
     workers: usize,
     jobs: &[Job<'_>],
     gate: &G,
-) -> Result<Left, Tables>
+) -> Result<RoundLeft, Tables>
     requires jobs { length jobs.now ≤ 4096 }
     requires callable { All (IsCallable registry.now) jobs.now }
     requires workers { workers ≤ 16 }
@@ -148,7 +148,7 @@ pub fn run_jobs<T: Threads + Wait + Sync, G: Gate + Sync>(
         return run_alone(alloc, registry, tables, jobs);
     }
     match run_by_workers(rt, alloc, registry, tables, workers, jobs, gate) {
-        Ok(workers::Left { tables, replies }) => Ok(Left { tables, replies }),
+        Ok(workers::CrewLeft { tables, replies }) => Ok(RoundLeft { tables, replies }),
         Err(tables) => Err(tables),
     }
 }

@@ -10,7 +10,7 @@ ghost use Rattle.serve.specs.Devices.{ReadsAreCounted, WritesAreCounted};
 ghost use Rattle.serve.specs.Kept.{AreOf, AreCalls, HasCalls, IsRun, classes_of, works_of, RoundServed, RoundFailed};
 
 use crate::fault::ServeFault;
-use crate::jobs::{Left, jobs_of, run_jobs};
+use crate::jobs::{RoundLeft, jobs_of, run_jobs};
 use crate::plan::Plan;
 use crate::reading::read_round;
 use crate::telling::text_of;
@@ -56,7 +56,7 @@ fn run_round<T: Threads + Wait + Sync, G: Gate + Sync>(
     let Ok(left) = run_jobs(rt, alloc, registry, tables, workers, jobs.as_slice(), gate) else {
         return Err(AllocError);
     };
-    let Left { tables, replies } = left;
+    let RoundLeft { tables, replies } = left;
     let text = text_of(alloc, works, replies.as_slice())?;
     Ok((tables, text))
 }

@@ -5,7 +5,7 @@ use rowclasses as rows;
 use std::alloc::Global;
 use std::test::Fail;
 use stripe::{ArgRow, Call, Reply, Tables};
-use turns::{Left, run_in_turns};
+use turns::{TurnsLeft, run_in_turns};
 use verify::{Verified, verify};
 
 /// An invocation of a class on a key, without arguments.
@@ -18,7 +18,7 @@ fn invoke<'a>(class: &'a Verified, key: i64) -> Call<'a> {
 }
 
 /// What a round of these calls on so many empty stripes leaves.
-fn round(alloc: Global, stripes: usize, calls: &[Call<'_>]) -> Option<Left> {
+fn round(alloc: Global, stripes: usize, calls: &[Call<'_>]) -> Option<TurnsLeft> {
     if calls.len() > 4096 {
         return None;
     }

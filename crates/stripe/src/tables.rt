@@ -115,7 +115,7 @@ impl Tables {
 
 /// The room that stripes take, and to come back.
 #[derive(Drop)]
-struct Room<'a> {
+struct SplitRoom<'a> {
     histories: Vec<Vec<Record<'a>>>,
     stripes: Vec<Stripe<'a>>,
     rest: Rest<'a>,
@@ -137,11 +137,11 @@ fn empty_histories<'a>(
 }
 
 /// All the room that a split takes.
-fn room_for<'a>(alloc: Global, stripes: usize, journal: usize) -> Result<Room<'a>, AllocError>
+fn room_for<'a>(alloc: Global, stripes: usize, journal: usize) -> Result<SplitRoom<'a>, AllocError>
     requires { IsCount stripes }
     ensures { IfOk result (λ r. IsRoom stripes journal r) }
 {
-    Ok(Room {
+    Ok(SplitRoom {
         histories: empty_histories(alloc, stripes, journal)?,
         stripes: Vec::with_capacity(alloc, stripes)?,
         rest: Rest {

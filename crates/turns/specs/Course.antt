@@ -8,7 +8,7 @@ use Rattle.world.specs.World.{World, Running}
 use Rattle.world.specs.Forward.{turns_left}
 use Rattle.outcome.specs.Outcome.{answered, calls_in}
 use Rattle.turns.specs.declared.course.Course.{Course}
-use Rattle.turns.specs.declared.course.Room.{Room}
+use Rattle.turns.specs.declared.course.CourseRoom.{CourseRoom}
 
 -- the calls, how many of them have begun or were refused, the world that they run on, the number of the call that runs on each stripe, and the replies
 pub record Stage : Type 0 where
@@ -57,7 +57,7 @@ pub record IsAsBefore (old new : Stage) : Type 0 where
   pub opening : new.world.opening ≡ old.world.opening
 
 -- places for this many calls and stripes, all empty
-pub record IsRoom (calls stripes : ℕ) (r : Room) : Type 0 where
+pub record IsRoom (calls stripes : ℕ) (r : CourseRoom) : Type 0 where
   pub numbers : r.numbers.items ≡ replicate stripes None
   pub replies : r.replies.items ≡ replicate calls None
 

@@ -5,7 +5,7 @@ use world::{Applied, Event, World};
 
 /// The room of a round: a place for each stripe, and one for each call.
 #[derive(Drop)]
-pub struct Room {
+pub struct CourseRoom {
     pub numbers: Vec<Option<usize>>,
     pub replies: Vec<Option<Reply>>,
 }
@@ -33,7 +33,7 @@ impl<'c, 'a> Course<'c, 'a> {
     ghost use Rattle.turns.specs.Course.{stage, IsGoing, IsRoom, IsAsBefore, AreIdleBefore, IsOver};
 
     /// No call has begun.
-    pub fn new(calls: &'c [Call<'a>], world: World<'a>, room: Room) -> Course<'c, 'a>
+    pub fn new(calls: &'c [Call<'a>], world: World<'a>, room: CourseRoom) -> Course<'c, 'a>
         requires room { IsRoom (length calls.now) (length world.opening) room }
         requires journal { length calls.now ≤ world.journal }
         requires opened { world ≡ opened world.opening world.journal }

@@ -4,4 +4,4 @@
 mod course;
 mod run;
 
-pub use run::{Left, run_in_turns};
+pub use run::{TurnsLeft, run_in_turns};

@@ -6,7 +6,7 @@ ghost use Rattle.stripe.specs.Stored.{entry_among};
 ghost use Rattle.outcome.specs.Outcome.{IsDone};
 ghost use Rattle.turns.specs.Course.{stage, IsGoing, IsRoom, AreRefused};
 
-use crate::course::{Course, Room};
+use crate::course::{Course, CourseRoom};
 use outcome::{what_a_world_hands_out_is_an_outcome, who_answers_an_outcome_is_done};
 use std::alloc::{AllocError, Global};
 use stripe::{Call, Reply, Tables};
@@ -14,7 +14,7 @@ use world::World;
 
 /// What a round leaves.
 #[derive(Drop)]
-pub struct Left {
+pub struct TurnsLeft {
     /// The entries afterwards.
     pub tables: Tables,
     /// For each call, in order, its reply; none where the call was refused for want of memory.
@@ -22,10 +22,10 @@ pub struct Left {
 }
 
 /// The room of a round.
-fn room_for(alloc: Global, calls: usize, stripes: usize) -> Result<Room, AllocError>
+fn room_for(alloc: Global, calls: usize, stripes: usize) -> Result<CourseRoom, AllocError>
     ensures { IfOk result (λ r. IsRoom calls stripes r) }
 {
-    Ok(Room {
+    Ok(CourseRoom {
         numbers: vec![in alloc; None; stripes]?,
         replies: vec![in alloc; None; calls]?,
     })
@@ -33,7 +33,11 @@ fn room_for(alloc: Global, calls: usize, stripes: usize) -> Result<Room, AllocEr
 
 /// Runs these calls on one thread, and waits for nothing: each starts once no earlier call runs on its key's stripe, and calls on
 /// different stripes run in turn, one instruction a turn. Or the tables again, for want of memory; then no call has run.
-pub fn run_in_turns<'a>(alloc: Global, tables: Tables, calls: &[Call<'a>]) -> Result<Left, Tables>
+pub fn run_in_turns<'a>(
+    alloc: Global,
+    tables: Tables,
+    calls: &[Call<'a>],
+) -> Result<TurnsLeft, Tables>
     requires calls { length calls.now ≤ 4096 }
     ensures done { IfOk result (λ left. IsDone (entry_among tables) (map call_of calls.now) left.replies.items (entry_among left.tables)) }
     ensures refused { IfOk result (λ left. AreRefused (map call_of calls.now) left.replies.items) }
@@ -52,7 +56,7 @@ pub fn run_in_turns<'a>(alloc: Global, tables: Tables, calls: &[Call<'a>]) -> Re
             course.run();
             let (world, replies) = course.end();
             let (tables, _records) = world.close();
-            Ok(Left { tables, replies })
+            Ok(TurnsLeft { tables, replies })
         }
         Err((_, tables)) => Err(tables),
     }

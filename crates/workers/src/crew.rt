@@ -11,7 +11,7 @@ ghost use Rattle.invokeall.specs.Rounds.{reply_of};
 ghost use Rattle.invokeall.specs.Rooms.{HasRoom};
 ghost use Rattle.workers.specs.Rooms.{HasPlace, IsRoom};
 
-use crate::room::{Room, room_for};
+use crate::room::{CrewRoom, room_for};
 use cache::{Cache, Closed, Gate, InvokeRefusal, Seat};
 use invokeall::{Job, JobReply, run_in};
 use registry::Registry;
@@ -22,7 +22,7 @@ use stripe::{MOST_RECORDS, Reply, Tables};
 
 /// What a round leaves.
 #[derive(Drop)]
-pub struct Left {
+pub struct CrewLeft {
     /// The entries afterwards.
     pub tables: Tables,
     /// A reply for each job, in the order of the jobs. A job that was refused for want of memory has none, and changed nothing.
@@ -56,7 +56,7 @@ pub fn run_by_workers<R: Threads + Wait + Sync, G: Gate + Sync>(
     workers: usize,
     jobs: &[Job<'_>],
     gate: &G,
-) -> Result<Left, Tables>
+) -> Result<CrewLeft, Tables>
     requires workers { IsSeatCount workers }
     requires jobs { IsJobCount (length jobs.now) }
     requires callable { All (IsCallable registry.now) jobs.now }
@@ -81,9 +81,9 @@ fn run_on<'a, R: Threads + Wait + Sync, G: Gate + Sync>(
     cache: Cache<'a>,
     mut seats: Vec<Seat<'a>>,
     jobs: &[Job<'_>],
-    room: Room<'a>,
+    room: CrewRoom<'a>,
     gate: &G,
-) -> Left
+) -> CrewLeft
     requires count { IsSeatCount cache.seats }
     requires journal { length jobs.now ≤ cache.journal }
     requires seats { AreFresh cache.table cache.seats seats.items }
@@ -92,7 +92,7 @@ fn run_on<'a, R: Threads + Wait + Sync, G: Gate + Sync>(
     ensures done { IsDone (entry_among cache.entry.tables) (calls_of jobs.now) result.replies.items (entry_among result.tables) }
     ensures stripes { length result.tables ≡ length cache.entry.tables }
 {
-    let Room {
+    let CrewRoom {
         round,
         mut workspaces,
         mut replies,
@@ -100,7 +100,7 @@ fn run_on<'a, R: Threads + Wait + Sync, G: Gate + Sync>(
     let answers = run_in(rt, &cache, jobs, &mut seats, &mut workspaces, round, gate);
     let Closed { tables, .. } = cache.close(seats);
     put_replies(answers.as_slice(), &mut replies);
-    Left { tables, replies }
+    CrewLeft { tables, replies }
 }
 
 /// Puts the replies of answers into the room for them.

@@ -4,4 +4,4 @@
 mod crew;
 mod room;
 
-pub use crew::{Left, run_by_workers};
+pub use crew::{CrewLeft, run_by_workers};

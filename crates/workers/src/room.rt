@@ -5,21 +5,21 @@ ghost use Rattle.claims.specs.Counters.{IsJobCount};
 ghost use Rattle.cache.specs.Opened.{IsSeatCount};
 ghost use Rattle.workers.specs.Rooms.{IsRoom};
 
-use invokeall::Room as RoundRoom;
+use invokeall::RoundRoom;
 use machine::Workspace;
 use std::alloc::{AllocError, Global};
 use stripe::Reply;
 
 /// What a round needs beside its cache.
 #[derive(Drop)]
-pub struct Room<'a> {
+pub struct CrewRoom<'a> {
     pub round: RoundRoom<'a>,
     pub workspaces: Vec<Workspace>,
     pub replies: Vec<Option<Reply>>,
 }
 
 /// Room for so many jobs and workers.
-pub fn room_for<'a>(alloc: Global, jobs: usize, workers: usize) -> Result<Room<'a>, AllocError>
+pub fn room_for<'a>(alloc: Global, jobs: usize, workers: usize) -> Result<CrewRoom<'a>, AllocError>
     requires jobs { IsJobCount jobs }
     requires workers { IsSeatCount workers }
     ensures { IfOk result (IsRoom jobs workers) }
@@ -27,7 +27,7 @@ pub fn room_for<'a>(alloc: Global, jobs: usize, workers: usize) -> Result<Room<'
     let round = invokeall::room_for(alloc, jobs, workers)?;
     let workspaces = workspaces(alloc, workers)?;
     let replies = Vec::with_capacity(alloc, jobs)?;
-    Ok(Room {
+    Ok(CrewRoom {
         round,
         workspaces,
         replies,

@@ -3,9 +3,9 @@ use Rattle.std.specs.Prelude.{◌≡◌, ℕ, ◌≤◌, ◌*◌, List, [], Some
 use Rattle.stripe.specs.Stored.{Stored}
 use Rattle.stripe.specs.Tables.{Back}
 use Rattle.world.specs.Seated.{Seated}
-use Rattle.world.specs.declared.room.Room.{Room}
+use Rattle.world.specs.declared.room.WorldRoom.{WorldRoom}
 
-pub record IsRoom (stripes journal : ℕ) (r : Room) : Type 0 where
+pub record IsRoom (stripes journal : ℕ) (r : WorldRoom) : Type 0 where
   pub workspaces : length r.workspaces.items ≡ stripes
   pub none_seated : r.seats.items ≡ []
   pub seats : stripes ≤ vec_capacity r.seats

@@ -13,7 +13,7 @@ use stripe::{Record, Rest, Stripe, Tables};
 
 /// All the room that a world takes beside its stripes' histories: a workspace for each stripe, and the list of finished calls.
 #[derive(Drop)]
-pub struct Room<'a> {
+pub struct WorldRoom<'a> {
     pub workspaces: Vec<Workspace>,
     pub seats: Vec<Seat<'a>>,
     pub finished: Vec<Record<'a>>,
@@ -31,12 +31,16 @@ fn workspaces(alloc: Global, stripes: usize) -> Result<Vec<Workspace>, AllocErro
 }
 
 /// The room for so many stripes, each with this many records.
-pub fn room_for<'a>(alloc: Global, stripes: usize, journal: usize) -> Result<Room<'a>, AllocError>
+pub fn room_for<'a>(
+    alloc: Global,
+    stripes: usize,
+    journal: usize,
+) -> Result<WorldRoom<'a>, AllocError>
     requires count { IsCount stripes }
     requires journal { IsJournal journal }
     ensures { IfOk result (λ r. IsRoom stripes journal r) }
 {
-    Ok(Room {
+    Ok(WorldRoom {
         workspaces: workspaces(alloc, stripes)?,
         seats: Vec::with_capacity(alloc, stripes)?,
         finished: Vec::with_capacity(alloc, stripes * journal)?,
