@@ -1,0 +1,88 @@
+package jentry.jcache;
+
+import java.net.URI;
+import java.util.ArrayList;
+import java.util.HashMap;
+import java.util.List;
+import java.util.Map;
+import java.util.Properties;
+import java.util.function.Predicate;
+import javax.cache.CacheManager;
+import javax.cache.configuration.OptionalFeature;
+import javax.cache.spi.CachingProvider;
+
+/** The provider, which JCache finds by the services of its jar: a manager for each URI and class loader. */
+public final class JentryCachingProvider implements CachingProvider {
+    private static final URI DEFAULT = URI.create("jentry:default");
+
+    private final Map<List<Object>, JentryCacheManager> managers = new HashMap<>();
+
+    /**
+     * The manager of a URI and a class loader; a null stands for the default. While it is open it is the same for each call, with the properties of the
+     * first.
+     *
+     * @throws javax.cache.CacheException where the URI or a property can't be understood
+     */
+    @Override public synchronized CacheManager getCacheManager(URI uri, ClassLoader loader, Properties properties) {
+        URI at = uri == null ? getDefaultURI() : uri;
+        ClassLoader by = loader == null ? getDefaultClassLoader() : loader;
+        Properties with = new Properties();
+        if (properties != null) {
+            properties.stringPropertyNames().forEach(name -> with.setProperty(name, properties.getProperty(name)));
+        }
+        return managers.computeIfAbsent(List.of(at, by), key -> new JentryCacheManager(this, at, by, with));
+    }
+
+    @Override public CacheManager getCacheManager(URI uri, ClassLoader loader) {
+        return getCacheManager(uri, loader, null);
+    }
+
+    @Override public CacheManager getCacheManager() {
+        return getCacheManager(null, null, null);
+    }
+
+    @Override public ClassLoader getDefaultClassLoader() {
+        return getClass().getClassLoader();
+    }
+
+    /** {@code jentry:default}: a child process for each cache. */
+    @Override public URI getDefaultURI() {
+        return DEFAULT;
+    }
+
+    @Override public Properties getDefaultProperties() {
+        return new Properties();
+    }
+
+    synchronized void forget(JentryCacheManager manager) {
+        managers.values().remove(manager);
+    }
+
+    @Override public void close() {
+        closeAll(it -> true);
+    }
+
+    @Override public void close(ClassLoader loader) {
+        ClassLoader by = loader == null ? getDefaultClassLoader() : loader;
+        closeAll(it -> it.getClassLoader() == by);
+    }
+
+    @Override public void close(URI uri, ClassLoader loader) {
+        URI at = uri == null ? getDefaultURI() : uri;
+        ClassLoader by = loader == null ? getDefaultClassLoader() : loader;
+        closeAll(it -> it.getClassLoader() == by && it.getURI().equals(at));
+    }
+
+    private void closeAll(Predicate<CacheManager> which) {
+        List<JentryCacheManager> all;
+        synchronized (this) {
+            all = new ArrayList<>(managers.values());
+        }
+        all.stream().filter(which).forEach(CacheManager::close);
+    }
+
+    /** False: store by reference, the one optional feature, isn't there. */
+    @Override public boolean isSupported(OptionalFeature feature) {
+        return false;
+    }
+}
