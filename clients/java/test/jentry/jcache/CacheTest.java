@@ -1,0 +1,232 @@
+package jentry.jcache;
+
+import static org.junit.jupiter.api.Assertions.assertEquals;
+import static org.junit.jupiter.api.Assertions.assertFalse;
+import static org.junit.jupiter.api.Assertions.assertNotSame;
+import static org.junit.jupiter.api.Assertions.assertNull;
+import static org.junit.jupiter.api.Assertions.assertSame;
+import static org.junit.jupiter.api.Assertions.assertThrows;
+import static org.junit.jupiter.api.Assertions.assertTrue;
+
+import java.util.Collections;
+import java.util.HashMap;
+import java.util.HashSet;
+import java.util.Map;
+import java.util.Set;
+import java.util.concurrent.atomic.AtomicInteger;
+import javax.cache.Cache;
+import javax.cache.configuration.CompleteConfiguration;
+import javax.cache.configuration.MutableConfiguration;
+import javax.cache.integration.CompletionListener;
+import org.junit.jupiter.api.AfterEach;
+import org.junit.jupiter.api.BeforeEach;
+import org.junit.jupiter.api.Tag;
+import org.junit.jupiter.api.Test;
+import org.junit.jupiter.api.function.Executable;
+
+/** Each method of Cache, on the real server. */
+@Tag("server")
+class CacheTest {
+    private Server server;
+    private Cache<Long, Long> cache;
+    private long k;
+
+    @BeforeEach void open() {
+        server = new Server();
+        cache = server.cache;
+        k = server.key(1);
+    }
+
+    @AfterEach void close() {
+        server.close();
+    }
+
+    @Test void getAndContainsKey() {
+        assertNull(cache.get(k));
+        assertFalse(cache.containsKey(k));
+        cache.put(k, 5L);
+        assertEquals(5L, cache.get(k));
+        assertTrue(cache.containsKey(k));
+    }
+
+    @Test void put() {
+        cache.put(k, Long.MIN_VALUE);
+        assertEquals(Long.MIN_VALUE, cache.get(k));
+        cache.put(k, Long.MAX_VALUE);
+        assertEquals(Long.MAX_VALUE, cache.get(k));
+        cache.put(-k, -1L);
+        assertEquals(-1L, cache.get(-k));
+        assertTrue(cache.remove(-k));
+    }
+
+    @Test void remove() {
+        assertFalse(cache.remove(k));
+        cache.put(k, 0L);
+        assertTrue(cache.remove(k));
+        assertFalse(cache.remove(k));
+        assertNull(cache.get(k));
+    }
+
+    @Test void getAndPut() {
+        assertNull(cache.getAndPut(k, -5L));
+        assertEquals(-5L, cache.getAndPut(k, 6L));
+        assertEquals(6L, cache.get(k));
+    }
+
+    @Test void putIfAbsent() {
+        assertTrue(cache.putIfAbsent(k, 5L));
+        assertFalse(cache.putIfAbsent(k, 6L));
+        assertEquals(5L, cache.get(k));
+    }
+
+    @Test void removeWhereOld() {
+        assertFalse(cache.remove(k, 5L));
+        cache.put(k, -5L);
+        assertFalse(cache.remove(k, 5L));
+        assertTrue(cache.containsKey(k));
+        assertTrue(cache.remove(k, -5L));
+        assertFalse(cache.containsKey(k));
+    }
+
+    @Test void getAndRemove() {
+        assertNull(cache.getAndRemove(k));
+        cache.put(k, 5L);
+        assertEquals(5L, cache.getAndRemove(k));
+        assertFalse(cache.containsKey(k));
+    }
+
+    @Test void replaceWhereOld() {
+        assertFalse(cache.replace(k, 5L, 6L));
+        assertFalse(cache.containsKey(k));
+        cache.put(k, 5L);
+        assertFalse(cache.replace(k, 6L, 7L));
+        assertEquals(5L, cache.get(k));
+        assertTrue(cache.replace(k, 5L, -7L));
+        assertEquals(-7L, cache.get(k));
+    }
+
+    @Test void replace() {
+        assertFalse(cache.replace(k, 5L));
+        assertFalse(cache.containsKey(k));
+        cache.put(k, 5L);
+        assertTrue(cache.replace(k, 6L));
+        assertEquals(6L, cache.get(k));
+    }
+
+    @Test void getAndReplace() {
+        assertNull(cache.getAndReplace(k, 5L));
+        assertFalse(cache.containsKey(k));
+        cache.put(k, 5L);
+        assertEquals(5L, cache.getAndReplace(k, 6L));
+        assertEquals(6L, cache.get(k));
+    }
+
+    @Test void getAllPutAllRemoveAll() {
+        Map<Long, Long> entries = new HashMap<>();
+        server.keys(0, 10_000).forEach(key -> entries.put(key, 2 * key));
+        cache.putAll(entries);
+        assertEquals(entries, cache.getAll(server.keys(0, 10_010)));
+        cache.removeAll(server.keys(5_000, 10_020));
+        entries.keySet().removeAll(server.keys(5_000, 10_000));
+        assertEquals(entries, cache.getAll(server.keys(0, 10_000)));
+    }
+
+    @Test void bulkCallsOfNothing() {
+        cache.putAll(Map.of());
+        assertEquals(Map.of(), cache.getAll(Set.of()));
+        cache.removeAll(Set.of());
+        assertEquals(Map.of(), cache.invokeAll(Set.of(), new Sample.Add(), 1L));
+    }
+
+    @Test void bulkCallsOf1024And1025() {
+        for (int count : new int[] {1, 1_023, 1_024, 1_025, 2_048}) {
+            Map<Long, Long> entries = new HashMap<>();
+            server.keys(0, count).forEach(key -> entries.put(key, (long) count));
+            cache.putAll(entries);
+            assertEquals(entries, cache.getAll(server.keys(0, count)));
+            assertEquals(count, cache.invokeAll(server.keys(0, count), new Sample.Key()).size());
+        }
+    }
+
+    @Test void loadAllTellsItsCompletion() {
+        AtomicInteger told = new AtomicInteger();
+        CompletionListener listener = new CompletionListener() {
+            @Override public void onCompletion() {
+                told.incrementAndGet();
+            }
+
+            @Override public void onException(Exception e) {
+                told.set(-1);
+            }
+        };
+        cache.loadAll(Set.of(k), true, listener);
+        assertEquals(1, told.get());
+        cache.loadAll(Set.of(k), false, null);
+        assertFalse(cache.containsKey(k));
+        assertThrows(NullPointerException.class, () -> cache.loadAll(null, false, null));
+        assertThrows(NullPointerException.class, () -> cache.loadAll(Collections.singleton(null), false, null));
+    }
+
+    @Test void nullsAreRefusedBeforeAnythingIsSent() {
+        Set<Long> withNull = new HashSet<>(Set.of(k));
+        withNull.add(null);
+        Map<Long, Long> nullValue = new HashMap<>(Map.of(k, 1L));
+        nullValue.put(k + 1, null);
+        Map<Long, Long> nullKey = new HashMap<>(Map.of(k, 1L));
+        nullKey.put(null, 1L);
+        long rounds = server.own().line().rounds();
+        Executable[] calls = {() -> cache.get(null), () -> cache.containsKey(null), () -> cache.put(null, 1L), () -> cache.put(k, null), () -> cache.remove(null),
+            () -> cache.getAndPut(null, 1L), () -> cache.getAndPut(k, null), () -> cache.putIfAbsent(null, 1L), () -> cache.putIfAbsent(k, null), () -> cache.remove(null, 1L),
+            () -> cache.remove(k, null), () -> cache.getAndRemove(null), () -> cache.replace(null, 1L), () -> cache.replace(k, null), () -> cache.replace(null, 1L, 1L),
+            () -> cache.replace(k, null, 1L), () -> cache.replace(k, 1L, null), () -> cache.getAndReplace(null, 1L), () -> cache.getAndReplace(k, null), () -> cache.getAll(null),
+            () -> cache.getAll(withNull), () -> cache.putAll(null), () -> cache.putAll(nullValue), () -> cache.putAll(nullKey), () -> cache.removeAll(null),
+            () -> cache.removeAll(withNull), () -> cache.invoke(k, null), () -> cache.invoke(null, new Sample.Add(), 1L), () -> cache.invokeAll(null, new Sample.Add()),
+            () -> cache.invokeAll(withNull, new Sample.Add()), () -> cache.invokeAll(Set.of(k), null), () -> server.own().invokeAsync(null, new Sample.Add(), 1L),
+            () -> server.own().invokeAsync(k, null)};
+        for (Executable call : calls) {
+            assertThrows(NullPointerException.class, call);
+        }
+        assertEquals(rounds, server.own().line().rounds());
+        assertFalse(cache.containsKey(k));
+    }
+
+    @Test void whatTheServerLacksIsRefusedByName() {
+        cache.put(k, 1L);
+        Map<String, Executable> calls = Map.of("clear", cache::clear, "removeAll", cache::removeAll, "iterator", cache::iterator,
+            "registerCacheEntryListener", () -> cache.registerCacheEntryListener(null), "deregisterCacheEntryListener", () -> cache.deregisterCacheEntryListener(null));
+        calls.forEach((name, call) -> {
+            String message = assertThrows(UnsupportedOperationException.class, call).getMessage();
+            assertTrue(message.startsWith(name), message);
+        });
+        assertEquals(1L, cache.get(k));
+    }
+
+    @Test void everyCallOnAClosedCacheFails() {
+        cache.close();
+        cache.close();
+        assertTrue(cache.isClosed());
+        assertEquals("test", cache.getName());
+        Executable[] calls = {() -> cache.get(k), () -> cache.containsKey(k), () -> cache.put(k, 1L), () -> cache.remove(k), () -> cache.getAndPut(k, 1L),
+            () -> cache.putIfAbsent(k, 1L), () -> cache.remove(k, 1L), () -> cache.getAndRemove(k), () -> cache.replace(k, 1L), () -> cache.replace(k, 1L, 2L),
+            () -> cache.getAndReplace(k, 1L), () -> cache.getAll(Set.of(k)), () -> cache.putAll(Map.of(k, 1L)), () -> cache.removeAll(Set.of(k)), cache::removeAll, cache::clear,
+            cache::iterator, () -> cache.invoke(k, new Sample.Add(), 1L), () -> cache.invokeAll(Set.of(k), new Sample.Add(), 1L), () -> cache.loadAll(Set.of(k), true, null),
+            () -> cache.registerCacheEntryListener(null), () -> cache.deregisterCacheEntryListener(null), () -> cache.getConfiguration(MutableConfiguration.class),
+            () -> server.own().invokeAsync(k, new Sample.Add(), 1L)};
+        for (Executable call : calls) {
+            assertThrows(IllegalStateException.class, call);
+        }
+    }
+
+    @Test void localMethods() {
+        assertEquals("test", cache.getName());
+        assertSame(server.manager, cache.getCacheManager());
+        assertFalse(cache.isClosed());
+        assertSame(cache, cache.unwrap(JentryCache.class));
+        assertThrows(IllegalArgumentException.class, () -> cache.unwrap(String.class));
+        CompleteConfiguration<?, ?> configuration = cache.getConfiguration(CompleteConfiguration.class);
+        assertEquals(Long.class, configuration.getKeyType());
+        assertEquals(Long.class, configuration.getValueType());
+        assertTrue(configuration.isStoreByValue());
+        assertNotSame(cache.getConfiguration(MutableConfiguration.class), cache.getConfiguration(MutableConfiguration.class));
+    }
+}

@@ -1,0 +1,57 @@
+package jentry.jcache;
+
+import java.net.URI;
+import java.util.HashSet;
+import java.util.Properties;
+import java.util.Set;
+import java.util.concurrent.ThreadLocalRandom;
+import javax.cache.Cache;
+import javax.cache.CacheManager;
+import javax.cache.Caching;
+import javax.cache.configuration.MutableConfiguration;
+
+/**
+ * A cache on the real server, for one test: a child process of its own, or a connection to the front that {@code jentry.uri} names. A front's entries
+ * stay from test to test, so each test has keys of its own.
+ */
+final class Server implements AutoCloseable {
+    static final URI AT = URI.create(System.getProperty("jentry.uri", "jentry:default"));
+
+    final CacheManager manager;
+    final Cache<Long, Long> cache;
+    private final long base = ThreadLocalRandom.current().nextLong() >> 24 << 24;
+
+    Server() {
+        this(new Properties());
+    }
+
+    Server(Properties properties) {
+        manager = Caching.getCachingProvider().getCacheManager(AT, null, properties);
+        cache = manager.createCache("test", types());
+    }
+
+    static MutableConfiguration<Long, Long> types() {
+        return new MutableConfiguration<Long, Long>().setTypes(Long.class, Long.class);
+    }
+
+    /** The n-th key of this test. */
+    long key(long n) {
+        return base + n;
+    }
+
+    Set<Long> keys(long from, long to) {
+        Set<Long> keys = new HashSet<>();
+        for (long n = from; n < to; n++) {
+            keys.add(key(n));
+        }
+        return keys;
+    }
+
+    JentryCache own() {
+        return cache.unwrap(JentryCache.class);
+    }
+
+    @Override public void close() {
+        manager.close();
+    }
+}

@@ -1,0 +1,50 @@
+package jentry.jcache;
+
+import static org.junit.jupiter.api.Assertions.assertEquals;
+import static org.junit.jupiter.api.Assertions.assertFalse;
+
+import java.util.ArrayList;
+import java.util.Collections;
+import java.util.List;
+
+/** Threads that do the same, and whose failures fail the test. */
+final class Team {
+    static final long PATIENCE_MILLIS = 60_000;
+
+    private final List<Thread> threads = new ArrayList<>();
+    private final List<Throwable> wrong = Collections.synchronizedList(new ArrayList<>());
+
+    interface Work {
+        void run(int thread) throws Exception;
+    }
+
+    static Team of(int count, Work work) {
+        Team team = new Team();
+        for (int t = 0; t < count; t++) {
+            int number = t;
+            Thread thread = new Thread(() -> {
+                try {
+                    work.run(number);
+                } catch (Throwable e) {
+                    team.wrong.add(e);
+                }
+            });
+            thread.setDaemon(true);
+            team.threads.add(thread);
+        }
+        team.threads.forEach(Thread::start);
+        return team;
+    }
+
+    List<Thread> threads() {
+        return threads;
+    }
+
+    void join() throws InterruptedException {
+        for (Thread thread : threads) {
+            thread.join(PATIENCE_MILLIS);
+            assertFalse(thread.isAlive(), "a thread hangs");
+        }
+        assertEquals(List.of(), wrong);
+    }
+}

@@ -1,0 +1,155 @@
+package jentry.jcache;
+
+import javax.cache.processor.EntryProcessor;
+import javax.cache.processor.MutableEntry;
+
+/** Processors for tests; compiled with --release 8. */
+final class Sample {
+    private Sample() { }
+
+    /** Adds its argument, and begins with it. */
+    static class Add implements EntryProcessor<Long, Long, Long> {
+        @Override public Long process(MutableEntry<Long, Long> entry, Object... arguments) {
+            long after = (entry.exists() ? entry.getValue() : 0) + (Long) arguments[0];
+            entry.setValue(after);
+            return after;
+        }
+    }
+
+    /** Sets the value to 77 and answers a hundred divided by the one before; null where that is 1. */
+    static class Divides implements EntryProcessor<Long, Long, Long> {
+        @Override public Long process(MutableEntry<Long, Long> entry, Object... arguments) {
+            long before = entry.getValue();
+            entry.setValue(77L);
+            return before == 1 ? null : 100 / before;
+        }
+    }
+
+    static class Key implements EntryProcessor<Long, Long, Long> {
+        @Override public Long process(MutableEntry<Long, Long> entry, Object... arguments) {
+            return entry.getKey();
+        }
+    }
+
+    static class Count implements EntryProcessor<Long, Long, Integer> {
+        @Override public Integer process(MutableEntry<Long, Long> entry, Object... arguments) {
+            return arguments.length;
+        }
+    }
+
+    static class First implements EntryProcessor<Long, Long, Object> {
+        @Override public Object process(MutableEntry<Long, Long> entry, Object... arguments) {
+            return arguments[0];
+        }
+    }
+
+    static class Removes implements EntryProcessor<Long, Long, Object> {
+        @Override public Object process(MutableEntry<Long, Long> entry, Object... arguments) {
+            entry.remove();
+            return null;
+        }
+    }
+
+    /** Has a field that no code uses. */
+    static class Unused implements EntryProcessor<Long, Long, Object> {
+        long unused;
+
+        @Override public Object process(MutableEntry<Long, Long> entry, Object... arguments) {
+            return 9L;
+        }
+    }
+
+    static class Answers implements EntryProcessor<Long, Long, Boolean> {
+        @Override public Boolean process(MutableEntry<Long, Long> entry, Object... arguments) {
+            return true;
+        }
+    }
+
+    static class Loops implements EntryProcessor<Long, Long, Object> {
+        @Override public Object process(MutableEntry<Long, Long> entry, Object... arguments) {
+            long sum = 0;
+            for (int i = 0; i < 8; i++) {
+                sum += i;
+            }
+            return sum;
+        }
+    }
+
+    static class Prints implements EntryProcessor<Long, Long, Object> {
+        @Override public Object process(MutableEntry<Long, Long> entry, Object... arguments) {
+            System.out.println("hello");
+            return null;
+        }
+    }
+
+    static class Catches implements EntryProcessor<Long, Long, Object> {
+        @Override public Object process(MutableEntry<Long, Long> entry, Object... arguments) {
+            try {
+                return (Long) arguments[0];
+            } catch (ClassCastException e) {
+                return null;
+            }
+        }
+    }
+
+    static class Calls implements EntryProcessor<Long, Long, Object> {
+        @Override public Object process(MutableEntry<Long, Long> entry, Object... arguments) {
+            return Math.abs((Long) arguments[0]);
+        }
+    }
+
+    static class UsesField implements EntryProcessor<Long, Long, Object> {
+        long amount;
+
+        @Override public Object process(MutableEntry<Long, Long> entry, Object... arguments) {
+            return amount;
+        }
+    }
+
+    static class HasState implements EntryProcessor<Long, Long, Object> {
+        private final long amount;
+
+        HasState(long amount) {
+            this.amount = amount;
+        }
+
+        @Override public Object process(MutableEntry<Long, Long> entry, Object... arguments) {
+            return amount;
+        }
+    }
+
+    class Inner implements EntryProcessor<Long, Long, Object> {
+        @Override public Object process(MutableEntry<Long, Long> entry, Object... arguments) {
+            return 1L;
+        }
+    }
+
+    static EntryProcessor<Long, Long, Object> inner() {
+        return new Sample().new Inner();
+    }
+
+    static EntryProcessor<Long, Long, Object> anonymous() {
+        return new EntryProcessor<Long, Long, Object>() {
+            @Override public Object process(MutableEntry<Long, Long> entry, Object... arguments) {
+                return 8L;
+            }
+        };
+    }
+
+    static EntryProcessor<Long, Long, Object> local() {
+        class Local implements EntryProcessor<Long, Long, Object> {
+            @Override public Object process(MutableEntry<Long, Long> entry, Object... arguments) {
+                return 7L;
+            }
+        }
+        return new Local();
+    }
+
+    static EntryProcessor<Long, Long, Object> capturing(long outside) {
+        return new EntryProcessor<Long, Long, Object>() {
+            @Override public Object process(MutableEntry<Long, Long> entry, Object... arguments) {
+                return outside;
+            }
+        };
+    }
+}
