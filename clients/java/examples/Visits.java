@@ -1,4 +1,5 @@
-import java.util.Set;
+import java.util.Arrays;
+import java.util.HashSet;
 import javax.cache.Cache;
 import javax.cache.Caching;
 import javax.cache.configuration.MutableConfiguration;
@@ -20,7 +21,7 @@ public class Visits {
             .createCache("pages", new MutableConfiguration<Long, Long>().setTypes(Long.class, Long.class));
         pages.put(1L, 41L);
         System.out.println("page 1: " + pages.invoke(1L, new Visit()));
-        pages.invokeAll(Set.of(1L, 2L), new Visit()).forEach((page, visits) -> System.out.println("page " + page + ": " + visits.get()));
+        pages.invokeAll(new HashSet<>(Arrays.asList(1L, 2L)), new Visit()).forEach((page, visits) -> System.out.println("page " + page + ": " + visits.get()));
         System.out.println("page 2 is new: " + pages.putIfAbsent(2L, 0L));
         pages.close();
     }

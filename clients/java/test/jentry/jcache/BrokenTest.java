@@ -1,0 +1,324 @@
+package jentry.jcache;
+
+import static org.junit.jupiter.api.Assertions.assertEquals;
+import static org.junit.jupiter.api.Assertions.assertFalse;
+import static org.junit.jupiter.api.Assertions.assertThrows;
+import static org.junit.jupiter.api.Assertions.assertTrue;
+
+import java.io.IOException;
+import java.net.URI;
+import java.nio.file.Files;
+import java.nio.file.Path;
+import java.nio.file.attribute.PosixFilePermissions;
+import java.util.Map;
+import java.util.Set;
+import java.util.concurrent.CompletableFuture;
+import java.util.concurrent.CompletionException;
+import java.util.concurrent.CountDownLatch;
+import java.util.concurrent.RejectedExecutionException;
+import java.util.concurrent.TimeUnit;
+import java.util.concurrent.atomic.AtomicInteger;
+import java.util.function.Consumer;
+import javax.cache.Cache;
+import javax.cache.CacheException;
+import javax.cache.CacheManager;
+import javax.cache.Caching;
+import javax.cache.integration.CacheLoaderException;
+import javax.cache.processor.EntryProcessorException;
+import org.junit.jupiter.api.Test;
+import org.junit.jupiter.api.Timeout;
+
+/** What a caller sees where a server ends, is silent or errs, by a stand-in. */
+@Timeout(60)
+class BrokenTest {
+    private static final String NOT_KNOWN = "whether this call has run is not known";
+    private static final String NOT_SENT = "this call was not sent";
+
+    private static String failure(Runnable call) {
+        return assertThrows(CacheException.class, call::run).getMessage();
+    }
+
+    /** Answers the first rounds as a server does, and the one after them so. */
+    private static StandIn.Script after(int rounds, byte[] wrong) {
+        return (it, round, requests) -> round > rounds ? wrong : it.right(requests);
+    }
+
+    private static void breaks(int goodRounds, byte[] wrong, String words, Consumer<Cache<Long, Long>> call) throws IOException {
+        try (StandIn server = StandIn.unix(after(goodRounds, wrong))) {
+            Cache<Long, Long> cache = server.cache();
+            CacheException e = assertThrows(CacheException.class, () -> call.accept(cache));
+            assertTrue(e.getMessage().contains(NOT_KNOWN), e.getMessage());
+            assertTrue(e.getCause().getMessage().contains(words), e.getCause().getMessage());
+            assertTrue(failure(() -> cache.get(1L)).contains(NOT_SENT));
+            assertFalse(cache.isClosed());
+        }
+    }
+
+    @Test void anotherKindOfReply() throws IOException {
+        byte[] flag = StandIn.join(StandIn.frame(5, 1), StandIn.END);
+        byte[] done = StandIn.join(StandIn.frame(3), StandIn.END);
+        breaks(0, flag, "a reply of kind 5", it -> it.put(1L, 1L));
+        breaks(0, flag, "a reply of kind 5", it -> it.get(1L));
+        breaks(0, done, "a reply of kind 3", it -> it.remove(1L));
+        breaks(0, done, "a reply of kind 3", it -> it.invoke(1L, new Sample.Key()));
+        breaks(1, done, "a reply of kind 3", it -> it.invoke(1L, new Sample.Key()));
+        breaks(1, done, "a reply of kind 3", it -> it.invokeAll(Set.of(1L), new Sample.Key()));
+        breaks(0, done, "a reply of kind 3", it -> it.getAll(Set.of(1L)));
+        breaks(0, StandIn.join(StandIn.frame(4, 2, 0, 0, 0, 1), StandIn.END), "an Integer", it -> it.get(1L));
+        breaks(0, StandIn.join(StandIn.frame(4, 3), StandIn.END), "an argument of kind 3", it -> it.get(1L));
+        breaks(0, StandIn.join(StandIn.frame(5, 2), StandIn.END), "a flag of 2", it -> it.containsKey(1L));
+        breaks(0, StandIn.join(StandIn.frame(77), StandIn.END), "a reply of kind 77", it -> it.put(1L, 1L));
+    }
+
+    @Test void aReplyTooManyOrTooFew() throws IOException {
+        breaks(0, StandIn.join(StandIn.frame(3), StandIn.frame(3), StandIn.END), "more replies", it -> it.put(1L, 1L));
+        breaks(0, StandIn.END, "before all of its replies", it -> it.put(1L, 1L));
+        breaks(0, StandIn.join(StandIn.frame(3), StandIn.END), "before all of its replies", it -> it.putAll(Map.of(1L, 1L, 2L, 2L)));
+    }
+
+    @Test void aReplyTooShortOrTooLong() throws IOException {
+        breaks(0, StandIn.join(StandIn.frame(4, 1, 0), StandIn.END), "shorter", it -> it.get(1L));
+        breaks(0, StandIn.join(StandIn.frame(3, 0), StandIn.END), "longer", it -> it.put(1L, 1L));
+    }
+
+    @Test void resultsOfOtherKeys() throws IOException {
+        byte[] two = StandIn.join(StandIn.frame(7, 0, 1, 0, 0, 0, 0, 0, 0, 0, 2, 0, 1, 0, 0, 0, 0, 0, 0, 0, 9), StandIn.END);
+        breaks(1, two, "the key 2", it -> it.invokeAll(Set.of(1L), new Sample.Key()));
+        byte[] twice = StandIn.join(StandIn.frame(7, 0, 2, 0, 0, 0, 0, 0, 0, 0, 2, 1, 1, 0, 0, 0, 0, 0, 0, 0, 2, 1, 1), StandIn.END);
+        breaks(1, twice, "the key 2", it -> it.invokeAll(Set.of(2L), new Sample.Key()));
+    }
+
+    @Test void aFrameOfOneMegabyteOrOfNoLength() throws IOException {
+        breaks(0, StandIn.frame(new int[1 << 20]), "a reply of 1048576 bytes", it -> it.get(1L));
+        breaks(0, new byte[] {0, 0, 0, 0}, "a reply of 0 bytes", it -> it.get(1L));
+        breaks(0, new byte[] {-1, -1, -1, -1}, "a reply of -1 bytes", it -> it.get(1L));
+    }
+
+    @Test void theServersEndFailsEveryCall() throws Exception {
+        for (boolean tcp : new boolean[] {false, true}) {
+            StandIn.Script script = (it, round, requests) -> round == 200 ? null : it.right(requests);
+            try (StandIn server = tcp ? StandIn.tcp(script) : StandIn.unix(script)) {
+                Cache<Long, Long> cache = server.cache();
+                AtomicInteger known = new AtomicInteger();
+                Team.of(32, t -> {
+                    String message = failure(() -> {
+                        while (true) {
+                            cache.put((long) t, 1L);
+                        }
+                    });
+                    assertTrue(message.contains(NOT_KNOWN) || message.contains(NOT_SENT), message);
+                    known.addAndGet(message.contains(NOT_KNOWN) ? 1 : 0);
+                }).join();
+                assertTrue(known.get() > 0);
+                assertTrue(failure(() -> cache.get(1L)).contains(NOT_SENT));
+                assertThrows(CacheException.class, () -> cache.unwrap(JentryCache.class).invokeAsync(1L, new Sample.Key()));
+            }
+        }
+    }
+
+    @Test void theServersEndFailsAsynchronousCalls() throws IOException {
+        try (StandIn server = StandIn.unix((it, round, requests) -> round == 2 ? null : it.right(requests))) {
+            JentryCache cache = server.cache().unwrap(JentryCache.class);
+            Throwable e = assertThrows(CompletionException.class, () -> cache.invokeAsync(1L, new Sample.Key()).join()).getCause();
+            assertEquals(CacheException.class, e.getClass());
+            assertTrue(e.getMessage().contains(NOT_KNOWN), e.getMessage());
+        }
+    }
+
+    private static CacheManager child(String script, String... properties) throws IOException {
+        Path program = Files.createTempDirectory("jentry").resolve("program");
+        Files.writeString(program, "#!/bin/sh\n" + script + "\n");
+        Files.setPosixFilePermissions(program, PosixFilePermissions.fromString("rwx------"));
+        return Caching.getCachingProvider().getCacheManager(URI.create("jentry:" + program), null, StandIn.properties(properties));
+    }
+
+    @Test void theLastWordsOfAChild() throws IOException {
+        try (CacheManager manager = child("head -c 26 >/dev/null; echo 'serve fault 5 NoMemory' >&2; exit 3")) {
+            Cache<Long, Long> cache = manager.createCache("a", Server.types());
+            String message = failure(() -> cache.put(1L, 1L));
+            assertTrue(message.contains("serve fault 5 NoMemory") && message.contains(NOT_KNOWN), message);
+            message = failure(() -> cache.put(1L, 1L));
+            assertTrue(message.contains("serve fault 5 NoMemory") && message.contains(NOT_SENT), message);
+        }
+    }
+
+    @Test void aChildThatWritesMuchOnStandardErrorIsNotHeldUp() throws IOException {
+        try (CacheManager manager = child("head -c 300000 /dev/zero | tr '\\0' 'x' >&2; echo ' the last line' >&2; exit 3")) {
+            Cache<Long, Long> cache = manager.createCache("a", Server.types());
+            String message = failure(() -> cache.get(1L));
+            assertTrue(message.contains("xxx the last line") && message.length() < 2_000, message);
+        }
+    }
+
+    @Test void aProgramThatIsNotThere() {
+        CacheManager manager = Caching.getCachingProvider().getCacheManager(URI.create("jentry:/no/such/program"), null, null);
+        String message = failure(() -> manager.createCache("a", Server.types()));
+        assertTrue(message.contains("/no/such/program"), message);
+        manager.close();
+    }
+
+    @Test void aRoundThatTakesTooLong() throws Exception {
+        CountDownLatch never = new CountDownLatch(1);
+        StandIn.Script silent = (it, round, requests) -> {
+            never.await();
+            return null;
+        };
+        for (boolean tcp : new boolean[] {false, true}) {
+            try (StandIn server = tcp ? StandIn.tcp(silent) : StandIn.unix(silent)) {
+                Cache<Long, Long> cache = server.cache("jentry.timeout", "300");
+                long from = System.nanoTime();
+                Team.of(4, t -> assertTrue(failure(() -> cache.get(1L)).contains("took longer than 300 ms"))).join();
+                long millis = TimeUnit.NANOSECONDS.toMillis(System.nanoTime() - from);
+                assertTrue(millis >= 300 && millis < 30_000, millis + " ms");
+                assertTrue(failure(() -> cache.get(1L)).contains(NOT_SENT));
+            }
+        }
+        never.countDown();
+    }
+
+    @Test void aSilentChildIsEndedByTheTimeout() throws IOException {
+        try (CacheManager manager = child("sleep 600", "jentry.timeout", "300")) {
+            Cache<Long, Long> cache = manager.createCache("a", Server.types());
+            String message = failure(() -> cache.get(1L));
+            assertTrue(message.contains("took longer than 300 ms") && message.contains(NOT_KNOWN), message);
+            assertTrue(ProcessHandle.current().descendants().noneMatch(it -> it.isAlive() && it.info().commandLine().orElse("").contains("sleep 600")));
+        }
+    }
+
+    /** Holds each round from the second on until it is let go. */
+    private static StandIn.Script held(CountDownLatch arrived, CountDownLatch go) {
+        return (it, round, requests) -> {
+            if (round >= 2) {
+                arrived.countDown();
+                go.await();
+            }
+            return it.right(requests);
+        };
+    }
+
+    private static void awaitWaiting(JentryCache cache, int count) throws InterruptedException {
+        for (int i = 0; cache.line().waiting() != count; i++) {
+            assertTrue(i < 30_000, "calls that wait: " + cache.line().waiting());
+            Thread.sleep(1);
+        }
+    }
+
+    @Test void theQueuesLimit() throws Exception {
+        CountDownLatch arrived = new CountDownLatch(1), go = new CountDownLatch(1);
+        try (StandIn server = StandIn.unix(held(arrived, go))) {
+            JentryCache cache = server.cache("jentry.queue", "2").unwrap(JentryCache.class);
+            CompletableFuture<Long> first = cache.invokeAsync(1L, new Sample.Key());
+            arrived.await();
+            CompletableFuture<Long> second = cache.invokeAsync(1L, new Sample.Key()), third = cache.invokeAsync(1L, new Sample.Key());
+            assertThrows(RejectedExecutionException.class, () -> cache.invokeAsync(1L, new Sample.Key()));
+            Team waits = Team.of(3, t -> cache.put(10L + t, 5L));
+            for (int i = 0; waits.threads().stream().anyMatch(it -> it.getState() != Thread.State.WAITING); i++) {
+                assertTrue(i < 30_000, "threads that don't wait");
+                Thread.sleep(1);
+            }
+            assertEquals(2, cache.line().waiting());
+            go.countDown();
+            waits.join();
+            assertEquals(Set.of(1L, 2L, 3L), Set.of(first.join(), second.join(), third.join()));
+            assertEquals(Map.of(10L, 5L, 11L, 5L, 12L, 5L), cache.getAll(Set.of(10L, 11L, 12L)));
+        }
+    }
+
+    @Test void callsGatherWhileARoundIsOut() throws Exception {
+        CountDownLatch arrived = new CountDownLatch(1), go = new CountDownLatch(1);
+        try (StandIn server = StandIn.unix(held(arrived, go))) {
+            JentryCache cache = server.cache().unwrap(JentryCache.class);
+            cache.put(0L, 0L);
+            Team first = Team.of(1, t -> cache.put(0L, 1L));
+            arrived.await();
+            Team others = Team.of(20, t -> cache.put(1L + t, 1L));
+            awaitWaiting(cache, 20);
+            go.countDown();
+            first.join();
+            others.join();
+            assertEquals(3, cache.line().rounds());
+        }
+    }
+
+    @Test void closeLetsTheRoundEndThatIsOut() throws Exception {
+        CountDownLatch arrived = new CountDownLatch(1), go = new CountDownLatch(1);
+        try (StandIn server = StandIn.unix(held(arrived, go))) {
+            JentryCache cache = server.cache().unwrap(JentryCache.class);
+            cache.put(0L, 0L);
+            Team out = Team.of(1, t -> cache.put(0L, 1L));
+            arrived.await();
+            Team waits = Team.of(5, t -> assertTrue(failure(() -> cache.put(1L, 1L)).contains("closed; this call was not sent")));
+            awaitWaiting(cache, 5);
+            Team closes = Team.of(1, t -> cache.close());
+            waits.join();
+            go.countDown();
+            out.join();
+            closes.join();
+            assertThrows(IllegalStateException.class, () -> cache.get(0L));
+        }
+    }
+
+    @Test void whatDependsOnAFutureMayWaitForAnotherOfItsRound() throws Exception {
+        CountDownLatch arrived = new CountDownLatch(1), go = new CountDownLatch(1);
+        try (StandIn server = StandIn.unix(held(arrived, go))) {
+            JentryCache cache = server.cache().unwrap(JentryCache.class);
+            cache.invokeAsync(1L, new Sample.Key());
+            arrived.await();
+            CompletableFuture<Long> one = cache.invokeAsync(2L, new Sample.Key()), other = cache.invokeAsync(3L, new Sample.Key());
+            CompletableFuture<Long> sum = one.thenApply(it -> it + other.join() + cache.invoke(4L, new Sample.Key()));
+            go.countDown();
+            assertEquals(3L, sum.get(30, TimeUnit.SECONDS));
+        }
+    }
+
+    @Test void denialsChangeNothingAndBreakNothing() throws IOException {
+        byte[] denied = StandIn.join(StandIn.frame(8, 3), StandIn.END);
+        try (StandIn server = StandIn.unix((it, round, requests) -> round % 2 == 1 ? denied : it.right(requests))) {
+            Cache<Long, Long> cache = server.cache();
+            assertEquals("put is denied by the server: 3 NoMemory; it changed nothing", failure(() -> cache.put(1L, 1L)));
+            cache.put(1L, 5L);
+            assertTrue(failure(() -> cache.invoke(1L, new Sample.Key())).contains("the class jentry.jcache.Sample$Key is denied by the server: 3 NoMemory"));
+            assertEquals(5L, cache.get(1L));
+            assertTrue(failure(() -> cache.putAll(Map.of(7L, 7L))).contains("3 NoMemory"));
+        }
+    }
+
+    @Test void aDeniedKeyOfInvokeAll() throws IOException {
+        byte[] told = StandIn.join(StandIn.frame(7, 0, 1, 0, 0, 0, 0, 0, 0, 0, 1, 2, 3), StandIn.END);
+        try (StandIn server = StandIn.unix(after(1, told))) {
+            var result = server.cache().invokeAll(Set.of(1L), new Sample.Key()).get(1L);
+            Throwable cause = assertThrows(EntryProcessorException.class, result::get).getCause();
+            assertTrue(cause.getMessage().contains("3 NoMemory; it changed nothing"), cause.getMessage());
+        }
+    }
+
+    @Test void exceptionsThatTheServerWasNotMadeToTell() throws IOException {
+        Map<Integer, Class<?>> wanted = Map.of(5, IncompatibleClassChangeError.class, 6, CacheLoaderException.class);
+        for (Map.Entry<Integer, Class<?>> it : wanted.entrySet()) {
+            try (StandIn server = StandIn.unix(after(1, StandIn.join(StandIn.frame(6, 1, it.getKey()), StandIn.END)))) {
+                Cache<Long, Long> cache = server.cache();
+                assertEquals(it.getValue(), assertThrows(EntryProcessorException.class, () -> cache.invoke(1L, new Sample.Key())).getCause().getClass());
+            }
+        }
+    }
+
+    @Test void interruptsOnSocketsLoseNothing() throws Exception {
+        for (boolean tcp : new boolean[] {false, true}) {
+            StandIn.Script script = (it, round, requests) -> it.right(requests);
+            try (StandIn server = tcp ? StandIn.tcp(script) : StandIn.unix(script)) {
+                Cache<Long, Long> cache = server.cache();
+                Team team = Team.of(16, t -> {
+                    for (long i = 0; i < 300; i++) {
+                        cache.put((long) t, i);
+                        assertEquals(i, cache.get((long) t));
+                    }
+                });
+                while (team.threads().stream().anyMatch(Thread::isAlive)) {
+                    team.threads().forEach(Thread::interrupt);
+                    Thread.sleep(1);
+                }
+                team.join();
+            }
+        }
+    }
+}
