@@ -1,0 +1,194 @@
+//! The frames of a connection: what is a request, and what it asks for.
+//!
+//! The server answers what is no request by ending its stream, and that is everybody's. So each frame is judged here to the byte
+//! before it goes on.
+
+use std::collections::HashSet;
+use std::io::{self, Read};
+
+/// The longest frame, in bytes behind its length.
+pub const LONGEST: usize = 131_072;
+
+/// The most jobs of a round of the server.
+pub const MOST_JOBS: usize = 4_096;
+
+/// Where the keys of an invokeAll begin: behind length, kind, class number and count.
+pub const KEYS_AT: usize = 11;
+
+/// What a frame asks for.
+#[derive(Debug, PartialEq, Eq)]
+pub enum Frame {
+    /// A class.
+    Define,
+    /// The end of a round.
+    End,
+    /// A put, get, remove or contains.
+    Plain,
+    /// An invocation of the class with this number.
+    Invoke(u32),
+    /// An invocation of the class with this number on so many different keys.
+    InvokeAll { class: u32, keys: usize },
+}
+
+/// Reads the next frame, with its length in front. False at an end of the input between frames; an error where the input ends inside
+/// of one, and where a length is 0 or too long.
+pub fn read_frame(input: &mut impl Read, into: &mut Vec<u8>) -> io::Result<bool> {
+    let mut head = [0; 4];
+    if !read_head(input, &mut head)? {
+        return Ok(false);
+    }
+    let length = u32::from_be_bytes(head) as usize;
+    if length < 1 || length > LONGEST {
+        return Err(io::ErrorKind::InvalidData.into());
+    }
+    into.clear();
+    into.extend_from_slice(&head);
+    into.resize(4 + length, 0);
+    input.read_exact(&mut into[4..])?;
+    Ok(true)
+}
+
+/// Reads a frame's length. False where nothing at all came.
+fn read_head(input: &mut impl Read, head: &mut [u8; 4]) -> io::Result<bool> {
+    let mut had = 0;
+    while had < 4 {
+        match input.read(&mut head[had..]) {
+            Ok(0) if had == 0 => return Ok(false),
+            Ok(0) => return Err(io::ErrorKind::UnexpectedEof.into()),
+            Ok(more) => had += more,
+            Err(e) if e.kind() == io::ErrorKind::Interrupted => {}
+            Err(e) => return Err(e),
+        }
+    }
+    Ok(true)
+}
+
+/// The number in the four bytes from here on. The caller has seen that they are there.
+pub fn number_at(text: &[u8], at: usize) -> u32 {
+    u32::from_be_bytes([text[at], text[at + 1], text[at + 2], text[at + 3]])
+}
+
+/// Where the arguments that begin here end, if they are arguments.
+fn arguments_end(text: &[u8], at: usize) -> Option<usize> {
+    let count = *text.get(at)?;
+    if count > 8 {
+        return None;
+    }
+    let mut at = at + 1;
+    for _ in 0..count {
+        at += match *text.get(at)? {
+            0 => 1,
+            1 => 9,
+            2 => 5,
+            _ => return None,
+        };
+    }
+    Some(at)
+}
+
+/// Judges a whole frame. None is no request. Keys that stand in an invokeAll twice are taken out of it: the server runs each key once,
+/// and tells it where it first stood.
+pub fn judge(text: &mut Vec<u8>) -> Option<Frame> {
+    let length = text.len();
+    match (text[4], length) {
+        (1, _) => Some(Frame::Define),
+        (8, 5) => Some(Frame::End),
+        (2, 21) | (3..=5, 13) => Some(Frame::Plain),
+        (6, 18..) if arguments_end(text, 17)? == length => Some(Frame::Invoke(number_at(text, 5))),
+        (7, 12..) => {
+            let count = usize::from(u16::from_be_bytes([text[9], text[10]]));
+            if arguments_end(text, KEYS_AT + 8 * count)? != length {
+                return None;
+            }
+            let keys = drop_doubles(text, count);
+            Some(Frame::InvokeAll { class: number_at(text, 5), keys })
+        }
+        _ => None,
+    }
+}
+
+/// Takes out of an invokeAll the keys that stood before, and tells how many are left.
+fn drop_doubles(text: &mut Vec<u8>, count: usize) -> usize {
+    let end = KEYS_AT + 8 * count;
+    let mut seen = HashSet::with_capacity(count);
+    let kept: Vec<u8> = text[KEYS_AT..end].chunks(8).filter(|key| seen.insert(*key)).flatten().copied().collect();
+    let keys = kept.len() / 8;
+    if keys < count {
+        text.splice(KEYS_AT..end, kept);
+        let length = text.len() - 4;
+        text[..4].copy_from_slice(&(length as u32).to_be_bytes());
+        text[9..11].copy_from_slice(&(keys as u16).to_be_bytes());
+    }
+    keys
+}
+
+/// Puts the server's number of a class in place of the connection's.
+pub fn set_class(text: &mut [u8], number: u32) {
+    text[5..9].copy_from_slice(&number.to_be_bytes());
+}
+
+#[cfg(test)]
+mod tests {
+    use super::*;
+
+    fn framed(body: &[u8]) -> Vec<u8> {
+        let mut text = (body.len() as u32).to_be_bytes().to_vec();
+        text.extend_from_slice(body);
+        text
+    }
+
+    fn judged(body: &[u8]) -> Option<Frame> {
+        judge(&mut framed(body))
+    }
+
+    #[test]
+    fn requests_are_known_by_kind_and_length() {
+        assert_eq!(judged(&[1]), Some(Frame::Define));
+        assert_eq!(judged(&[8]), Some(Frame::End));
+        assert_eq!(judged(&[8, 0]), None);
+        for kind in [3, 4, 5] {
+            let mut body = vec![0; 9];
+            body[0] = kind;
+            assert_eq!(judged(&body), Some(Frame::Plain));
+            body.push(0);
+            assert_eq!(judged(&body), None);
+        }
+        assert_eq!(judged(&[0]), None);
+        assert_eq!(judged(&[9]), None);
+    }
+
+    #[test]
+    fn arguments_have_to_fill_the_frame() {
+        let mut body = vec![6, 0, 0, 0, 5];
+        body.extend_from_slice(&[0; 8]);
+        body.extend_from_slice(&[3, 0, 2, 0, 0, 0, 1, 1, 0, 0, 0, 0, 0, 0, 0, 1]);
+        assert_eq!(judged(&body), Some(Frame::Invoke(5)));
+        for end in 0..body.len() {
+            assert_eq!(judged(&body[..end]), None, "a beginning of {} bytes", end);
+        }
+        body.push(0);
+        assert_eq!(judged(&body), None);
+    }
+
+    #[test]
+    fn doubles_are_dropped_and_first_places_stay() {
+        let mut body = vec![7, 0, 0, 0, 2, 0, 4];
+        for key in [9u64, 3, 9, 3] {
+            body.extend_from_slice(&key.to_be_bytes());
+        }
+        body.extend_from_slice(&[1, 0]);
+        let mut text = framed(&body);
+        assert_eq!(judge(&mut text), Some(Frame::InvokeAll { class: 2, keys: 2 }));
+        let mut wanted = vec![7, 0, 0, 0, 2, 0, 2];
+        wanted.extend_from_slice(&9u64.to_be_bytes());
+        wanted.extend_from_slice(&3u64.to_be_bytes());
+        wanted.extend_from_slice(&[1, 0]);
+        assert_eq!(text, framed(&wanted));
+    }
+
+    #[test]
+    fn a_count_beyond_the_frame_is_no_request() {
+        assert_eq!(judged(&[7, 0, 0, 0, 0, 0xff, 0xff, 0]), None);
+        assert_eq!(judged(&[7, 0, 0, 0, 0, 0, 0, 0]), Some(Frame::InvokeAll { class: 0, keys: 0 }));
+    }
+}
