@@ -1,0 +1,72 @@
+"""Class files for the tests, written without a compiler."""
+import os
+import struct
+
+EXAMPLES = os.path.join(os.path.dirname(os.path.abspath(__file__)), "../../examples")
+NAME = b"\1\0\3Row"
+
+
+def plus():
+    """A class that adds one to its entry and returns the sum."""
+    with open(os.path.join(EXAMPLES, "Plus.class"), "rb") as file:
+        return file.read()
+
+
+def ratio():
+    """A class that divides 1 by its entry, and returns null where that is 1."""
+    with open(os.path.join(EXAMPLES, "Ratio.class"), "rb") as file:
+        return file.read()
+
+
+def another(number):
+    """The same as `plus` by another name, one for each number below 1,000."""
+    file = plus()
+    if file.count(NAME) != 1:
+        raise ValueError("the class has another name")
+    return file.replace(NAME, b"\1\0\6Row" + b"%03d" % number)
+
+
+class Pool:
+    """A constant pool that is built up: each method adds a constant and tells its number."""
+
+    def __init__(self):
+        self.constants = []
+
+    def add(self, constant):
+        self.constants.append(constant)
+        return len(self.constants)
+
+    def text(self, word):
+        return self.add(struct.pack(">BH", 1, len(word)) + word.encode())
+
+    def type(self, name):
+        return self.add(struct.pack(">BH", 7, self.text(name)))
+
+    def method(self, of, name, descriptor):
+        both = self.add(struct.pack(">BHH", 12, self.text(name), self.text(descriptor)))
+        return self.add(struct.pack(">BHH", 10, of, both))
+
+
+def method(pool, code_name, flags, name, descriptor, slots, code):
+    """A method with nothing but its code; `slots` are the most of its stack and of its locals."""
+    body = struct.pack(">HHI", *slots, len(code)) + code + struct.pack(">HH", 0, 0)
+    return struct.pack(">HHHHHI", flags, pool.text(name), pool.text(descriptor), 1, code_name, len(body)) + body
+
+
+def heavy():
+    """A class that takes some 240,000 instructions and returns the same number each time: methods that call the next one eight times."""
+    pool = Pool()
+    this, above, processor, code = pool.type("Heavy"), pool.type("java/lang/Object"), pool.type("javax/cache/processor/EntryProcessor"), pool.text("Code")
+
+    def static(of, name, descriptor):
+        return b"\xb8" + struct.pack(">H", pool.method(of, name, descriptor))
+
+    boxed = static(pool.type("java/lang/Long"), "valueOf", "(J)Ljava/lang/Long;")
+    constructor = b"\x2a\xb7" + struct.pack(">H", pool.method(above, "<init>", "()V")) + b"\xb1"
+    process = "(Ljavax/cache/processor/MutableEntry;[Ljava/lang/Object;)Ljava/lang/Object;"
+    methods = [method(pool, code, 1, "<init>", "()V", (1, 1), constructor),
+               method(pool, code, 0x81, "process", process, (4, 3), b"\x0a" + static(this, "m5", "(J)J") + boxed + b"\xb0"),
+               method(pool, code, 8, "m0", "(J)J", (4, 2), b"\x1e\x1e\x61\x1e\x83\xad")]
+    methods += [method(pool, code, 8, f"m{n}", "(J)J", (4, 2), b"\x1e" + 8 * static(this, f"m{n - 1}", "(J)J") + b"\xad") for n in range(1, 6)]
+    head = b"\xca\xfe\xba\xbe" + struct.pack(">HHH", 0, 52, len(pool.constants) + 1) + b"".join(pool.constants)
+    return head + struct.pack(">HHHHHHH", 0x21, this, above, 1, processor, 0, len(methods)) + b"".join(methods) + b"\0\0"
