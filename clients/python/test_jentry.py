@@ -1,0 +1,445 @@
+#!/usr/bin/env python3
+"""test_jentry: the clients for threads and for asyncio, before the stand-in and before the built program.
+JENTRY_PROGRAM names the program and JENTRY_FRONT the front, where they are there."""
+import asyncio
+import os
+import signal
+import subprocess
+import sys
+import threading
+import unittest
+
+HERE = os.path.dirname(os.path.abspath(__file__))
+sys.path[:0] = [HERE, os.path.join(HERE, "../tests")]
+import jentry
+import jentry_aio
+import jentry_processors
+from class_files import plus, ratio
+from running import FRONT, PATIENCE, PROGRAM, SERVER, STAND_IN, Running
+
+EXAMPLES = os.path.join(HERE, "../../examples")
+HAS_PROCESSORS = os.path.exists(os.path.join(HERE, "../processors/GetAndPut.class"))
+LEAST, MOST = -2**63, 2**63 - 1
+INTERRUPTED = """
+import sys
+sys.path.insert(0, sys.argv[1])
+import jentry
+with jentry.Cache.start(*sys.argv[2:]) as cache:
+    try:
+        print("begins", flush=True)
+        cache.get(1)
+    except KeyboardInterrupt:
+        try:
+            cache.get(1)
+        except jentry.StreamEnded:
+            print("ended", flush=True)
+"""
+
+
+def example(name):
+    with open(os.path.join(EXAMPLES, name + ".class"), "rb") as file:
+        return file.read()
+
+
+class Plain(unittest.TestCase):
+    def setUp(self):
+        self.cache = jentry.Cache.start(*SERVER)
+        self.addCleanup(self.cache.close)
+
+    def test_the_plain_requests(self):
+        cache = self.cache
+        self.assertIsNone(cache.get(7))
+        self.assertIsNone(cache.put(7, 41))
+        self.assertEqual(cache.get(7), 41)
+        self.assertIs(cache.contains(7), True)
+        self.assertIs(cache.remove(7), True)
+        self.assertIs(cache.remove(7), False)
+        self.assertIs(cache.contains(7), False)
+
+    def test_the_ends_of_long(self):
+        for number in (LEAST, -1, 0, MOST):
+            self.cache.put(number, number)
+            self.assertEqual(self.cache.get(number), number)
+
+    def test_what_can_not_be_sent_is_not_sent(self):
+        for wrong in (lambda: self.cache.put(2**63, 1), lambda: self.cache.get("7"), lambda: self.cache.put(1, None)):
+            with self.assertRaises(Exception) as told:
+                wrong()
+            self.assertNotIsInstance(told.exception, jentry.Error)
+        processor = self.cache.define(plus())
+        with self.assertRaises(ValueError):
+            self.cache.invoke(1, processor, *range(9))
+        with self.assertRaises(ValueError):
+            self.cache.invoke_all(range(4_097), processor)
+        with self.assertRaises(ValueError):
+            self.cache.define(bytes(jentry.LONGEST))
+        self.assertIsNone(self.cache.get(1))
+
+    def test_processors(self):
+        processor = self.cache.define(plus())
+        self.assertEqual((processor.number, processor.steps, processor.words), (0, 14, 0))
+        self.cache.put(7, 41)
+        self.assertEqual(self.cache.invoke(7, processor), 42)
+        with self.assertRaises(jentry.ProcessorThrew) as told:
+            self.cache.invoke(8, processor)
+        self.assertEqual((told.exception.number, told.exception.name), (3, "NullPointerException"))
+        told = self.cache.invoke_all([7, 8, 7], processor)
+        self.assertEqual(list(told), [7, 8])
+        self.assertEqual(told[7], 43)
+        self.assertIsInstance(told[8], jentry.ProcessorThrew)
+
+    def test_a_class_that_the_stream_does_not_have(self):
+        with self.assertRaises(jentry.Denied) as told:
+            self.cache.invoke(7, jentry.Class(5, 0, 0))
+        self.assertEqual((told.exception.number, told.exception.name), (1, "UnknownClass"))
+
+    def test_a_round(self):
+        with self.cache.round() as r:
+            puts = [r.put(key, 2 * key) for key in range(4_096)]
+            with self.assertRaises(ValueError):
+                r.get(1)
+            with self.assertRaises(jentry.Error):
+                puts[0].result()
+        self.assertEqual({it.result() for it in puts}, {None})
+        with self.cache.round() as r:
+            gets = [r.get(key) for key in range(4_096)]
+        self.assertEqual([it.result() for it in gets], [2 * key for key in range(4_096)])
+
+    def test_a_round_that_is_left_by_an_error_is_not_sent(self):
+        with self.assertRaises(KeyError), self.cache.round() as r:
+            r.put(1, 1)
+            raise KeyError
+        self.assertIsNone(self.cache.get(1))
+
+    def test_closed(self):
+        self.cache.close()
+        self.cache.close()
+        with self.assertRaises(jentry.StreamEnded):
+            self.cache.get(1)
+
+
+class Threads(unittest.TestCase):
+    def run_threads(self, count, work):
+        """Runs `work(n)` on so many threads, each of which has to end without an error."""
+        wrong = []
+
+        def guarded(n):
+            try:
+                work(n)
+            except BaseException as e:
+                wrong.append(repr(e))
+        team = [threading.Thread(target=guarded, args=(n,)) for n in range(count)]
+        for it in team:
+            it.start()
+        for it in team:
+            it.join(PATIENCE)
+            self.assertFalse(it.is_alive())
+        self.assertEqual(wrong, [])
+
+    def test_64_threads_on_one_key(self):
+        told = [[] for _ in range(64)]
+        with jentry.Cache.start(*SERVER) as cache:
+            processor = cache.define(plus())
+            cache.put(1, 0)
+
+            def work(me):
+                for _ in range(50):
+                    told[me].append(cache.invoke(1, processor))
+            self.run_threads(64, work)
+            self.assertEqual(cache.get(1), 3_200)
+        self.assertEqual(sorted(sum(told, [])), list(range(1, 3_201)))
+        for mine in told:
+            self.assertEqual(mine, sorted(mine))
+
+    def test_each_thread_sees_its_own_puts(self):
+        with jentry.Cache.start(*SERVER) as cache:
+            def work(me):
+                for n in range(30):
+                    cache.put(me, n)
+                    with cache.round() as r:
+                        answers = [r.get(me), r.get(-1 - me)]
+                    if [it.result() for it in answers] != [n, None]:
+                        raise AssertionError("another's reply")
+            self.run_threads(32, work)
+
+    def ends_for_all(self, option, *more):
+        cache = jentry.Cache.start(*STAND_IN, option, "40", *more)
+        ended = []
+
+        def work(me):
+            try:
+                for n in range(1_000):
+                    cache.put(me, n)
+            except jentry.StreamEnded:
+                ended.append(me)
+        self.run_threads(16, work)
+        self.assertEqual(sorted(ended), list(range(16)))
+        with self.assertRaises(jentry.StreamEnded):
+            cache.get(1)
+        cache.close()
+
+    def test_the_server_ends(self):
+        self.ends_for_all("--die")
+
+    def test_a_reply_too_many(self):
+        self.ends_for_all("--wrong")
+
+    def test_a_reply_too_few(self):
+        self.ends_for_all("--short")
+
+    def test_closed_while_a_call_is_out(self):
+        cache = jentry.Cache.start(*STAND_IN, "--slow", "1")
+        told = []
+
+        def work(_):
+            try:
+                told.append(cache.get(1))
+            except jentry.StreamEnded:
+                told.append("ended")
+        thread = threading.Thread(target=work, args=(0,))
+        thread.start()
+        while not cache._is_led:
+            threading.Event().wait(0.01)
+        cache.close()
+        thread.join(PATIENCE)
+        self.assertIn(told, (["ended"], [None]))
+
+    def test_a_leader_that_is_interrupted_breaks_the_stream(self):
+        words = [sys.executable, "-c", INTERRUPTED, HERE, *STAND_IN, "--slow", "30"]
+        child = subprocess.Popen(words, stdout=subprocess.PIPE, text=True)
+        self.assertEqual(child.stdout.readline(), "begins\n")
+        threading.Event().wait(1)
+        child.send_signal(signal.SIGINT)
+        self.assertEqual(child.communicate(timeout=PATIENCE)[0], "ended\n")
+
+
+class Answers(unittest.TestCase):
+    def test_what_is_no_reply(self):
+        for text in (b"", b"\0", b"\x04", b"\x04\1", b"\x04\3", b"\x04\0\0", b"\3", b"\5\1", b"\x09", b"\x0a"):
+            with self.subTest(text=text), self.assertRaises(jentry.StreamEnded):
+                jentry.read_answer(jentry.GET, text)
+        self.assertIsNone(jentry.read_answer(jentry.GET, b"\4\0"))
+        self.assertIsInstance(jentry.read_answer(jentry.GET, b"\x08\3"), jentry.Denied)
+
+    def test_names(self):
+        self.assertEqual(str(jentry.Refused(17, 186)), "refused: 17 OutsideProfile opcode 186")
+        self.assertEqual(str(jentry.Refused(22, 9)), "refused: 22 TypeMismatch at 9")
+        self.assertEqual(str(jentry.Denied(77)), "denied: 77 unknown")
+
+
+@unittest.skipUnless(PROGRAM, "the program isn't built")
+class Machine(unittest.TestCase):
+    def setUp(self):
+        self.cache = jentry.Cache.start(*SERVER)
+        self.addCleanup(self.cache.close)
+
+    def test_arguments(self):
+        add = self.cache.define(example("Add"))
+        self.cache.put(7, 41)
+        self.assertEqual(self.cache.invoke(7, add, 1), 42)
+        with self.assertRaises(jentry.ProcessorThrew) as told:
+            self.cache.invoke(7, add, jentry.Int(1))
+        self.assertEqual(told.exception.name, "ClassCastException")
+        self.assertEqual(self.cache.get(7), 42)
+
+    def test_a_refused_class(self):
+        with self.assertRaises(jentry.Refused) as told:
+            self.cache.define(b"none")
+        self.assertEqual((told.exception.number, told.exception.name), (3, "BadMagic"))
+        self.cache.put(1, 1)
+        self.assertEqual(self.cache.invoke(1, self.cache.define(plus())), 2)
+
+    def test_results_that_are_null_are_left_out(self):
+        processor = self.cache.define(ratio())
+        with self.cache.round() as r:
+            r.put(1, -5), r.put(2, 0), r.put(3, 1)
+        told = self.cache.invoke_all([3, 2, 1], processor)
+        self.assertEqual(list(told), [2, 1])
+        self.assertEqual(told[1], 0)
+        self.assertEqual(told[2].name, "ArithmeticException")
+        self.assertIsNone(self.cache.invoke(3, processor))
+
+
+@unittest.skipUnless(PROGRAM and HAS_PROCESSORS, "the program or the class files of the processors aren't there")
+class BuiltIn(unittest.TestCase):
+    def setUp(self):
+        self.cache = jentry.Cache.start(*SERVER)
+        self.addCleanup(self.cache.close)
+
+    def test_each(self):
+        cache = self.cache
+        self.assertIsNone(cache.get_and_put(1, 10))
+        self.assertEqual(cache.get_and_put(1, 11), 10)
+        self.assertIs(cache.put_if_absent(1, 5), False)
+        self.assertIs(cache.put_if_absent(2, 5), True)
+        self.assertIs(cache.remove_if(1, 10), False)
+        self.assertIs(cache.remove_if(1, 11), True)
+        self.assertIs(cache.replace(1, 1), False)
+        self.assertIs(cache.replace(2, 6), True)
+        self.assertIs(cache.replace_if(2, 5, 7), False)
+        self.assertIs(cache.replace_if(2, 6, 7), True)
+        self.assertIsNone(cache.get_and_replace(1, 1))
+        self.assertEqual(cache.get_and_replace(2, 8), 7)
+        self.assertIsNone(cache.get_and_remove(1))
+        self.assertEqual(cache.get_and_remove(2), 8)
+        self.assertEqual((cache.contains(1), cache.contains(2)), (False, False))
+
+    def test_in_a_round(self):
+        with self.cache.round() as r:
+            answers = [r.put_if_absent(key, key) for key in range(10)]
+        self.assertEqual([it.result() for it in answers], 10 * [True])
+        self.assertEqual(self.cache.processor("PutIfAbsent").number, 0)
+
+    def test_one_of_many_threads_puts(self):
+        told = []
+        team = [threading.Thread(target=lambda n=n: told.append(self.cache.put_if_absent(1, n))) for n in range(32)]
+        for it in team:
+            it.start()
+        for it in team:
+            it.join(PATIENCE)
+        self.assertEqual(sorted(told), 31 * [False] + [True])
+        self.assertEqual(self.cache.define(plus()).number, 1)
+
+
+class Loop(unittest.TestCase):
+    """The client for asyncio."""
+
+    def run_in_loop(self, work, server=SERVER):
+        async def limited():
+            async with await jentry_aio.start(*server) as cache:
+                await asyncio.wait_for(work(cache), PATIENCE)
+        asyncio.run(limited())
+
+    def test_the_plain_requests(self):
+        async def work(cache):
+            self.assertIsNone(await cache.get(7))
+            self.assertIsNone(await cache.put(7, 41))
+            self.assertEqual(await cache.get(7), 41)
+            self.assertIs(await cache.remove(7), True)
+            self.assertIs(await cache.contains(7), False)
+            with self.assertRaises(jentry.Denied):
+                await cache.invoke(7, jentry.Class(5, 0, 0))
+        self.run_in_loop(work)
+
+    def test_many_tasks(self):
+        async def work(cache):
+            processor = await cache.define(plus())
+            await cache.put(1, 0)
+            told = await asyncio.gather(*(cache.invoke(1, processor) for _ in range(10_000)))
+            self.assertEqual(sorted(told), list(range(1, 10_001)))
+            keys = await asyncio.gather(*(cache.put(key, -key) for key in range(10_000)))
+            self.assertEqual(set(keys), {None})
+            self.assertEqual(await asyncio.gather(*(cache.get(key) for key in range(10_000))), [-key for key in range(10_000)])
+        self.run_in_loop(work)
+
+    def test_a_cancelled_task_leaves_others_their_replies(self):
+        async def work(cache):
+            for key in range(100):
+                await cache.put(key, 7 * key)
+            for turns in range(4):
+                tasks = [asyncio.ensure_future(self.get(cache, key)) for key in range(100)]
+                for _ in range(turns):
+                    await asyncio.sleep(0)
+                for task in tasks[::2]:
+                    task.cancel()
+                told = await asyncio.gather(*tasks, return_exceptions=True)
+                self.assertEqual(told[1::2], [7 * key for key in range(1, 100, 2)])
+                self.assertTrue(all(isinstance(it, asyncio.CancelledError) for it in told[::2]))
+            self.assertEqual(await cache.get(3), 21)
+        self.run_in_loop(work, STAND_IN + ["--slow", "0.002"])
+
+    async def get(self, cache, key):
+        return await cache.get(key)
+
+    def ends_for_all(self, option):
+        async def work(cache):
+            await asyncio.gather(*(cache.put(key, 1) for key in range(10)))
+            told = await asyncio.gather(*(cache.get(key) for key in range(10)), return_exceptions=True)
+            self.assertTrue(all(isinstance(it, jentry.StreamEnded) for it in told))
+            with self.assertRaises(jentry.StreamEnded):
+                await cache.get(1)
+        self.run_in_loop(work, STAND_IN + [option, "2"])
+
+    def test_the_server_ends(self):
+        self.ends_for_all("--die")
+
+    def test_a_reply_too_many(self):
+        self.ends_for_all("--wrong")
+
+    def test_a_reply_too_few(self):
+        self.ends_for_all("--short")
+
+    @unittest.skipUnless(PROGRAM and HAS_PROCESSORS, "the program or the class files of the processors aren't there")
+    def test_built_in_processors(self):
+        async def work(cache):
+            told = await asyncio.gather(*(cache.put_if_absent(1, n) for n in range(32)))
+            self.assertEqual(sorted(told), 31 * [False] + [True])
+            self.assertIs(await cache.replace(1, 5), True)
+            self.assertEqual(await cache.get_and_remove(1), 5)
+            self.assertEqual((await cache.define(plus())).number, 3)
+        self.run_in_loop(work)
+
+
+@unittest.skipUnless(FRONT, "the front isn't built")
+class Shared(unittest.TestCase):
+    """Python's threads, asyncio and examples/frames.py on one cache, by the front."""
+
+    def test_all_on_one_cache(self):
+        with Running() as front, jentry.Cache.connect(front.place) as cache:
+            processor = cache.define(plus())
+            cache.put(1, 0)
+            team = [threading.Thread(target=self.add, args=(cache, processor)) for _ in range(8)]
+            for it in team:
+                it.start()
+            asyncio.run(self.add_in_loop(front.place))
+            for it in team:
+                it.join(PATIENCE)
+            self.assertEqual(cache.get(1), 8 * 50 + 400)
+            self.assertEqual(self.lines(front, b"get 1\nput 2 5\nend\n"), b"value 800\ndone\nend\n")
+            self.assertEqual(cache.get(2), 5)
+
+    def add(self, cache, processor):
+        for _ in range(50):
+            cache.invoke(1, processor)
+
+    async def add_in_loop(self, place):
+        async with await jentry_aio.connect(place) as cache:
+            processor = await cache.define(plus())
+            await asyncio.gather(*(cache.invoke(1, processor) for _ in range(400)))
+
+    def lines(self, front, text):
+        """What examples/frames.py makes of these lines, and of the front's replies to them."""
+        frames = [sys.executable, os.path.join(EXAMPLES, "frames.py")]
+        sent = subprocess.run(frames, input=text, stdout=subprocess.PIPE, timeout=PATIENCE, check=True).stdout
+        with front.open() as line:
+            line.sendall(sent)
+            line.shutdown(1)
+            replies = b"".join(iter(lambda: line.recv(65_536), b""))
+        return subprocess.run(frames + ["--replies"], input=replies, stdout=subprocess.PIPE, timeout=PATIENCE, check=True).stdout
+
+    def test_the_front_ends(self):
+        with Running(server=STAND_IN + ["--die", "3"]) as front, jentry.Cache.connect(front.place) as cache:
+            cache.put(1, 1)
+            cache.put(1, 2)
+            with self.assertRaises(jentry.StreamEnded):
+                cache.put(1, 3)
+
+    def test_tcp(self):
+        with Running(tcp=True) as front, jentry.Cache.connect(front.place) as cache:
+            cache.put(1, 1)
+            self.assertEqual(cache.get(1), 1)
+
+
+class Package(unittest.TestCase):
+    @unittest.skipUnless(HAS_PROCESSORS, "the class files of the processors aren't there")
+    def test_the_class_files_are_found(self):
+        for name in jentry_processors.NAMES:
+            self.assertEqual(jentry_processors.file(name)[:4], b"\xca\xfe\xba\xbe")
+
+    def test_a_processor_that_is_not_there(self):
+        with self.assertRaises(FileNotFoundError):
+            jentry_processors.file("None")
+
+
+if __name__ == "__main__":
+    unittest.main()
