@@ -90,7 +90,7 @@ fn arguments_end(text: &[u8], at: usize) -> Option<usize> {
 /// and tells it where it first stood.
 pub fn judge(text: &mut Vec<u8>) -> Option<Frame> {
     let length = text.len();
-    match (text[4], length) {
+    match (*text.get(4)?, length) {
         (1, _) => Some(Frame::Define),
         (8, 5) => Some(Frame::End),
         (2, 21) | (3..=5, 13) => Some(Frame::Plain),
