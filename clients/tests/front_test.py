@@ -102,7 +102,6 @@ class OneConnection(FrontTest):
 
     def test_who_stands_still_is_closed(self):
         with Running("--idle", "1") as front, front.open() as a:
-            self.ask(a, put(7, 41) + END, DONE + ENDED)
             self.assertTrue(is_ended(a))
 
     def test_tcp(self):
@@ -333,54 +332,49 @@ class ClassesRunOut(FrontTest):
 
 @unittest.skipUnless(PROGRAM, "the stand-in runs no classes")
 class Heavy(FrontTest):
-    """A light call goes between the pieces of heavy rounds: it is answered while most of their work is still to come."""
+    """A light call goes between the pieces of heavy rounds: it is answered while nearly all of their work is still to come. That work
+    takes many seconds, and the front is ended before it is done."""
 
-    def light_calls(self, line, count):
-        for n in range(count):
+    def light_calls(self, line, heavy_lines):
+        for n in range(5):
             self.ask(line, put(-1, n) + get(-2) + END, DONE + value(None) + ENDED)
+        self.assertEqual([n for n, it in enumerate(heavy_lines) if has_more(it)], [], "heavy rounds were answered before light calls")
 
     def test_beside_one_connection(self):
         with Running() as front, front.open() as a, front.open() as b:
-            steps = self.define(a, heavy(), 0)
-            self.assertGreater(steps, 200_000)
-            a.sendall(b"".join(invoke(0, key) for key in range(200)) + END)
-            self.light_calls(b, 5)
-            self.assertFalse(has_more(a), "the heavy round was answered before five light calls")
-            self.assertEqual({take_frame(a) for _ in range(200)}, {take_frame(self.alone(front))})
-            self.assertEqual(take(a, 5), ENDED)
-
-    def alone(self, front):
-        """A connection that has asked for one heavy invocation."""
-        line = front.open()
-        self.addCleanup(line.close)
-        self.define(line, heavy(), 0)
-        line.sendall(invoke(0, 1) + END)
-        return line
+            self.assertGreater(self.define(a, heavy(), 0), 200_000)
+            a.sendall(b"".join(invoke(0, key) for key in range(4_096)) + END)
+            self.light_calls(b, [a])
 
     def test_beside_64_connections(self):
         with Running() as front, front.open() as b:
             lines = [front.open() for _ in range(64)]
             for line in lines:
+                self.addCleanup(line.close)
                 self.define(line, heavy(), 0)
             for line in lines:
-                line.sendall(b"".join(invoke(0, key) for key in range(4)) + END)
-            self.light_calls(b, 3)
-            self.assertEqual([n for n, line in enumerate(lines) if has_more(line)], [])
-            for line in lines:
-                self.assertEqual([take_frame(line)[0] for _ in range(5)], [6, 6, 6, 6, 9])
-                line.close()
+                line.sendall(b"".join(invoke(0, key) for key in range(64)) + END)
+            self.light_calls(b, lines)
 
     def test_beside_an_invoke_all_of_many_keys(self):
         with Running() as front, front.open() as a, front.open() as b:
             self.define(a, heavy(), 0)
-            keys = list(range(200, 0, -1))
-            a.sendall(invoke_all(0, keys + keys[:50]) + END)
-            self.light_calls(b, 5)
-            self.assertFalse(has_more(a), "the invokeAll was answered before five light calls")
-            told = take_frame(a)
-            self.assertEqual(struct.unpack_from(">BH", told), (7, 200))
-            self.assertEqual([key for key, *_ in struct.iter_unpack(">qBBq", told[3:])], keys)
-            self.assertEqual(take(a, 5), ENDED)
+            a.sendall(invoke_all(0, range(4_096)) + END)
+            self.light_calls(b, [a])
+
+    def test_all_are_answered(self):
+        with Running() as front:
+            lines = [front.open() for _ in range(8)]
+            keys = [5, 3, 5, 9, 1, 3]
+            for line in lines:
+                self.addCleanup(line.close)
+                self.define(line, heavy(), 0)
+                line.sendall(4 * invoke(0, 1) + invoke_all(0, keys) + get(2) + END)
+            told = [[take_frame(line) for _ in range(7)] for line in lines]
+            self.assertEqual(len({repr(it) for it in told}), 1)
+            self.assertEqual(told[0][0][:3], b"\6\0\1")
+            number, = struct.unpack(">q", told[0][0][3:])
+            self.assertEqual(told[0], 4 * [result(number)[4:]] + [results([(key, number) for key in (5, 3, 9, 1)])[4:], value(None)[4:], ENDED[4:]])
 
 
 class Ends(FrontTest):

@@ -59,8 +59,8 @@ class Running:
 
     def open(self):
         line = socket.socket(socket.AF_INET if isinstance(self.place, tuple) else socket.AF_UNIX)
+        line.connect(self.place)    # it waits where many connect at once
         line.settimeout(PATIENCE)
-        line.connect(self.place)
         return line
 
     def server(self):
