@@ -425,7 +425,12 @@ class Cache(Requests, Processors):
             self._fail(taken, e if isinstance(e, StreamEnded) else StreamEnded(LOST))
         except BaseException:
             self._fail(taken, StreamEnded(LOST))
+            self._end_round(taken)
             raise
+        self._end_round(taken)
+
+    def _end_round(self, taken):
+        """Lets the next call lead, and wakes those whose round is over. The leader is one of them and is awake."""
         with self._lock:
             self._hand_on()
         for call in taken:

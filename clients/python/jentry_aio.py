@@ -43,7 +43,12 @@ class Cache(jentry.Requests, jentry.Processors):
         """The Class of a built-in processor. Tasks that use it at once wait for one definition."""
         if name not in self._processors:
             self._processors[name] = self.define(jentry_processors.file(name))
-        return await asyncio.shield(self._processors[name])
+        try:
+            return await asyncio.shield(self._processors[name])
+        except jentry.Error:
+            # The next use tries again: a want of memory may be over.
+            self._processors.pop(name, None)
+            raise
 
     async def _run(self, name, key, *arguments, convert=None):
         return await self._invoke(key, await self.processor(name), arguments, convert)

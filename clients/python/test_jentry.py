@@ -2,6 +2,7 @@
 """test_jentry: the clients for threads and for asyncio, before the stand-in and before the built program.
 JENTRY_PROGRAM names the program and JENTRY_FRONT the front, where they are there."""
 import asyncio
+import io
 import os
 import signal
 import subprocess
@@ -34,6 +35,20 @@ with jentry.Cache.start(*sys.argv[2:]) as cache:
         except jentry.StreamEnded:
             print("ended", flush=True)
 """
+
+
+class Interrupted:
+    """What a server answers to a get and to the end of its round, once it goes on; whoever reads further is interrupted."""
+
+    def __init__(self):
+        self.goes_on, self._replies = threading.Event(), io.BytesIO(b"\0\0\0\2\4\0" + b"\0\0\0\1\x09")
+
+    def read(self, count):
+        self.goes_on.wait(PATIENCE)
+        text = self._replies.read(count)
+        if not text:
+            raise KeyboardInterrupt
+        return text
 
 
 def example(name):
@@ -203,6 +218,28 @@ class Threads(unittest.TestCase):
         cache.close()
         thread.join(PATIENCE)
         self.assertIn(told, (["ended"], [None]))
+
+    def test_an_interrupted_leader_wakes_its_round(self):
+        reader, told = Interrupted(), []
+        cache = jentry.Cache(reader, io.BytesIO(), lambda: None)
+
+        def work():
+            try:
+                told.append(str(cache.get(1)))
+            except (jentry.StreamEnded, KeyboardInterrupt) as e:
+                told.append(type(e).__name__)
+        threads = [threading.Thread(target=work) for _ in range(3)]
+        threads[0].start()
+        while not cache._is_led:
+            threading.Event().wait(0.01)
+        for thread in threads[1:]:
+            thread.start()
+        while len(cache._waiting) < 2:
+            threading.Event().wait(0.01)
+        reader.goes_on.set()
+        for thread in threads:
+            thread.join(PATIENCE)
+        self.assertEqual(sorted(told), ["KeyboardInterrupt", "None", "StreamEnded"])
 
     def test_a_leader_that_is_interrupted_breaks_the_stream(self):
         words = [sys.executable, "-c", INTERRUPTED, HERE, *STAND_IN, "--slow", "30"]
