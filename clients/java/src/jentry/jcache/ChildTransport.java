@@ -56,8 +56,9 @@ final class ChildTransport implements Transport {
     @Override public String lastWords() {
         boolean interrupted = Thread.interrupted();
         try {
-            process.waitFor(LAST_WORDS_MILLIS, TimeUnit.MILLISECONDS);
-            listener.join(LAST_WORDS_MILLIS);
+            if (process.waitFor(LAST_WORDS_MILLIS, TimeUnit.MILLISECONDS)) {
+                listener.join(LAST_WORDS_MILLIS);
+            }
         } catch (InterruptedException e) {
             interrupted = true;
         }

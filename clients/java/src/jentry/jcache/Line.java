@@ -258,8 +258,9 @@ final class Line {
 
     /** The leader's round failed: so did its calls, and all that wait. */
     private void fail(List<Call> taken, Throwable why) {
-        transport.cut();
+        // Before the cut, which closes what the words come by.
         String last = transport.lastWords();
+        transport.cut();
         String what = "the stream to the server is broken" + (last.isEmpty() ? "" : " (" + last + ")");
         List<Call> waited = breakLine(what, why);
         lock.lock();
