@@ -1,12 +1,12 @@
 //! One connection, from its first byte to its last.
 
 use crate::classes::{told, Class, Classes, Found};
-use crate::desk::Desk;
+use crate::desk::{Desk, Seat};
 use crate::piece::Part;
 use crate::request::{judge, read_frame, set_class, Frame, MOST_JOBS};
 use std::io::{self, Read, Write};
 use std::mem::take;
-use std::sync::{Arc, Condvar};
+use std::sync::Arc;
 
 /// What a request takes beside the instructions of its class.
 const COST: u64 = 64;
@@ -38,8 +38,7 @@ pub struct Shared {
 /// A connection, and the round that it has open.
 struct Connection<'a> {
     shared: &'a Shared,
-    id: u64,
-    bell: Arc<Condvar>,
+    seat: Arc<Seat>,
     classes: Vec<Class>,
     /// How many classes it brought that the server didn't have.
     brought: usize,
@@ -48,10 +47,9 @@ struct Connection<'a> {
     requests: usize,
 }
 
-/// Serves a connection to its end; `id` is its own among all. An error ends it, and what it had sent of an open round is dropped.
-pub fn serve(shared: &Shared, id: u64, mut input: impl Read, mut output: impl Write) -> io::Result<()> {
-    let bell = Arc::new(Condvar::new());
-    let mut it = Connection { shared, id, bell, classes: Vec::new(), brought: 0, part: Part::default(), jobs: 0, requests: 0 };
+/// Serves a connection to its end. An error ends it, and what it had sent of an open round is dropped.
+pub fn serve(shared: &Shared, mut input: impl Read, mut output: impl Write) -> io::Result<()> {
+    let mut it = Connection { shared, seat: Arc::default(), classes: Vec::new(), brought: 0, part: Part::default(), jobs: 0, requests: 0 };
     let mut text = Vec::new();
     while read_frame(&mut input, &mut text)? {
         match judge(&mut text).ok_or(io::ErrorKind::InvalidData)? {
@@ -79,7 +77,7 @@ impl Connection<'_> {
     fn run_round(&mut self) -> io::Result<Vec<u8>> {
         self.jobs = 0;
         self.requests = 0;
-        self.shared.desk.run(self.id, take(&mut self.part), &self.bell).ok_or_else(gone)
+        self.shared.desk.run(take(&mut self.part), &self.seat).ok_or_else(gone)
     }
 
     /// Adds a request to the round that is open.
@@ -146,7 +144,7 @@ impl Connection<'_> {
             None => return Ok(TOO_MANY_CLASSES.to_vec()),
             Some(Found::Class(class)) => class,
             Some(Found::New) => {
-                let reply = self.shared.desk.run(self.id, Part::of_class(text.to_vec()), &self.bell);
+                let reply = self.shared.desk.run(Part::of_class(text.to_vec()), &self.seat);
                 let class = reply.as_deref().and_then(told);
                 self.shared.classes.settle(&text[5..], class);
                 match class {

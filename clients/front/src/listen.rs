@@ -7,7 +7,7 @@ use std::io::{self, BufReader, Read, Write};
 use std::net::{TcpListener, TcpStream};
 use std::os::unix::io::{AsFd, OwnedFd};
 use std::os::unix::net::{UnixListener, UnixStream};
-use std::sync::atomic::{AtomicU64, AtomicUsize, Ordering};
+use std::sync::atomic::{AtomicUsize, Ordering};
 use std::sync::Arc;
 use std::thread;
 use std::time::Duration;
@@ -33,13 +33,12 @@ pub struct Gate {
     most: usize,
     idle: Option<Duration>,
     count: AtomicUsize,
-    ids: AtomicU64,
 }
 
 impl Gate {
     /// A gate for at most so many connections; one that stands still for `idle` is closed.
     pub fn new(shared: Shared, most: usize, idle: Option<Duration>) -> Gate {
-        Gate { shared, most, idle, count: AtomicUsize::new(0), ids: AtomicU64::new(0) }
+        Gate { shared, most, idle, count: AtomicUsize::new(0) }
     }
 }
 
@@ -106,27 +105,26 @@ pub fn run(listener: &Listener, gate: &Arc<Gate>) {
 fn take_unix(gate: &Arc<Gate>, stream: UnixStream) {
     let is_set = stream.set_nonblocking(false).and(stream.set_read_timeout(gate.idle)).and(stream.set_write_timeout(gate.idle));
     if is_set.is_ok() {
-        start(gate, move |gate, id| talk(gate, id, &stream, &stream));
+        start(gate, move |gate| talk(gate, &stream, &stream));
     }
 }
 
 fn take_tcp(gate: &Arc<Gate>, stream: TcpStream) {
     let is_set = stream.set_nonblocking(false).and(stream.set_read_timeout(gate.idle)).and(stream.set_write_timeout(gate.idle)).and(stream.set_nodelay(true));
     if is_set.is_ok() {
-        start(gate, move |gate, id| talk(gate, id, &stream, &stream));
+        start(gate, move |gate| talk(gate, &stream, &stream));
     }
 }
 
 /// Starts the thread of a connection, if there is room for one more. Else the connection is closed.
-fn start(gate: &Arc<Gate>, work: impl FnOnce(&Gate, u64) + Send + 'static) {
+fn start(gate: &Arc<Gate>, work: impl FnOnce(&Gate) + Send + 'static) {
     if gate.count.fetch_add(1, Ordering::SeqCst) >= gate.most {
         gate.count.fetch_sub(1, Ordering::SeqCst);
         return;
     }
-    let id = gate.ids.fetch_add(1, Ordering::SeqCst);
     let mine = gate.clone();
     let started = thread::Builder::new().stack_size(STACK).spawn(move || {
-        work(&mine, id);
+        work(&mine);
         mine.count.fetch_sub(1, Ordering::SeqCst);
     });
     if started.is_err() {
@@ -135,6 +133,6 @@ fn start(gate: &Arc<Gate>, work: impl FnOnce(&Gate, u64) + Send + 'static) {
 }
 
 /// Serves a connection. How it ended is the client's to know.
-fn talk(gate: &Gate, id: u64, input: impl Read, output: impl Write) {
-    let _ = serve(&gate.shared, id, BufReader::with_capacity(BUFFER, input), output);
+fn talk(gate: &Gate, input: impl Read, output: impl Write) {
+    let _ = serve(&gate.shared, BufReader::with_capacity(BUFFER, input), output);
 }

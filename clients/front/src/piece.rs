@@ -273,13 +273,13 @@ impl Piece {
 
     /// Deals the server's replies, texts without their lengths one behind the other, `ends` telling where each ends. False where one of
     /// them is no reply to its request.
-    pub fn deal<T>(self, turns: &mut [Turn<T>], text: &[u8], ends: &[usize]) -> bool {
+    pub fn deal<T>(&self, turns: &mut [Turn<T>], text: &[u8], ends: &[usize]) -> bool {
         let mut ends = ends.iter();
         let mut begin = 0;
-        for Place { turn, what } in self.places {
-            let part = &mut turns[turn].part;
+        for Place { turn, what } in &self.places {
+            let part = &mut turns[*turn].part;
             if let What::Known(replies) = what {
-                part.told.extend_from_slice(&replies);
+                part.told.extend_from_slice(replies);
                 continue;
             }
             let end = match ends.next() {
@@ -289,7 +289,7 @@ impl Piece {
             let reply = &text[begin..end];
             begin = end;
             let went = match what {
-                What::Keys { keys, last } => part.join(keys, last, reply),
+                What::Keys { keys, last } => part.join(keys.clone(), *last, reply),
                 _ => {
                     part.told.extend_from_slice(&(reply.len() as u32).to_be_bytes());
                     part.told.extend_from_slice(reply);
