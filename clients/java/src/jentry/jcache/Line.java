@@ -14,8 +14,9 @@ import javax.cache.CacheException;
 /**
  * One stream that many threads share. One round is out at most; the calls that come meanwhile gather for the next one. An idle line sends at once.
  *
- * <p>The callers themselves drive it: the first that waits leads a round, that is, it writes the round, reads its replies and deals them, and before it
- * goes on it hands the lead to the first call of the next round. A call that nobody waits for is led by a thread of the line.
+ * <p>The callers themselves drive it: one that waits leads its round, that is, it reads the replies and deals them, and before it goes on it sends the next
+ * round and hands the lead to a caller of that. So the server works while the next leader is being woken. Calls that nobody waits for are led by a thread
+ * of the line.
  *
  * <p>A thread waits for its call's replies, so no round has two calls of one thread, and each thread's calls keep their order. An interrupted thread goes
  * on waiting, and finds itself interrupted afterwards.
@@ -36,8 +37,11 @@ final class Line {
     private final ArrayDeque<Call> queue = new ArrayDeque<>();
     private final Wire.Out round = new Wire.Out(1 << 12);
 
-    // Whether some thread has the lead, or is about to take it. Where none has, the queue is empty.
+    // Whether some thread has the lead, or is about to take it. Where none has, the queue is empty and no round is out.
     private boolean led;
+    // The calls of the round that was sent, for who reads their replies; null where none was. It is the leader's alone.
+    private List<Call> sent;
+    private boolean ownLeads;
     private boolean out;
     private long since;
     private String broken;
@@ -119,7 +123,7 @@ final class Line {
             queue.add(call);
             if (!led) {
                 led = true;
-                giveLead();
+                wakeOwn();
             }
         } finally {
             lock.unlock();
@@ -133,14 +137,9 @@ final class Line {
         }
     }
 
-    /** Makes the first call that waits lead; under the lock. */
-    private void giveLead() {
-        Call head = queue.peek();
-        head.state = Call.State.LEADS;
-        if (head.waiter != null) {
-            LockSupport.unpark(head.waiter);
-            return;
-        }
+    /** Gives the lead to the thread of the line; under the lock. */
+    private void wakeOwn() {
+        ownLeads = true;
         if (own == null) {
             own = new Thread(this::leadOthers, "jentry-leader");
             own.setDaemon(true);
@@ -149,17 +148,17 @@ final class Line {
         LockSupport.unpark(own);
     }
 
-    /** Leads the rounds whose first call has nobody that waits for it. */
+    /** Leads the rounds that have no call that a thread waits for. */
     private void leadOthers() {
         while (true) {
             boolean mine;
             lock.lock();
             try {
-                if (broken != null) {
+                mine = ownLeads;
+                ownLeads = false;
+                if (!mine && broken != null) {
                     return;
                 }
-                Call head = queue.peek();
-                mine = head != null && head.waiter == null && head.state == Call.State.LEADS;
             } finally {
                 lock.unlock();
             }
@@ -171,14 +170,18 @@ final class Line {
         }
     }
 
-    /** Writes a round of what waits, reads its replies, hands on the lead, and tells the round's calls their end. */
+    /**
+     * Reads the replies of the round that is out, or of one that it sends where none is. Then it sends the next round, which runs while another thread is
+     * woken to lead it, and tells the calls of its own round their end.
+     */
     private void lead() {
-        List<Call> taken = take();
+        if (sent == null && !send()) {
+            return;
+        }
+        List<Call> taken = sent;
+        sent = null;
         try {
-            if (!taken.isEmpty()) {
-                transport.write(round.bytes(), round.length());
-                readReplies(taken);
-            }
+            readReplies(taken);
         } catch (IOException | RuntimeException e) {
             fail(taken, e);
             return;
@@ -186,11 +189,52 @@ final class Line {
             fail(taken, e);
             throw e;
         }
-        over();
-        tell(taken);
+        try {
+            if (send()) {
+                handOn();
+            }
+        } finally {
+            tell(taken);
+        }
     }
 
-    /** The calls of the next round, none where the line was broken meanwhile. */
+    /** Sends what waits as the next round. Where nothing waits, or the line breaks, nobody has the lead any more; then the answer is false. */
+    private boolean send() {
+        List<Call> taken = take();
+        if (taken.isEmpty()) {
+            return false;
+        }
+        try {
+            transport.write(round.bytes(), round.length());
+        } catch (IOException | RuntimeException e) {
+            fail(taken, e);
+            return false;
+        } catch (Error e) {
+            fail(taken, e);
+            throw e;
+        }
+        sent = taken;
+        return true;
+    }
+
+    /** Gives the lead to a thread that waits for a call of the round that was sent. */
+    private void handOn() {
+        for (Call call : sent) {
+            if (call.waiter != null) {
+                call.state = Call.State.LEADS;
+                LockSupport.unpark(call.waiter);
+                return;
+            }
+        }
+        lock.lock();
+        try {
+            wakeOwn();
+        } finally {
+            lock.unlock();
+        }
+    }
+
+    /** The calls of the next round, which is out from now on; none where none waits. */
     private List<Call> take() {
         List<Call> taken = new ArrayList<>();
         lock.lock();
@@ -203,11 +247,16 @@ final class Line {
                 round.put(call.text());
                 taken.add(call);
             }
-            round.end();
-            room.signalAll();
-            since = System.nanoTime();
-            out = true;
-            rounds++;
+            out = !taken.isEmpty();
+            if (out) {
+                round.end();
+                room.signalAll();
+                since = System.nanoTime();
+                rounds++;
+            } else {
+                led = false;
+                idle.signalAll();
+            }
         } finally {
             lock.unlock();
         }
@@ -226,22 +275,6 @@ final class Line {
         }
         if (in.next() != Wire.ENDED) {
             throw new IOException("a round has more replies than requests");
-        }
-    }
-
-    /** The round that was out is over: the next one may go. */
-    private void over() {
-        lock.lock();
-        try {
-            out = false;
-            if (queue.isEmpty()) {
-                led = false;
-                idle.signalAll();
-            } else {
-                giveLead();
-            }
-        } finally {
-            lock.unlock();
         }
     }
 

@@ -31,7 +31,7 @@ enum Refusal {
     UNKNOWN_MEMBER("UnknownMember", "it calls a method, or casts to or tests for a type, that isn't among those that a processor may use: write it as a method of the class"),
     RECURSIVE("Recursive", "write no recursion: a method for each level, or a formula"),
     LENGTH_NOT_CONSTANT("LengthNotConstant", "give a new array a constant length from 0 to 65,535"),
-    STEP_LIMIT("StepLimit", "some way through the code has more than 1,000,000 instructions: call fewer methods"),
+    STEP_LIMIT("StepLimit", "some way through the code has more than 4,000,000 instructions: call fewer methods"),
     WORD_LIMIT("WordLimit", "the arrays of some way through the code take more than 65,536 words: make an array once and hand it on"),
     FRAME_LIMIT("FrameLimit", "more than 64 methods or 8,192 slots are open at once: write a flatter chain of calls"),
     NO_MEMORY("NoMemory", "the server had no memory to judge the class, which says nothing of the class");
@@ -56,9 +56,7 @@ enum Refusal {
         Map.entry(188, "write int[] or long[]"),
         Map.entry(189, "write long[], or parameters one by one"),
         Map.entry(191, "nothing can be thrown: a division by zero ends the run"),
-        Map.entry(196, "write i = i + 250 in place of i += 250, or a smaller method"),
-        Map.entry(197, "write one array in place of an array of arrays"),
-        Map.entry(200, "write smaller methods"));
+        Map.entry(197, "write one array in place of an array of arrays"));
 
     private final String title;
     private final String remedy;

@@ -18,6 +18,7 @@ import java.util.concurrent.CountDownLatch;
 import java.util.concurrent.RejectedExecutionException;
 import java.util.concurrent.TimeUnit;
 import java.util.concurrent.atomic.AtomicInteger;
+import java.util.concurrent.atomic.AtomicLong;
 import java.util.function.Consumer;
 import javax.cache.Cache;
 import javax.cache.CacheException;
@@ -33,6 +34,8 @@ import org.junit.jupiter.api.Timeout;
 class BrokenTest {
     private static final String NOT_KNOWN = "whether this call has run is not known";
     private static final String NOT_SENT = "this call was not sent";
+    // It takes some milliseconds; a busy machine may take a thousand times as long.
+    private static final long SOON_MILLIS = 5_000;
 
     private static String failure(Runnable call) {
         return assertThrows(CacheException.class, call::run).getMessage();
@@ -96,7 +99,11 @@ class BrokenTest {
 
     @Test void theServersEndFailsEveryCall() throws Exception {
         for (boolean tcp : new boolean[] {false, true}) {
-            StandIn.Script script = (it, round, requests) -> round == 200 ? null : it.right(requests);
+            AtomicLong ended = new AtomicLong();
+            StandIn.Script script = (it, round, requests) -> {
+                ended.set(System.nanoTime());
+                return round == 200 ? null : it.right(requests);
+            };
             try (StandIn server = tcp ? StandIn.tcp(script) : StandIn.unix(script)) {
                 Cache<Long, Long> cache = server.cache();
                 AtomicInteger known = new AtomicInteger();
@@ -106,6 +113,8 @@ class BrokenTest {
                             cache.put((long) t, 1L);
                         }
                     });
+                    long millis = TimeUnit.NANOSECONDS.toMillis(System.nanoTime() - ended.get());
+                    assertTrue(millis < SOON_MILLIS, "told after " + millis + " ms");
                     assertTrue(message.contains(NOT_KNOWN) || message.contains(NOT_SENT), message);
                     known.addAndGet(message.contains(NOT_KNOWN) ? 1 : 0);
                 }).join();
@@ -185,15 +194,41 @@ class BrokenTest {
         }
     }
 
-    /** Holds each round from the second on until it is let go. */
-    private static StandIn.Script held(CountDownLatch arrived, CountDownLatch go) {
-        return (it, round, requests) -> {
-            if (round >= 2) {
-                arrived.countDown();
-                go.await();
-            }
-            return it.right(requests);
-        };
+    /** A stand-in that holds each round from the second on until it is let go, and a cache on it. */
+    private static final class Holding implements AutoCloseable {
+        final CountDownLatch arrived = new CountDownLatch(1), go = new CountDownLatch(1);
+        final StandIn server;
+        final JentryCache cache;
+
+        Holding(String... properties) throws IOException {
+            server = StandIn.unix((it, round, requests) -> {
+                if (round >= 2) {
+                    arrived.countDown();
+                    go.await();
+                }
+                return it.right(requests);
+            });
+            cache = server.cache(properties).unwrap(JentryCache.class);
+        }
+
+        /** A thread whose round is out. */
+        Team putIsOut() throws InterruptedException {
+            cache.put(0L, 0L);
+            Team team = Team.of(1, t -> cache.put(0L, 1L));
+            arrived.await();
+            return team;
+        }
+
+        /** An asynchronous call whose round is out. */
+        CompletableFuture<Long> invocationIsOut() throws InterruptedException {
+            CompletableFuture<Long> told = cache.invokeAsync(1L, new Sample.Key());
+            arrived.await();
+            return told;
+        }
+
+        @Override public void close() {
+            server.close();
+        }
     }
 
     private static void awaitWaiting(JentryCache cache, int count) throws InterruptedException {
@@ -204,11 +239,9 @@ class BrokenTest {
     }
 
     @Test void theQueuesLimit() throws Exception {
-        CountDownLatch arrived = new CountDownLatch(1), go = new CountDownLatch(1);
-        try (StandIn server = StandIn.unix(held(arrived, go))) {
-            JentryCache cache = server.cache("jentry.queue", "2").unwrap(JentryCache.class);
-            CompletableFuture<Long> first = cache.invokeAsync(1L, new Sample.Key());
-            arrived.await();
+        try (Holding held = new Holding("jentry.queue", "2")) {
+            JentryCache cache = held.cache;
+            CompletableFuture<Long> first = held.invocationIsOut();
             CompletableFuture<Long> second = cache.invokeAsync(1L, new Sample.Key()), third = cache.invokeAsync(1L, new Sample.Key());
             assertThrows(RejectedExecutionException.class, () -> cache.invokeAsync(1L, new Sample.Key()));
             Team waits = Team.of(3, t -> cache.put(10L + t, 5L));
@@ -217,7 +250,7 @@ class BrokenTest {
                 Thread.sleep(1);
             }
             assertEquals(2, cache.line().waiting());
-            go.countDown();
+            held.go.countDown();
             waits.join();
             assertEquals(Set.of(1L, 2L, 3L), Set.of(first.join(), second.join(), third.join()));
             assertEquals(Map.of(10L, 5L, 11L, 5L, 12L, 5L), cache.getAll(Set.of(10L, 11L, 12L)));
@@ -225,48 +258,38 @@ class BrokenTest {
     }
 
     @Test void callsGatherWhileARoundIsOut() throws Exception {
-        CountDownLatch arrived = new CountDownLatch(1), go = new CountDownLatch(1);
-        try (StandIn server = StandIn.unix(held(arrived, go))) {
-            JentryCache cache = server.cache().unwrap(JentryCache.class);
-            cache.put(0L, 0L);
-            Team first = Team.of(1, t -> cache.put(0L, 1L));
-            arrived.await();
-            Team others = Team.of(20, t -> cache.put(1L + t, 1L));
-            awaitWaiting(cache, 20);
-            go.countDown();
+        try (Holding held = new Holding()) {
+            Team first = held.putIsOut();
+            Team others = Team.of(20, t -> held.cache.put(1L + t, 1L));
+            awaitWaiting(held.cache, 20);
+            held.go.countDown();
             first.join();
             others.join();
-            assertEquals(3, cache.line().rounds());
+            assertEquals(3, held.cache.line().rounds());
         }
     }
 
     @Test void closeLetsTheRoundEndThatIsOut() throws Exception {
-        CountDownLatch arrived = new CountDownLatch(1), go = new CountDownLatch(1);
-        try (StandIn server = StandIn.unix(held(arrived, go))) {
-            JentryCache cache = server.cache().unwrap(JentryCache.class);
-            cache.put(0L, 0L);
-            Team out = Team.of(1, t -> cache.put(0L, 1L));
-            arrived.await();
-            Team waits = Team.of(5, t -> assertTrue(failure(() -> cache.put(1L, 1L)).contains("closed; this call was not sent")));
-            awaitWaiting(cache, 5);
-            Team closes = Team.of(1, t -> cache.close());
+        try (Holding held = new Holding()) {
+            Team out = held.putIsOut();
+            Team waits = Team.of(5, t -> assertTrue(failure(() -> held.cache.put(1L, 1L)).contains("closed; this call was not sent")));
+            awaitWaiting(held.cache, 5);
+            Team closes = Team.of(1, t -> held.cache.close());
             waits.join();
-            go.countDown();
+            held.go.countDown();
             out.join();
             closes.join();
-            assertThrows(IllegalStateException.class, () -> cache.get(0L));
+            assertThrows(IllegalStateException.class, () -> held.cache.get(0L));
         }
     }
 
     @Test void whatDependsOnAFutureMayWaitForAnotherOfItsRound() throws Exception {
-        CountDownLatch arrived = new CountDownLatch(1), go = new CountDownLatch(1);
-        try (StandIn server = StandIn.unix(held(arrived, go))) {
-            JentryCache cache = server.cache().unwrap(JentryCache.class);
-            cache.invokeAsync(1L, new Sample.Key());
-            arrived.await();
+        try (Holding held = new Holding()) {
+            JentryCache cache = held.cache;
+            held.invocationIsOut();
             CompletableFuture<Long> one = cache.invokeAsync(2L, new Sample.Key()), other = cache.invokeAsync(3L, new Sample.Key());
             CompletableFuture<Long> sum = one.thenApply(it -> it + other.join() + cache.invoke(4L, new Sample.Key()));
-            go.countDown();
+            held.go.countDown();
             assertEquals(3L, sum.get(30, TimeUnit.SECONDS));
         }
     }
@@ -280,6 +303,17 @@ class BrokenTest {
             assertTrue(failure(() -> cache.invoke(1L, new Sample.Key())).contains("the class jentry.jcache.Sample$Key is denied by the server: 3 NoMemory"));
             assertEquals(5L, cache.get(1L));
             assertTrue(failure(() -> cache.putAll(Map.of(7L, 7L))).contains("3 NoMemory"));
+        }
+    }
+
+    @Test void aClassTooManyIsDeniedByNameAndLaterOnesToo() throws IOException {
+        byte[] denied = StandIn.join(StandIn.frame(8, 4), StandIn.END);
+        try (StandIn server = StandIn.unix((it, round, requests) -> requests.get(0)[0] == Wire.DEFINE ? denied : it.right(requests))) {
+            Cache<Long, Long> cache = server.cache();
+            assertTrue(failure(() -> cache.invoke(1L, new Sample.Key())).contains("Sample$Key is denied by the server: 4 TooManyClasses; it changed nothing"));
+            assertTrue(failure(() -> cache.putIfAbsent(1L, 1L)).contains("4 TooManyClasses; it changed nothing"));
+            cache.put(1L, 5L);
+            assertEquals(5L, cache.get(1L));
         }
     }
 

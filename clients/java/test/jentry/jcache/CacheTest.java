@@ -1,5 +1,6 @@
 package jentry.jcache;
 
+import static org.junit.jupiter.api.Assertions.assertDoesNotThrow;
 import static org.junit.jupiter.api.Assertions.assertEquals;
 import static org.junit.jupiter.api.Assertions.assertFalse;
 import static org.junit.jupiter.api.Assertions.assertNotSame;
@@ -14,33 +15,14 @@ import java.util.HashSet;
 import java.util.Map;
 import java.util.Set;
 import java.util.concurrent.atomic.AtomicInteger;
-import javax.cache.Cache;
 import javax.cache.configuration.CompleteConfiguration;
 import javax.cache.configuration.MutableConfiguration;
 import javax.cache.integration.CompletionListener;
-import org.junit.jupiter.api.AfterEach;
-import org.junit.jupiter.api.BeforeEach;
-import org.junit.jupiter.api.Tag;
 import org.junit.jupiter.api.Test;
 import org.junit.jupiter.api.function.Executable;
 
 /** Each method of Cache, on the real server. */
-@Tag("server")
-class CacheTest {
-    private Server server;
-    private Cache<Long, Long> cache;
-    private long k;
-
-    @BeforeEach void open() {
-        server = new Server();
-        cache = server.cache;
-        k = server.key(1);
-    }
-
-    @AfterEach void close() {
-        server.close();
-    }
-
+class CacheTest extends OnServer {
     @Test void getAndContainsKey() {
         assertNull(cache.get(k));
         assertFalse(cache.containsKey(k));
@@ -142,9 +124,27 @@ class CacheTest {
         for (int count : new int[] {1, 1_023, 1_024, 1_025, 2_048}) {
             Map<Long, Long> entries = new HashMap<>();
             server.keys(0, count).forEach(key -> entries.put(key, (long) count));
+            long before = rounds();
             cache.putAll(entries);
             assertEquals(entries, cache.getAll(server.keys(0, count)));
+            long each = (count + 1_023) / 1_024;
+            assertEquals(2 * each, rounds() - before);
             assertEquals(count, cache.invokeAll(server.keys(0, count), new Sample.Key()).size());
+            cache.removeAll(server.keys(0, count));
+            assertEquals(4 * each + (count == 1 ? 1 : 0), rounds() - before, "the first use of the class is a round of its own");
+        }
+    }
+
+    @Test void eachSingleCallIsOneRoundOnceItsClassIsThere() {
+        Executable[] calls = {() -> cache.put(k, 1L), () -> cache.get(k), () -> cache.containsKey(k), () -> cache.getAndPut(k, 2L), () -> cache.putIfAbsent(k, 2L),
+            () -> cache.replace(k, 2L, 3L), () -> cache.replace(k, 4L), () -> cache.getAndReplace(k, 5L), () -> cache.remove(k, 6L), () -> cache.getAndRemove(k),
+            () -> cache.remove(k), () -> cache.invoke(k, new Sample.Key())};
+        for (boolean first : new boolean[] {true, false}) {
+            long before = rounds();
+            for (Executable call : calls) {
+                assertDoesNotThrow(call);
+            }
+            assertEquals(calls.length + (first ? 8 : 0), rounds() - before, "eight of them use a class");
         }
     }
 
@@ -174,7 +174,7 @@ class CacheTest {
         nullValue.put(k + 1, null);
         Map<Long, Long> nullKey = new HashMap<>(Map.of(k, 1L));
         nullKey.put(null, 1L);
-        long rounds = server.own().line().rounds();
+        long rounds = rounds();
         Executable[] calls = {() -> cache.get(null), () -> cache.containsKey(null), () -> cache.put(null, 1L), () -> cache.put(k, null), () -> cache.remove(null),
             () -> cache.getAndPut(null, 1L), () -> cache.getAndPut(k, null), () -> cache.putIfAbsent(null, 1L), () -> cache.putIfAbsent(k, null), () -> cache.remove(null, 1L),
             () -> cache.remove(k, null), () -> cache.getAndRemove(null), () -> cache.replace(null, 1L), () -> cache.replace(k, null), () -> cache.replace(null, 1L, 1L),
@@ -186,7 +186,7 @@ class CacheTest {
         for (Executable call : calls) {
             assertThrows(NullPointerException.class, call);
         }
-        assertEquals(rounds, server.own().line().rounds());
+        assertEquals(rounds, rounds());
         assertFalse(cache.containsKey(k));
     }
 

@@ -10,25 +10,53 @@ import java.util.List;
 import org.junit.jupiter.api.Tag;
 import org.junit.jupiter.api.Test;
 
-/** The example, compiled against the JCache API alone and run in a JVM of its own, with the provider's jar beside. */
+/** The examples, compiled against the JCache API alone and run in a JVM of their own, with the provider's jar beside. */
 @Tag("server")
 class ExampleTest {
-    private static List<String> lines(String... command) throws IOException, InterruptedException {
-        Process process = new ProcessBuilder(command).redirectErrorStream(true).start();
+    private static final String JARS = System.getProperty("jentry.jars");
+    private static final String PROGRAM = System.getProperty("jentry.program");
+
+    private static List<String> lines(ProcessBuilder command) throws IOException, InterruptedException {
+        Process process = command.redirectErrorStream(true).start();
         process.getOutputStream().close();
-        List<String> lines = process.inputReader().lines().toList();
-        List<String> told = new ArrayList<>(lines);
+        List<String> told = new ArrayList<>(process.inputReader().lines().toList());
         told.add("status " + process.waitFor());
         return told;
     }
 
+    /** The folder of the class files of an example. */
+    private static Path compiled(String example) throws IOException, InterruptedException {
+        Path folder = Files.createTempDirectory("example");
+        String source = Path.of(System.getProperty("jentry.examples"), example + ".java").toString();
+        String api = JARS.split(":")[0];
+        List<String> told = lines(new ProcessBuilder("javac", "--release", "8", "-Xlint:-options", "-cp", api, "-d", folder.toString(), source));
+        assertEquals(List.of("status 0"), told);
+        return folder;
+    }
+
+    private static ProcessBuilder java(Path folder, String... words) {
+        List<String> command = new ArrayList<>(List.of("java", "-cp", JARS + ":" + folder));
+        command.addAll(List.of(words));
+        return new ProcessBuilder(command);
+    }
+
     @Test void visits() throws Exception {
-        String folder = Files.createTempDirectory("visits").toString();
-        String jars = System.getProperty("jentry.jars");
-        String source = Path.of(System.getProperty("jentry.examples"), "Visits.java").toString();
-        String api = jars.split(":")[0];
-        assertEquals(List.of("status 0"), lines("javac", "--release", "8", "-Xlint:-options", "-cp", api, "-d", folder, source));
-        List<String> told = lines("java", "-cp", jars + ":" + folder, "-Djentry.program=" + System.getProperty("jentry.program"), "Visits");
+        List<String> told = lines(java(compiled("Visits"), "-Djentry.program=" + PROGRAM, "Visits"));
         assertEquals(List.of("page 1: 42", "page 1: 43", "page 2: 1", "page 2 is new: false", "status 0"), told);
+    }
+
+    @Test void tenLinesThatKnowTheApiAlone() throws Exception {
+        List<String> told = lines(java(compiled("Brief"), "-Djentry.program=" + PROGRAM, "Brief"));
+        assertEquals(List.of("42 44 false", "status 0"), told);
+        List<String> source = Files.readAllLines(Path.of(System.getProperty("jentry.examples"), "Brief.java"));
+        assertEquals(10, source.stream().filter(line -> !line.isEmpty() && !line.startsWith("import ")).count());
+    }
+
+    @Test void theProgramIsFoundOnThePath() throws Exception {
+        Path folder = compiled("Brief");
+        Files.createSymbolicLink(folder.resolve("jentry"), Path.of(PROGRAM));
+        ProcessBuilder command = java(folder, "Brief");
+        command.environment().merge("PATH", folder.toString(), (old, more) -> more + ":" + old);
+        assertEquals(List.of("42 44 false", "status 0"), lines(command));
     }
 }

@@ -14,34 +14,15 @@ import java.util.List;
 import java.util.Map;
 import java.util.Set;
 import java.util.concurrent.CompletionException;
-import javax.cache.Cache;
 import javax.cache.CacheException;
 import javax.cache.processor.EntryProcessor;
 import javax.cache.processor.EntryProcessorException;
 import javax.cache.processor.EntryProcessorResult;
 import javax.cache.processor.MutableEntry;
-import org.junit.jupiter.api.AfterEach;
-import org.junit.jupiter.api.BeforeEach;
-import org.junit.jupiter.api.Tag;
 import org.junit.jupiter.api.Test;
 
 /** Processors: which can be sent, what they answer and throw, on the real server. */
-@Tag("server")
-class InvokeTest {
-    private Server server;
-    private Cache<Long, Long> cache;
-    private long k;
-
-    @BeforeEach void open() {
-        server = new Server();
-        cache = server.cache;
-        k = server.key(1);
-    }
-
-    @AfterEach void close() {
-        server.close();
-    }
-
+class InvokeTest extends OnServer {
     @Test void argumentsAndResults() {
         assertEquals(5L, cache.invoke(k, new Sample.Add(), 5L));
         assertEquals(-2L, cache.invoke(k, new Sample.Add(), -7L));
@@ -55,6 +36,15 @@ class InvokeTest {
         assertEquals(0, cache.invoke(k, new Sample.Count(), (Object[]) null));
         assertNull(cache.invoke(k, new Sample.Removes()));
         assertFalse(cache.containsKey(k));
+    }
+
+    @Test void resultsAreLongIntegerNumberOrObject() {
+        Long ofLong = cache.invoke(k, new Sample.Key());
+        Integer ofInteger = cache.invoke(k, new Sample.Count(), 1L, 2L);
+        Object ofObject = cache.invoke(k, new Sample.First(), 3);
+        Number ofNumber = cache.invoke(k, new Sample.Half(), 9L);
+        assertEquals(List.of(k, 2, 3, 4L), List.of(ofLong, ofInteger, ofObject, ofNumber));
+        assertEquals(4, cache.invoke(k, new Sample.Half(), 9));
     }
 
     @Test void argumentsThatCannotBeSent() {
@@ -125,7 +115,7 @@ class InvokeTest {
         refused.put(InvokeTest::answer, "lambda or a method reference, which has no class file");
         refused.put(Sample.inner(), "inner class, which holds its outer instance; make it static");
         refused.put(Sample.capturing(5), "is made with values from outside");
-        long rounds = server.own().line().rounds();
+        long rounds = rounds();
         refused.forEach((processor, words) -> {
             String message = assertThrows(CacheException.class, () -> cache.invoke(k, processor)).getMessage();
             assertTrue(message.contains(words), message);
@@ -134,7 +124,7 @@ class InvokeTest {
         EntryProcessor<Long, Long, Object> typed = (EntryProcessor<Long, Long, Object>) proxy;
         String message = assertThrows(CacheException.class, () -> cache.invoke(k, typed)).getMessage();
         assertTrue(message.contains("is a proxy"), message);
-        assertEquals(rounds, server.own().line().rounds());
+        assertEquals(rounds, rounds());
     }
 
     /** A loader that has a class's bytes from elsewhere, and no resource for them. */
@@ -193,7 +183,7 @@ class InvokeTest {
     @Test void oneFileByTwoLoadersIsOneClassAndTwoFilesOfOneNameAreTwo() throws Exception {
         URL[] classes = {TopLevel.class.getProtectionDomain().getCodeSource().getLocation()};
         cache.invoke(k, new TopLevel());
-        long rounds = server.own().line().rounds();
+        long rounds = rounds();
         try (URLClassLoader other = new URLClassLoader(classes, EntryProcessor.class.getClassLoader()) {
             @Override protected Class<?> loadClass(String name, boolean resolve) throws ClassNotFoundException {
                 return name.equals(TopLevel.class.getName()) ? findLoadedClass(name) == null ? findClass(name) : findLoadedClass(name) : super.loadClass(name, resolve);
@@ -204,7 +194,7 @@ class InvokeTest {
             assertFalse((Class<?>) same.getClass() == TopLevel.class);
             assertEquals(6L, cache.invoke(k, same));
         }
-        assertEquals(rounds + 1, server.own().line().rounds(), "no second definition");
+        assertEquals(rounds + 1, rounds(), "no second definition");
         try (URLClassLoader other = Renamed.loader()) {
             EntryProcessor<Long, Long, Object> changed = Renamed.processor(other);
             assertEquals(TopLevel.class.getName(), changed.getClass().getName());

@@ -16,30 +16,11 @@ import java.util.concurrent.atomic.AtomicInteger;
 import java.util.concurrent.atomic.AtomicLong;
 import java.util.stream.Collectors;
 import java.util.stream.LongStream;
-import javax.cache.Cache;
-import org.junit.jupiter.api.AfterEach;
-import org.junit.jupiter.api.BeforeEach;
-import org.junit.jupiter.api.Tag;
 import org.junit.jupiter.api.Test;
 
 /** Many threads on one stream of the real server. */
-@Tag("server")
-class LineTest {
+class LineTest extends OnServer {
     private static final int THREADS = 64;
-
-    private Server server;
-    private Cache<Long, Long> cache;
-    private long k;
-
-    @BeforeEach void open() {
-        server = new Server();
-        cache = server.cache;
-        k = server.key(1);
-    }
-
-    @AfterEach void close() {
-        server.close();
-    }
 
     private static Set<Long> oneTo(long n) {
         return LongStream.rangeClosed(1, n).boxed().collect(Collectors.toCollection(TreeSet::new));

@@ -10,6 +10,7 @@ import static org.junit.jupiter.api.Assertions.assertTrue;
 
 import java.net.URI;
 import java.util.List;
+import java.util.Map;
 import java.util.Properties;
 import javax.cache.Cache;
 import javax.cache.CacheException;
@@ -23,27 +24,18 @@ import javax.cache.expiry.CreatedExpiryPolicy;
 import javax.cache.expiry.Duration;
 import javax.cache.expiry.EternalExpiryPolicy;
 import javax.cache.spi.CachingProvider;
-import org.junit.jupiter.api.AfterEach;
 import org.junit.jupiter.api.BeforeEach;
-import org.junit.jupiter.api.Tag;
 import org.junit.jupiter.api.Test;
 import org.junit.jupiter.api.function.Executable;
 
 /** Each method of CachingProvider and CacheManager, and what a configuration may want. */
-@Tag("server")
-class ManagerTest {
-    private Server server;
+class ManagerTest extends OnServer {
     private CacheManager manager;
     private CachingProvider provider;
 
-    @BeforeEach void open() {
-        server = new Server();
+    @BeforeEach void find() {
         manager = server.manager;
         provider = manager.getCachingProvider();
-    }
-
-    @AfterEach void close() {
-        server.close();
     }
 
     @Test void theProviderIsFound() {
@@ -74,7 +66,7 @@ class ManagerTest {
     @Test void closingTheProviderClosesItsCaches() {
         provider.close();
         assertTrue(manager.isClosed());
-        assertTrue(server.cache.isClosed());
+        assertTrue(cache.isClosed());
     }
 
     @Test void localMethods() {
@@ -86,8 +78,8 @@ class ManagerTest {
     }
 
     @Test void cachesByTheirNames() {
-        assertSame(server.cache, manager.getCache("test", Long.class, Long.class));
-        assertSame(server.cache, manager.getCache("test"));
+        assertSame(cache, manager.getCache("test", Long.class, Long.class));
+        assertSame(cache, manager.getCache("test"));
         assertNull(manager.getCache("other"));
         assertNull(manager.getCache("other", Long.class, Long.class));
         assertEquals(List.of("test"), manager.getCacheNames());
@@ -102,7 +94,7 @@ class ManagerTest {
     @Test void destroyCacheClosesItAndItsNameIsFree() {
         manager.destroyCache("test");
         manager.destroyCache("test");
-        assertTrue(server.cache.isClosed());
+        assertTrue(cache.isClosed());
         assertEquals(List.of(), manager.getCacheNames());
         Cache<Long, Long> again = manager.createCache("test", Server.types());
         again.put(server.key(1), 1L);
@@ -113,7 +105,7 @@ class ManagerTest {
         manager.close();
         manager.close();
         assertTrue(manager.isClosed());
-        assertTrue(server.cache.isClosed());
+        assertTrue(cache.isClosed());
         for (Executable call : List.<Executable>of(() -> manager.getCache("test"), manager::getCacheNames,
             () -> manager.getCache("test", Long.class, Long.class), () -> manager.createCache("a", Server.types()), () -> manager.destroyCache("test"),
             () -> manager.enableStatistics("test", true), () -> manager.enableManagement("test", true))) {
@@ -201,21 +193,21 @@ class ManagerTest {
         all.setProperty("other", "kept");
         try (CacheManager own = provider.getCacheManager(URI.create("jentry:default"), new ClassLoader() { }, all)) {
             assertEquals(all, own.getProperties());
-            Cache<Long, Long> cache = own.createCache("a", Server.types());
-            cache.putAll(java.util.Map.of(1L, 1L, 2L, 2L));
-            assertEquals(2L, cache.invoke(2L, new Sample.Key()));
+            Cache<Long, Long> small = own.createCache("a", Server.types());
+            small.putAll(Map.of(1L, 1L, 2L, 2L));
+            assertEquals(2L, small.invoke(2L, new Sample.Key()));
         }
     }
 
     @Test void aChildEndsWithItsCacheAndSoDoItsEntries() {
         URI uri = URI.create("jentry:" + System.getProperty("jentry.program"));
         try (CacheManager own = provider.getCacheManager(uri, null, null)) {
-            Cache<Long, Long> cache = own.createCache("a", Server.types());
+            Cache<Long, Long> one = own.createCache("a", Server.types());
             Cache<Long, Long> other = own.createCache("b", Server.types());
-            cache.put(1L, 1L);
+            one.put(1L, 1L);
             assertNull(other.get(1L));
             long before = children();
-            cache.close();
+            one.close();
             assertEquals(before - 1, children());
             Cache<Long, Long> again = own.createCache("a", Server.types());
             assertNull(again.get(1L));

@@ -47,6 +47,20 @@ final class Server implements AutoCloseable {
         return keys;
     }
 
+    /** The same entries by another connection, where a front has them; else the cache itself. */
+    Cache<Long, Long> other() {
+        if (!isShared()) {
+            return cache;
+        }
+        Cache<Long, Long> there = manager.getCache("other", Long.class, Long.class);
+        return there == null ? manager.createCache("other", types()) : there;
+    }
+
+    /** Whether the server is a front, whose entries others see. */
+    static boolean isShared() {
+        return !AT.getScheme().equals("jentry");
+    }
+
     JentryCache own() {
         return cache.unwrap(JentryCache.class);
     }

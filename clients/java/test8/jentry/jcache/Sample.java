@@ -37,6 +37,16 @@ final class Sample {
         }
     }
 
+    /** Answers half of its argument, as a Long or an Integer. */
+    static class Half implements EntryProcessor<Long, Long, Number> {
+        @Override public Number process(MutableEntry<Long, Long> entry, Object... arguments) {
+            if (arguments[0] instanceof Long) {
+                return (Long) arguments[0] / 2;
+            }
+            return (Integer) arguments[0] / 2;
+        }
+    }
+
     static class First implements EntryProcessor<Long, Long, Object> {
         @Override public Object process(MutableEntry<Long, Long> entry, Object... arguments) {
             return arguments[0];
