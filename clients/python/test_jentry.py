@@ -2,11 +2,14 @@
 """test_jentry: the clients for threads and for asyncio, before the stand-in and before the built program.
 JENTRY_PROGRAM names the program and JENTRY_FRONT the front, where they are there."""
 import asyncio
+import glob
 import io
 import os
+import shutil
 import signal
 import subprocess
 import sys
+import tempfile
 import threading
 import unittest
 
@@ -35,6 +38,16 @@ with jentry.Cache.start(*sys.argv[2:]) as cache:
         except jentry.StreamEnded:
             print("ended", flush=True)
 """
+
+INSTALLED = """
+import sys
+import jentry, jentry_aio, jentry_processors
+assert all(it.__file__.startswith(sys.argv[1]) for it in (jentry, jentry_aio, jentry_processors)), jentry.__file__
+with jentry.Cache.start(*sys.argv[2:]) as cache:
+    cache.put(7, 41)
+    print(cache.get(7), *(jentry_processors.file(name)[:4].hex() for name in jentry_processors.NAMES))
+"""
+BUILDS = "import setuptools, pip; tuple(map(int, setuptools.__version__.split('.')[:2])) >= (70, 1) or __import__('wheel')"
 
 
 class Interrupted:
@@ -133,8 +146,10 @@ class Plain(unittest.TestCase):
             self.cache.get(1)
 
 
-class Threads(unittest.TestCase):
-    def run_threads(self, count, work):
+class Threaded(unittest.TestCase):
+    """Tests that have threads."""
+
+    def run_threads(self, count, work, meanwhile=lambda: None):
         """Runs `work(n)` on so many threads, each of which has to end without an error."""
         wrong = []
 
@@ -146,11 +161,27 @@ class Threads(unittest.TestCase):
         team = [threading.Thread(target=guarded, args=(n,)) for n in range(count)]
         for it in team:
             it.start()
+        meanwhile()
         for it in team:
             it.join(PATIENCE)
             self.assertFalse(it.is_alive())
         self.assertEqual(wrong, [])
 
+
+class Endings:
+    """What ends a stream, by the stand-in's options. `ends_for_all` sees that each call is told so."""
+
+    def test_the_server_ends(self):
+        self.ends_for_all("--die")
+
+    def test_a_reply_too_many(self):
+        self.ends_for_all("--wrong")
+
+    def test_a_reply_too_few(self):
+        self.ends_for_all("--short")
+
+
+class Threads(Threaded, Endings):
     def test_64_threads_on_one_key(self):
         told = [[] for _ in range(64)]
         with jentry.Cache.start(*SERVER) as cache:
@@ -192,15 +223,6 @@ class Threads(unittest.TestCase):
         with self.assertRaises(jentry.StreamEnded):
             cache.get(1)
         cache.close()
-
-    def test_the_server_ends(self):
-        self.ends_for_all("--die")
-
-    def test_a_reply_too_many(self):
-        self.ends_for_all("--wrong")
-
-    def test_a_reply_too_few(self):
-        self.ends_for_all("--short")
 
     def test_closed_while_a_call_is_out(self):
         cache = jentry.Cache.start(*STAND_IN, "--slow", "1")
@@ -298,7 +320,7 @@ class Machine(unittest.TestCase):
 
 
 @unittest.skipUnless(PROGRAM and HAS_PROCESSORS, "the program or the class files of the processors aren't there")
-class BuiltIn(unittest.TestCase):
+class BuiltIn(Threaded):
     def setUp(self):
         self.cache = jentry.Cache.start(*SERVER)
         self.addCleanup(self.cache.close)
@@ -329,16 +351,12 @@ class BuiltIn(unittest.TestCase):
 
     def test_one_of_many_threads_puts(self):
         told = []
-        team = [threading.Thread(target=lambda n=n: told.append(self.cache.put_if_absent(1, n))) for n in range(32)]
-        for it in team:
-            it.start()
-        for it in team:
-            it.join(PATIENCE)
+        self.run_threads(32, lambda n: told.append(self.cache.put_if_absent(1, n)))
         self.assertEqual(sorted(told), 31 * [False] + [True])
         self.assertEqual(self.cache.define(plus()).number, 1)
 
 
-class Loop(unittest.TestCase):
+class Loop(unittest.TestCase, Endings):
     """The client for asyncio."""
 
     def run_in_loop(self, work, server=SERVER):
@@ -397,15 +415,6 @@ class Loop(unittest.TestCase):
                 await cache.get(1)
         self.run_in_loop(work, STAND_IN + [option, "2"])
 
-    def test_the_server_ends(self):
-        self.ends_for_all("--die")
-
-    def test_a_reply_too_many(self):
-        self.ends_for_all("--wrong")
-
-    def test_a_reply_too_few(self):
-        self.ends_for_all("--short")
-
     @unittest.skipUnless(PROGRAM and HAS_PROCESSORS, "the program or the class files of the processors aren't there")
     def test_built_in_processors(self):
         async def work(cache):
@@ -418,19 +427,14 @@ class Loop(unittest.TestCase):
 
 
 @unittest.skipUnless(FRONT, "the front isn't built")
-class Shared(unittest.TestCase):
+class Shared(Threaded):
     """Python's threads, asyncio and examples/frames.py on one cache, by the front."""
 
     def test_all_on_one_cache(self):
         with Running() as front, jentry.Cache.connect(front.place) as cache:
             processor = cache.define(plus())
             cache.put(1, 0)
-            team = [threading.Thread(target=self.add, args=(cache, processor)) for _ in range(8)]
-            for it in team:
-                it.start()
-            asyncio.run(self.add_in_loop(front.place))
-            for it in team:
-                it.join(PATIENCE)
+            self.run_threads(8, lambda _: self.add(cache, processor), meanwhile=lambda: asyncio.run(self.add_in_loop(front.place)))
             self.assertEqual(cache.get(1), 8 * 50 + 400)
             self.assertEqual(self.lines(front, b"get 1\nput 2 5\nend\n"), b"value 800\ndone\nend\n")
             self.assertEqual(cache.get(2), 5)
@@ -476,6 +480,39 @@ class Package(unittest.TestCase):
     def test_a_processor_that_is_not_there(self):
         with self.assertRaises(FileNotFoundError):
             jentry_processors.file("None")
+
+    @unittest.skipUnless(HAS_PROCESSORS, "the class files of the processors aren't there")
+    def test_pip_installs_it_from_its_folder_and_from_a_source_distribution(self):
+        python = python_that_builds()
+        if python is None:
+            self.skipTest("pip, setuptools or wheel isn't there (apt-get install python3-pip python3-setuptools python3-wheel)")
+        with tempfile.TemporaryDirectory() as folder:
+            for name in ("python", "processors"):
+                shutil.copytree(os.path.join(HERE, "..", name), os.path.join(folder, name), ignore=shutil.ignore_patterns("__pycache__", "build", "*.egg-info"))
+            sources, sent = os.path.join(folder, "python"), os.path.join(folder, "sent")
+            self.installs(python, sources, os.path.join(folder, "one"))
+            self.run_quietly(python, "setup.py", "-q", "sdist", "-d", sent, cwd=sources)
+            shutil.rmtree(os.path.join(folder, "processors"))
+            self.installs(python, *glob.glob(os.path.join(sent, "*.tar.gz")), os.path.join(folder, "other"))
+
+    def installs(self, python, sources, target):
+        """Installs these sources without a net, and uses what was installed, away from the repository."""
+        self.run_quietly(python, "-m", "pip", "install", "-q", "--no-index", "--no-build-isolation", "--target", target, sources)
+        told = self.run_quietly(python, "-B", "-c", INSTALLED, target, *STAND_IN, env={"PYTHONPATH": target, "PATH": os.environ["PATH"]}, cwd=target)
+        self.assertEqual(told, " ".join(["41"] + 7 * ["cafebabe"]) + "\n")
+
+    def run_quietly(self, *words, **options):
+        done = subprocess.run(words, stdout=subprocess.PIPE, stderr=subprocess.PIPE, text=True, timeout=PATIENCE, **options)
+        self.assertEqual(done.returncode, 0, done.stdout + done.stderr)
+        return done.stdout
+
+
+def python_that_builds():
+    """A Python with what pip needs to build a package without a net, if there is one."""
+    for python in (sys.executable, "/usr/bin/python3"):
+        if os.path.exists(python) and subprocess.run([python, "-c", BUILDS], stderr=subprocess.DEVNULL).returncode == 0:
+            return python
+    return None
 
 
 if __name__ == "__main__":
