@@ -31,11 +31,13 @@ pub const LEAST_KEYS: u32 = STRIPES;
 
 pub const MOST_KEYS: u32 = 1_000_000;
 
-/// What an invocation and a put take, in tenths of a nanosecond: the time of all seats' calls, shared out among them all.
+/// What an invocation and a put take, in tenths of a nanosecond: the time of all seats' calls, shared out among them all. And what the entries add up to
+/// after the invocations and after the puts.
 #[derive(Clone, Copy, Debug)]
 pub struct CallTimes {
     pub invoke: Times,
     pub put: Times,
+    pub sums: [i64; 2],
 }
 
 /// The time of the clock on the wall.
@@ -132,6 +134,32 @@ pub fn shared_out(
     Ok(plan)
 }
 
+/// Whether each seat of a plan has keys of stripes that no other seat has.
+fn are_apart(plan: &[Vec<i64>], seats: usize) -> bool
+    requires { 0 < seats }
+{
+    for (place, keys) in plan.iter().enumerate() {
+        for key in keys {
+            if key.rem_euclid(i64::from(STRIPES)) as usize % seats != place {
+                return false;
+            }
+        }
+    }
+    true
+}
+
+/// The same of each plan.
+fn are_all_apart(plans: &[Vec<Vec<i64>>], seats: usize) -> bool
+    requires { 0 < seats }
+{
+    for plan in plans {
+        if !are_apart(plan, seats) {
+            return false;
+        }
+    }
+    true
+}
+
 /// How many calls a plan has.
 fn planned(plan: &[Vec<i64>]) -> usize {
     let mut calls = 0usize;
@@ -197,8 +225,19 @@ pub fn lived<R: Threads + Wait + Clock + Sync>(
     Ok((time, closed.tables))
 }
 
+/// What the entries of the first keys add up to.
+pub fn sum_of(tables: &Tables, keys: u32) -> i64 {
+    let mut sum = 0i64;
+    for key in 0..keys {
+        if let Some(value) = tables.entry(i64::from(key)) {
+            sum = sum.wrapping_add(value);
+        }
+    }
+    sum
+}
+
 /// Tables with so many entries, which are put in as many rounds as it takes.
-fn filled<R: Threads + Wait + Clock + Sync>(
+pub fn filled<R: Threads + Wait + Clock + Sync>(
     rt: &R,
     alloc: Global,
     registry: &Registry,
@@ -264,8 +303,16 @@ pub fn calls<R: Threads + Wait + Clock + Sync>(
     let registry = Registry::new(alloc)?;
     let class = defined(rt, alloc, &registry, bytes)?;
     let plans = plans(alloc, keys, seats)?;
+    if !are_all_apart(&plans, seats) {
+        return Err(Failure::NotApart);
+    }
     let tables = filled(rt, alloc, &registry, &class, keys)?;
     let (invoke, tables) = timed(rt, alloc, &registry, &class, Kind::Invoke, &plans, tables)?;
-    let (put, _tables) = timed(rt, alloc, &registry, &class, Kind::Put, &plans, tables)?;
-    Ok(CallTimes { invoke, put })
+    let invoked = sum_of(&tables, keys);
+    let (put, tables) = timed(rt, alloc, &registry, &class, Kind::Put, &plans, tables)?;
+    Ok(CallTimes {
+        invoke,
+        put,
+        sums: [invoked, sum_of(&tables, keys)],
+    })
 }

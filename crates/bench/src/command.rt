@@ -27,8 +27,8 @@ fn running(
     if count == 0 {
         return Ok(cost(alloc, done.steps, done.words)?);
     }
-    let (times, _told) = runs(clock, class, call, count, &mut workspace)?;
-    Ok(of_runs(alloc, times, done.steps)?)
+    let (times, all) = runs(clock, class, call, count, &mut workspace)?;
+    Ok(of_runs(alloc, times, done.steps, all)?)
 }
 
 fn verifying(
@@ -41,7 +41,7 @@ fn verifying(
         return Err(Failure::BadCommandLine);
     }
     let (times, accepted) = verdicts(clock, alloc, bytes, count)?;
-    Ok(of_verdicts(alloc, times, accepted > 0)?)
+    Ok(of_verdicts(alloc, times, accepted)?)
 }
 
 /// The most seats of a cache.
@@ -74,8 +74,8 @@ fn serving<R: Threads + Wait + Clock + Sync>(
     if jobs == 0 || jobs > MOST_JOBS || seats == 0 || seats > MOST_SEATS {
         return Err(Failure::BadCommandLine);
     }
-    let times = rounds(rt, alloc, bytes, jobs, seats)?;
-    Ok(of_rounds(alloc, times, jobs)?)
+    let (times, sum) = rounds(rt, alloc, bytes, jobs, seats)?;
+    Ok(of_rounds(alloc, times, jobs, sum)?)
 }
 
 fn striping(

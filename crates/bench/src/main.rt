@@ -10,8 +10,6 @@ mod line;
 mod measure;
 mod report;
 mod rounds;
-#[cfg(test)]
-mod tests;
 
 use command::measured;
 use report::Failure;

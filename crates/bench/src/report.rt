@@ -11,6 +11,8 @@ pub enum Failure {
     BadCommandLine,
     CannotRead,
     Refused,
+    /// Two seats have keys of one stripe.
+    NotApart,
     NoClock,
     NoMemory,
     CannotWrite,
@@ -38,6 +40,7 @@ impl Failure {
             }
             Failure::CannotRead => "error: cannot read the file\n",
             Failure::Refused => "error: the class is refused\n",
+            Failure::NotApart => "error: two seats have keys of one stripe\n",
             Failure::NoClock => "error: no clock\n",
             Failure::NoMemory => "error: no memory\n",
             Failure::CannotWrite => "error: cannot write\n",
@@ -50,8 +53,8 @@ pub fn cost(alloc: Global, steps: u32, words: u32) -> Result<String, AllocError>
     format!(in alloc; "steps {steps} words {words}\n")
 }
 
-/// What each invocation took, of so many steps, and each of its steps in the median round.
-pub fn of_runs(alloc: Global, times: Times, steps: u32) -> Result<String, AllocError> {
+/// What each invocation took, of so many steps, and each of its steps in the median round; and the steps of all rounds.
+pub fn of_runs(alloc: Global, times: Times, steps: u32, all: u64) -> Result<String, AllocError> {
     let each = if steps == 0 {
         0
     } else {
@@ -59,7 +62,7 @@ pub fn of_runs(alloc: Global, times: Times, steps: u32) -> Result<String, AllocE
     };
     let (least, median) = (times.least, times.median);
     format!(in alloc;
-        "run {}.{} ns, at least {}.{} ns, {steps} steps, {}.{:02} ns a step\n",
+        "run {}.{} ns, at least {}.{} ns, {steps} steps, {}.{:02} ns a step, {all} steps in all\n",
         median / 10,
         median % 10,
         least / 10,
@@ -69,12 +72,11 @@ pub fn of_runs(alloc: Global, times: Times, steps: u32) -> Result<String, AllocE
     )
 }
 
-/// What each verdict took.
-pub fn of_verdicts(alloc: Global, times: Times, accepted: bool) -> Result<String, AllocError> {
-    let verdict = if accepted { "accepted" } else { "refused" };
+/// What each verdict took, and how often the class was accepted in all rounds.
+pub fn of_verdicts(alloc: Global, times: Times, accepted: u64) -> Result<String, AllocError> {
     let (least, median) = (times.least / 1000, times.median / 1000);
     format!(in alloc;
-        "verify {}.{} us, at least {}.{} us, {verdict}\n",
+        "verify {}.{} us, at least {}.{} us, {accepted} times accepted\n",
         median / 10,
         median % 10,
         least / 10,
@@ -82,11 +84,11 @@ pub fn of_verdicts(alloc: Global, times: Times, accepted: bool) -> Result<String
     )
 }
 
-/// What each call on a cache took.
+/// What each call on a cache took, and what the entries add up to after the invocations and at the end.
 pub fn of_calls(alloc: Global, times: CallTimes, seats: usize) -> Result<String, AllocError> {
-    let CallTimes { invoke, put } = times;
+    let CallTimes { invoke, put, sums } = times;
     format!(in alloc;
-        "invoke {}.{} ns, at least {}.{} ns, put {}.{} ns, at least {}.{} ns, by {seats} seats\n",
+        "invoke {}.{} ns, at least {}.{} ns, put {}.{} ns, at least {}.{} ns, by {seats} seats, entries of {} and {} in all\n",
         invoke.median / 10,
         invoke.median % 10,
         invoke.least / 10,
@@ -94,7 +96,9 @@ pub fn of_calls(alloc: Global, times: CallTimes, seats: usize) -> Result<String,
         put.median / 10,
         put.median % 10,
         put.least / 10,
-        put.least % 10
+        put.least % 10,
+        sums[0],
+        sums[1]
     )
 }
 
@@ -127,8 +131,8 @@ pub fn of_stripe(alloc: Global, times: StripeTimes, keys: u32) -> Result<String,
     )
 }
 
-/// What each round of so many jobs took, and the jobs of a second in the median round.
-pub fn of_rounds(alloc: Global, times: Times, jobs: u32) -> Result<String, AllocError> {
+/// What each round of so many jobs took, the jobs of a second in the median round, and what the entries add up to behind all rounds.
+pub fn of_rounds(alloc: Global, times: Times, jobs: u32, sum: i64) -> Result<String, AllocError> {
     let (least, median) = (times.least / 1000, times.median / 1000);
     let each_second = if times.median == 0 {
         0
@@ -136,7 +140,7 @@ pub fn of_rounds(alloc: Global, times: Times, jobs: u32) -> Result<String, Alloc
         u128::from(jobs) * 10_000_000_000 / times.median
     };
     format!(in alloc;
-        "round {}.{} us, at least {}.{} us, {each_second} jobs a second\n",
+        "round {}.{} us, at least {}.{} us, {each_second} jobs a second, entries of {sum} in all\n",
         median / 10,
         median % 10,
         least / 10,

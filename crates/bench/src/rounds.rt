@@ -8,7 +8,7 @@ ghost use Rattle.cache.specs.Opened.{IsSeatCount};
 ghost use Rattle.claims.specs.Counters.{IsJobCount};
 ghost use Rattle.invokeall.specs.Jobs.{IsCallable};
 
-use crate::calls::{defined, empty, now};
+use crate::calls::{defined, filled, now, sum_of};
 use crate::measure::{Times, tenths, times_of};
 use crate::report::Failure;
 use cache::NoGate;
@@ -67,42 +67,44 @@ pub fn one<R: Threads + Wait + Clock + Sync>(
     Ok((time, left.tables))
 }
 
-/// What each of the rounds takes, in tenths of a nanosecond.
+/// What each of the rounds takes, in tenths of a nanosecond, and the entries afterwards.
 fn timed<R: Threads + Wait + Clock + Sync>(
     rt: &R,
     alloc: Global,
     registry: &Registry,
+    mut tables: Tables,
     seats: usize,
     jobs: &[Job<'_>],
-) -> Result<Times, Failure>
+) -> Result<(Times, Tables), Failure>
     requires seats { IsSeatCount seats }
     requires jobs { IsJobCount (length jobs.now) }
     requires callable { All (IsCallable registry.now) jobs.now }
 {
-    let mut tables = empty(alloc)?;
     let mut times = [0u128; ROUNDS];
     for time in times.iter_mut() {
         let (taken, left) = one(rt, alloc, registry, tables, seats, jobs)?;
         *time = tenths(taken, 1);
         tables = left;
     }
-    Ok(times_of(&mut times))
+    Ok((times_of(&mut times), tables))
 }
 
-/// What a round of so many invocations takes, by 1 to 16 workers.
+/// What a round of so many invocations takes, by 1 to 16 workers, each on an entry that is there; and what the entries add up to behind the rounds.
 pub fn rounds<R: Threads + Wait + Clock + Sync>(
     rt: &R,
     alloc: Global,
     bytes: &[u8],
     jobs: u32,
     seats: usize,
-) -> Result<Times, Failure>
+) -> Result<(Times, i64), Failure>
     requires seats { IsSeatCount seats }
     requires jobs { IsJobCount jobs }
 {
     let registry = Registry::new(alloc)?;
     let class = defined(rt, alloc, &registry, bytes)?;
     let args = Args::none();
-    let jobs = jobs_of(alloc, &class, &args, jobs)?;
-    timed(rt, alloc, &registry, seats, &jobs)
+    let list = jobs_of(alloc, &class, &args, jobs)?;
+    let tables = filled(rt, alloc, &registry, &class, jobs)?;
+    let (times, tables) = timed(rt, alloc, &registry, tables, seats, &list)?;
+    Ok((times, sum_of(&tables, jobs)))
 }

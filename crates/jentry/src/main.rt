@@ -5,12 +5,6 @@ mod files;
 mod line;
 mod output;
 mod program;
-#[cfg(test)]
-mod row_tests;
-#[cfg(test)]
-mod serve_tests;
-#[cfg(test)]
-mod tests;
 
 use files::RealFiles;
 use program::{command, no_memory};

@@ -6,8 +6,6 @@ mod families;
 mod layout;
 mod pool;
 mod rows;
-#[cfg(test)]
-mod tests;
 
 pub use classes::{
     PLUS, counter, falls, give_entry, give_entry_with_stack, mixed, plus, shift64, unbox,

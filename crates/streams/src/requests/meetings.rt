@@ -1,6 +1,6 @@
-//! Rounds by several workers: orders that may be, and calls that meet.
+//! Calls of one round that meet.
 
-use super::{Ended, ROUND_END, define, defined, returned, serve_all, serve_beside};
+use super::{ROUND_END, defined, returned, serve_beside};
 use cache::Gate;
 use rowclasses as rows;
 use serve::{ServeFault, Settings};
@@ -17,73 +17,6 @@ fn invoke(input: &mut Vec<u8>, high: u8, low: u8) -> Result<(), AllocError> {
     input.extend_from_slice(&[
         0, 0, 0, 0x17, 6, 0, 0, 0, 0, 0, 0, 0, 0, 0, 0, high, low, 1, 1, 0, 0, 0, 0, 0, 0, 0, 1,
     ])
-}
-
-/// Adds a round of a put of 1 on a key and two invocations beside it, and a round that gets what they leave.
-fn beside_a_put(input: &mut Vec<u8>, high: u8, low: u8) -> Result<(), AllocError> {
-    input.extend_from_slice(&[
-        0, 0, 0, 0x11, 2, 0, 0, 0, 0, 0, 0, high, low, 0, 0, 0, 0, 0, 0, 0, 1,
-    ])?;
-    invoke(input, high, low)?;
-    invoke(input, high, low)?;
-    input.extend_from_slice(&ROUND_END)?;
-    input.extend_from_slice(&[0, 0, 0, 9, 3, 0, 0, 0, 0, 0, 0, high, low])?;
-    input.extend_from_slice(&ROUND_END)
-}
-
-/// The bytes of the replies to such rounds.
-const REPLIES: usize = 5 + 15 + 15 + 5 + 14 + 5;
-
-/// Whether the replies say that the put and the two invocations were done in some order.
-fn is_in_some_order(replies: &[u8]) -> bool {
-    if replies.len() != REPLIES {
-        return false;
-    }
-    let (one, other, after) = (replies[19], replies[34], replies[53]);
-    let between = [0, 0, 0, 1, 9, 0, 0, 0, 0x0A, 4, 1, 0, 0, 0, 0, 0, 0, 0];
-    &replies[..5] == &[0, 0, 0, 1, 3][..]
-        && &replies[5..20] == &returned(one)[..]
-        && &replies[20..35] == &returned(other)[..]
-        && &replies[35..53] == &between[..]
-        && matches!(
-            (one, other, after),
-            (2, 3, 3) | (3, 2, 3) | (1, 2, 2) | (2, 1, 2) | (1, 2, 1) | (2, 1, 1)
-        )
-}
-
-/// Adds a thousand of them, each pair on a key of its own.
-fn add_thousand(input: &mut Vec<u8>) -> Result<(), AllocError> {
-    for high in 0..4 {
-        for low in 0..=249 {
-            beside_a_put(input, high, low)?;
-        }
-    }
-    Ok(())
-}
-
-/// The stream of Counter, a round's end and a thousand of them.
-fn thousand(alloc: Global, counter: &[u8]) -> Result<Vec<u8>, AllocError> {
-    let mut input = defined(alloc, counter, &ROUND_END)?;
-    add_thousand(&mut input)?;
-    Ok(input)
-}
-
-/// Whether it ended without fault, each round in some order.
-fn are_in_some_order(ended: &Ended) -> bool {
-    // The class and its round come first.
-    let output = ended.output.as_slice();
-    ended.fault == None
-        && output.len() == 22 + 1000 * REPLIES
-        && output[22..].chunks(REPLIES).all(is_in_some_order)
-}
-
-#[test]
-fn a_thousand_rounds_are_each_in_some_order(rt: HostRuntime) -> Result<(), Fail> {
-    let alloc = rt.alloc();
-    let counter = rows::counter(alloc)?;
-    let input = thousand(alloc, &counter)?;
-    assert!(rt; are_in_some_order(&serve_all(&rt, alloc, &input, 4)));
-    Ok(())
 }
 
 /// Holds job 0 in its begun call until job 1 was answered, for ten seconds at most.
