@@ -1,7 +1,6 @@
 use constpool::*;
 use jtypes::Refusal;
 use std::alloc::Global;
-use std::test::Fail;
 
 /// A pool with a constant of each tag.
 static EACH_TAG: [u8; 84] = [
@@ -31,25 +30,27 @@ fn each_tag(alloc: Global) -> Option<Pool> {
 }
 
 #[test]
-fn reads_texts_and_numbers(rt: HostRuntime) -> Result<(), Fail> {
-    let pool = each_tag(rt.alloc()).ok_or("a pool")?;
+fn reads_texts_and_numbers(rt: HostRuntime) {
+    let Some(pool) = each_tag(rt.alloc()) else {
+        panic!(rt; "no pool");
+    };
     assert!(rt; matches!(pool.utf8(1), Some([b'A'])));
     assert!(rt; matches!(pool.class(2), Some([b'A'])));
     assert!(rt; pool.is_class(2) && !pool.is_class(1));
     assert!(rt; pool.int(3) == Some(7) && pool.long(5) == Some(-2));
-    Ok(())
 }
 
 #[test]
-fn finds_constants(rt: HostRuntime) -> Result<(), Fail> {
-    let pool = each_tag(rt.alloc()).ok_or("a pool")?;
+fn finds_constants(rt: HostRuntime) {
+    let Some(pool) = each_tag(rt.alloc()) else {
+        panic!(rt; "no pool");
+    };
     for i in [0, 6, 8, 17, 65535] {
         assert!(rt; pool.constant(i).is_none(), "at {i}");
     }
     for i in [1, 4, 7, 9, 10, 11, 14, 15, 16] {
         assert!(rt; pool.constant(i).is_some(), "at {i}");
     }
-    Ok(())
 }
 
 fn is_a(member: Option<MemberRef<'_>>) -> bool {
@@ -62,12 +63,13 @@ fn is_a(member: Option<MemberRef<'_>>) -> bool {
 }
 
 #[test]
-fn finds_members(rt: HostRuntime) -> Result<(), Fail> {
-    let pool = each_tag(rt.alloc()).ok_or("a pool")?;
+fn finds_members(rt: HostRuntime) {
+    let Some(pool) = each_tag(rt.alloc()) else {
+        panic!(rt; "no pool");
+    };
     assert!(rt; is_a(pool.method(12)) && is_a(pool.interface_method(13)));
     assert!(rt; pool.method(13).is_none() && pool.interface_method(12).is_none());
     assert!(rt; !same_bytes(b"A", b"AB") && !same_bytes(b"A", b"B"));
-    Ok(())
 }
 
 static REFUSED: [(&[u8], Refusal, &str); 18] = [
@@ -121,27 +123,37 @@ fn refuses_pools(rt: HostRuntime) {
     }
 }
 
+/// How many parameters a method's descriptor has, and how many slots they take.
+fn counts(alloc: Global, text: &[u8]) -> Option<(usize, usize)> {
+    let Ok(sig) = parse_method_descriptor(alloc, text) else {
+        return None;
+    };
+    Some((sig.params.as_slice().len(), param_slots(&sig)))
+}
+
 #[test]
-fn reads_descriptors(rt: HostRuntime) -> Result<(), Fail> {
+fn reads_descriptors(rt: HostRuntime) {
     for (text, params, slots) in [
         (b"()V".as_slice(), 0, 0),
         (b"(JI[J)Z", 3, 4),
         (b"(Lx;)V", 1, 1),
+        (b"(IJZ[I[J[Ljava/lang/Object;LO;)LA;", 7, 8),
     ] {
-        let sig = parse_method_descriptor(rt.alloc(), text)
-            .ok()
-            .ok_or("a descriptor")?;
-        assert_eq!(rt; sig.params.as_slice().len(), params);
-        assert_eq!(rt; param_slots(&sig), slots);
+        assert!(rt;
+            counts(rt.alloc(), text) == Some((params, slots)),
+            "{text:?}"
+        );
     }
-    let sig = parse_method_descriptor(rt.alloc(), b"(IJZ[I[J[Ljava/lang/Object;LO;)LA;");
-    let sig = sig.ok().ok_or("a descriptor")?;
-    assert_eq!(rt; sig.params.as_slice().len(), 7);
-    assert_eq!(rt; param_slots(&sig), 8);
+}
+
+#[test]
+fn reads_a_result(rt: HostRuntime) {
+    let Ok(sig) = parse_method_descriptor(rt.alloc(), b"(IJZ[I[J[Ljava/lang/Object;LO;)LA;") else {
+        panic!(rt; "no descriptor");
+    };
     assert!(rt;
         matches!(&sig.result, Some(FieldType::Class(name)) if same_bytes(name.as_slice(), b"A"))
     );
-    Ok(())
 }
 
 #[test]
@@ -180,6 +192,11 @@ fn answers_or_lacks_memory(rt: HostRuntime) {
             Err(refusal) => assert!(rt; refusal == *want || refusal == Refusal::NoMemory, "{what}"),
         }
     }
+}
+
+/// The same of descriptors.
+#[test]
+fn reads_descriptors_or_lacks_memory(rt: HostRuntime) {
     match parse_method_descriptor(rt.alloc(), b"(IJ[JLO;)LA;") {
         Ok(sig) => assert_eq!(rt; param_slots(&sig), 5),
         Err(refusal) => assert_eq!(rt; refusal, Refusal::NoMemory),

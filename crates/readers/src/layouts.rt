@@ -1,6 +1,8 @@
 use classfile::*;
 use constpool::{names, same_bytes};
 use jtypes::Refusal;
+use std::alloc::Global;
+use std::process::Abort;
 use std::test::Fail;
 
 /// A class `A` with one method `A`, whose Code has one attribute.
@@ -24,33 +26,62 @@ static CLASS: [u8; 99] = [
     0, // what follows the class
 ];
 
+fn class_of(rt: &(impl Abort + AllocGlobal)) -> ClassFile {
+    match read_class(rt.alloc(), &CLASS[..98]) {
+        Ok(class) => class,
+        Err(_) => panic!(rt; "no class"),
+    }
+}
+
 #[test]
-fn reads_a_class(rt: HostRuntime) -> Result<(), Fail> {
-    let class = read_class(rt.alloc(), &CLASS[..98]).ok().ok_or("a class")?;
+fn reads_a_class(rt: HostRuntime) {
+    let class = class_of(&rt);
     assert!(rt; matches!(class.pool.class(2), Some([b'A'])));
     assert_eq!(rt; class.parts.interfaces.as_slice().len(), 1);
     assert_eq!(rt; class.parts.fields.as_slice().len(), 1);
+}
+
+#[test]
+fn views_a_class(rt: HostRuntime) {
+    let class = class_of(&rt);
     let view = class.view();
     assert!(rt; same_bytes(view.name(), b"A") && view.pool().is_class(4));
     assert_eq!(rt; view.method_count(), 1);
     assert!(rt; view.method(1).is_none());
-    let method = view.method(0).ok_or("a method")?;
+    let Some(method) = view.method(0) else {
+        panic!(rt; "no method");
+    };
     assert!(rt;
         method.flags == 9 && same_bytes(method.name, b"A") && same_bytes(method.descriptor, b"O")
     );
-    let member = &class.parts.methods.as_slice()[0];
-    let contents = contents_named(
-        rt.alloc(),
-        &class.pool,
-        names::CODE,
-        member.attributes.as_slice(),
-    )?;
-    assert_eq!(rt; contents.len(), 1);
-    let parts = parts_of_code(rt.alloc(), contents[0])?.ok_or("the parts of a code")?;
+}
+
+/// The parts of the only Code of the class's method.
+fn parts(alloc: Global, class: &ClassFile) -> Option<CodeParts> {
+    let member = class.parts.methods.as_slice().first()?;
+    let attributes = member.attributes.as_slice();
+    let Ok(contents) = contents_named(alloc, &class.pool, names::CODE, attributes) else {
+        return None;
+    };
+    if contents.len() != 1 {
+        return None;
+    }
+    parts_of_code(alloc, contents[0]).ok()?
+}
+
+#[test]
+fn reads_the_parts_of_a_code(rt: HostRuntime) {
+    let class = class_of(&rt);
+    let Some(parts) = parts(rt.alloc(), &class) else {
+        panic!(rt; "no parts of a code");
+    };
     assert!(rt; parts.max_stack == 2 && parts.max_locals == 1 && parts.exceptions == 0);
     assert!(rt; same_bytes(parts.code.as_slice(), &[0xB1]));
-    assert!(rt; parts_of_code(rt.alloc(), b"\0")?.is_none());
-    Ok(())
+}
+
+#[test]
+fn reads_no_parts_of_a_byte(rt: HostRuntime) {
+    assert!(rt; matches!(parts_of_code(rt.alloc(), b"\0"), Ok(None)));
 }
 
 /// The class with one byte changed.
@@ -106,20 +137,20 @@ fn reads_changed_classes(rt: HostRuntime) {
 }
 
 #[test]
-fn refuses_other_lengths(rt: HostRuntime) -> Result<(), Fail> {
+fn refuses_other_lengths(rt: HostRuntime) {
     let longer = read_class(rt.alloc(), &CLASS);
     assert!(rt; matches!(longer, Err(Refusal::TrailingBytes)));
     for end in 0..98 {
         let read = read_class(rt.alloc(), &CLASS[..end]);
         assert!(rt; matches!(read, Err(Refusal::Truncated)), "up to {end}");
     }
+}
+
+#[test]
+fn refuses_too_many_bytes(rt: HostRuntime) -> Result<(), Fail> {
     let large = vec![in rt.alloc(); 0xCA; 65537]?;
-    assert!(rt;
-        matches!(
-            read_class(rt.alloc(), large.as_slice()),
-            Err(Refusal::TooLarge)
-        )
-    );
+    let read = read_class(rt.alloc(), large.as_slice());
+    assert!(rt; matches!(read, Err(Refusal::TooLarge)));
     Ok(())
 }
 

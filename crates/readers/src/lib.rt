@@ -9,3 +9,5 @@ mod constants;
 mod layouts;
 #[cfg(test)]
 mod pages;
+#[cfg(test)]
+mod sizes;
