@@ -1,10 +1,10 @@
 import javax.cache.processor.EntryProcessor;
 import javax.cache.processor.MutableEntry;
 
-/** Each method calls the one before it ten times, so the last one takes more than a million steps. */
+/** Each method calls the one before it ten times, so the last one takes more than four million steps. */
 public class TooManySteps implements EntryProcessor<Long, Long, Object> {
     public Object process(MutableEntry<Long, Long> entry, Object... arguments) {
-        return f(entry.getValue());
+        return g(entry.getValue());
     }
 
     private static long a(long x) {
@@ -29,5 +29,9 @@ public class TooManySteps implements EntryProcessor<Long, Long, Object> {
 
     private static long f(long x) {
         return e(e(e(e(e(e(e(e(e(e(x))))))))));
+    }
+
+    private static long g(long x) {
+        return f(f(f(f(f(f(f(f(f(f(x))))))))));
     }
 }

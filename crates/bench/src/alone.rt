@@ -10,7 +10,7 @@ ghost use Rattle.stripe.specs.Seen.{call_of};
 use crate::calls::{MOST_KEYS, keys_from, row_at};
 use crate::measure::{ROUNDS, Times, now, rounds, tenths, times_of};
 use crate::report::Failure;
-use jtypes::Args;
+use jtypes::{Args, NoLoader};
 use machine::{Done, Workspace, run};
 use std::alloc::{AllocError, Global};
 use std::time::{CpuClock, Duration};
@@ -50,7 +50,7 @@ fn end_of(call: &Call<'_>, before: Option<i64>, workspace: &mut Workspace) -> Op
 {
     match call {
         Call::Invoke { class, key, args } => {
-            Some(run(class, *key, before, &args.args(), workspace))
+            Some(run(class, *key, before, &args.args(), workspace, &NoLoader))
         }
         Call::Get { .. } => None,
         Call::Put { .. } => None,
@@ -248,7 +248,7 @@ fn run_on_each(class: &Verified, entries: &[(i64, Option<i64>)], workspace: &mut
     let args = Args::none();
     let mut steps = 0u64;
     for (key, before) in entries {
-        let done = run(class, *key, *before, &args, workspace);
+        let done = run(class, *key, *before, &args, workspace, &NoLoader);
         steps = steps.wrapping_add(u64::from(done.steps));
     }
     steps

@@ -7,6 +7,7 @@ use crate::line::{Call, Request, Work, parse};
 use crate::measure::{runs, verdicts};
 use crate::report::{Failure, cost, of_calls, of_rounds, of_runs, of_stripe, of_verdicts};
 use crate::rounds::rounds;
+use jtypes::NoLoader;
 use machine::{Workspace, run};
 use std::alloc::Global;
 use std::rt::Files;
@@ -23,7 +24,14 @@ fn running(
     count: u32,
 ) -> Result<String, Failure> {
     let mut workspace = Workspace::new(alloc)?;
-    let done = run(class, call.key, call.before, &call.args, &mut workspace);
+    let done = run(
+        class,
+        call.key,
+        call.before,
+        &call.args,
+        &mut workspace,
+        &NoLoader,
+    );
     if count == 0 {
         return Ok(cost(alloc, done.steps, done.words)?);
     }

@@ -5,6 +5,7 @@ ghost use Rattle.std.specs.Duration.{as_nanos};
 
 use crate::line::Call;
 use crate::report::Failure;
+use jtypes::NoLoader;
 use machine::{Done, Workspace, run};
 use std::alloc::Global;
 use std::time::{CpuClock, Duration};
@@ -43,7 +44,14 @@ pub fn times_of(times: &mut [u128]) -> Times
 fn run_often(class: &Verified, call: &Call, count: u32, workspace: &mut Workspace) -> u64 {
     let mut steps = 0u64;
     for _ in 0..count {
-        let done = run(class, call.key, call.before, &call.args, workspace);
+        let done = run(
+            class,
+            call.key,
+            call.before,
+            &call.args,
+            workspace,
+            &NoLoader,
+        );
         steps = steps.wrapping_add(u64::from(done.steps));
     }
     steps

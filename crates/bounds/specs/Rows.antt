@@ -13,6 +13,7 @@ use Rattle.bounds.specs.Recursion.{HasCall, IsRecursive}
 use Rattle.bounds.specs.Paths.{Bounds, AreBounds, SomePathExceeds, step_limit, word_limit, slot_limit, depth_limit}
 use Rattle.bounds.specs.declared.limits.Bounds as declared
 use Rattle.bounds.specs.Cells.{Cell, capped, known_at}
+use Rattle.jtypes.specs.Profile.{Second}
 
 -- a row is of the class's method with its number: it has its environment and its code, and says what its calls reach
 pub record IsRowOf (c : Class) (row : Typed) : Type 0 where
@@ -119,7 +120,7 @@ bounds_in b = record { steps = b.steps; words = b.words; slots = b.slots; depth 
 
 -- a limit is refused where some path of method j exceeds it
 pub record IsRefusalOf (c : Class) (j : ℕ) (r : Refusal) : Type 0 where
-  pub steps : r ≡ StepLimit → SomePathExceeds c j (λ k. k.steps) step_limit
+  pub steps : r ≡ StepLimit → SomePathExceeds c j (λ k. k.steps) (step_limit Second)
   pub words : r ≡ WordLimit → SomePathExceeds c j (λ k. k.words) word_limit
   pub frames : r ≡ FrameLimit → SomePathExceeds c j (λ k. k.slots) slot_limit ⊎ SomePathExceeds c j (λ k. k.depth) depth_limit
 

@@ -9,6 +9,7 @@ ghost use Rattle.bounds.specs.Lengths.{HasLengths, LacksLengthIn, HaveLengths, O
 ghost use Rattle.bounds.specs.Limits.{IsLimit, IsOfBounds, IsWithinLimits, Judges};
 ghost use Rattle.bounds.specs.Table.{Costs, IsTable, LeadsOn};
 ghost use Rattle.bounds.specs.Rows.{AreRowsOf, AreKnown, AreBelow, AreGrounded, AreAllKnown, AreNotRecursive, StaysKnown, StaysGrounded, Learns, LearnsUpTo, OneIsUnknown, IsCircleIn, IsAnswerFor};
+ghost use Rattle.jtypes.specs.Profile.{Second};
 
 use crate::costs::{Cost, greatest, has_length, is_ready, known_at};
 use jtypes::Refusal;
@@ -29,7 +30,7 @@ pub struct Bounds {
 }
 
 /// The most instructions of an invocation.
-pub const STEP_LIMIT: u32 = 1_000_000;
+pub const STEP_LIMIT: u32 = 4_000_000;
 /// The most words of its arrays.
 pub const WORD_LIMIT: u32 = 65_536;
 /// The most slots of its activations.
@@ -161,7 +162,7 @@ fn within_limits(cost: Cost) -> Result<Bounds, Refusal>
 
 /// The bounds of a class, from its methods but the constructor: the greatest over all paths of `process`.
 pub fn bound(alloc: Global, methods: &[Typed]) -> Result<Bounds, Refusal>
-    ensures limits { IfOk result IsWithinLimits }
+    ensures limits { IfOk result (IsWithinLimits Second) }
     // Where these are the rows of a class's methods: the bounds are the class's, and a limit is exceeded by some path.
     ensures answer { (c : Class) (set : ℕ → Bool) → LeadsOn c set → AreRowsOf c set methods.now → IsAnswerFor c result }
     // Where they are the rows of all of them, the class is recursive where that is answered.

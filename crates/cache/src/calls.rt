@@ -10,7 +10,7 @@ use crate::receipt::Receipt;
 use crate::refusal::InvokeRefusal;
 use crate::seat::Seat;
 use crate::steps::{begin, commit, give_back, give_full, take, tell};
-use jtypes::Args;
+use jtypes::{Args, NoLoader};
 use machine::{Done, Workspace, run};
 use registry::ClassId;
 use std::sync::Wait;
@@ -147,7 +147,7 @@ impl<'a> Cache<'a> {
             key,
             args: ArgRow::of(&args),
         };
-        let end = |before: Option<i64>| Some(run(class, key, before, &args, workspace));
+        let end = |before: Option<i64>| Some(run(class, key, before, &args, workspace, &NoLoader));
         let answer = self.locked(rt, seat, call, end, job, gate);
         gate.answered(job);
         answer

@@ -34,7 +34,7 @@ fn read_code_parts(alloc: Global, cursor: &mut Cursor<'_>) -> Result<CodeParts, 
     let exceptions = cursor.u16()?;
     cursor.part(8 * usize::from(exceptions))?;
     let count = cursor.u16()?;
-    let attributes = row(alloc, &PlainAttributeReader, count, cursor)?;
+    let attributes = row(alloc, &PlainAttributeReader, usize::from(count), cursor)?;
     let code = Items::new(Vec::from_slice(alloc, code)?);
     Ok(CodeParts {
         max_stack,

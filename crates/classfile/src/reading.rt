@@ -80,7 +80,7 @@ fn read_attributes(
     ensures { Takes (λ x. x) result (first (attributes pool.now) cursor.old) cursor.new }
 {
     let count = cursor.u16()?;
-    row(alloc, &AttributeReader { pool }, count, cursor)
+    row(alloc, &AttributeReader { pool }, usize::from(count), cursor)
 }
 
 /// Whether the attribute is no Code, or has parts whose attributes have names, or no parts.
@@ -118,7 +118,12 @@ fn read_method_attributes(
     ensures { Takes (λ x. x) result (first (method_attributes pool.now) cursor.old) cursor.new }
 {
     let count = cursor.u16()?;
-    row(alloc, &MethodAttributeReader { pool }, count, cursor)
+    row(
+        alloc,
+        &MethodAttributeReader { pool },
+        usize::from(count),
+        cursor,
+    )
 }
 
 #[tactic(auto, unfolding(crate::specs::Class::member))]
@@ -162,7 +167,12 @@ fn read_interfaces(
     ensures { Takes (λ x. x) result (first (interfaces pool.now) cursor.old) cursor.new }
 {
     let count = cursor.u16()?;
-    row(alloc, &ClassIndexReader { pool }, count, cursor)
+    row(
+        alloc,
+        &ClassIndexReader { pool },
+        usize::from(count),
+        cursor,
+    )
 }
 
 #[tactic(auto, unfolding(crate::specs::Class::fields))]
@@ -174,7 +184,7 @@ fn read_fields(
     ensures { Takes (λ x. x) result (first (fields pool.now) cursor.old) cursor.new }
 {
     let count = cursor.u16()?;
-    row(alloc, &FieldReader { pool }, count, cursor)
+    row(alloc, &FieldReader { pool }, usize::from(count), cursor)
 }
 
 #[tactic(auto, unfolding(crate::specs::Class::methods))]
@@ -189,7 +199,7 @@ fn read_methods(
     if count > MOST_METHODS {
         return Err(Refusal::TooLarge);
     }
-    row(alloc, &MethodReader { pool }, count, cursor)
+    row(alloc, &MethodReader { pool }, usize::from(count), cursor)
 }
 
 /// The magic and the version (JVMS §4.1): 51.0 or 52.0.

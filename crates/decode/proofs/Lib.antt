@@ -4,3 +4,4 @@ pub mod Runs
 pub mod Targets
 pub mod Consecutive
 pub mod Unrefused
+pub mod Profiles

@@ -8,9 +8,10 @@ use Rattle.constpool.specs.declared.constant.Constant.TheVariants as constant
 use Rattle.constpool.specs.Lookup.{Slot, constant_at}
 use Rattle.decode.specs.declared.instruction.Form.{Form}
 use Rattle.decode.specs.declared.instruction.Form.TheVariants as form
-use Rattle.decode.specs.Code.{one, by_form, operands, signed_byte, signed_short, int_constant, long_constant, array_of_code}
+use Rattle.decode.specs.Code.{one, by_form, operands, signed_byte, signed_short, signed_word, widened, int_constant, long_constant, array_of_code}
 use Rattle.decode.specs.Places.{CodeStands}
 use Rattle.decode.specs.Table.{form_at}
+use Rattle.jtypes.specs.Profile.{Profile, Second}
 
 -- the refusal is none of those that a layout judges
 abbrev IsNever : {A : Type 0} → Refusal → Layout A → Type 0
@@ -51,8 +52,16 @@ long_never opcode None = λ e. cc e
 long_never opcode (Some (constant.Long value)) = tt
 long_never opcode (Some c) = λ e. cc e
 
+wide_never : (opcode : ℕ) (f : Option Form) → IsNever UnknownMember (widened opcode f)
+unfolding widened signed_short
+wide_never opcode (Some (form.Load kind)) = (number_never 2, λ x. tt)
+wide_never opcode (Some (form.Store kind)) = (number_never 2, λ x. tt)
+wide_never opcode (Some form.Increment) = (number_never 2, λ n. ((number_never 2, λ x. tt), λ x. tt))
+wide_never opcode (Some f) = ((λ e. cc e), λ e. cc e)
+wide_never opcode None = ((λ e. cc e), λ e. cc e)
+
 operands_never : (pool : List Slot) (at opcode : ℕ) (f : Form) → IsNever UnknownMember (operands pool at opcode f)
-unfolding operands signed_byte signed_short array_of_code
+unfolding operands signed_byte signed_short signed_word array_of_code
 operands_never pool at opcode (form.Alone i) = tt
 operands_never pool at opcode form.PushByte = ((number_never 1, λ x. tt), λ x. tt)
 operands_never pool at opcode form.PushShort = ((number_never 2, λ x. tt), λ x. tt)
@@ -64,6 +73,8 @@ operands_never pool at opcode (form.Store kind) = (number_never 1, λ x. tt)
 operands_never pool at opcode form.Increment = (number_never 1, λ n. ((number_never 1, λ x. tt), λ x. tt))
 operands_never pool at opcode (form.Branch test) = ((number_never 2, λ x. tt), λ x. tt)
 operands_never pool at opcode form.Goto = ((number_never 2, λ x. tt), λ x. tt)
+operands_never pool at opcode form.Wide = (number_never 1, λ o. wide_never o (form_at Second o))
+operands_never pool at opcode form.GotoWide = ((number_never 4, λ x. tt), λ x. tt)
 operands_never pool at opcode (form.Invoke kind) = (number_never 2, λ i. ((tt, λ e. cc e), λ x. tt))
 operands_never pool at opcode form.InvokeInterface = (number_never 2, λ i. (number_never 1, λ n. (number_never 1, λ z. ((tt, λ e. cc e), λ x. tt))))
 operands_never pool at opcode form.NewArray = (number_never 1, λ code. (tt, (tt, ((λ e. cc e), λ e. cc e))))
@@ -75,12 +86,12 @@ unfolding by_form
 form_never pool at opcode None = ((λ e. cc e), λ e. cc e)
 form_never pool at opcode (Some f) = operands_never pool at opcode f
 
-one_never : (pool : List Slot) (at : ℕ) → IsNever UnknownMember (one pool at)
+one_never : (profile : Profile) (pool : List Slot) (at : ℕ) → IsNever UnknownMember (one profile pool at)
 unfolding one
-one_never pool at = (number_never 1, λ opcode. form_never pool at opcode (form_at opcode))
+one_never profile pool at = (number_never 1, λ opcode. form_never pool at opcode (form_at profile opcode))
 
 -- ---- a code
 
-pub members_unread : (pool : List Slot) (bytes : List ℕ) → CodeStands pool bytes UnknownMember → ⊥
-members_unread pool bytes (inl s) = never UnknownMember (one pool _) (one_never pool _) s.2 s.6
-members_unread pool bytes (inr s) = s.2
+pub members_unread : (profile : Profile) (pool : List Slot) (bytes : List ℕ) → CodeStands profile pool bytes UnknownMember → ⊥
+members_unread profile pool bytes (inl s) = never UnknownMember (one profile pool _) (one_never profile pool _) s.2 s.6
+members_unread profile pool bytes (inr s) = s.2

@@ -5,6 +5,7 @@ use Rattle.jtypes.specs.declared.refusal.Refusal.{Refusal}
 use Rattle.jtypes.specs.declared.refusal.Refusal.TheVariants.{BadTarget, BackwardBranch, NoMemory}
 use Rattle.constpool.specs.Lookup.{Slot}
 use Rattle.decode.specs.declared.instruction.Placed.{Placed}
+use Rattle.jtypes.specs.Profile.{Second}
 use Rattle.decode.specs.Code.{IsSequence, StopsWith}
 use Rattle.decode.specs.Places.{HasBadTarget, HasBackwardTarget}
 
@@ -15,8 +16,8 @@ RisesFrom place (p ∷ ps) = (p.place ≡ place) × (p.place < p.next) × (p.nex
 
 -- what the reading of a sequence answers
 abbrev pub Reads : List Slot → List ℕ → Result (Vec Placed) Refusal → Type 0
-Reads pool bytes (Ok placed) = IsSequence pool 0 bytes placed.items × ((r : Refusal) → StopsWith pool bytes r → ⊥)
-Reads pool bytes (Err r) = r ≢ NoMemory → StopsWith pool bytes r
+Reads pool bytes (Ok placed) = IsSequence Second pool 0 bytes placed.items × ((r : Refusal) → StopsWith Second pool bytes r → ⊥)
+Reads pool bytes (Err r) = r ≢ NoMemory → StopsWith Second pool bytes r
 
 -- what the look at one target answers
 abbrev pub IsTargetRefusal : List Placed → Placed → Option Refusal → Type 0

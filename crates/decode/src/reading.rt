@@ -5,7 +5,9 @@ ghost use Rattle.jtypes.specs.declared.refusal.Refusal.{Refusal};
 ghost use Rattle.jtypes.specs.Layout.{Takes, first};
 ghost use Rattle.constpool.specs.Lookup.{constant_at, class_at, method_at, interface_method_at};
 ghost use Rattle.decode.specs.declared.instruction.Form.TheVariants as form;
-ghost use Rattle.decode.specs.Code.{signed_byte, signed_short, int_constant, long_constant, array_of_code, slots_of_member, is_count, operands, one, IsSequence};
+ghost use Rattle.jtypes.specs.Profile.{Second};
+ghost use Rattle.decode.specs.Table.{form_at};
+ghost use Rattle.decode.specs.Code.{signed_byte, signed_short, signed_word, widened, int_constant, long_constant, array_of_code, slots_of_member, is_count, operands, one, IsSequence};
 ghost use Rattle.decode.specs.Places.{CodeStands};
 ghost use Rattle.decode.specs.Reading.{Reads};
 
@@ -28,6 +30,13 @@ fn signed_short(cursor: &mut Cursor<'_>) -> Result<i16, Refusal>
     ensures { Takes (λ x. x) result (first signed_short cursor.old) cursor.new }
 {
     Ok(cursor.u16_operand()?.cast_signed())
+}
+
+#[tactic(auto, unfolding(crate::specs::Code::signed_word))]
+fn signed_word(cursor: &mut Cursor<'_>) -> Result<i32, Refusal>
+    ensures { Takes (λ x. x) result (first signed_word cursor.old) cursor.new }
+{
+    Ok(cursor.u32_operand()?.cast_signed())
 }
 
 /// What `ldc` and `ldc_w` push. Constants that a JVM would load, but no int, are outside the profile.
@@ -70,6 +79,13 @@ fn long_constant(pool: &Pool, opcode: u8, index: u16) -> Result<Instruction, Ref
 
 /// A place that lies so far from a branch.
 fn target(place: usize, offset: i16) -> i128
+    ensures { result ≡ pos place +ℤ offset }
+{
+    place as i128 + i128::from(offset)
+}
+
+/// A place that lies so far from a jump.
+fn far_target(place: usize, offset: i32) -> i128
     ensures { result ≡ pos place +ℤ offset }
 {
     place as i128 + i128::from(offset)
@@ -141,6 +157,26 @@ fn array_of_code(opcode: u8, code: u8) -> Result<Instruction, Refusal>
     }
 }
 
+/// What follows `wide` and an opcode.
+#[tactic(auto, unfolding(crate::specs::Code::widened))]
+fn read_widened(opcode: u8, cursor: &mut Cursor<'_>) -> Result<Instruction, Refusal>
+    ensures { Takes (λ x. x) result (first (widened opcode (form_at Second opcode)) cursor.old) cursor.new }
+{
+    match form_of(opcode) {
+        Some(Form::Load(kind)) => Ok(Instruction::Load(kind, cursor.u16_operand()?)),
+        Some(Form::Store(kind)) => Ok(Instruction::Store(kind, cursor.u16_operand()?)),
+        Some(Form::Increment) => {
+            let local = cursor.u16_operand()?;
+            let value = signed_short(cursor)?;
+            Ok(Instruction::Increment(local, value))
+        }
+        _ => match opcode {
+            0x17 | 0x18 | 0x38 | 0x39 | 0xA9 => Err(Refusal::OutsideProfile(opcode)),
+            _ => Err(Refusal::BadOperand),
+        },
+    }
+}
+
 #[tactic(auto, unfolding(crate::specs::Code::operands))]
 fn read_operands(
     alloc: Global,
@@ -168,6 +204,8 @@ fn read_operands(
         }
         Form::Branch(test) => Ok(Instruction::Branch(test, target(place, signed_short(cursor)?))),
         Form::Goto => Ok(Instruction::Goto(target(place, signed_short(cursor)?))),
+        Form::Wide => read_widened(cursor.u8_operand()?, cursor),
+        Form::GotoWide => Ok(Instruction::Goto(far_target(place, signed_word(cursor)?))),
         Form::Invoke(kind) => Ok(Instruction::Invoke(
             kind,
             method_index(pool, cursor.u16_operand()?)?,
@@ -187,7 +225,7 @@ pub fn read_instruction(
     place: usize,
     cursor: &mut Cursor<'_>,
 ) -> Result<Instruction, Refusal>
-    ensures { Takes (λ x. x) result (first (one pool.now place) cursor.old) cursor.new }
+    ensures { Takes (λ x. x) result (first (one Second pool.now place) cursor.old) cursor.new }
 {
     let opcode = cursor.u8_operand()?;
     match form_of(opcode) {
@@ -206,7 +244,7 @@ fn read_placed(
     cursor: &mut Cursor<'_>,
 ) -> Result<Placed, Refusal>
     requires { length cursor.old ≤ total }
-    ensures read { Takes (λ p. p.instruction) result (first (one pool.now (total - length cursor.old)) cursor.old) cursor.new }
+    ensures read { Takes (λ p. p.instruction) result (first (one Second pool.now (total - length cursor.old)) cursor.old) cursor.new }
     ensures placed { IfOk result (λ p. (p.place ≡ total - length cursor.old) × (p.next ≡ total - length cursor.new)) }
 {
     let place = total - cursor.rest().len();
@@ -237,11 +275,11 @@ fn read_sequence(alloc: Global, pool: &Pool, bytes: &[u8]) -> Result<Vec<Placed>
 /// are called exist, and what the instructions find on the stack, is judged elsewhere.
 pub fn decode(alloc: Global, bytes: &[u8], pool: &Pool) -> Result<Code, Refusal>
     // The bytes, all of them, are these instructions.
-    ensures found { IfOk result (λ code. IsSequence pool.now 0 bytes.now code) }
+    ensures found { IfOk result (λ code. IsSequence Second pool.now 0 bytes.now code) }
 
     // A code is answered only where no refusal stands, and a refusal that is answered stands.
-    ensures accepted { IfOk result (λ _. (r : Refusal) → CodeStands pool.now bytes.now r → ⊥) }
-    ensures refused { IfErr result (λ r. r ≢ Refusal.NoMemory → CodeStands pool.now bytes.now r) }
+    ensures accepted { IfOk result (λ _. (r : Refusal) → CodeStands Second pool.now bytes.now r → ⊥) }
+    ensures refused { IfErr result (λ r. r ≢ Refusal.NoMemory → CodeStands Second pool.now bytes.now r) }
 {
     let code = Code::new(read_sequence(alloc, pool, bytes)?);
     match code.target_refusal() {

@@ -1,6 +1,7 @@
 //! The table of instructions.
 
 ghost use Rattle.std.specs.Prelude.{◌≡◌};
+ghost use Rattle.jtypes.specs.Profile.{Second};
 ghost use Rattle.decode.specs.Table.{form_at};
 
 use crate::instruction::{Form, Instruction};
@@ -207,11 +208,11 @@ static FORMS: [Option<Form>; 202] = [
     Some(Form::InstanceOf), // C1 instanceof
     None, // C2 monitorenter
     None, // C3 monitorexit
-    None, // C4 wide
+    Some(Form::Wide), // C4 wide
     None, // C5 multianewarray
     Some(Form::Branch(Test::IsNull)), // C6 ifnull
     Some(Form::Branch(Test::IsNonNull)), // C7 ifnonnull
-    None, // C8 goto_w
+    Some(Form::GotoWide), // C8 goto_w
     None, // C9 jsr_w
 ];
 
@@ -219,7 +220,7 @@ static FORMS: [Option<Form>; 202] = [
 ///
 /// The table has no floats, no fields, no monitors, no switches and no subroutines.
 pub fn form_of(opcode: u8) -> Option<Form>
-    ensures { result ≡ form_at opcode }
+    ensures { result ≡ form_at Second opcode }
 {
     if opcode < 0xCA {
         FORMS[usize::from(opcode)]

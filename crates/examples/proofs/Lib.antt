@@ -1,4 +1,3 @@
-pub mod OneMeaning
 pub mod MeaningAndRanks
 pub mod Small
 pub mod Fit

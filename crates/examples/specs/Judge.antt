@@ -31,6 +31,7 @@ use Rattle.bounds.specs.Paths.{Cost, last_cost, after_one, after_call, words_at,
 use Rattle.verdict.specs.Shape.{reserved_names, has_other_kind, is_constructor, slots_taken, object_init}
 use Rattle.verdict.specs.Verdict.{is_known}
 use Rattle.examples.specs.Plain.{placed, all_read, environment_of, the_method, class_in}
+use Rattle.jtypes.specs.Profile.{Second}
 
 -- ---- layouts
 
@@ -139,7 +140,7 @@ unfoldable pub decoded : ℕ → List Slot → ℕ → List ℕ → Result (List
 decoded most pool at [] = Ok []
 decoded zero pool at (b ∷ bytes) = Ok []
 decoded (suc most) pool at (b ∷ bytes) =
-    then_decoded at (length (b ∷ bytes)) (first (one pool at) (b ∷ bytes)) (decoded most pool)
+    then_decoded at (length (b ∷ bytes)) (first (one Second pool at) (b ∷ bytes)) (decoded most pool)
   where
     onto_rest : Placed → Result (List Placed) Refusal → Result (List Placed) Refusal
     onto_rest p (Ok ps) = Ok (p ∷ ps)
@@ -298,7 +299,7 @@ cost (suc most) c j place = slice_get c.methods j >>= λ m. at_place m.code plac
 
 abbrev pub limit_refusals : Cost → List ℕ
 limit_refusals k =
-    flag 27 (nat_lt step_limit k.steps) ++ flag 28 (nat_lt word_limit k.words) ++ flag 29 (nat_lt slot_limit k.slots || nat_lt depth_limit k.depth)
+    flag 27 (nat_lt (step_limit Second) k.steps) ++ flag 28 (nat_lt word_limit k.words) ++ flag 29 (nat_lt slot_limit k.slots || nat_lt depth_limit k.depth)
 
 -- what a class answers: refusals, or bounds
 pub data Answered : Type 0 where

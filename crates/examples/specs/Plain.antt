@@ -1,7 +1,9 @@
 -- A plain program that computes the definitions on small inputs: the class of some bytes, and the meaning of a call.
-use Rattle.std.specs.Prelude.{ℕ, zero, suc, ◌+◌, ◌-◌, List, [], ◌∷◌, length, map, Option, Some, None, Result, Ok, Err, option_map, ℤ}
+use Rattle.std.specs.Prelude.{ℕ, zero, suc, ◌+◌, ◌-◌, List, [], ◌∷◌, length, map, Option, Some, None, Result, Ok, Err, option_map, ℤ, true, false}
 use Rattle.jtypes.specs.declared.refusal.Refusal.{Refusal}
 use Rattle.jtypes.specs.declared.types.Arg.{Arg}
+use Rattle.jtypes.specs.declared.loader.LoadAnswer.{LoadAnswer}
+use Rattle.jtypes.specs.declared.loader.LoadAnswer.TheVariants as load
 use Rattle.jtypes.specs.Layout.{first}
 use Rattle.jtypes.specs.Lists.{only, ◌>>=◌}
 use Rattle.constpool.specs.Lookup.{Slot}
@@ -11,6 +13,7 @@ use Rattle.classfile.specs.declared.class_file.CodeParts.{CodeParts}
 use Rattle.classfile.specs.Code.{parts_of_code}
 use Rattle.classfile.specs.Class.{class_file}
 use Rattle.classfile.specs.View.{ClassView, view_of, method_view, codes_of, tables_of}
+use Rattle.jtypes.specs.Profile.{Second}
 use Rattle.decode.specs.declared.instruction.Instruction.{Instruction}
 use Rattle.decode.specs.declared.instruction.Placed.{Placed}
 use Rattle.decode.specs.Code.{one}
@@ -40,7 +43,7 @@ unfoldable pub decode_all : ℕ → List Slot → ℕ → List ℕ → Option (L
 decode_all most pool at [] = Some []
 decode_all zero pool at (b ∷ bytes) = None
 decode_all (suc most) pool at (b ∷ bytes) =
-    item_of at (length (b ∷ bytes)) (first (one pool at) (b ∷ bytes)) >>= λ p. option_map (λ ps. p.0 ∷ ps) (decode_all most pool p.0.next p.1)
+    item_of at (length (b ∷ bytes)) (first (one Second pool at) (b ∷ bytes)) >>= λ p. option_map (λ ps. p.0 ∷ ps) (decode_all most pool p.0.next p.1)
 
 -- the declared frames of no table, or of one
 abbrev pub frames_of : ClassView → Environment → List (List ℕ) → Option (List (ℕ × Frame))
@@ -74,13 +77,20 @@ class_in p = option_map (λ ms. record { view = view_of p.0 p.1; methods = ms })
 unfoldable pub class_of : List ℕ → Option Class
 class_of bytes = all_read (first (class_file (length bytes)) bytes) >>= class_in
 
--- the final state of a call, reached in at most so many steps
-unfoldable pub ends_with : ℕ → Class → Invocation → Option Final
-ends_with most c call = start c call >>= run most c
+-- the final state of a call, reached in at most so many steps, where the loader answers this if it is asked
+unfoldable pub ends_with : ℕ → Class → LoadAnswer → Invocation → Option Final
+ends_with most c a call = start c call >>= run most c a
 
 abbrev pub the_call : ℤ → Option ℤ → List Arg → Invocation
-the_call key before args = record { key = key; args = args; before = before }
+the_call key before args = record { key = key; args = args; before = before; loads = false }
 
-unfoldable pub outcome_of : ℕ → Option Class → Invocation → Option Final
-outcome_of most None call = None
-outcome_of most (Some c) call = ends_with most c call
+-- on an absent key, where there is a loader
+abbrev pub the_asking_call : ℤ → List Arg → Invocation
+the_asking_call key args = record { key = key; args = args; before = None; loads = true }
+
+unfoldable pub outcome_by : ℕ → Option Class → LoadAnswer → Invocation → Option Final
+outcome_by most None a call = None
+outcome_by most (Some c) a call = ends_with most c a call
+
+abbrev pub outcome_of : ℕ → Option Class → Invocation → Option Final
+outcome_of most c call = outcome_by most c load.None call

@@ -10,6 +10,7 @@ ghost use Rattle.examples.specs.Plain.{class_of};
 ghost use Rattle.examples.specs.Judge.{judge};
 ghost use Rattle.examples.specs.Rows.{checked};
 ghost use Rattle.examples.specs.Verdicts.{judged};
+ghost use Rattle.jtypes.specs.Profile.{Second};
 
 /// Names the rows, so that a check computes them.
 pub fn all_examples()
@@ -21,7 +22,7 @@ pub fn all_examples()
 
 /// Names the verdict and the statement of soundness, so that a check elaborates them. It claims nothing of them.
 pub fn all_definitions()
-    ensures verdicts { (bytes : List ℕ) (r : Refusal) → IsRefused bytes r → IsRefused bytes r }
-    ensures classes { (bytes : List ℕ) (c : Class) → IsAccepted bytes → IsClassOf bytes c → IsClassOf bytes c }
+    ensures verdicts { (bytes : List ℕ) (r : Refusal) → IsRefused Second bytes r → IsRefused Second bytes r }
+    ensures classes { (bytes : List ℕ) (c : Class) → IsAccepted Second bytes → IsClassOf Second bytes c → IsClassOf Second bytes c }
     ensures soundness { AcceptedIsChecked → AcceptedIsOrdered → SoundnessOfClasses → TypeSoundness → TypeSoundness }
 {}

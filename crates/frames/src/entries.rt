@@ -147,7 +147,7 @@ fn read_append(
     ensures { Takes (λ x. x) result (first (append view.now count) cursor.old) cursor.new }
 {
     let delta = cursor.u16()?;
-    let types = row(alloc, &LocalTypes { view }, u16::from(count), cursor)?;
+    let types = row(alloc, &LocalTypes { view }, usize::from(count), cursor)?;
     let change = Change::Append(types);
     Ok(Entry { delta, change })
 }
@@ -158,9 +158,9 @@ fn read_full(alloc: Global, view: &ClassView<'_>, cursor: &mut Cursor<'_>) -> Re
 {
     let delta = cursor.u16()?;
     let count = cursor.u16()?;
-    let locals = row(alloc, &LocalTypes { view }, count, cursor)?;
+    let locals = row(alloc, &LocalTypes { view }, usize::from(count), cursor)?;
     let count = cursor.u16()?;
-    let stack = row(alloc, &StackTypes { view }, count, cursor)?;
+    let stack = row(alloc, &StackTypes { view }, usize::from(count), cursor)?;
     let change = Change::Full(locals, stack);
     Ok(Entry { delta, change })
 }
@@ -200,5 +200,5 @@ pub fn read_table(
     ensures { Takes (λ x. x) result (first (table view.now) cursor.old) cursor.new }
 {
     let count = cursor.u16()?;
-    row(alloc, &Entries { view }, count, cursor)
+    row(alloc, &Entries { view }, usize::from(count), cursor)
 }

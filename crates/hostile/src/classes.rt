@@ -1,6 +1,6 @@
 //! Classes that are cut, or changed in one bit or one count.
 
-use jtypes::{Arg, Args, Effect, Outcome, Refusal};
+use jtypes::{Arg, Args, Effect, NoLoader, Outcome, Refusal};
 use machine::{Done, Workspace, run};
 use rowclasses as rows;
 use std::alloc::{AllocError, Global};
@@ -184,7 +184,7 @@ impl Counts {
         args: &Args,
         space: &mut Workspace,
     ) -> bool {
-        let done = run(class, 7, before, args, space);
+        let done = run(class, 7, before, args, space, &NoLoader);
         match done.outcome {
             Outcome::Returned(_) => self.returned = self.returned.saturating_add(1),
             Outcome::Threw(_) => self.threw = self.threw.saturating_add(1),

@@ -4,7 +4,7 @@ use crate::files::Files;
 use crate::line::{Request, parse};
 use crate::output::{Answer, Failure, OK, accepted, ran, refused};
 use cache::NoGate;
-use jtypes::{Args, Refusal};
+use jtypes::{Args, NoLoader, Refusal};
 use machine::{Workspace, run};
 use serve::{Settings, serve};
 use std::alloc::{AllocError, Global};
@@ -54,7 +54,7 @@ fn run_answer<'a>(
     match verified(alloc, files, file)? {
         Ok(class) => {
             let mut workspace = Workspace::new(alloc)?;
-            let done = run(&class, key, before, args, &mut workspace);
+            let done = run(&class, key, before, args, &mut workspace, &NoLoader);
             Ok(ran(alloc, done, before)?)
         }
         Err(refusal) => Ok(refused(alloc, refusal)?),

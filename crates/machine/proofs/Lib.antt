@@ -3,6 +3,8 @@ pub mod Onward
 pub mod Leading
 pub mod Families
 pub mod Turning
+pub mod Gets
+pub mod Informing
 pub mod Quotients
 pub mod Bounded
 pub mod Performing

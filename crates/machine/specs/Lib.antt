@@ -6,6 +6,7 @@ pub mod Acts
 pub mod Ended
 pub mod Entering
 pub mod Turns
+pub mod Asking
 pub mod Commons
 pub mod Running
 pub mod Elements

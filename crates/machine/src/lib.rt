@@ -4,6 +4,7 @@
 mod act;
 mod arithmetic;
 mod arrays;
+mod asking;
 mod branches;
 mod calls;
 mod casts;

@@ -1,13 +1,16 @@
 //! The state of an entry.
 
-ghost use Rattle.std.specs.Prelude.{◌≡◌, ◌↔◌, ℤ, IsTrue, is_some};
+ghost use Rattle.std.specs.Prelude.{◌≡◌, ◌↔◌, ℤ, IsTrue, is_some, true, Ok};
 ghost use Rattle.jtypes.specs.Entry.{Entry, effect, after_effect};
 ghost use Rattle.jtypes.specs.Library.{set_reply};
 ghost use Rattle.jtypes.specs.declared.types.Value.TheVariants.{Ref};
 ghost use Rattle.jtypes.specs.declared.types.Effect.TheVariants.{Keep};
-ghost use Rattle.mutentry.specs.Change.{Change, with_current, AnswersSet};
+ghost use Rattle.jtypes.specs.Loading.{answer_of, entry_at_start, left_by, loaded, may_ask};
+ghost use Rattle.jtypes.specs.declared.loader.LoadAnswer.TheVariants.{Failed};
+ghost use Rattle.jtypes.specs.declared.operations.Native.TheVariants.{SetValue, Remove};
+ghost use Rattle.mutentry.specs.Change.{Change, with_now, AnswersSet};
 
-use jtypes::{Effect, JavaFault, RefValue};
+use jtypes::{Effect, JavaFault, LoadAnswer, RefValue};
 use std::marker::Model;
 
 /// The entry that an invocation was started on and the entry as the invocation has changed it.
@@ -18,6 +21,8 @@ use std::marker::Model;
 pub struct EntryState {
     before: Option<i64>,
     current: Option<i64>,
+    untouched: bool,
+    asked: Option<LoadAnswer>,
 }
 
 impl Model for EntryState {
@@ -25,20 +30,22 @@ impl Model for EntryState {
 
     ghost Value = { Change };
 
-    ghost view = { λ s. record { before = s.before; current = s.current } };
+    ghost view = { λ s. record { before = s.before; now = record { entry = s.current; untouched = s.untouched; asked = s.asked } } };
 
-    ghost inverse = { λ c. record { before = c.before; current = c.current } };
+    ghost inverse = { λ c. record { before = c.before; current = c.now.entry; untouched = c.now.untouched; asked = c.now.asked } };
 }
 
 impl EntryState {
     /// An entry that nothing has changed yet.
     pub fn of(entry: Option<i64>) -> EntryState
         ensures before { result.before ≡ entry }
-        ensures current { result.current ≡ entry }
+        ensures now { result.now ≡ entry_at_start entry }
     {
         EntryState {
             before: entry,
             current: entry,
+            untouched: true,
+            asked: None,
         }
     }
 
@@ -51,14 +58,14 @@ impl EntryState {
 
     /// `MutableEntry.exists` (JSR 107).
     pub fn exists(&self) -> bool
-        ensures { result ≡ is_some self.now.current }
+        ensures { result ≡ is_some self.now.now.entry }
     {
         self.current.is_some()
     }
 
     /// `MutableEntry.getValue` (JSR 107): the value, or `None` where the entry does not exist.
     pub fn get_value(&self) -> Option<i64>
-        ensures { result ≡ self.now.current }
+        ensures { result ≡ self.now.now.entry }
     {
         self.current
     }
@@ -74,6 +81,7 @@ impl EntryState {
             RefValue::Null => Err(JavaFault::NullPointer),
             RefValue::Long(number) => {
                 self.current = Some(number);
+                self.untouched = false;
                 Ok(())
             }
             _ => Err(JavaFault::ClassCast),
@@ -82,14 +90,47 @@ impl EntryState {
 
     /// `MutableEntry.remove` (JSR 107).
     pub fn remove(&mut self)
-        ensures { self.new ≡ with_current self.old None }
+        ensures { self.new ≡ with_now self.old (left_by Remove self.old.now None) }
     {
         self.current = None;
+        self.untouched = false;
+    }
+
+    /// Whether a `getValue` asks the loader, if there is one: no entry was there, nothing was done to it, and it wasn't asked yet.
+    pub fn needs_load(&self) -> bool
+        ensures { result ≡ may_ask true self.now.before self.now.now }
+    {
+        let absent = self.before.is_none();
+        absent && self.untouched && self.asked.is_none()
+    }
+
+    /// The loader answered: a value becomes the entry.
+    pub fn loaded(&mut self, value: Option<i64>)
+        ensures { self.new ≡ with_now self.old (loaded (answer_of (Ok value)) self.old.now) }
+    {
+        if value.is_some() {
+            self.current = value;
+        }
+        self.asked = Some(LoadAnswer::of(Ok(value)));
+    }
+
+    /// The loader failed.
+    pub fn load_failed(&mut self)
+        ensures { self.new ≡ with_now self.old (loaded Failed self.old.now) }
+    {
+        self.asked = Some(LoadAnswer::Failed);
+    }
+
+    /// What the loader answered, if it was asked.
+    pub fn asked(&self) -> Option<LoadAnswer>
+        ensures { result ≡ self.now.now.asked }
+    {
+        self.asked
     }
 
     /// What is to be done to the entry before, so that the entry now is left.
     pub fn effect(self) -> Effect
-        ensures { result ≡ effect self.before self.current }
+        ensures { result ≡ effect self.before self.now.entry }
     {
         match (self.before, self.current) {
             (before, current) if before == current => Effect::Keep,

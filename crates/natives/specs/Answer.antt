@@ -3,14 +3,16 @@ use Rattle.std.specs.Prelude.{◌≡◌, Option, Some, None, Result, Ok, Err}
 use Rattle.jtypes.specs.declared.types.JavaFault.{JavaFault}
 use Rattle.jtypes.specs.declared.types.Value.{Value}
 use Rattle.jtypes.specs.Entry.{Entry}
+use Rattle.jtypes.specs.declared.operations.Native.{Native}
+use Rattle.jtypes.specs.Loading.{left_by}
 use Rattle.jtypes.specs.Library.{Reply, Gives, Faults, Misses}
-use Rattle.mutentry.specs.Change.{Change, with_current}
+use Rattle.mutentry.specs.Change.{Change, with_now}
 
 -- whether a call does what its reply says: it answers and leaves that entry, or it throws and changes nothing
-abbrev pub Answers : Reply → Result (Option Value) JavaFault → Change → Change → Type 0
-Answers (Gives answer entry) result old new = (result ≡ Ok answer) × (new ≡ with_current old entry)
-Answers (Faults fault) result old new = (result ≡ Err fault) × (new ≡ old)
-Answers Misses result old new = ⊥
+abbrev pub Answers : Native → Reply → Result (Option Value) JavaFault → Change → Change → Type 0
+Answers n (Gives answer entry) result old new = (result ≡ Ok answer) × (new ≡ with_now old (left_by n old.now entry))
+Answers n (Faults fault) result old new = (result ≡ Err fault) × (new ≡ old)
+Answers n Misses result old new = ⊥
 
 -- the reply of a call that leaves the entry as it is, where there is an answer
 abbrev pub given : Option Value → Entry → Reply

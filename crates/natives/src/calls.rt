@@ -22,8 +22,8 @@ pub fn call(
     entry: &mut EntryState,
     values: &[Value],
 ) -> Result<Option<Value>, JavaFault>
-    requires { ¬ (library native key entry.old.current values.now ≡ Misses) }
-    ensures { Answers (library native key entry.old.current values.now) result entry.old entry.new }
+    requires { ¬ (library native key entry.old.now.entry values.now ≡ Misses) }
+    ensures { Answers native (library native key entry.old.now.entry values.now) result entry.old entry.new }
 {
     match native {
         Native::LongValueOf
@@ -50,8 +50,8 @@ fn instance_call(
     receiver: RefValue,
     arguments: &[Value],
 ) -> Result<Option<Value>, JavaFault>
-    requires { ¬ (instance_reply native key entry.old.current (Ref receiver ∷ arguments.now) ≡ Misses) }
-    ensures { Answers (instance_reply native key entry.old.current (Ref receiver ∷ arguments.now)) result entry.old entry.new }
+    requires { ¬ (instance_reply native key entry.old.now.entry (Ref receiver ∷ arguments.now) ≡ Misses) }
+    ensures { Answers native (instance_reply native key entry.old.now.entry (Ref receiver ∷ arguments.now)) result entry.old entry.new }
 {
     match (native, receiver) {
         (_, RefValue::Null) => Err(JavaFault::NullPointer),

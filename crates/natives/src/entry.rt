@@ -16,8 +16,8 @@ pub fn entry_call(
     entry: &mut EntryState,
     arguments: &[Value],
 ) -> Result<Option<Value>, JavaFault>
-    requires { ¬ (entry_reply native key entry.old.current arguments.now ≡ Misses) }
-    ensures { Answers (entry_reply native key entry.old.current arguments.now) result entry.old entry.new }
+    requires { ¬ (entry_reply native key entry.old.now.entry arguments.now ≡ Misses) }
+    ensures { Answers native (entry_reply native key entry.old.now.entry arguments.now) result entry.old entry.new }
 {
     match (native, arguments) {
         (Native::GetKey, []) => Ok(Some(Value::Ref(RefValue::Long(key)))),

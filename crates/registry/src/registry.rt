@@ -1,6 +1,7 @@
 //! The classes that were accepted, and the ids that were given for them.
 
 ghost use Rattle.std.specs.Prelude.{◌≡◌, ◌⊎◌, IfOk, IfErr};
+ghost use Rattle.jtypes.specs.Profile.{Second};
 
 use boxcar::Pushed;
 use jtypes::Refusal;
@@ -56,9 +57,9 @@ impl Registry {
     /// Judges the bytes of a class (JVMS §4, §4.10.1), and keeps it. It may wait for another call that keeps one.
     pub fn define<R: Wait>(&self, rt: &R, alloc: Global, bytes: &[u8]) -> Result<ClassId, Refusal>
         ensures given { IfOk result (λ id. IsOf self.now id) }
-        ensures class { IfOk result (λ id. IsClassOf bytes.now (class_of id)) }
-        ensures accepted { IfOk result (λ _. IsAccepted bytes.now) }
-        ensures refused { IfErr result (λ r. (r ≡ Refusal.NoMemory) ⊎ IsRefused bytes.now r) }
+        ensures class { IfOk result (λ id. IsClassOf Second bytes.now (class_of id)) }
+        ensures accepted { IfOk result (λ _. IsAccepted Second bytes.now) }
+        ensures refused { IfErr result (λ r. (r ≡ Refusal.NoMemory) ⊎ IsRefused Second bytes.now r) }
     {
         let class = verify(alloc, bytes)?;
         match self.classes.push_shown(rt, class) {

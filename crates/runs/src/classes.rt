@@ -1,6 +1,7 @@
 //! Small classes: what is linked of them, and their invocations.
 
 mod linking;
+mod loading;
 mod steps;
 mod whole;
 
@@ -31,6 +32,7 @@ fn class_named(alloc: Global, name: &str) -> Option<Verified> {
 const MADE_42: Done = Done {
     outcome: Outcome::Returned(Arg::Long(42)),
     effect: Effect::Put(42),
+    asked: None,
     steps: 14,
     words: 0,
 };
@@ -39,6 +41,7 @@ const MADE_42: Done = Done {
 const THREW: Done = Done {
     outcome: Outcome::Threw(JavaFault::Arithmetic),
     effect: Effect::Keep,
+    asked: None,
     steps: 10,
     words: 0,
 };

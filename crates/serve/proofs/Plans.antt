@@ -26,6 +26,7 @@ use Rattle.serve.specs.Rounds as rounds
 use Rattle.serve.specs.declared.plan.Plan.{Plan}
 use Rattle.serve.specs.declared.plan.Work.{Work as Planned}
 use Rattle.serve.specs.Kept.{call_in, calls_in, AreCalls, IsKnown, Grows, Adding, work_of, works_of}
+use Rattle.jtypes.specs.Profile.{Second}
 
 -- ---- calls
 
@@ -245,12 +246,12 @@ pushed classes n args x old new keys i d all h e is g =
     map-map [] = refl
     map-map (k ∷ ks) = ap (λ l. Some (call.Invoke x k args) ∷ l) (map-map ks)
 
-pub refused_as : (classes : List Class) (at : ℕ) (bytes : List ℕ) (r : Refusal) → length classes < most_classes → (r ≡ refusal.NoMemory) ⊎ IsRefused bytes r → Adds classes at (Define bytes) (told (reply.Refused r)) classes
+pub refused_as : (classes : List Class) (at : ℕ) (bytes : List ℕ) (r : Refusal) → length classes < most_classes → (r ≡ refusal.NoMemory) ⊎ IsRefused Second bytes r → Adds classes at (Define bytes) (told (reply.Refused r)) classes
 refused_as classes at bytes r few (inl e) = subst (λ x. Adds classes at (Define bytes) (told (reply.Refused x)) classes) (sym e) (lacks_memory bytes few)
 refused_as classes at bytes r few (inr is) = refuses bytes r few is
 
 -- the number and the classes as the code has them
-pub defined_as : (classes later : List Class) (at n : ℕ) (bytes : List ℕ) (c : Class) (b : Bounds) → length classes < most_classes → n ≡ length classes → later ≡ classes ++ c ∷ [] → IsAccepted bytes → IsClassOf bytes c
+pub defined_as : (classes later : List Class) (at n : ℕ) (bytes : List ℕ) (c : Class) (b : Bounds) → length classes < most_classes → n ≡ length classes → later ≡ classes ++ c ∷ [] → IsAccepted Second bytes → IsClassOf Second bytes c
     → ((j : ℕ) → IsProcessOf c j → AreBounds c j b) → Adds classes at (Define bytes) (told (reply.Defined n b.steps b.words)) later
 defined_as classes later at n bytes c b few count items accepted class bounds =
     subst (λ (l : List Class). Adds classes at (Define bytes) (told (reply.Defined n b.steps b.words)) l) (sym items)

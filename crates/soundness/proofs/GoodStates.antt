@@ -19,7 +19,8 @@ use Rattle.typecheck.specs.Typing.{Method, Class, instruction_at, declared_at, f
 use Rattle.bounds.specs.Paths.{Cost, Path, Bounds, own_slots, last_cost, after_one, after_call}
 use Rattle.verdict.specs.Checked.{NoTop, IsMember}
 use Rattle.soundness.specs.Room.{IsFormedButForRoom}
-use Rattle.verdict.specs.Machine.{Activation, State, Next, Goes, Ends, goes_on}
+use Rattle.jtypes.specs.declared.loader.LoadAnswer.{LoadAnswer}
+use Rattle.verdict.specs.Machine.{Invocation, Activation, State, Next, Goes, Ends, goes_on}
 use Rattle.verdict.specs.Sound.{slots_of_method, slots_of}
 
 pub none_top : (ts : List JType) → NoTop ts → NoneTop ts
@@ -210,18 +211,18 @@ module _ (c : Class) (b : Bounds) where
     pub awaits : AllAwait c s.arrays m.environment.signature.result below
     pub budget : HasBudget c b (top ∷ below) s.steps s.words
 
-  abbrev pub SafeNext : ℕ → Option Next → Type 0
-  SafeNext steps None = ⊥
-  SafeNext steps (Some (Goes u)) = IsGood u × (u.steps ≡ suc steps)
-  SafeNext steps (Some (Ends f)) = (f.steps ≤ b.steps) × (f.words ≤ b.words)
+  abbrev pub SafeNext : ℕ → Option LoadAnswer → Invocation → Option Next → Type 0
+  SafeNext steps asked call None = ⊥
+  SafeNext steps asked call (Some (Goes u)) = IsGood u × (u.steps ≡ suc steps) × (u.now.asked ≡ asked) × (u.call ≡ call)
+  SafeNext steps asked call (Some (Ends f)) = (f.steps ≤ b.steps) × (f.words ≤ b.words)
 
-  pub goes_safe : (s : State) (a : Activation) (below : List Activation) (m : Method) → IsAt c s.arrays m a → AllAwait c s.arrays m.environment.signature.result below → HasBudget c b (a ∷ below) (suc s.steps) s.words → SafeNext s.steps (goes_on c s a below)
+  pub goes_safe : (s : State) (a : Activation) (below : List Activation) (m : Method) → IsAt c s.arrays m a → AllAwait c s.arrays m.environment.signature.result below → HasBudget c b (a ∷ below) (suc s.steps) s.words → SafeNext s.steps s.now.asked s.call (goes_on c s a below)
   goes_safe s a below m h w budget =
       let u : State = record s { activations = a ∷ below; steps = suc s.steps } in
       let goes = λ (x : Method). only_if (nat_le (slots_by is_long_value a.operands) x.environment.max_stack && is_some (instruction_at x a.place)) (Some (Goes u)) in
       let e : goes_on c s a below ≡ Some (Goes u) =
       ap (λ o. o >>= goes) h.member.method ∙ only_if_true _ _ (and_from _ _ (le-leb _ _ h.room) (ap is_some (is_inside h).1)) in
-      subst (SafeNext s.steps) (sym e) (record { top = a; below = below; m = m; activations = refl; here = h; awaits = w; budget = budget }, refl)
+      subst (SafeNext s.steps s.now.asked s.call) (sym e) (record { top = a; below = below; m = m; activations = refl; here = h; awaits = w; budget = budget }, refl, refl, refl)
 
 -- ---- arriving at a place
 

@@ -26,3 +26,8 @@ pub mod MeasuredLength
 pub mod TopOperand
 pub mod OtherBounds
 pub mod BoundsExist
+pub mod Profiles
+pub mod Unasked
+pub mod Answered
+pub mod Keeping
+pub mod OneMeaning

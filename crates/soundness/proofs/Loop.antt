@@ -9,7 +9,10 @@ use Rattle.frames.specs.Frames.{Frame}
 use Rattle.typecheck.specs.Typing.{Method, Class, IsTyping, IsFlow, instruction_at}
 use Rattle.bounds.specs.Paths.{Bounds, Cost, Path, ends, jumps, falls, calls}
 use Rattle.verdict.specs.Checked.{NoTop}
-use Rattle.verdict.specs.Machine.{State, Goes, Ends, step, step_top, start_of, Reaches, here, onward}
+use Rattle.jtypes.specs.declared.loader.LoadAnswer.{LoadAnswer}
+use Rattle.jtypes.specs.declared.loader.LoadAnswer.TheVariants as load
+use Rattle.verdict.specs.Machine.{State, Goes, Ends, step, step_top, step_with, is_get_next, start_of, ReachesBy, here_by, onward_by}
+use Rattle.soundness.proofs.Unasked.{unasked}
 use Rattle.verdict.specs.Sound.{IsSafe}
 use Rattle.soundness.specs.Example.{process, signature}
 use Rattle.soundness.specs.Premises.{SoundnessOver}
@@ -85,17 +88,20 @@ after s = record { call = s.call; activations = first.activations; arrays = s.ar
 goes_on : (s : State) → s.activations ≡ first.activations → step class s ≡ Some (Goes (after s))
 goes_on s e = subst (λ a. step_top class s a ≡ Some (Goes (after s))) (sym e) refl
 
-same_place : (s : State) → Reaches class first s → s.activations ≡ first.activations
-same_place s here = refl
-same_place s (onward {t = t} r e) =
-    let both : Some (Goes (after t)) ≡ Some (Goes s) = sym (goes_on t (same_place t r)) ∙ e in
+goes_with : (s : State) (a : LoadAnswer) → s.activations ≡ first.activations → step_with class a s ≡ Some (Goes (after s))
+goes_with s a e = unasked class a s (ap (is_get_next class) e) ∙ goes_on s e
+
+same_place : (s : State) → ReachesBy class load.None first s → s.activations ≡ first.activations
+same_place s here_by = refl
+same_place s (onward_by {t = t} r e) =
+    let both : Some (Goes (after t)) ≡ Some (Goes s) = sym (goes_with t load.None (same_place t r)) ∙ e in
     let same : after t ≡ s = cc both in
     ap (λ (x : State). x.activations) (sym same)
 
 never_ends : (b : Bounds) → IsSafe class b → ⊥
 never_ends b h =
-    let f = h.finishes plain_call first refl in
-    let no : Some (Goes (after f.last)) ≡ Some (Ends f.final) = sym (goes_on f.last (same_place f.last f.reached)) ∙ f.ends in
+    let f = h.finishes plain_call load.None first refl in
+    let no : Some (Goes (after f.last)) ≡ Some (Ends f.final) = sym (goes_with f.last load.None (same_place f.last f.reached)) ∙ f.ends in
     cc no
 
 checked : IsCheckedButForDirection class

@@ -1,5 +1,5 @@
 -- A new array whose length is no constant takes more words than its path says.
-use Rattle.std.proofs.Common.{◌≡◌, ℕ, suc, List, [], ◌∷◌, length, Some, None, refl, sym, subst, arith}
+use Rattle.std.proofs.Common.{false, ◌≡◌, ℕ, suc, List, [], ◌∷◌, length, Some, None, refl, sym, subst, arith}
 use Rattle.std.specs.Prelude.{pos, replicate}
 use Rattle.std.proofs.lemmas.List.{length-replicate}
 use Rattle.jtypes.specs.declared.types.RefType.TheVariants as ref
@@ -14,6 +14,7 @@ use Rattle.decode.specs.Places.{target_of, AreConsecutive}
 use Rattle.frames.specs.Frames.{Frame}
 use Rattle.typecheck.specs.Typing.{Method, Class, IsTyping}
 use Rattle.bounds.specs.Paths.{Bounds, Cost, Path, IsWithin, last_cost, after_one}
+use Rattle.jtypes.specs.declared.loader.LoadAnswer.TheVariants as load
 use Rattle.verdict.specs.Machine.{Invocation, State, step, start_of, here, onward}
 use Rattle.verdict.specs.Sound.{IsSafe}
 use Rattle.soundness.specs.Example.{process, signature}
@@ -96,7 +97,7 @@ within k e = subst (λ x. IsWithin x limits) (sym e) (record { steps = omega ari
 
 -- a call with so many arguments
 abbrev call_with : ℕ → Invocation
-call_with n = record { key = pos 0; args = replicate n arg.Null; before = None }
+call_with n = record { key = pos 0; args = replicate n arg.Null; before = None; loads = false }
 
 abbrev first : ℕ → State
 first n = start_of 0 method (call_with n)
@@ -116,7 +117,7 @@ taken n = let k : length (replicate n arg.Null) ≡ n = length-replicate n arg.N
 
 too_many : (b : Bounds) → IsSafe class b → ⊥
 too_many b h =
-    let words = (h.stays (call_with b.words) (first b.words) (fourth b.words) refl (onward (onward (onward here refl) refl) refl)).words in
+    let words = (h.stays (call_with b.words) (first b.words) (fourth b.words) refl (onward load.None (onward load.None (onward load.None here refl) refl) refl)).words in
     omega (arith, words, taken b.words)
 
 checked : IsCheckedButForLengths class

@@ -23,6 +23,7 @@ use Rattle.typecheck.specs.Typing.{Method, Class, IsProcessOf, IsTyping, IsWellT
 use Rattle.bounds.specs.Recursion.{IsOrdered}
 use Rattle.bounds.specs.Paths.{Bounds, Cost, StandsAt, Path, ends, jumps, falls, calls}
 use Rattle.verdict.specs.Checked.{IsMember, IsFormed}
+use Rattle.jtypes.specs.declared.loader.LoadAnswer.TheVariants as load
 use Rattle.verdict.specs.Machine.{State, step, invoke, with_place, activation_of, start_of, here}
 use Rattle.verdict.specs.Sound.{IsSafe}
 use Rattle.soundness.specs.Example.{process, signature}
@@ -172,7 +173,7 @@ no_step : step class first ≡ None
 no_step = ap (invoke class first (with_place (activation_of 0 method (value.Ref reference.Args ∷ value.Ref reference.Entry ∷ value.Ref reference.This ∷ [])) 3) [] Static) reached
 
 stuck : (b : Bounds) → IsSafe class b → ⊥
-stuck b h = let n = h.never_stuck plain_call first first refl here in let e = n.1 in cc (e, no_step)
+stuck b h = let n = h.never_stuck plain_call first first refl here load.None in let e = n.1 in cc (e, no_step)
 
 checked : IsCheckedButForCount class
 checked = (refl, is_instance, all_signed, only IsFormed formed, only (IsWellTyped view) (frames, typing), (rank, ordered))

@@ -9,6 +9,7 @@ use Rattle.decode.specs.Places.{target_of}
 use Rattle.typecheck.specs.Typing.{Method, Class}
 use Rattle.bounds.specs.Paths.{Bounds, Cost, Path, IsWithin, last_cost}
 use Rattle.verdict.specs.Checked.{IsFormed}
+use Rattle.jtypes.specs.declared.loader.LoadAnswer.TheVariants as load
 use Rattle.verdict.specs.Machine.{State, start_of, here}
 use Rattle.verdict.specs.Sound.{IsSafe}
 use Rattle.soundness.specs.Example.{process, signature}
@@ -53,7 +54,7 @@ abbrev first : State
 first = start_of 0 method plain_call
 
 stuck : (b : Bounds) → IsSafe class b → ⊥
-stuck b h = let n = h.never_stuck plain_call first first refl here in cc n.1
+stuck b h = let n = h.never_stuck plain_call first first refl here load.None in cc n.1
 
 checked : IsCheckedButForTypes class
 checked = (refl, (λ j w is. only_instance view process refl refl j w), refl, only_signed [] method refl, only_member IsFormed view method formed, ((λ j. 0), without_calls view method (refl, tt)))

@@ -23,6 +23,7 @@ use Rattle.verdict.specs.Shape.{HasCode}
 use Rattle.verdict.specs.Verdict.{IsBody, IsMethodOf, IsClassOfFile}
 use Rattle.soundness.specs.Once.{EachClassIsOne}
 use Rattle.frames.proofs.Declares.{declared_once}
+use Rattle.jtypes.specs.Profile.{Second}
 
 pub code_once : (pool : List Slot) (m : Member) (c d : CodeParts) → HasCode pool m c → HasCode pool m d → c ≡ d
 code_once pool m c d h k =
@@ -38,7 +39,7 @@ pub record AreOne (e f : Environment) (ps qs : List Placed) (ts us : List (List 
   pub code : ps ≡ qs
   pub tables : ts ≡ us
 
-pub body_once : (pool : List Slot) (p : Parts) (m : Member) (e f : Environment) (code other : List Placed) (tables others : List (List ℕ)) → IsBody pool p m e code tables → IsBody pool p m f other others → AreOne e f code other tables others
+pub body_once : (pool : List Slot) (p : Parts) (m : Member) (e f : Environment) (code other : List Placed) (tables others : List (List ℕ)) → IsBody Second pool p m e code tables → IsBody Second pool p m f other others → AreOne e f code other tables others
 body_once pool p m e f code other tables others a b =
     let parts : a.parts ≡ b.parts = code_once pool m a.parts b.parts a.has_code b.has_code in
     let both : Some e.signature ≡ Some f.signature = sym a.signature ∙ b.signature in
@@ -54,7 +55,7 @@ body_once pool p m e f code other tables others a b =
 methods : (e f : Environment) (code other : List Placed) (ds others : List (ℕ × Frame)) → e ≡ f → code ≡ other → ds ≡ others → (let m : Method = record { environment = e; code = code; declared = ds } in m ≡ record { environment = f; code = other; declared = others })
 methods e f code other ds others h k l = rw (h, k, l) refl
 
-method_once : (pool : List Slot) (p : Parts) (item : Member) (m n : Method) → IsMethodOf pool p item m → IsMethodOf pool p item n → m ≡ n
+method_once : (pool : List Slot) (p : Parts) (item : Member) (m n : Method) → IsMethodOf Second pool p item m → IsMethodOf Second pool p item n → m ≡ n
 method_once pool p item m n a b =
     let one = body_once pool p item m.environment n.environment m.code n.code a.tables b.tables a.body b.body in
     let declared = subst (λ ts. IsDeclared (view_of pool p) n.environment n.code ts m.declared) one.tables
@@ -62,7 +63,7 @@ method_once pool p item m n a b =
     (subst (λ e. IsDeclared (view_of pool p) e m.code a.tables m.declared) one.environment a.declared)) in
     methods m.environment n.environment m.code n.code m.declared n.declared one.environment one.code (declared_once (view_of pool p) n.environment n.code b.tables m.declared n.declared declared b.declared)
 
-zip_once : (pool : List Slot) (p : Parts) (items : List Member) (ms ns : List Method) → AllZip (IsMethodOf pool p) items ms → AllZip (IsMethodOf pool p) items ns → ms ≡ ns
+zip_once : (pool : List Slot) (p : Parts) (items : List Member) (ms ns : List Method) → AllZip (IsMethodOf Second pool p) items ms → AllZip (IsMethodOf Second pool p) items ns → ms ≡ ns
 zip_once pool p [] [] [] a b = refl
 zip_once pool p [] [] (n ∷ ns) a b = absurd b
 zip_once pool p [] (m ∷ ms) ns a b = absurd a
@@ -73,7 +74,7 @@ zip_once pool p (x ∷ items) (m ∷ ms) (n ∷ ns) a b =
     let tail : ms ≡ ns = zip_once pool p items ms ns a.1 b.1 in
     ap (λ y. y ∷ ms) head ∙ ap (λ ys. n ∷ ys) tail
 
-pub class_once : (pool : List Slot) (p : Parts) (c other : Class) → IsClassOfFile pool p c → IsClassOfFile pool p other → c ≡ other
+pub class_once : (pool : List Slot) (p : Parts) (c other : Class) → IsClassOfFile Second pool p c → IsClassOfFile Second pool p other → c ≡ other
 class_once pool p c other a b = go c.view other.view c.methods other.methods (a.view ∙ sym b.view) (zip_once pool p p.methods c.methods other.methods a.methods b.methods)
   where
     go : (v w : ClassView) (ms ns : List Method) → v ≡ w → ms ≡ ns → (let x : Class = record { view = v; methods = ms } in x ≡ record { view = w; methods = ns })
@@ -87,11 +88,11 @@ class_code : Coded Class
 class_code = Prim.hlevel codes
 
 -- so the class is data that a pool and parts determine
-pub class_prop : (pool : List Slot) (p : Parts) → IsProp ((c : Class) × ∥ IsClassOfFile pool p c ∥₁)
+pub class_prop : (pool : List Slot) (p : Parts) → IsProp ((c : Class) × ∥ IsClassOfFile Second pool p c ∥₁)
 class_prop pool p = one_prop (Coded-set class_code) (class_once pool p)
 
 pub one_class : EachClassIsOne
 one_class bytes c other a b =
     let same = (laid_out_once (class_file (length bytes)) bytes [] bytes [] (a.pool, a.parts) (b.pool, b.parts) a.file.laid_out b.file.laid_out refl).2 in
-    let class : IsClassOfFile b.pool b.parts c = subst (λ (x : List Slot × Parts). IsClassOfFile x.0 x.1 c) same a.class in
+    let class : IsClassOfFile Second b.pool b.parts c = subst (λ (x : List Slot × Parts). IsClassOfFile Second x.0 x.1 c) same a.class in
     class_once b.pool b.parts c other class b.class

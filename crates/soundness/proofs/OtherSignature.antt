@@ -12,6 +12,7 @@ use Rattle.frames.specs.declared.signatures.Signature.{Signature}
 use Rattle.typecheck.specs.Typing.{Method, Class, IsTyping, IsWellTyped}
 use Rattle.bounds.specs.Paths.{Bounds, Cost, Path, IsWithin, last_cost}
 use Rattle.verdict.specs.Checked.{IsFormed}
+use Rattle.jtypes.specs.declared.loader.LoadAnswer.TheVariants as load
 use Rattle.verdict.specs.Machine.{State, start_of, here}
 use Rattle.verdict.specs.Sound.{IsSafe}
 use Rattle.soundness.specs.Example.{process}
@@ -76,7 +77,7 @@ abbrev first : State
 first = start_of 0 method plain_call
 
 stuck : (b : Bounds) → IsSafe class b → ⊥
-stuck b h = let n = h.never_stuck plain_call first first refl here in cc n.1
+stuck b h = let n = h.never_stuck plain_call first first refl here load.None in cc n.1
 
 checked : IsCheckedButForSignatures class
 checked = (refl, (λ j w is. only_instance view process refl refl j w), refl, only_member IsFormed view method formed, only_member (IsWellTyped view) view method (frames, typing), ((λ j. 0), without_calls view method (refl, tt)))

@@ -24,7 +24,8 @@ use Rattle.transfer.specs.Transfer.{called, transfer}
 use Rattle.typecheck.specs.Typing.{Method, Class, IsTyping, IsWellTyped, instruction_at, own_of, call_of}
 use Rattle.bounds.specs.Paths.{Bounds, Cost, StandsAt, Path, ends, jumps, falls, calls}
 use Rattle.verdict.specs.Checked.{IsFormed}
-use Rattle.verdict.specs.Machine.{Activation, State, Goes, step, step_top, invoke, start_of, Reaches, here, onward}
+use Rattle.verdict.specs.Machine.{Activation, State, Goes, step, step_top, is_get_next, invoke, start_of, Reaches, here}
+use Rattle.soundness.proofs.Unasked.{goes_unasked}
 use Rattle.verdict.specs.Sound.{IsSafe}
 use Rattle.soundness.specs.Example.{process, signature}
 use Rattle.soundness.specs.Premises.{SoundnessOver}
@@ -171,7 +172,7 @@ deeper s below e reach =
     let to_two : step class one ≡ Some (Goes two) = refl in
     let to_three : step class two ≡ Some (Goes three) = refl in
     let to_four : step class three ≡ Some (Goes four) = ap (invoke class three (going 6 (value.Ref reference.Args ∷ value.Ref reference.Entry ∷ value.Ref reference.This ∷ [])) below Virtual) reached in
-    onward (onward (onward (onward reach to_one) to_two) to_three) to_four
+    goes_unasked (goes_unasked (goes_unasked (goes_unasked reach (ap (is_get_next class) e) to_one) refl to_two) refl to_three) refl to_four
 
 -- as deep as one likes
 nested : (n : ℕ) → (s : State) × (below : List Activation) × (s.activations ≡ entered ∷ below) × (length below ≡ n) × Reaches class first s

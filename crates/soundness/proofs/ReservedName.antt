@@ -21,6 +21,7 @@ use Rattle.frames.specs.Members.{library_rows, callee_at}
 use Rattle.typecheck.specs.Typing.{Method, Class, IsTyping, call_of}
 use Rattle.bounds.specs.Paths.{Bounds, Cost, Path, IsWithin, last_cost, after_one}
 use Rattle.verdict.specs.Checked.{IsFormed}
+use Rattle.jtypes.specs.declared.loader.LoadAnswer.TheVariants as load
 use Rattle.verdict.specs.Machine.{State, step, start_of, here, onward}
 use Rattle.verdict.specs.Sound.{IsSafe}
 use Rattle.soundness.specs.Premises.{SoundnessOver, IsCheckedButForName}
@@ -142,7 +143,7 @@ no_step : step class second ≡ None
 no_step = ap (invoke class second (record { method = 0; place = 4; locals = Some (value.Ref reference.This) ∷ Some (value.Ref reference.Entry) ∷ Some (value.Ref reference.Args) ∷ []; operands = value.Long (pos 0) ∷ [] }) [] Static) reached
 
 stuck : IsSafe class limits → ⊥
-stuck h = let n = h.never_stuck plain_call first second refl (onward here refl) in let e = n.1 in cc (e, no_step)
+stuck h = let n = h.never_stuck plain_call first second refl (onward load.None here refl) load.None in let e = n.1 in cc (e, no_step)
 
 pub name_is_needed : SoundnessOver IsCheckedButForName → ⊥
 name_is_needed law =

@@ -1,6 +1,6 @@
 -- Type soundness with bounds.
-use Rattle.std.proofs.Common.{◌≡◌, ℕ, zero, suc, ◌+◌, ◌<◌, ◌≤◌, List, [], ◌∷◌, length, Option, Some, None, refl, sym, ap, ◌∙◌, subst, arith}
-use Rattle.std.specs.Prelude.{slice_get, option_map}
+use Rattle.std.proofs.Common.{◌≡◌, ℕ, zero, suc, Bool, true, false, ◌+◌, ◌<◌, ◌≤◌, List, [], ◌∷◌, length, Option, Some, None, refl, sym, ap, ◌∙◌, subst, arith}
+use Rattle.std.specs.Prelude.{slice_get, option_map, if◌then◌else◌}
 use Rattle.jtypes.specs.declared.types.RefType.TheVariants as ref
 use Rattle.jtypes.specs.declared.types.JType.TheVariants.{Ref}
 use Rattle.jtypes.specs.declared.types.RefValue.TheVariants as reference
@@ -14,18 +14,22 @@ use Rattle.bounds.specs.Paths.{Cost, Path, Bounds, IsWithin}
 use Rattle.verdict.specs.Checked.{IsChecked}
 use Rattle.soundness.specs.Premises.{SoundnessOver}
 use Rattle.soundness.specs.Room.{IsCheckedButForRoom}
-use Rattle.verdict.specs.Machine.{Invocation, State, Next, Goes, Ends, step, start_of, start, activation_of, Reaches, here, onward}
-use Rattle.verdict.specs.Sound.{slots_of, StaysWithin, Finishes, SoundnessOfClasses}
+use Rattle.verdict.specs.Machine.{Invocation, State, Next, Goes, Ends, throws, step, asks, informed, after_load, step_with, start_of, start, activation_of, Reaches, here, onward, ReachesBy, here_by, onward_by}
+use Rattle.soundness.specs.Counting.{EachStepCounts, asked_after}
+use Rattle.jtypes.specs.declared.loader.LoadAnswer.{LoadAnswer}
+use Rattle.jtypes.specs.declared.loader.LoadAnswer.TheVariants as load
+use Rattle.jtypes.specs.declared.types.JavaFault.TheVariants.{CacheLoader}
+use Rattle.verdict.specs.Sound.{slots_of, StaysWithin, GoesAlone, Finishes, SoundnessOfClasses}
 use Rattle.soundness.proofs.Locals.{first_locals}
 use Rattle.verdict.proofs.OwnCalls.{process_found}
 use Rattle.soundness.proofs.Callees.{entry_of, method_at_number}
 use Rattle.soundness.proofs.GoodStates.{IsAt, is_inside, IsGood, SafeNext, arrive, no_length_first, RestOf}
-use Rattle.soundness.proofs.PathsExist.{has_path, has_rest, path_slots, path_depth}
+use Rattle.soundness.proofs.PathsExist.{has_path, has_rest, path_steps, path_slots, path_depth}
 use Rattle.soundness.proofs.Steps.{step_safe}
 
-reaches_trans : {c : Class} {s t u : State} → Reaches c s t → Reaches c t u → Reaches c s u
-reaches_trans r here = r
-reaches_trans r (onward q e) = onward (reaches_trans r q) e
+reaches_trans : {c : Class} {a : LoadAnswer} {s t u : State} → ReachesBy c a s t → ReachesBy c a t u → ReachesBy c a s u
+reaches_trans r here_by = r
+reaches_trans r (onward_by q e) = onward_by (reaches_trans r q) e
 
 module _ (c : Class) (b : Bounds) (ok : IsCheckedButForRoom c) where
   rest_of : (s : State) (h : IsGood c b s) → RestOf c (h.top ∷ h.below)
@@ -51,30 +55,63 @@ module _ (c : Class) (b : Bounds) (ok : IsCheckedButForRoom c) where
         depth = subst (λ x. length x ≤ b.depth) (sym h.activations) depth;
       }
 
-  good_next : (s u : State) → IsGood c b s → step c s ≡ Some (Goes u) → IsGood c b u
-  good_next s u h e = (subst (SafeNext c b s.steps) e (step_safe c b ok s h)).0
+  -- what the loader answers leaves a good state good
+  good_informed : (a : LoadAnswer) (s : State) → IsGood c b s → IsGood c b (informed a s)
+  good_informed a s h = record { top = h.top; below = h.below; m = h.m; activations = h.activations; here = h.here; awaits = h.awaits; budget = h.budget }
+
+  -- so does a step, whatever the loader answers
+  good_with : (s : State) (a : LoadAnswer) → IsGood c b s → SafeNext c b s.steps (asked_after c a s) s.call (step_with c a s)
+  good_with s a h = go (asks c s)
+    where
+      failed : SafeNext c b s.steps (Some load.Failed) s.call (throws (informed load.Failed s) CacheLoader)
+      failed =
+          let r = rest_of s h in
+          let few = h.budget.steps_left r in
+          let few_words = h.budget.words_left r in
+          let one = path_steps r.1 in
+          (omega (arith, one, few), omega (arith, few_words))
+
+      told : (x : LoadAnswer) → SafeNext c b s.steps (Some x) s.call (after_load c s x)
+      told load.Failed = failed
+      told (load.Value v) = step_safe c b ok (informed (load.Value v) s) (good_informed (load.Value v) s h)
+      told load.None = step_safe c b ok (informed load.None s) (good_informed load.None s h)
+
+      go : (asked : Bool) → SafeNext c b s.steps (if asked then Some a else s.now.asked) s.call (if asked then after_load c s a else step c s)
+      go true = told a
+      go false = step_safe c b ok s h
+
+  good_next : (s u : State) (a : LoadAnswer) → IsGood c b s → step_with c a s ≡ Some (Goes u) → IsGood c b u
+  good_next s u a h e = (subst (SafeNext c b s.steps (asked_after c a s) s.call) e (good_with s a h)).0
 
   good_reached : (s t : State) → IsGood c b s → Reaches c s t → IsGood c b t
   good_reached s t h here = h
-  good_reached s t h (onward {t = x} r e) = good_next x t (good_reached s x h r) e
+  good_reached s t h (onward {t = x} a r e) = good_next x t a (good_reached s x h r) e
 
-  goes_or_ends : (s : State) → IsGood c b s → (n : Next) × (step c s ≡ Some n)
-  goes_or_ends s h = go (step c s) refl (step_safe c b ok s h)
+  goes_or_ends : (s : State) (a : LoadAnswer) → IsGood c b s → (n : Next) × (step_with c a s ≡ Some n)
+  goes_or_ends s a h = go (step_with c a s) refl (good_with s a h)
     where
-      go : (o : Option Next) → step c s ≡ o → SafeNext c b s.steps o → (n : Next) × (step c s ≡ Some n)
+      go : (o : Option Next) → step_with c a s ≡ o → SafeNext c b s.steps (asked_after c a s) s.call o → (n : Next) × (step_with c a s ≡ Some n)
       go None e f = absurd f
       go (Some n) e f = (n, e)
 
-  finishes_from : (left : ℕ) (s : State) → IsGood c b s → b.steps < s.steps + left → Finishes c s b
-  finishes_from zero s h enough = let few = (stays_within s h).steps in absurd (omega (arith, few))
-  finishes_from (suc left) s h enough = go (step c s) refl (step_safe c b ok s h) (λ u g e. finishes_from left u g (omega (arith, e)))
+  goes_alone : (s : State) → IsGood c b s → GoesAlone c s b
+  goes_alone s h = go (step c s) refl (step_safe c b ok s h)
     where
-      go : (o : Option Next) → step c s ≡ o → SafeNext c b s.steps o → ((u : State) → IsGood c b u → u.steps ≡ suc s.steps → Finishes c u b) → Finishes c s b
+      go : (o : Option Next) → step c s ≡ o → SafeNext c b s.steps s.now.asked s.call o → GoesAlone c s b
+      go None e f = absurd f
+      go (Some (Goes u)) e f = record { next = Goes u; is = e; stays = stays_within u f.0 }
+      go (Some (Ends x)) e f = record { next = Ends x; is = e; stays = tt }
+
+  finishes_from : (left : ℕ) (s : State) (a : LoadAnswer) → IsGood c b s → b.steps < s.steps + left → Finishes c a s b
+  finishes_from zero s a h enough = let few = (stays_within s h).steps in absurd (omega (arith, few))
+  finishes_from (suc left) s a h enough = go (step_with c a s) refl (good_with s a h) (λ u g e. finishes_from left u a g (omega (arith, e)))
+    where
+      go : (o : Option Next) → step_with c a s ≡ o → SafeNext c b s.steps (asked_after c a s) s.call o → ((u : State) → IsGood c b u → u.steps ≡ suc s.steps → Finishes c a u b) → Finishes c a s b
       go None e f later = absurd f
       go (Some (Goes u)) e f later =
           let l = later u f.0 f.1 in
-          record { last = l.last; final = l.final; reached = reaches_trans (onward here e) l.reached; ends = l.ends; few_steps = l.few_steps; few_words = l.few_words }
-      go (Some (Ends x)) e f later = record { last = s; final = x; reached = here; ends = e; few_steps = f.0; few_words = f.1 }
+          record { last = l.last; final = l.final; reached = reaches_trans (onward_by here_by e) l.reached; ends = l.ends; few_steps = l.few_steps; few_words = l.few_words }
+      go (Some (Ends x)) e f later = record { last = s; final = x; reached = here_by; ends = e; few_steps = f.0; few_words = f.1 }
 
   good_start : (j : ℕ) → IsProcessOf c j → ((k : Cost) → Path c j 0 k → IsWithin k b) → (m : Method) (call : Invocation) → slice_get c.methods j ≡ Some m → IsGood c b (start_of j m call)
   good_start j is bounded m call known =
@@ -120,9 +157,10 @@ can_start c ok j is call =
 
 pub sound_without_room : SoundnessOver IsCheckedButForRoom
 sound_without_room c j b ok is bounded = record {
-  never_stuck = λ call s t e r. goes_or_ends c b ok t (good_reached c b ok s t (good_begin c b ok j is bounded call s e) r);
+  never_stuck = λ call s t e r a. goes_or_ends c b ok t a (good_reached c b ok s t (good_begin c b ok j is bounded call s e) r);
+  alone = λ call s t e r. goes_alone c b ok t (good_reached c b ok s t (good_begin c b ok j is bounded call s e) r);
   stays = λ call s t e r. stays_within c b ok t (good_reached c b ok s t (good_begin c b ok j is bounded call s e) r);
-  finishes = λ call s e. finishes_from c b ok (suc b.steps) s (good_begin c b ok j is bounded call s e) (omega arith);
+  finishes = λ call a s e. finishes_from c b ok (suc b.steps) s a (good_begin c b ok j is bounded call s e) (omega arith);
 }
 
 -- ---- the same of classes that are checked
@@ -148,7 +186,8 @@ without_room c ok = record {
 pub type_soundness : SoundnessOfClasses
 type_soundness c j b ok is bounded = sound_without_room c j b (without_room c ok) is bounded
 
--- a step that does not end the invocation counts
-pub counts : (c : Class) (j : ℕ) (b : Bounds) → IsChecked c → IsProcessOf c j → ((k : Cost) → Path c j 0 k → IsWithin k b) → (call : Invocation) (s t u : State) → start c call ≡ Some s → Reaches c s t → step c t ≡ Some (Goes u) → u.steps ≡ suc t.steps
-counts c j b ok is bounded call s t u e r h =
-    (subst (SafeNext c b t.steps) h (step_safe c b (without_room c ok) t (good_reached c b (without_room c ok) s t (good_begin c b (without_room c ok) j is bounded call s e) r))).1
+-- a step that does not end the invocation counts, and keeps what the loader answered
+pub counts : EachStepCounts
+counts c j b ok is bounded call s t u a e r h =
+    let safe = subst (SafeNext c b t.steps (asked_after c a t) t.call) h (good_with c b (without_room c ok) t a (good_reached c b (without_room c ok) s t (good_begin c b (without_room c ok) j is bounded call s e) r)) in
+    (safe.1, safe.2, safe.3)

@@ -18,6 +18,7 @@ use Rattle.frames.specs.Signatures.{class_type, field_type, field_types, result_
 use Rattle.typecheck.specs.Typing.{Method, Class, IsTyping, instruction_at}
 use Rattle.typecheck.specs.Mismatch.{HasLength}
 use Rattle.bounds.specs.Paths.{Bounds, Cost, Path, IsWithin, last_cost, after_one}
+use Rattle.jtypes.specs.declared.loader.LoadAnswer.TheVariants as load
 use Rattle.verdict.specs.Machine.{State, step, start_of, here, onward}
 use Rattle.verdict.specs.Sound.{IsSafe}
 use Rattle.soundness.specs.Premises.{SoundnessOver, IsCheckedButForPlaces, IsFormedButForPlaces}
@@ -132,7 +133,7 @@ third = gone_to second (step class second)
 -- the array has a hundred elements
 too_many : IsSafe class limits → ⊥
 too_many h =
-    let words : 101 ≤ 2 = (h.stays plain_call first third refl (onward (onward here refl) refl)).words in
+    let words : 101 ≤ 2 = (h.stays plain_call first third refl (onward load.None (onward load.None here refl) refl)).words in
     absurd (omega (arith, words))
 
 pub places_are_needed : SoundnessOver IsCheckedButForPlaces → ⊥

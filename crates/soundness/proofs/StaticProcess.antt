@@ -16,6 +16,7 @@ use Rattle.frames.specs.Signatures.{class_type, field_type, field_types, result_
 use Rattle.typecheck.specs.Typing.{Method, Class, IsTyping}
 use Rattle.bounds.specs.Paths.{Bounds, Cost, Path, IsWithin, last_cost, after_one}
 use Rattle.verdict.specs.Checked.{IsFormed}
+use Rattle.jtypes.specs.declared.loader.LoadAnswer.TheVariants as load
 use Rattle.verdict.specs.Machine.{State, step, start_of, here, onward}
 use Rattle.verdict.specs.Sound.{IsSafe}
 use Rattle.soundness.specs.Premises.{SoundnessOver, IsCheckedButForInstance}
@@ -117,7 +118,7 @@ static_next = gone_to static_start (step static_class static_start)
 
 -- the entry has no length
 static_stuck : IsSafe static_class static_bounds → ⊥
-static_stuck h = let n = h.never_stuck plain_call static_start static_next refl (onward here refl) in cc n.1
+static_stuck h = let n = h.never_stuck plain_call static_start static_next refl (onward load.None here refl) load.None in cc n.1
 
 pub instance_is_needed : SoundnessOver IsCheckedButForInstance → ⊥
 instance_is_needed law =

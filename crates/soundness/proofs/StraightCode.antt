@@ -139,7 +139,7 @@ process_with flags = record { flags = flags; name = process_name; descriptor = p
 
 -- a call without arguments on an entry that isn't there
 abbrev pub plain_call : Invocation
-plain_call = record { key = pos 0; args = []; before = None }
+plain_call = record { key = pos 0; args = []; before = None; loads = false }
 
 -- the state that is gone to
 abbrev pub gone_to : State → Option Next → State

@@ -12,6 +12,7 @@ use Rattle.decode.specs.Places.{target_of, AreConsecutive}
 use Rattle.frames.specs.Frames.{Frame}
 use Rattle.typecheck.specs.Typing.{Method, Class, IsTyping, frame_at, declared_at}
 use Rattle.bounds.specs.Paths.{Bounds, Cost, Path, IsWithin, last_cost, after_one}
+use Rattle.jtypes.specs.declared.loader.LoadAnswer.TheVariants as load
 use Rattle.verdict.specs.Machine.{State, step, start_of, here, onward}
 use Rattle.verdict.specs.Sound.{IsSafe}
 use Rattle.soundness.specs.Example.{process, signature}
@@ -99,7 +100,7 @@ second = gone_to first (step class first)
 
 -- the long and null take three slots
 stuck : (b : Bounds) → IsSafe class b → ⊥
-stuck b h = let n = h.never_stuck plain_call first second refl (onward here refl) in cc n.1
+stuck b h = let n = h.never_stuck plain_call first second refl (onward load.None here refl) load.None in cc n.1
 
 checked : IsCheckedButForOperands class
 checked = (typed_methods view process method refl (signed []) frames typing (refl, (refl, (refl, tt))), refl, (λ j w is. only_instance view process refl refl j w), only_member (λ m. HasPlainSignature m × HasRoom m × GoesForward m × HasLengths m × AreConsecutive 0 m.code) view method formed)

@@ -5,6 +5,7 @@ use Rattle.bounds.specs.Paths.{Bounds, AreBounds}
 use Rattle.bounds.specs.Table.{LeadsOn}
 use Rattle.verdict.specs.Verdict.{IsAccepted, IsClassOf}
 use Rattle.verdict.specs.Checked.{IsChecked, members}
+use Rattle.jtypes.specs.Profile.{Second}
 
 -- in the methods of a checked class, but the constructor, each instruction leads on
 abbrev pub CheckedLeadsOn : Type 0
@@ -12,4 +13,4 @@ CheckedLeadsOn = (c : Class) → IsChecked c → LeadsOn c (members c)
 
 -- an accepted class has its `process`, and bounds of it
 abbrev pub AcceptedHasBounds : Type 0
-AcceptedHasBounds = (bytes : List ℕ) (c : Class) → IsAccepted bytes → IsClassOf bytes c → (j : ℕ) × (b : Bounds) × IsProcessOf c j × AreBounds c j b
+AcceptedHasBounds = (bytes : List ℕ) (c : Class) → IsAccepted Second bytes → IsClassOf Second bytes c → (j : ℕ) × (b : Bounds) × IsProcessOf c j × AreBounds c j b

@@ -2,7 +2,8 @@
 use Rattle.std.specs.Prelude.{◌≡◌, ℕ, List}
 use Rattle.typecheck.specs.Typing.{Class}
 use Rattle.verdict.specs.Verdict.{IsClassOf}
+use Rattle.jtypes.specs.Profile.{Second}
 
 -- the same bytes are at most one class
 abbrev pub EachClassIsOne : Type 0
-EachClassIsOne = (bytes : List ℕ) (c other : Class) → IsClassOf bytes c → IsClassOf bytes other → c ≡ other
+EachClassIsOne = (bytes : List ℕ) (c other : Class) → IsClassOf Second bytes c → IsClassOf Second bytes other → c ≡ other

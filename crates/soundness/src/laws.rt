@@ -14,8 +14,10 @@ ghost use Rattle.soundness.specs.Once.{EachClassIsOne};
 ghost use Rattle.soundness.specs.Ordering.{NotRecursiveHasRanks, RankedIsNotRecursive};
 ghost use Rattle.soundness.specs.OtherPremises.{IsCheckedButForCount, IsCheckedButForDirection, IsCheckedButForLengths, IsCheckedButForOperands, IsCheckedButForRanks, IsCheckedButForSignatures, IsCheckedButForTypes, SignedIsPlain, SomeIsNeverSafe, SoundnessByAnyMethod, SoundnessWithoutBounds};
 ghost use Rattle.soundness.specs.Premises.{IsCheckedButForInstance, IsCheckedButForName, IsCheckedButForPlaces, SoundnessOver};
+ghost use Rattle.soundness.specs.Profiles.{AcceptedIsKept, BoundsAreKept, ClassGoesOn, ClassIsKept, MeaningIsKept};
 ghost use Rattle.soundness.specs.Room.{IsCheckedButForRoom};
 ghost use Rattle.soundness.specs.Tables.{EachTableIsOne};
+ghost use Rattle.jtypes.specs.Profile.{Second};
 
 /// Type soundness with bounds. Take the bytes of a class that nothing refuses, its method `process` with the bounds of its
 /// paths, and any call: any key, an entry or none, any arguments. Then no state that is reached is stuck, that is, no
@@ -64,8 +66,8 @@ pub fn example_is_checked()
 /// The premises hold of the bytes of a small class too, whose `process` loads the entry and returns it: no refusal stands in
 /// them, they are the class, the bounds are those of its only path, and so it is safe within them.
 pub fn example_is_accepted()
-    ensures accepted { IsAccepted small_bytes }
-    ensures class { IsClassOf small_bytes small_class }
+    ensures accepted { IsAccepted Second small_bytes }
+    ensures class { IsClassOf Second small_bytes small_class }
     ensures process { IsProcessOf small_class 1 }
     ensures bounds { AreBounds small_class 1 limits }
     ensures safe { IsSafe small_class limits }
@@ -147,4 +149,14 @@ pub fn some_are_never_safe()
     ensures direction { SomeIsNeverSafe IsCheckedButForDirection }
     ensures ranks { SomeIsNeverSafe IsCheckedButForRanks }
     ensures count { SomeIsNeverSafe IsCheckedButForCount }
+{}
+
+/// The second profile keeps the first one. A class that the first profile accepts is accepted by the second one; it is the
+/// same class, with the same bounds, which are within the first profile's limit of steps, and each call of it means the same.
+pub fn first_profile_is_kept()
+    ensures accepted { AcceptedIsKept }
+    ensures goes_on { ClassGoesOn }
+    ensures class { ClassIsKept }
+    ensures bounds { BoundsAreKept }
+    ensures meaning { MeaningIsKept }
 {}

@@ -1,5 +1,5 @@
 -- Calls, entries and histories (JSR 107, Cache).
-use Rattle.std.specs.Prelude.{◌≡◌, ℕ, List, [], ◌∷◌, ◌++◌, Some, None, is_some, if◌then◌else◌, ℤ, pos, unsigned_abs}
+use Rattle.std.specs.Prelude.{◌≡◌, ℕ, List, [], ◌∷◌, ◌++◌, Some, None, is_some, if◌then◌else◌, ℤ, pos, unsigned_abs, false}
 use Rattle.std.specs.Int.{int_rem_euclid}
 use Rattle.std.specs.Ordering.{int_eq}
 use Rattle.jtypes.specs.declared.types.Arg.{Arg}
@@ -53,8 +53,9 @@ entry_after e (r ∷ rs) k = entry_after (if int_eq (key_of r.call) k then r.aft
 abbrev pub entries_after : Entries → List Record → Entries
 entries_after opening records k = entry_after (opening k) records k
 
+-- an invocation without a loader
 abbrev pub invocation : ℤ → List Arg → Entry → Invocation
-invocation k args before = record { key = k; args = args; before = before }
+invocation k args before = record { key = k; args = args; before = before; loads = false }
 
 -- on this entry a call has this reply, and leaves this entry
 abbrev pub Answers : Entry → Call → Reply → Entry → Type 0

@@ -6,7 +6,7 @@ ghost use Rattle.stripe.specs.Seen.{call_of};
 ghost use Rattle.stripe.specs.Tables.{IsNext};
 
 use super::*;
-use jtypes::{Arg, Args, JavaFault, Outcome};
+use jtypes::{Arg, Args, JavaFault, NoLoader, Outcome};
 use machine::{Done, Workspace, run};
 use rowclasses as rows;
 use std::alloc::{AllocError, Global};
@@ -45,7 +45,7 @@ fn end_of(call: &Call<'_>, before: Option<i64>, workspace: &mut Workspace) -> Op
 {
     match call {
         Call::Invoke { class, key, args } => {
-            Some(run(class, *key, before, &args.args(), workspace))
+            Some(run(class, *key, before, &args.args(), workspace, &NoLoader))
         }
         Call::Get { .. } => None,
         Call::Put { .. } => None,

@@ -89,3 +89,17 @@ only_passes test xs n one = passes test xs one.found [] (only_is_one (filter tes
 pub no_other_place : {X : Type 0} (test : X → Bool) (xs : List X) (n : ℕ) → IsOnlyAt test xs n → (k : ℕ) (b : X) → slice_get xs k ≡ Some b → test b ≡ true → k ≡ n
 no_other_place test xs n one k b at t =
     one_place test xs n k one.found b (only_is_one (filter test xs) one.found one.only_is) one.is (only_passes test xs n one) at t
+
+alone : {X : Type 0} (test : X → Bool) (xs : List X) (k : ℕ) (a b : X) → filter test xs ≡ a ∷ [] → slice_get xs k ≡ Some b → test b ≡ true → b ≡ a
+alone test [] k a b h at t = absurd cc
+alone {X = X} test (x ∷ xs) k a b h at t = go (test x) refl h k at (λ k f i. alone test xs k a b f i t)
+  where
+    go : (c : Bool) → test x ≡ c → cond c (x ∷ filter test xs) (filter test xs) ≡ a ∷ [] → (k : ℕ) → slice_get (x ∷ xs) k ≡ Some b → ((k : ℕ) → filter test xs ≡ a ∷ [] → slice_get xs k ≡ Some b → b ≡ a) → b ≡ a
+    go true e f zero i others = let same : x ≡ b = cc i in let first : x ≡ a = cc f in sym same ∙ first
+    go true e f (suc k) i others = let none : filter test xs ≡ [] = cc f in absurd (none_passes test xs k b none i t)
+    go false e f zero i others = let same : x ≡ b = cc i in absurd (false≢true (sym e ∙ ap test same ∙ t))
+    go false e f (suc k) i others = others k f i
+
+-- an element that passes is the only one that does
+pub the_only : {X : Type 0} (test : X → Bool) (xs : List X) (a : X) → only (filter test xs) ≡ Some a → (k : ℕ) (b : X) → slice_get xs k ≡ Some b → test b ≡ true → b ≡ a
+the_only test xs a h k b at t = alone test xs k a b (only_is_one (filter test xs) a h) at t

@@ -41,19 +41,20 @@ use Rattle.verdict.proofs.OwnCalls.{own_call, none_is_process}
 use Rattle.verdict.proofs.RowsOfClass.{are_rows, calls_are, member_of_view, not_constructor, row_of_member}
 use Rattle.verdict.proofs.Verdicts.{types_stand, instructions_stand, class_not_recursive, class_leads_on, class_judged, class_exists, item_of}
 use Rattle.bounds.specs.declared.limits.Bounds as declared
+use Rattle.jtypes.specs.Profile.{Second}
 
 -- ---- instructions and types
 
-pub code_refused : (v : ClassView) (bytes : List ℕ) (r : Refusal) → (r ≢ NoMemory → CodeStands v.pool bytes r) → (r ≡ NoMemory) ⊎ InstructionStands v bytes r
+pub code_refused : (v : ClassView) (bytes : List ℕ) (r : Refusal) → (r ≢ NoMemory → CodeStands Second v.pool bytes r) → (r ≡ NoMemory) ⊎ InstructionStands Second v bytes r
 code_refused v bytes NoMemory h = inl refl
-code_refused v bytes UnknownMember h = absurd (members_unread v.pool bytes (h (λ e. cc e)))
+code_refused v bytes UnknownMember h = absurd (members_unread Second v.pool bytes (h (λ e. cc e)))
 code_refused v bytes r h = inr (h (λ e. cc e))
 
 -- an instruction whose member isn't known
-pub member_refused : (v : ClassView) (bytes : List ℕ) (code : List Placed) (k : ℕ) (p : Placed) → IsSequence v.pool 0 bytes code → k < length code → p ≡ get_or code k p → is_known v p.instruction ≡ false → InstructionStands v bytes UnknownMember
+pub member_refused : (v : ClassView) (bytes : List ℕ) (code : List Placed) (k : ℕ) (p : Placed) → IsSequence Second v.pool 0 bytes code → k < length code → p ≡ get_or code k p → is_known v p.instruction ≡ false → InstructionStands Second v bytes UnknownMember
 member_refused v bytes code k p s l there unknown = (code, s, (k, p, l, sym there, unknown))
 
-pub method_refused : (pool : List Slot) (p : Parts) (n : ℕ) (codes : List CodeParts) → HasGoodShape pool p codes n → (k : ℕ) (parts : CodeParts) → slice_get codes k ≡ Some parts → (k ≡ n → ⊥) → (r : Refusal) → (r ≡ NoMemory) ⊎ InstructionStands (view_of pool p) parts.code r → (r ≡ NoMemory) ⊎ InstructionsStand pool p r
+pub method_refused : (pool : List Slot) (p : Parts) (n : ℕ) (codes : List CodeParts) → HasGoodShape pool p codes n → (k : ℕ) (parts : CodeParts) → slice_get codes k ≡ Some parts → (k ≡ n → ⊥) → (r : Refusal) → (r ≡ NoMemory) ⊎ InstructionStands Second (view_of pool p) parts.code r → (r ≡ NoMemory) ⊎ InstructionsStand Second pool p r
 method_refused pool p n codes shape k parts at other r (inl e) = inl e
 method_refused pool p n codes shape k parts at other r (inr s) =
     let m = zip_back (HasCode pool) p.methods codes k parts shape.codes_are at in
@@ -62,19 +63,19 @@ method_refused pool p n codes shape k parts at other r (inr s) =
 
 -- ---- the whole
 
-pub layout_refused : (bytes : List ℕ) (r : Refusal) → (r ≢ NoMemory → Stands (class_file (length bytes)) bytes r) → (r ≡ NoMemory) ⊎ IsRefused bytes r
+pub layout_refused : (bytes : List ℕ) (r : Refusal) → (r ≢ NoMemory → Stands (class_file (length bytes)) bytes r) → (r ≡ NoMemory) ⊎ IsRefused Second bytes r
 layout_refused bytes NoMemory h = inl refl
 layout_refused bytes r h = inr (by_layout (h (λ e. cc)))
 
-pub shape_refused : (bytes : List ℕ) (pool : List Slot) (p : Parts) (r : Refusal) → IsClassFile bytes pool p → (r ≡ NoMemory) ⊎ ShapeStands pool p r → (r ≡ NoMemory) ⊎ IsRefused bytes r
+pub shape_refused : (bytes : List ℕ) (pool : List Slot) (p : Parts) (r : Refusal) → IsClassFile bytes pool p → (r ≡ NoMemory) ⊎ ShapeStands pool p r → (r ≡ NoMemory) ⊎ IsRefused Second bytes r
 shape_refused bytes pool p r file (inl e) = inl e
 shape_refused bytes pool p r file (inr s) = inr (by_shape pool p file s)
 
-pub instructions_refused : (bytes : List ℕ) (pool : List Slot) (p : Parts) (n : ℕ) (codes : List CodeParts) (r : Refusal) → IsClassFile bytes pool p → HasGoodShape pool p codes n → (r ≡ NoMemory) ⊎ InstructionsStand pool p r → (r ≡ NoMemory) ⊎ IsRefused bytes r
+pub instructions_refused : (bytes : List ℕ) (pool : List Slot) (p : Parts) (n : ℕ) (codes : List CodeParts) (r : Refusal) → IsClassFile bytes pool p → HasGoodShape pool p codes n → (r ≡ NoMemory) ⊎ InstructionsStand Second pool p r → (r ≡ NoMemory) ⊎ IsRefused Second bytes r
 instructions_refused bytes pool p n codes r file shape (inl e) = inl e
 instructions_refused bytes pool p n codes r file shape (inr s) = inr (by_instructions pool p file (record { none_stands = shape.none_stands }) s)
 
-pub types_refused : (bytes : List ℕ) (pool : List Slot) (p : Parts) (n : ℕ) (codes : List CodeParts) (items : List Found) (r : Refusal) → IsClassFile bytes pool p → HasGoodShape pool p codes n → AreFound (view_of pool p) codes n (length codes) items → (r ≡ NoMemory) ⊎ TypesStand pool p r → (r ≡ NoMemory) ⊎ IsRefused bytes r
+pub types_refused : (bytes : List ℕ) (pool : List Slot) (p : Parts) (n : ℕ) (codes : List CodeParts) (items : List Found) (r : Refusal) → IsClassFile bytes pool p → HasGoodShape pool p codes n → AreFound (view_of pool p) codes n (length codes) items → (r ≡ NoMemory) ⊎ TypesStand Second pool p r → (r ≡ NoMemory) ⊎ IsRefused Second bytes r
 types_refused bytes pool p n codes items r file shape are_found (inl e) = inl e
 types_refused bytes pool p n codes items r file shape are_found (inr s) = inr (by_types pool p file (record { none_stands = shape.none_stands }) (record { none_stands = instructions_stand pool p n codes shape items are_found }) s)
 
@@ -110,15 +111,15 @@ module _ (bytes : List ℕ) (pool : List Slot) (p : Parts) (n : ℕ) (codes : Li
   good_shape : HasShape pool p
   good_shape = record { none_stands = shape.none_stands }
 
-  good_instructions : HasInstructions pool p
+  good_instructions : HasInstructions Second pool p
   good_instructions = record { none_stands = instructions_stand pool p n codes shape items are_found }
 
-  good_types : HaveLengths rows → HasTypes pool p
+  good_types : HaveLengths rows → HasTypes Second pool p
   good_types lengths = record { none_stands = types_stand pool p n codes shape rows are lengths }
 
   -- ---- lengths
 
-  length_stands : OneLacksLength rows → IsRefused bytes LengthNotConstant
+  length_stands : OneLacksLength rows → IsRefused Second bytes LengthNotConstant
   length_stands (i, row, l, same, lack) =
       let t = are.each i row l in
       let lacks : LacksLengthIn (get_or rows i row) = subst LacksLengthIn same (lack (subst (λ (x : Typed). ArePlacesRising x.declared.items) (sym same) t.places.2.rising)) in
@@ -132,7 +133,7 @@ module _ (bytes : List ℕ) (pool : List Slot) (p : Parts) (n : ℕ) (codes : Li
           let there = subst (λ (xs : List ℕ). Contains xs q) places.2.are has in
           inr (places.0, places.1, frame_among places.0 q there.0 q there.1 there.2)
 
-  module _ (c : Class) (class : IsClassOfFile pool p c) where
+  module _ (c : Class) (class : IsClassOfFile Second pool p c) where
     process_exists : (j : ℕ) × IsProcessOf c j
     process_exists = go (number_of_process c) refl
       where
@@ -169,7 +170,7 @@ module _ (bytes : List ℕ) (pool : List Slot) (p : Parts) (n : ℕ) (codes : Li
             let to = own_call c.view some.0.instruction k call in
             member_of_view pool p n codes shape rows are c class k to.0 to.1 to.2
 
-    class_refused : HaveLengths rows → (r : Refusal) → ClassStands c r → IsRefused bytes r
+    class_refused : HaveLengths rows → (r : Refusal) → ClassStands Second c r → IsRefused Second bytes r
     class_refused lengths r s = by_class pool p c file good_shape good_instructions (good_types lengths) class s
 
     module _ (none : AreNotRecursive rows) where
@@ -177,14 +178,14 @@ module _ (bytes : List ℕ) (pool : List Slot) (p : Parts) (n : ℕ) (codes : Li
       on = class_leads_on pool p n codes shape rows are c class (instructions_stand pool p n codes shape items are_found) none
 
       -- a limit that is refused
-      answered : (r : Refusal) → ((c : Class) (set : ℕ → Bool) → LeadsOn c set → AreRowsOf c set rows → IsAnswerFor c (Err r)) → IsLimit r → ClassStands c r
+      answered : (r : Refusal) → ((c : Class) (set : ℕ → Bool) → LeadsOn c set → AreRowsOf c set rows → IsAnswerFor c (Err r)) → IsLimit r → ClassStands Second c r
       answered StepLimit answer h = let j = process_exists in (class_not_recursive pool p n codes shape rows are c class none, (j.0, j.1, (answer c (members c) on (are_rows pool p n codes shape rows are c class) j.0 j.1).steps refl))
       answered WordLimit answer h = let j = process_exists in (class_not_recursive pool p n codes shape rows are c class none, (j.0, j.1, (answer c (members c) on (are_rows pool p n codes shape rows are c class) j.0 j.1).words refl))
       answered FrameLimit answer h = let j = process_exists in (class_not_recursive pool p n codes shape rows are c class none, (j.0, j.1, (answer c (members c) on (are_rows pool p n codes shape rows are c class) j.0 j.1).frames refl))
       answered r answer h = absurd h
 
   pub bounds_refused : (r : Refusal) → IsOfBounds r → (r ≢ LengthNotConstant → HaveLengths rows) → (IsLimit r → AreNotRecursive rows) → (r ≡ Recursive → IsCircleIn rows) → (r ≡ LengthNotConstant → OneLacksLength rows) → (r ≡ NoProcess → (i : ℕ) (d : Typed) → i < length rows → (get_or rows i d).is_process ≡ false)
-      → ((c : Class) (set : ℕ → Bool) → LeadsOn c set → AreRowsOf c set rows → IsAnswerFor c (Err r)) → (r ≡ NoMemory) ⊎ IsRefused bytes r
+      → ((c : Class) (set : ℕ → Bool) → LeadsOn c set → AreRowsOf c set rows → IsAnswerFor c (Err r)) → (r ≡ NoMemory) ⊎ IsRefused Second bytes r
   bounds_refused NoMemory of lengths limit circle lack process answer = inl refl
   bounds_refused LengthNotConstant of lengths limit circle lack process answer = inr (length_stands (lack refl))
   bounds_refused NoProcess of lengths limit circle lack process answer =

@@ -26,11 +26,12 @@ use Rattle.verdict.specs.Verdict.{is_known, IsBody, TypesStand}
 use Rattle.verdict.specs.Judging.{HasInstructionsOf}
 use Rattle.verdict.proofs.Codes.{has_some}
 use Rattle.verdict.proofs.Methods.{any_from}
+use Rattle.jtypes.specs.Profile.{Second}
 
 -- ---- places
 
 -- a place of an instruction is within the bytes
-place_within : (pool : List Slot) (at : ℕ) (text : List ℕ) (code : List Placed) → IsSequence pool at text code → (q : ℕ) (x : Placed) → at_place code q ≡ Some x → q < at + length text
+place_within : (pool : List Slot) (at : ℕ) (text : List ℕ) (code : List Placed) → IsSequence Second pool at text code → (q : ℕ) (x : Placed) → at_place code q ≡ Some x → q < at + length text
 place_within pool at text [] s q x e = cc
 place_within pool at text (p ∷ code) s q x e = go (p.place == q) refl e (place_within pool (at + length s.1) s.2 code s.6 q x)
   where
@@ -68,7 +69,7 @@ signature_is pool p number parts code h m there w viewed None is none =
     h.shaped.none_stands BadDescriptor (inl (ap is_some (ap (method_signature (view_of pool p)) view ∙ sym is)))
 signature_is pool p number parts code h m there w viewed (Some s) is none = none s refl
 
-module _ (pool : List Slot) (p : Parts) (number : ℕ) (parts : CodeParts) (code : List Placed) (h : HasInstructionsOf pool p number parts code) (m : Member) (there : slice_get p.methods number ≡ Some m) (e : Environment) (tables : List (List ℕ)) (body : IsBody pool p m e code tables) where
+module _ (pool : List Slot) (p : Parts) (number : ℕ) (parts : CodeParts) (code : List Placed) (h : HasInstructionsOf pool p number parts code) (m : Member) (there : slice_get p.methods number ≡ Some m) (e : Environment) (tables : List (List ℕ)) (body : IsBody Second pool p m e code tables) where
   bad_code : HasBadCode pool h.member → ⊥
   bad_code bad = h.shaped.none_stands BadCode bad
 
@@ -89,7 +90,7 @@ module _ (pool : List Slot) (p : Parts) (number : ℕ) (parts : CodeParts) (code
 
   not_empty : code ≡ [] → ⊥
   not_empty none =
-      let nothing : parts.code ≡ [] = subst (λ (c : List Placed). IsSequence pool 0 parts.code c) none h.good.sequence in
+      let nothing : parts.code ≡ [] = subst (λ (c : List Placed). IsSequence Second pool 0 parts.code c) none h.good.sequence in
       bad_code (empty parts (has_some pool h.member parts h.shaped.has_code) (ap length nothing))
 
   other : is_constructor pool m ≡ false
@@ -98,7 +99,7 @@ module _ (pool : List Slot) (p : Parts) (number : ℕ) (parts : CodeParts) (code
       let same : h.member ≡ m = cc both in
       ap (is_constructor pool) (sym same) ∙ h.other
 
-  pub types_refused : (r : Refusal) → CheckRefuses (view_of pool p) e code tables r → (r ≡ NoMemory) ⊎ TypesStand pool p r
+  pub types_refused : (r : Refusal) → CheckRefuses (view_of pool p) e code tables r → (r ≡ NoMemory) ⊎ TypesStand Second pool p r
   types_refused NoMemory s = inl refl
   types_refused UnknownMember s = absurd (h.good.none_stands UnknownMember (code, h.good.sequence, (s.0, s.1, s.2, s.3, not_known (view_of pool p) s.1.instruction s.4)))
   types_refused BadStackMap s = inr (any_from _ p.methods number m there (other, (e, code, tables, body, s)))
@@ -109,6 +110,6 @@ module _ (pool : List Slot) (p : Parts) (number : ℕ) (parts : CodeParts) (code
   types_refused FallsOff (inr none) = absurd (not_empty none)
   types_refused r s = absurd s
 
-  pub method_judged : (r : Result Typed Refusal) → IfErr r (CheckRefuses (view_of pool p) e code tables) → IfErr r (λ r. (r ≡ NoMemory) ⊎ TypesStand pool p r)
+  pub method_judged : (r : Result Typed Refusal) → IfErr r (CheckRefuses (view_of pool p) e code tables) → IfErr r (λ r. (r ≡ NoMemory) ⊎ TypesStand Second pool p r)
   method_judged (Ok t) s = tt
   method_judged (Err r) s = types_refused r s

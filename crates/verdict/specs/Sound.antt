@@ -2,8 +2,9 @@
 use Rattle.std.specs.Prelude.{◌≡◌, ℕ, ◌+◌, ◌≤◌, List, [], ◌∷◌, length, Option, Some, None, slice_get}
 use Rattle.typecheck.specs.Typing.{Method, Class, IsProcessOf}
 use Rattle.bounds.specs.Paths.{Bounds, Cost, Path, IsWithin, own_slots}
+use Rattle.jtypes.specs.declared.loader.LoadAnswer.{LoadAnswer}
 use Rattle.verdict.specs.Checked.{IsChecked}
-use Rattle.verdict.specs.Machine.{Invocation, Activation, State, Final, Next, Ends, step, start, Reaches}
+use Rattle.verdict.specs.Machine.{Invocation, Activation, State, Final, Next, Goes, Ends, step, step_with, start, Reaches, ReachesBy}
 
 abbrev pub slots_of_method : Option Method → ℕ
 slots_of_method None = 0
@@ -20,20 +21,31 @@ pub record StaysWithin (c : Class) (s : State) (b : Bounds) : Type 0 where
   pub slots : slots_of c s.activations ≤ b.slots
   pub depth : length s.activations ≤ b.depth
 
--- from this state a final state is reached, within these steps and words
-pub record Finishes (c : Class) (s : State) (b : Bounds) : Type 0 where
+-- from this state a final state is reached, within these steps and words, where the loader answers this if it is asked
+pub record Finishes (c : Class) (a : LoadAnswer) (s : State) (b : Bounds) : Type 0 where
   pub last : State
   pub final : Final
-  pub reached : Reaches c s last
-  pub ends : step c last ≡ Some (Ends final)
+  pub reached : ReachesBy c a s last
+  pub ends : step_with c a last ≡ Some (Ends final)
   pub few_steps : final.steps ≤ b.steps
   pub few_words : final.words ≤ b.words
 
--- whatever the call, the class never gets stuck, stays within the bounds, and ends
+abbrev pub NextStaysWithin : Class → Next → Bounds → Type 0
+NextStaysWithin c (Goes u) b = StaysWithin c u b
+NextStaysWithin c (Ends f) b = Unit {0}
+
+-- an instruction leads on within the bounds, no loader asked
+pub record GoesAlone (c : Class) (t : State) (b : Bounds) : Type 0 where
+  pub next : Next
+  pub is : step c t ≡ Some next
+  pub stays : NextStaysWithin c next b
+
+-- whatever the call, and whatever a loader answers, the class never gets stuck, stays within the bounds, and ends
 pub record IsSafe (c : Class) (b : Bounds) : Type 0 where
-  pub never_stuck : (call : Invocation) (s t : State) → start c call ≡ Some s → Reaches c s t → (n : Next) × (step c t ≡ Some n)
+  pub never_stuck : (call : Invocation) (s t : State) → start c call ≡ Some s → Reaches c s t → (a : LoadAnswer) → (n : Next) × (step_with c a t ≡ Some n)
+  pub alone : (call : Invocation) (s t : State) → start c call ≡ Some s → Reaches c s t → GoesAlone c t b
   pub stays : (call : Invocation) (s t : State) → start c call ≡ Some s → Reaches c s t → StaysWithin c t b
-  pub finishes : (call : Invocation) (s : State) → start c call ≡ Some s → Finishes c s b
+  pub finishes : (call : Invocation) (a : LoadAnswer) (s : State) → start c call ≡ Some s → Finishes c a s b
 
 -- whatever is checked is safe within what no path exceeds
 abbrev pub SoundnessOfClasses : Type 0

@@ -3,6 +3,7 @@ use Rattle.std.specs.Prelude.{◌≡◌, ℕ, Bool, true, List, length, Any, Som
 use Rattle.std.specs.List.{AllZip}
 use Rattle.jtypes.specs.declared.refusal.Refusal.{Refusal}
 use Rattle.jtypes.specs.declared.refusal.Refusal.TheVariants.{UnknownMember, BadStackMap, TypeMismatch, FallsOff, LengthNotConstant, Recursive, StepLimit, WordLimit, FrameLimit}
+use Rattle.jtypes.specs.Profile.{Profile}
 use Rattle.jtypes.specs.Layout.{IsLaidOut, Stands}
 use Rattle.constpool.specs.Lookup.{Slot}
 use Rattle.classfile.specs.declared.class_file.Member.{Member}
@@ -51,30 +52,30 @@ is_known v (InstanceOf i) = is_some (constant_type v i)
 is_known v _ = true
 
 -- an unknown member in a code that is read to its end
-abbrev pub NamesUnknown : ClassView → List ℕ → Type 0
-NamesUnknown v bytes = (code : List Placed) × IsSequence v.pool 0 bytes code × Any (λ p. IsFalse (is_known v p.instruction)) code
+abbrev pub NamesUnknown : Profile → ClassView → List ℕ → Type 0
+NamesUnknown profile v bytes = (code : List Placed) × IsSequence profile v.pool 0 bytes code × Any (λ p. IsFalse (is_known v p.instruction)) code
 
 -- a refusal of the level, in the bytes of a code
-abbrev pub InstructionStands : ClassView → List ℕ → Refusal → Type 0
-InstructionStands v bytes UnknownMember = NamesUnknown v bytes
-InstructionStands v bytes r = CodeStands v.pool bytes r
+abbrev pub InstructionStands : Profile → ClassView → List ℕ → Refusal → Type 0
+InstructionStands profile v bytes UnknownMember = NamesUnknown profile v bytes
+InstructionStands profile v bytes r = CodeStands profile v.pool bytes r
 
-abbrev pub InstructionsStand : List Slot → Parts → Refusal → Type 0
-InstructionsStand pool p r = SomeMethod pool p (λ m. (c : CodeParts) × HasCode pool m c × InstructionStands (view_of pool p) c.code r)
+abbrev pub InstructionsStand : Profile → List Slot → Parts → Refusal → Type 0
+InstructionsStand profile pool p r = SomeMethod pool p (λ m. (c : CodeParts) × HasCode pool m c × InstructionStands profile (view_of pool p) c.code r)
 
-pub record HasInstructions (pool : List Slot) (p : Parts) : Type 0 where
-  pub none_stands : (r : Refusal) → InstructionsStand pool p r → ⊥
+pub record HasInstructions (profile : Profile) (pool : List Slot) (p : Parts) : Type 0 where
+  pub none_stands : (r : Refusal) → InstructionsStand profile pool p r → ⊥
 
 -- ---- level D: the types of those methods
 
 -- a method's environment, its instructions, and its tables of frames
-pub record IsBody (pool : List Slot) (p : Parts) (m : Member) (e : Environment) (code : List Placed) (tables : List (List ℕ)) : Type 0 where
+pub record IsBody (profile : Profile) (pool : List Slot) (p : Parts) (m : Member) (e : Environment) (code : List Placed) (tables : List (List ℕ)) : Type 0 where
   pub parts : CodeParts
   pub has_code : HasCode pool m parts
   pub signature : method_signature (view_of pool p) (method_view pool m) ≡ Some e.signature
   pub max_stack : e.max_stack ≡ parts.max_stack
   pub max_locals : e.max_locals ≡ parts.max_locals
-  pub sequence : IsSequence pool 0 parts.code code
+  pub sequence : IsSequence profile pool 0 parts.code code
   pub tables_are : tables ≡ tables_of pool parts
 
 abbrev pub BodyStands : ClassView → Environment → List Placed → List (List ℕ) → Refusal → Type 0
@@ -84,53 +85,53 @@ BodyStands v e code tables FallsOff = FallsOffEnd code
 BodyStands v e code tables LengthNotConstant = LacksLength v e code tables
 BodyStands v e code tables _ = ⊥
 
-abbrev pub TypesStand : List Slot → Parts → Refusal → Type 0
-TypesStand pool p r =
-    SomeMethod pool p (λ m. (e : Environment) × (code : List Placed) × (tables : List (List ℕ)) × IsBody pool p m e code tables × BodyStands (view_of pool p) e code tables r)
+abbrev pub TypesStand : Profile → List Slot → Parts → Refusal → Type 0
+TypesStand profile pool p r =
+    SomeMethod pool p (λ m. (e : Environment) × (code : List Placed) × (tables : List (List ℕ)) × IsBody profile pool p m e code tables × BodyStands (view_of pool p) e code tables r)
 
-pub record HasTypes (pool : List Slot) (p : Parts) : Type 0 where
-  pub none_stands : (r : Refusal) → TypesStand pool p r → ⊥
+pub record HasTypes (profile : Profile) (pool : List Slot) (p : Parts) : Type 0 where
+  pub none_stands : (r : Refusal) → TypesStand profile pool p r → ⊥
 
 -- ---- level E: recursion and bounds
 
-pub record IsMethodOf (pool : List Slot) (p : Parts) (m : Member) (method : Method) : Type 0 where
+pub record IsMethodOf (profile : Profile) (pool : List Slot) (p : Parts) (m : Member) (method : Method) : Type 0 where
   pub tables : List (List ℕ)
-  pub body : IsBody pool p m method.environment method.code tables
+  pub body : IsBody profile pool p m method.environment method.code tables
   pub declared : IsDeclared (view_of pool p) method.environment method.code tables method.declared
 
 -- the class of a class file
-pub record IsClassOfFile (pool : List Slot) (p : Parts) (c : Class) : Type 0 where
+pub record IsClassOfFile (profile : Profile) (pool : List Slot) (p : Parts) (c : Class) : Type 0 where
   pub view : c.view ≡ view_of pool p
-  pub methods : AllZip (IsMethodOf pool p) p.methods c.methods
+  pub methods : AllZip (IsMethodOf profile pool p) p.methods c.methods
 
-abbrev pub BoundStands : Class → ℕ → Refusal → Type 0
-BoundStands c j StepLimit = SomePathExceeds c j (λ k. k.steps) step_limit
-BoundStands c j WordLimit = SomePathExceeds c j (λ k. k.words) word_limit
-BoundStands c j FrameLimit = SomePathExceeds c j (λ k. k.slots) slot_limit ⊎ SomePathExceeds c j (λ k. k.depth) depth_limit
-BoundStands c j _ = ⊥
+abbrev pub BoundStands : Profile → Class → ℕ → Refusal → Type 0
+BoundStands profile c j StepLimit = SomePathExceeds c j (λ k. k.steps) (step_limit profile)
+BoundStands profile c j WordLimit = SomePathExceeds c j (λ k. k.words) word_limit
+BoundStands profile c j FrameLimit = SomePathExceeds c j (λ k. k.slots) slot_limit ⊎ SomePathExceeds c j (λ k. k.depth) depth_limit
+BoundStands profile c j _ = ⊥
 
-abbrev pub ClassStands : Class → Refusal → Type 0
-ClassStands c Recursive = IsRecursive c
-ClassStands c r = (IsRecursive c → ⊥) × ((j : ℕ) × IsProcessOf c j × BoundStands c j r)
+abbrev pub ClassStands : Profile → Class → Refusal → Type 0
+ClassStands profile c Recursive = IsRecursive c
+ClassStands profile c r = (IsRecursive c → ⊥) × ((j : ℕ) × IsProcessOf c j × BoundStands profile c j r)
 
 -- ---- the verdict
 
 -- A refusal stands in the bytes: at its level, where none of an earlier level does.
-pub data IsRefused (bytes : List ℕ) (r : Refusal) : Type 0 where
-  by_layout : Stands (class_file (length bytes)) bytes r → IsRefused bytes r
-  by_shape : (pool : List Slot) (p : Parts) → IsClassFile bytes pool p → ShapeStands pool p r → IsRefused bytes r
-  by_instructions : (pool : List Slot) (p : Parts) → IsClassFile bytes pool p → HasShape pool p → InstructionsStand pool p r → IsRefused bytes r
-  by_types : (pool : List Slot) (p : Parts) → IsClassFile bytes pool p → HasShape pool p → HasInstructions pool p → TypesStand pool p r → IsRefused bytes r
-  by_class : (pool : List Slot) (p : Parts) (c : Class) → IsClassFile bytes pool p → HasShape pool p → HasInstructions pool p → HasTypes pool p
-      → IsClassOfFile pool p c → ClassStands c r → IsRefused bytes r
+pub data IsRefused (profile : Profile) (bytes : List ℕ) (r : Refusal) : Type 0 where
+  by_layout : Stands (class_file (length bytes)) bytes r → IsRefused profile bytes r
+  by_shape : (pool : List Slot) (p : Parts) → IsClassFile bytes pool p → ShapeStands pool p r → IsRefused profile bytes r
+  by_instructions : (pool : List Slot) (p : Parts) → IsClassFile bytes pool p → HasShape pool p → InstructionsStand profile pool p r → IsRefused profile bytes r
+  by_types : (pool : List Slot) (p : Parts) → IsClassFile bytes pool p → HasShape pool p → HasInstructions profile pool p → TypesStand profile pool p r → IsRefused profile bytes r
+  by_class : (pool : List Slot) (p : Parts) (c : Class) → IsClassFile bytes pool p → HasShape pool p → HasInstructions profile pool p → HasTypes profile pool p
+      → IsClassOfFile profile pool p c → ClassStands profile c r → IsRefused profile bytes r
 
 -- a class is accepted where no refusal stands
-abbrev pub IsAccepted : List ℕ → Type 0
-IsAccepted bytes = (r : Refusal) → IsRefused bytes r → ⊥
+abbrev pub IsAccepted : Profile → List ℕ → Type 0
+IsAccepted profile bytes = (r : Refusal) → IsRefused profile bytes r → ⊥
 
 -- the class of these bytes
-pub record IsClassOf (bytes : List ℕ) (c : Class) : Type 0 where
+pub record IsClassOf (profile : Profile) (bytes : List ℕ) (c : Class) : Type 0 where
   pub pool : List Slot
   pub parts : Parts
   pub file : IsClassFile bytes pool parts
-  pub class : IsClassOfFile pool parts c
+  pub class : IsClassOfFile profile pool parts c

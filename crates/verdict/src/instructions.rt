@@ -6,6 +6,7 @@ ghost use Rattle.verdict.specs.Verdict.{InstructionStands, InstructionsStand, is
 ghost use Rattle.verdict.specs.Judging.{AreFound, IsGoodCode};
 ghost use Rattle.verdict.specs.Shaping.{HasGoodShape};
 ghost use Rattle.classfile.specs.View.{view_of};
+ghost use Rattle.jtypes.specs.Profile.{Second};
 
 use classfile::{ClassFile, CodeParts};
 use decode::{Code, Instruction, decode};
@@ -40,7 +41,7 @@ fn is_known(
 /// The instructions of one method.
 fn judge_code(alloc: Global, view: &MemberView<'_>, bytes: &[u8]) -> Result<Code, Refusal>
     ensures ok { IfOk result (λ code. IsGoodCode view.now bytes.now code) }
-    ensures err { IfErr result (λ r. (r ≡ Refusal.NoMemory) ⊎ InstructionStands view.now bytes.now r) }
+    ensures err { IfErr result (λ r. (r ≡ Refusal.NoMemory) ⊎ InstructionStands Second view.now bytes.now r) }
 {
     let code = decode(alloc, bytes, view.pool())?;
     for p in code.as_slice() {
@@ -62,7 +63,7 @@ pub fn judge_instructions(
     requires shape { HasGoodShape class.now.pool class.now.parts codes.now constructor }
     requires view { view.now ≡ view_of class.now.pool class.now.parts }
     ensures ok { IfOk result (λ found. AreFound (view_of class.now.pool class.now.parts) codes.now constructor (length codes.now) found.items) }
-    ensures err { IfErr result (λ r. (r ≡ Refusal.NoMemory) ⊎ InstructionsStand class.now.pool class.now.parts r) }
+    ensures err { IfErr result (λ r. (r ≡ Refusal.NoMemory) ⊎ InstructionsStand Second class.now.pool class.now.parts r) }
 {
     let mut found = Vec::new(alloc);
     for number in 0..codes.len() {

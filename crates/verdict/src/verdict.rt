@@ -13,6 +13,7 @@ ghost use Rattle.verdict.specs.Judged.{IsJudgedAs, NumbersRise, row_in, process_
 ghost use Rattle.typecheck.specs.Typing.{Class, IsProcessOf};
 ghost use Rattle.bounds.specs.Paths.{AreBounds};
 ghost use Rattle.bounds.specs.Rows.{bounds_in};
+ghost use Rattle.jtypes.specs.Profile.{Second};
 
 use crate::instructions::{Found, judge_instructions};
 use crate::shape::{is_process, judge_shape};
@@ -109,7 +110,7 @@ fn judge_method(
     requires code { HasInstructionsOf class.now.pool class.now.parts number parts.now code }
     ensures number { IfOk result (λ t. t.number ≡ number) }
     ensures row { IfOk result (λ t. IsTypedRow class.now.pool class.now.parts t) }
-    ensures err { IfErr result (λ r. (r ≡ Refusal.NoMemory) ⊎ TypesStand class.now.pool class.now.parts r) }
+    ensures err { IfErr result (λ r. (r ≡ Refusal.NoMemory) ⊎ TypesStand Second class.now.pool class.now.parts r) }
 {
     let view = class.view();
     let Some(method) = view.method(number) else {
@@ -153,7 +154,7 @@ fn judge_types(
     requires shape { HasGoodShape class.now.pool class.now.parts codes.now constructor }
     requires found { AreFound (view_of class.now.pool class.now.parts) codes.now constructor (length codes.now) found.items }
     ensures ok { IfOk result (λ rows. AreTyped class.now.pool class.now.parts constructor (length codes.now) rows.items) }
-    ensures err { IfErr result (λ r. (r ≡ Refusal.NoMemory) ⊎ TypesStand class.now.pool class.now.parts r) }
+    ensures err { IfErr result (λ r. (r ≡ Refusal.NoMemory) ⊎ TypesStand Second class.now.pool class.now.parts r) }
 {
     let mut methods = Vec::new(alloc);
     for Found { number, code } in found {
@@ -170,18 +171,18 @@ pub fn judge(alloc: Global, bytes: &[u8]) -> Result<JudgedClass, Refusal>
 
     // Only a class in which nothing is refused is accepted: neither its layout nor its shape, its instructions, their types,
     // its recursion or its bounds.
-    ensures accepted { IfOk result (λ _. IsAccepted bytes.now) }
+    ensures accepted { IfOk result (λ _. IsAccepted Second bytes.now) }
 
     // The bytes are a class; and what is answered is that class, with the bounds of its `process`.
-    ensures class { IfOk result (λ _. (c : Class) × IsClassOf bytes.now c) }
-    ensures judged { IfOk result (λ v. (c : Class) → IsClassOf bytes.now c → IsJudgedAs c v) }
-    ensures bounds { IfOk result (λ v. (c : Class) (j : ℕ) → IsClassOf bytes.now c → IsProcessOf c j → AreBounds c j (bounds_in v.bounds)) }
+    ensures class { IfOk result (λ _. (c : Class) × IsClassOf Second bytes.now c) }
+    ensures judged { IfOk result (λ v. (c : Class) → IsClassOf Second bytes.now c → IsJudgedAs c v) }
+    ensures bounds { IfOk result (λ v. (c : Class) (j : ℕ) → IsClassOf Second bytes.now c → IsProcessOf c j → AreBounds c j (bounds_in v.bounds)) }
 
     // Its bounds are within the limits.
-    ensures limits { IfOk result (λ v. IsWithinLimits v.bounds) }
+    ensures limits { IfOk result (λ v. IsWithinLimits Second v.bounds) }
 
     // A refusal that is answered stands, but for want of memory.
-    ensures refused { IfErr result (λ r. (r ≡ Refusal.NoMemory) ⊎ IsRefused bytes.now r) }
+    ensures refused { IfErr result (λ r. (r ≡ Refusal.NoMemory) ⊎ IsRefused Second bytes.now r) }
 {
     let class = read_class(alloc, bytes)?;
     let shape = judge_shape(alloc, &class)?;

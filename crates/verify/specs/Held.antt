@@ -9,13 +9,14 @@ use Rattle.verdict.specs.Verdict.{IsAccepted, IsClassOf}
 use Rattle.linked.specs.declared.linked.LinkedClass.{LinkedClass}
 use Rattle.linked.specs.Linking.{IsLinked, IsEntry}
 use Rattle.linked.specs.Numbering.{index_of}
+use Rattle.jtypes.specs.Profile.{Second}
 
 -- the class was accepted by its bytes, has these bounds, and is linked so
 pub record Holds (c : Class) (limits : Bounds) (linked : LinkedClass) : Type 0 where
   pub bytes : List ℕ
-  pub accepted : IsAccepted bytes
-  pub class : IsClassOf bytes c
+  pub accepted : IsAccepted Second bytes
+  pub class : IsClassOf Second bytes c
   pub bounds : (j : ℕ) → IsProcessOf c j → AreBounds c j (bounds_in limits)
-  pub within : IsWithinLimits limits
+  pub within : IsWithinLimits Second limits
   pub code : IsLinked c (index_of c) linked
   pub entry : IsEntry c (index_of c) linked.process

@@ -2,7 +2,7 @@
 
 ghost use Rattle.std.specs.Prelude.{◌≡◌, ◌⊎◌, ℕ, IfOk, IfErr};
 ghost use Rattle.jtypes.specs.declared.refusal.Refusal.{Refusal};
-ghost use Rattle.typecheck.specs.Typing.{IsProcessOf};
+ghost use Rattle.typecheck.specs.Typing.{Class, IsProcessOf};
 ghost use Rattle.bounds.specs.Limits.{IsWithinLimits};
 ghost use Rattle.bounds.specs.Paths.{AreBounds};
 ghost use Rattle.bounds.specs.Rows.{bounds_in};
@@ -11,14 +11,19 @@ ghost use Rattle.verdict.specs.Sound.{IsSafe};
 ghost use Rattle.verdict.specs.Checked.{IsChecked};
 ghost use Rattle.linked.specs.Linking.{IsLinked, IsEntry};
 ghost use Rattle.linked.specs.Numbering.{index_of};
+ghost use Rattle.verify.specs.First.{HasFirstSteps};
 ghost use Rattle.verify.specs.TheClass.{TheClass, TheClass-prop};
+ghost use Rattle.jtypes.specs.Profile.{First, Second};
 
 use crate::link::link;
 use bounds::Bounds;
 use classfile::ClassFile;
 use jtypes::Refusal;
 use linked::LinkedClass;
-use soundness::{accepted_has_bounds, accepted_is_checked, accepted_is_ordered, type_soundness};
+use soundness::{
+    accepted_has_bounds, accepted_is_checked, accepted_is_ordered, first_profile_is_kept,
+    type_soundness,
+};
 use std::alloc::{AllocError, Global};
 use std::marker::Model;
 use verdict::judge;
@@ -43,11 +48,11 @@ impl Model for Verified {
     ghost invariant = { λ a. Holds a.class.0 a.bounds a.linked };
 }
 
-/// Judges the bytes of a class (JVMS §4, §4.10.1), and links its instructions (JVMS §5.4).
-pub fn verify(alloc: Global, bytes: &[u8]) -> Result<Verified, Refusal>
-    ensures class { IfOk result (λ c. IsClassOf bytes.now c) }
-    ensures accepted { IfOk result (λ _. IsAccepted bytes.now) }
-    ensures refused { IfErr result (λ r. (r ≡ Refusal.NoMemory) ⊎ IsRefused bytes.now r) }
+/// Judges the bytes of a class, and links its instructions.
+fn judge_and_link(alloc: Global, bytes: &[u8]) -> Result<Verified, Refusal>
+    ensures class { IfOk result (λ c. IsClassOf Second bytes.now c) }
+    ensures accepted { IfOk result (λ _. IsAccepted Second bytes.now) }
+    ensures refused { IfErr result (λ r. (r ≡ Refusal.NoMemory) ⊎ IsRefused Second bytes.now r) }
 {
     accepted_is_ordered();
     accepted_is_checked();
@@ -65,10 +70,25 @@ pub fn verify(alloc: Global, bytes: &[u8]) -> Result<Verified, Refusal>
     })
 }
 
+/// Judges the bytes of a class (JVMS §4, §4.10.1), and links its instructions (JVMS §5.4).
+pub fn verify(alloc: Global, bytes: &[u8]) -> Result<Verified, Refusal>
+    ensures class { IfOk result (λ c. IsClassOf Second bytes.now c) }
+    ensures accepted { IfOk result (λ _. IsAccepted Second bytes.now) }
+    ensures refused { IfErr result (λ r. (r ≡ Refusal.NoMemory) ⊎ IsRefused Second bytes.now r) }
+
+    // What the first profile accepts isn't refused; it is the same class, within the first profile's limit of steps.
+    ensures first { IsAccepted First bytes.now → IfErr result (λ r. r ≡ Refusal.NoMemory) }
+    ensures first_class { (c : Class) → IsClassOf First bytes.now c → IfOk result (λ d. d ≡ c) }
+    ensures first_steps { (c : Class) → IsAccepted First bytes.now → IsClassOf First bytes.now c → IfOk result HasFirstSteps }
+{
+    first_profile_is_kept();
+    judge_and_link(alloc, bytes)
+}
+
 impl Verified {
     /// What an invocation takes at most. Whatever the call, the class never gets stuck and ends within these.
     pub fn bounds(&self) -> Bounds
-        ensures limits { IsWithinLimits result }
+        ensures limits { IsWithinLimits Second result }
         ensures bounds { (j : ℕ) → IsProcessOf self.now j → AreBounds self.now j (bounds_in result) }
         ensures safe { IsSafe self.now (bounds_in result) }
     {

@@ -143,7 +143,7 @@ fn read_keys_and_args(
 ) -> Result<Request, Refusal>
     ensures { Takes (λ x. x) result (first (keys_and_arguments class count) cursor.old) cursor.new }
 {
-    let keys = row(alloc, &LongReader, count, cursor)?;
+    let keys = row(alloc, &LongReader, usize::from(count), cursor)?;
     let args = read_args(cursor)?;
     Ok(Request::InvokeAll { class, keys, args })
 }

@@ -1,11 +1,13 @@
 -- How far calls are.
-use Rattle.std.proofs.Common.{arith, ◌≡◌, ℕ, zero, suc, ◌≤◌, ℤ, true, not, ◌⊎◌, inl, inr, List, Option, Some, None, is_some, option_map, option_and_then, refl, sym, ap, subst, ◌∙◌, true≢false}
+use Rattle.std.proofs.Common.{arith, ◌≡◌, ℕ, zero, suc, ◌≤◌, ℤ, true, false, not, ◌⊎◌, inl, inr, List, Option, Some, None, is_some, option_map, option_and_then, refl, sym, ap, subst, ◌∙◌, true≢false}
 use Rattle.jtypes.specs.declared.types.Arg.{Arg}
 use Rattle.jtypes.specs.Entry.{Entry, effect, after_effect}
 use Rattle.jtypes.specs.Lists.{◌>>=◌}
 use Rattle.typecheck.specs.Typing.{Class, Method, number_of_process}
 use Rattle.verdict.specs.Machine.{Invocation, State, Final, Goes, Ends, start, start_of, step, Reaches, here, onward}
 use Rattle.verdict.specs.Meaning.{Means}
+use Rattle.soundness.proofs.OneMeaning.{means_unasked}
+use Rattle.soundness.proofs.OneMeaning as law
 use Rattle.std.specs.List.{slice_get}
 use Rattle.machine.specs.declared.machine.Machine.{Machine}
 use Rattle.machine.specs.declared.done.Done.{Done}
@@ -46,60 +48,10 @@ next_state c call n s t e goes = by (start c call) e
     by None e = absurd (cc)
     by (Some b) e = ap (option_and_then (λ t. goes_to (step c t))) e ∙ ap goes_to goes
 
--- ---- a call has one end
+-- ---- without a loader a call has one meaning
 
-module _ (c : Class) (begin : State) where
-  reached_after : (s : State) → Reaches c begin s → (n : ℕ) × (state_after n c begin ≡ Some s)
-  unfolding state_after
-  reached_after s here = (0, refl)
-  reached_after s (onward {t} r e) =
-      let p = reached_after t r in
-      (suc p.0, ap (option_and_then (λ t. goes_to (step c t))) p.1 ∙ ap goes_to e)
-
-  none_later : (n m : ℕ) → state_after n c begin ≡ None → n ≤ m → state_after m c begin ≡ None
-  unfolding state_after
-  none_later n zero e le = let same : n ≡ 0 = omega arith in subst (λ k. state_after k c begin ≡ None) same e
-  none_later n (suc m) e le = elim (split) [
-    | inl lt ↦ ap (option_and_then (λ t. goes_to (step c t))) (none_later n m e lt)
-    | inr same ↦ subst (λ k. state_after k c begin ≡ None) same e
-  ]
-    where
-      split : (n ≤ m) ⊎ (n ≡ suc m)
-      split = nat_split n m le
-
-  ended_none : (n : ℕ) (s : State) (f : Final) → state_after n c begin ≡ Some s → step c s ≡ Some (Ends f) → state_after (suc n) c begin ≡ None
-  unfolding state_after
-  ended_none n s f e ends = ap (option_and_then (λ t. goes_to (step c t))) e ∙ ap goes_to ends
-
-  no_later : (n m : ℕ) (s t : State) (f : Final) → state_after n c begin ≡ Some s → step c s ≡ Some (Ends f) → state_after m c begin ≡ Some t → suc n ≤ m → ⊥
-  no_later n m s t f e ends k le = absurd (no_some (sym k ∙ none_later (suc n) m (ended_none n s f e ends) le))
-    where
-      no_some : Some t ≡ None → ⊥
-      no_some q = absurd (cc)
-
-  one_end : (s t : State) (f g : Final) → Reaches c begin s → step c s ≡ Some (Ends f) → Reaches c begin t → step c t ≡ Some (Ends g) → f ≡ g
-  one_end s t f g r e q k =
-      let a = reached_after s r in
-      let b = reached_after t q in
-      elim (trichotomy a.0 b.0) [
-        | inl lt ↦ absurd (no_later a.0 b.0 s t f a.1 e b.1 lt)
-        | inr rest ↦ elim rest [
-          | inl same ↦ ends_same (sym a.1 ∙ ap (λ n. state_after n c begin) same ∙ b.1)
-          | inr gt ↦ absurd (no_later b.0 a.0 t s g b.1 k a.1 gt)
-        ]
-      ]
-    where
-      ends_same : Some s ≡ Some t → f ≡ g
-      ends_same w =
-          let st : s ≡ t = cc w in
-          let both : Some (Ends f) ≡ Some (Ends g) = sym e ∙ ap (step c) st ∙ k in
-          cc both
-
-pub one_meaning : (c : Class) (call : Invocation) (f g : Final) → Means c call f → Means c call g → f ≡ g
-one_meaning c call f g h k =
-    let both : Some k.begin ≡ Some h.begin = sym k.starts ∙ h.starts in
-    let same : k.begin ≡ h.begin = cc both in
-    one_end c h.begin h.last k.last f g h.reached h.ends (subst (λ b. Reaches c b k.last) same k.reached) k.ends
+pub one_meaning : (c : Class) (call : Invocation) (f g : Final) → call.loads ≡ false → Means c call f → Means c call g → f ≡ g
+one_meaning c call f g without h k = law.one_meaning c call f g h k (means_unasked c call f without h ∙ sym (means_unasked c call g without k))
 
 -- ---- the call that runs
 
@@ -187,7 +139,7 @@ going_end before (Contains k) (Some d) m h e = absurd h
 pub ended_progress : (before : Entry) (call : Call) (ended : Option Done) (m : Machine) (r : Reply) (after : Entry) → IsGoing before call ended m → is_ended call ended ≡ true → Answers before call r after
     → ((b now : Entry) → after_effect (effect b now) b ≡ now) → progress_in before m.steps call ended ≡ Some (Settled r after)
 ended_progress before (Invoke c k args) (Some d) m r after h e answers leads =
-    let same : h.final ≡ answers.0 = one_meaning c (invocation k args before) h.final answers.0 h.means answers.1 in
+    let same : h.final ≡ answers.0 = one_meaning c (invocation k args before) h.final answers.0 refl h.means answers.1 in
     let outcome : reply.Result d.outcome ≡ r = ap reply.Result (h.told.outcome ∙ ap (λ (f : Final). f.outcome) same) ∙ sym answers.2 in
     let entry : after_effect d.effect before ≡ after = ap (λ x. after_effect x before) h.told.effect ∙ leads before h.final.entry ∙ ap (λ (f : Final). f.entry) same ∙ sym answers.3 in
     ap (λ x. Some (Settled x (after_effect d.effect before))) outcome ∙ ap (λ x. Some (Settled r x)) entry

@@ -9,7 +9,10 @@ use Rattle.verdict.specs.Meaning.{Means}
 use Rattle.machine.specs.declared.machine.Machine.{Machine}
 use Rattle.machine.specs.declared.done.Done.{Done}
 use Rattle.machine.specs.declared.done.Going.TheVariants as going
-use Rattle.machine.specs.Running.{IsRunning, IsStarted, IsFinal, Follows}
+use Rattle.machine.specs.Running.{IsRunningWith, IsStarted, IsFinal}
+use Rattle.machine.specs.Running as with_loader
+use Rattle.machine.specs.declared.done.Going.{Going}
+use Rattle.soundness.proofs.OneMeaning.{plain_step}
 use Rattle.stripe.specs.declared.call.OpenCall.{OpenCall}
 use Rattle.stripe.specs.History.{Call, Invoke, Begun, Record, Answers, key_of, invocation}
 use Rattle.stripe.specs.Seen.{call_of, begun_of}
@@ -19,9 +22,10 @@ use Rattle.world.specs.World.{Progress, Working, Settled, Running, running_call,
 use Rattle.world.specs.Refused.{works}
 use Rattle.world.specs.Seated.{IsBegun, IsEnded, turned}
 use Rattle.world.specs.Forward.{turns_on}
-use Rattle.world.specs.Going.{state_in, progress_in, is_ended, IsUnderWay, IsGoing}
+use Rattle.world.specs.Going.{state_in, progress_in, is_ended, IsUnderWay, IsGoing, Follows}
 use Rattle.world.specs.Seating.{running_in}
 use Rattle.world.proofs.Calls.{start_zero, first_state, next_state, going_some, call_in, works_going, turned_goes, turned_ends, going_end, ended_progress}
+use Rattle.jtypes.specs.Profile.{Second}
 
 -- each open call is under way, or ended
 abbrev pub AreGoing : Kept → Machine → Option Done → Type 0
@@ -94,6 +98,12 @@ module _ (s : Kept) (m : Machine) (ended : Option Done) (sound : AreGoing s m en
         idle = ap (running_in new m' None) (ap (λ (s : Kept). s.running) is);
       }
 
+-- ---- a step without a loader
+
+pub followed : (c : Class) (s : State) (g : Going) (m : Machine) → s.call.loads ≡ false → with_loader.Follows c s g m → Follows c s g m
+followed c s going.Going m without (a, t, e, call, running) = (t, sym (plain_step c s a without) ∙ e, call, running)
+followed c s (going.Ended d) m without (a, f, e, means, told) = (f, sym (plain_step c s a without) ∙ e, means, told)
+
 -- ---- an invocation that is under way
 
 under_way_of : (before : Entry) (call : Call) (ended : Option Done) (m : Machine) (c : Class) (k : ℤ) (args : List Arg) → call ≡ Invoke c k args → is_ended call ended ≡ false → IsGoing before call ended m
@@ -109,8 +119,11 @@ module _ (s : Kept) (m : Machine) (ended : Option Done) (sound : AreGoing s m en
   way : (ended ≡ None) × IsUnderWay c (invocation k args (before_in s o)) m
   way = under_way_of (before_in s o) (call_of o.call) ended m c k args is not (open_going s m ended sound o runs)
 
-  pub can_step : (x : State) × IsRunning c x m
-  can_step = (way.1.state, way.1.running)
+  unloaded : IsRunningWith false c way.1.state m
+  unloaded = (way.1.running, ap (λ (i : Invocation). i.loads) way.1.call_is)
+
+  pub can_step : (x : State) × IsRunningWith false c x m
+  can_step = (way.1.state, unloaded)
 
   same_begun : (b : Begun) → s.running ≡ Some b → begun_of o ≡ b
   same_begun b e = let both : Some (begun_of o) ≡ Some b = runs ∙ e in cc both
@@ -129,9 +142,9 @@ module _ (s : Kept) (m : Machine) (ended : Option Done) (sound : AreGoing s m en
       ap (λ e. running_in s m e s.running) way.0 ∙ seen_as None m
       ∙ ap (λ x. option_map (running_call o.caller o.number (Invoke c k args)) (option_map (λ s. Working c s) x)) way.1.is
 
-  module _ (new : Machine) (follows : (x : State) → IsRunning c x m → Follows c x going.Going new) (counts : new.steps ≡ suc m.steps) where
+  module _ (new : Machine) (follows : (x : State) → IsRunningWith false c x m → Follows c x going.Going new) (counts : new.steps ≡ suc m.steps) where
     next : Follows c way.1.state going.Going new
-    next = follows way.1.state way.1.running
+    next = follows way.1.state unloaded
 
     pub goes_on : AreGoing s new ended
     goes_on =
@@ -150,21 +163,21 @@ module _ (s : Kept) (m : Machine) (ended : Option Done) (sound : AreGoing s m en
         ∙ sym (turned_goes o.caller o.number (before_in s o) c k args m new way.1 next.0 next.1 counts)
         ∙ ap turned (sym (ap (λ e. running_in s m e s.running) way.0 ∙ seen_as None m))
 
-    pub goes_nearer : new.steps ≤ step_limit → turns_on (Some (running_in s new ended s.running)) < turns_on (Some (running_in s m ended s.running))
+    pub goes_nearer : new.steps ≤ step_limit Second → turns_on (Some (running_in s new ended s.running)) < turns_on (Some (running_in s m ended s.running))
     goes_nearer few =
         let seen : running_in s new ended s.running ≡ Some (running_call o.caller o.number (Invoke c k args) (Working c next.0)) =
         ap (λ e. running_in s new e s.running) way.0 ∙ seen_as None new
         ∙ ap (λ x. option_map (running_call o.caller o.number (Invoke c k args)) (option_map (λ s. Working c s) x))
         (ap (state_in c (invocation k args (before_in s o))) counts ∙ next_state c (invocation k args (before_in s o)) m.steps way.1.state next.0 way.1.is next.1) in
-        let is : turns_on (Some (running_in s new ended s.running)) ≡ (step_limit - next.0.steps) + 2 = ap (λ r. turns_on (Some r)) seen in
-        let was : turns_on (Some (running_in s m ended s.running)) ≡ (step_limit - way.1.state.steps) + 2 = ap (λ r. turns_on (Some r)) seen_old in
+        let is : turns_on (Some (running_in s new ended s.running)) ≡ (step_limit Second - next.0.steps) + 2 = ap (λ r. turns_on (Some r)) seen in
+        let was : turns_on (Some (running_in s m ended s.running)) ≡ (step_limit Second - way.1.state.steps) + 2 = ap (λ r. turns_on (Some r)) seen_old in
         let now = next.3.state.at.rest.steps in
         let before = way.1.running.state.at.rest.steps in
         omega (arith, is, was, now, before, counts, few)
 
-  module _ (new : Machine) (d : Done) (follows : (x : State) → IsRunning c x m → Follows c x (going.Ended d) new) where
+  module _ (new : Machine) (d : Done) (follows : (x : State) → IsRunningWith false c x m → Follows c x (going.Ended d) new) where
     last : Follows c way.1.state (going.Ended d) new
-    last = follows way.1.state way.1.running
+    last = follows way.1.state unloaded
 
     told : IsFinal d (before_in s o) last.0
     told = subst (λ (v : Invocation). IsFinal d v.before last.0) way.1.call_is last.3
@@ -183,7 +196,7 @@ module _ (s : Kept) (m : Machine) (ended : Option Done) (sound : AreGoing s m en
     pub ends_nearer : turns_on (Some (running_in s new (Some d) s.running)) < turns_on (Some (running_in s m ended s.running))
     ends_nearer =
         let is : turns_on (Some (running_in s new (Some d) s.running)) ≡ 1 = ap (λ r. turns_on (Some r)) (seen_as (Some d) new) in
-        let was : turns_on (Some (running_in s m ended s.running)) ≡ (step_limit - way.1.state.steps) + 2 = ap (λ r. turns_on (Some r)) seen_old in
+        let was : turns_on (Some (running_in s m ended s.running)) ≡ (step_limit Second - way.1.state.steps) + 2 = ap (λ r. turns_on (Some r)) seen_old in
         omega (arith, is, was)
 
 -- ---- an invocation begins

@@ -3,10 +3,11 @@ use Rattle.std.specs.Prelude.{ℕ, ◌+◌, ◌-◌, ◌<◌, Option, Some, IsSo
 use Rattle.bounds.specs.Paths.{step_limit}
 use Rattle.stripe.specs.History.{key_of}
 use Rattle.world.specs.World.{World, Running, Progress, Working, Settled, Event, Start, Step, Finish, entries_now, progress_of}
+use Rattle.jtypes.specs.Profile.{Second}
 
 -- how many events a call still takes at most: its steps, of which an accepted class takes no more than the limit, and the finish
 abbrev pub turns_of : Progress → ℕ
-turns_of (Working c s) = (step_limit - s.steps) + 2
+turns_of (Working c s) = (step_limit Second - s.steps) + 2
 turns_of (Settled reply after) = 1
 
 abbrev pub turns_on : Option (Option Running) → ℕ

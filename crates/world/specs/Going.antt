@@ -2,10 +2,13 @@
 use Rattle.std.specs.Prelude.{◌≡◌, ℕ, zero, suc, Bool, true, false, Option, Some, None, option_map, option_and_then}
 use Rattle.jtypes.specs.Entry.{Entry, after_effect}
 use Rattle.typecheck.specs.Typing.{Class}
-use Rattle.verdict.specs.Machine.{Invocation, State, Next, Goes, start, step}
+use Rattle.verdict.specs.Machine.{Invocation, State, Final, Next, Goes, Ends, start, step}
+use Rattle.verdict.specs.Meaning.{Means}
 use Rattle.machine.specs.declared.machine.Machine.{Machine}
 use Rattle.machine.specs.declared.done.Done.{Done}
-use Rattle.machine.specs.Running.{IsRunning, IsMeant}
+use Rattle.machine.specs.declared.done.Going.{Going}
+use Rattle.machine.specs.declared.done.Going.TheVariants as going
+use Rattle.machine.specs.Running.{IsRunning, IsMeant, IsFinal}
 use Rattle.stripe.specs.declared.call.Reply.TheVariants.{Result}
 use Rattle.stripe.specs.History.{Call, Invoke, invocation}
 use Rattle.world.specs.World.{Progress, Working, Settled, progress_of}
@@ -46,3 +49,8 @@ IsGoing before (Invoke c k args) (Some d) m = IsMeant c (invocation k args befor
 IsGoing before (Invoke c k args) None m = IsUnderWay c (invocation k args before) m
 IsGoing before _ (Some d) m = ⊥
 IsGoing before _ None m = Unit {0}
+
+-- without a loader a step goes on to another state, or ends in what the call means
+abbrev pub Follows : Class → State → Going → Machine → Type 0
+Follows c s going.Going m = (t : State) × (step c s ≡ Some (Goes t)) × (t.call ≡ s.call) × IsRunning c t m
+Follows c s (going.Ended d) m = (f : Final) × (step c s ≡ Some (Ends f)) × Means c s.call f × IsFinal d s.call.before f

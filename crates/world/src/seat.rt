@@ -1,14 +1,16 @@
 //! A stripe with the call that runs on it.
 
 ghost use Rattle.std.specs.Prelude.{◌≡◌, ◌↔◌, ◌≤◌, IfSome, IfNone, IsSome, IsTrue, None, Some, map, length, suc, false, if◌then◌else◌};
+ghost use Rattle.jtypes.specs.Profile.{Second};
 ghost use Rattle.bounds.specs.Paths.{step_limit};
 ghost use Rattle.verdict.specs.Machine.{State};
-ghost use Rattle.machine.specs.Running.{IsRunning, Follows};
+ghost use Rattle.machine.specs.Running.{IsRunningWith};
 ghost use Rattle.stripe.specs.Seen.{call_of};
-ghost use Rattle.world.specs.Going.{is_ended};
+ghost use Rattle.world.specs.Going.{is_ended, Follows};
 ghost use Rattle.world.specs.Seated.{AreIdle};
 
 use crate::event::Applied;
+use jtypes::NoLoader;
 use machine::{Done, Going, Workspace};
 use mutentry::effect_leads_from_before_to_now;
 use soundness::starts_and_counts;
@@ -55,16 +57,16 @@ fn is_ended(call: &Call<'_>, done: &Option<Done>) -> bool
 
 /// One instruction of an invocation of the class.
 fn one_step(workspace: &mut Workspace, class: &Verified) -> Going
-    requires { (s : State) × IsRunning class.now s workspace.old }
-    ensures follows { (s : State) → IsRunning class.now s workspace.old → Follows class.now s result workspace.new }
-    ensures counts { (s : State) → IsRunning class.now s workspace.old → result ≡ Going.Going → workspace.new.steps ≡ suc workspace.old.steps }
-    ensures few { (s : State) → IsRunning class.now s workspace.old → result ≡ Going.Going → workspace.new.steps ≤ step_limit }
+    requires { (s : State) × IsRunningWith false class.now s workspace.old }
+    ensures follows { (s : State) → IsRunningWith false class.now s workspace.old → Follows class.now s result workspace.new }
+    ensures counts { (s : State) → IsRunningWith false class.now s workspace.old → result ≡ Going.Going → workspace.new.steps ≡ suc workspace.old.steps }
+    ensures few { (s : State) → IsRunningWith false class.now s workspace.old → result ≡ Going.Going → workspace.new.steps ≤ step_limit Second }
 {
     is_checked(class);
     starts_and_counts();
     let _bounds = class.bounds();
     let _linked = class.linked();
-    workspace.step(class)
+    workspace.step(class, &NoLoader)
 }
 
 impl<'a> Seat<'a> {

@@ -1,20 +1,21 @@
 //! Invocations of small classes, step by step.
 
+ghost use Rattle.std.specs.Prelude.{false};
 ghost use Rattle.verdict.specs.Machine.{State};
-ghost use Rattle.machine.specs.Running.{IsRunning};
+ghost use Rattle.machine.specs.Running.{IsRunningWith};
 
 use super::{MADE_42, THREW, class_named};
-use jtypes::Args;
+use jtypes::{Args, NoLoader};
 use machine::{Done, Going, Workspace, one_state_runs, run};
 use std::alloc::Global;
 use verify::Verified;
 
 /// The invocation that runs goes on until it ends, for so many steps at most: the steps, and the end.
 fn stepped(class: &Verified, workspace: &mut Workspace, most: u32) -> Option<(u32, Done)>
-    requires { (s : State) × IsRunning class.now s workspace.old }
+    requires { (s : State) × IsRunningWith false class.now s workspace.old }
 {
     for count in 1..=most {
-        match workspace.step(class) {
+        match workspace.step(class, &NoLoader) {
             Going::Going => {}
             Going::Ended(done) => return Some((count, done)),
         }
@@ -64,7 +65,14 @@ fn left_and_run(
             workspace.start(first, 7, Some(41), &Args::none());
             let told = stepped(first, &mut workspace, most);
             one_state_runs(first, &workspace);
-            let done = run(second, 7, Some(41), &Args::none(), &mut workspace);
+            let done = run(
+                second,
+                7,
+                Some(41),
+                &Args::none(),
+                &mut workspace,
+                &NoLoader,
+            );
             Some((told, done))
         }
         Err(_) => None,

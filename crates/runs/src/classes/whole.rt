@@ -1,7 +1,7 @@
 //! Invocations of small classes, each run whole.
 
 use super::{MADE_42, THREW, class_named};
-use jtypes::{Arg, Args, Effect, JavaFault, Outcome};
+use jtypes::{Arg, Args, Effect, JavaFault, NoLoader, Outcome};
 use machine::{Done, Workspace, run};
 use std::alloc::Global;
 use verify::Verified;
@@ -15,8 +15,8 @@ fn run_twice(
 ) -> Option<[Done; 2]> {
     match Workspace::new(alloc) {
         Ok(mut workspace) => {
-            let first = run(class, 7, entries[0], args, &mut workspace);
-            let second = run(class, 7, entries[1], args, &mut workspace);
+            let first = run(class, 7, entries[0], args, &mut workspace, &NoLoader);
+            let second = run(class, 7, entries[1], args, &mut workspace, &NoLoader);
             Some([first, second])
         }
         Err(_) => None,
@@ -66,6 +66,7 @@ fn an_entry_is_removed(rt: HostRuntime) {
 const MADE_65535: Done = Done {
     outcome: Outcome::Returned(Arg::Long(65_535)),
     effect: Effect::Keep,
+    asked: None,
     steps: 9,
     words: 65_536,
 };

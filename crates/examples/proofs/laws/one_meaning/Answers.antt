@@ -1,5 +1,5 @@
 use Rattle.examples.proofs.laws.one_meaning.Goals as goal
-use Rattle.examples.proofs.OneMeaning.{one_meaning}
+use Rattle.soundness.proofs.OneMeaning.{one_meaning}
 
 pub returns : goal.returns
 returns c = one_meaning

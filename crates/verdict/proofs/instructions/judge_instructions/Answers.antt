@@ -11,6 +11,7 @@ use Rattle.verdict.proofs.Refused.{method_refused}
 use Rattle.verdict.specs.declared.instructions.Found.{Found}
 use Rattle.verdict.proofs.Numbered.{next_numbered, skip_numbered}
 use Rattle.verdict.proofs.instructions.judge_instructions.Goals.{then-number-constructor+in_ok-code+in_ok-push, else-number-constructor}
+use Rattle.jtypes.specs.Profile.{Second}
 use Rattle.verdict.proofs.instructions.judge_instructions.Goals as goal
 
 pub loop-number-preserved : goal.loop-number-preserved
@@ -41,6 +42,6 @@ returns-in_err-code-clause-err c =
     let refusal : Refusal = c.in_err-code.field-0.0 in
     let there = slice_get-get_or codes n parts c.loop-number-test.true ∙ ap (λ (x : CodeParts). Some x) (sym c.index-codes-number.is) in
     let bytes = c.as_slice.ensures ∙ ap (λ (x : CodeParts). x.code) (sym c.index-codes-number.is) in
-    let stands : (refusal ≡ NoMemory) ⊎ InstructionStands v parts.code refusal = subst (λ (x : ClassView). (refusal ≡ NoMemory) ⊎ InstructionStands x parts.code refusal) c.requires.view (subst (λ (b : List ℕ). (refusal ≡ NoMemory) ⊎ InstructionStands c.args.view.now b refusal) bytes c.in_err-code.ensures.err) in
+    let stands : (refusal ≡ NoMemory) ⊎ InstructionStands Second v parts.code refusal = subst (λ (x : ClassView). (refusal ≡ NoMemory) ⊎ InstructionStands Second x parts.code refusal) c.requires.view (subst (λ (b : List ℕ). (refusal ≡ NoMemory) ⊎ InstructionStands Second c.args.view.now b refusal) bytes c.in_err-code.ensures.err) in
     let e = err_from_is_err_and c.from_residual.result c.from_residual.ensures.1 in
     rw (e.1, e.2) (method_refused pool p c.args.constructor codes c.requires.shape n parts there c.if-number-constructor.true refusal stands)

@@ -1,6 +1,7 @@
+use Rattle.std.specs.Prelude.{false}
 use Rattle.verdict.specs.Machine.{State}
-use Rattle.machine.specs.Running.{IsRunning}
+use Rattle.machine.specs.Running.{IsRunningWith}
 use Rattle.runs.proofs.classes.steps.stepped.Given as goal
 
 abbrev pub invariant-loop-count : goal.invariant-loop-count
-invariant-loop-count l = (s : State) × IsRunning l.class s l.workspace
+invariant-loop-count l = (s : State) × IsRunningWith false l.class s l.workspace

@@ -1,4 +1,4 @@
-use Rattle.std.proofs.Common.{rules, Option, None, IsSome, w64, refl, sym, ap, subst, ◌∙◌}
+use Rattle.std.proofs.Common.{rules, Option, None, false, IsSome, w64, refl, sym, ap, subst, ◌∙◌}
 use Rattle.std.proofs.lemmas.Int.{to_z-of_z}
 use Rattle.machine.specs.Running.{IsStarted}
 use Rattle.stripe.specs.History.{Begun, invocation, key_of}
@@ -24,7 +24,7 @@ started c =
     let key = to_z-of_z w64 c.in-Invoke.key (search rules) in
     subst (λ e. IsStarted c.in-Invoke.class.now (invocation c.in-Invoke.key (arguments c.in-Invoke.args) e) c.start.new.self) c.in-Ok.ensures.entry
     (subst (λ a. IsStarted c.in-Invoke.class.now (invocation c.in-Invoke.key a c.in-Ok.before) c.start.new.self) c.args-in-Invoke.ensures
-    (subst (λ k. IsStarted c.in-Invoke.class.now (invocation k c.args-in-Invoke.result c.in-Ok.before) c.start.new.self) key c.start.ensures))
+    (subst (λ k. IsStarted c.in-Invoke.class.now (invocation k c.args-in-Invoke.result c.in-Ok.before) c.start.new.self) key (c.start.ensures.started false)))
 
 abbrev begun_by : (c : goal.After-start) → Begun
 begun_by c = record { caller = c.args.caller; number = c.args.number; call = call_of c.args.call }
