@@ -20,7 +20,7 @@ use std::sync::Wait;
 use std::thread::Threads;
 use std::time::{Clock, Duration};
 use stripe::Tables;
-use workers::run_by_workers;
+use workers::{SHARE, run_by_workers, worth};
 
 /// How many rounds there are.
 const ROUNDS: usize = 201;
@@ -57,7 +57,8 @@ pub fn one<R: Threads + Wait + Clock + Sync>(
     requires callable { All (IsCallable registry.now) jobs.now }
 {
     let begin = now(rt)?;
-    let Ok(left) = run_by_workers(rt, alloc, registry, tables, seats, jobs, &NoGate) else {
+    let workers = worth(registry, jobs, seats, SHARE);
+    let Ok(left) = run_by_workers(rt, alloc, registry, tables, workers, jobs, &NoGate) else {
         return Err(Failure::NoMemory);
     };
     let time = now(rt)?.saturating_duration_since(begin);

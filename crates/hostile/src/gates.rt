@@ -76,6 +76,7 @@ fn sixteen_stripes_work_at_once(rt: HostRuntime) -> Result<(), Fail> {
     let settings = Settings {
         workers: 16,
         stripes: 16,
+        share: 0,
     };
     let mut reader = Counted::new(input.as_slice());
     let mut writer = Counted::new(Vec::new(alloc));

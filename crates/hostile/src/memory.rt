@@ -183,6 +183,7 @@ fn is_served<T: Threads + Wait + Sync>(
     let settings = Settings {
         workers,
         stripes: 16,
+        share: 0,
     };
     let fault = serve(rt, alloc, &mut reader, &mut writer, settings, &NoGate).err();
     let output = writer.into_inner();

@@ -42,6 +42,7 @@ fn settings(workers: usize) -> Settings {
     Settings {
         workers,
         stripes: 2,
+        share: 0,
     }
 }
 

@@ -4,7 +4,7 @@ use crate::output::Failure;
 use clap::error::ErrorKind;
 use clap::{Arg as Word, ArgAction, ArgMatches, Command, Error};
 use jtypes::{Arg, Args};
-use serve::Settings;
+use serve::{SHARE, Settings};
 use std::alloc::{AllocError, Global};
 
 /// How many workers serve where the line doesn't say.
@@ -145,6 +145,7 @@ fn settings_of(matches: &ArgMatches<'_>) -> Option<Settings> {
     Some(Settings {
         workers: count(matches, "workers", WORKERS)?,
         stripes: count(matches, "stripes", STRIPES)?,
+        share: SHARE,
     })
 }
 

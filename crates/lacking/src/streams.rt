@@ -121,6 +121,7 @@ fn script_is_served<T: Threads + Wait + Sync>(
     let settings = Settings {
         workers,
         stripes: 4,
+        share: 0,
     };
     let fault = serve(rt, alloc, &mut reader, &mut writer, settings, &NoGate).err();
     let output = writer.into_inner();

@@ -16,7 +16,7 @@ use std::sync::Wait;
 use std::test::Fail;
 use std::thread::Threads;
 use stripe::{Reply, Tables};
-use workers::{CrewLeft, run_by_workers};
+use workers::{CrewLeft, run_by_workers, worth};
 
 /// An invocation returned this Long.
 fn returned(n: i64) -> Option<Reply> {
@@ -241,5 +241,37 @@ fn no_jobs_by_each<R: Threads + Wait + Sync>(rt: &R, alloc: Global) -> Option<[b
 #[test]
 fn no_jobs_leave_the_entries(rt: HostRuntime) -> Result<(), Fail> {
     assert_eq!(rt; no_jobs_by_each(&rt, rt.alloc()), Some([true; 2]));
+    Ok(())
+}
+
+/// How many of four workers a round is worth in which 14 instructions are run at most, by shares from 0 to 15.
+fn worths(registry: &Registry, class: &ClassId) -> [usize; 6]
+    requires { IsOf registry.now class.now }
+{
+    let args = Args::none();
+    let jobs = on_own_keys(class, &args);
+    let mut worths = [0; 6];
+    for (worth_of, share) in worths.iter_mut().zip([0, 1, 4, 7, 14, 15]) {
+        *worth_of = worth(registry, &jobs, 4, share);
+    }
+    worths
+}
+
+/// The same, with a registry of its own.
+fn worths_of<R: Threads + Wait + Sync>(rt: &R, alloc: Global, plus: &[u8]) -> Option<[usize; 6]> {
+    match Registry::new(alloc) {
+        Ok(registry) => match registry.define(rt, alloc, plus) {
+            Ok(class) => Some(worths(&registry, &class)),
+            Err(_) => None,
+        },
+        Err(_) => None,
+    }
+}
+
+#[test]
+fn a_round_is_worth_a_worker_for_each_share(rt: HostRuntime) -> Result<(), Fail> {
+    let alloc = rt.alloc();
+    let plus = rows::plus(alloc)?;
+    assert_eq!(rt; worths_of(&rt, alloc, &plus), Some([4, 4, 3, 2, 1, 1]));
     Ok(())
 }

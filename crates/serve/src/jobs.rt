@@ -11,6 +11,7 @@ ghost use Rattle.serve.specs.Rounds.{most_jobs};
 ghost use Rattle.serve.specs.Kept.{AreOf, IsKnown, classes_of, call_in, calls_in};
 
 use crate::plan::Ask;
+use crate::settings::Settings;
 use cache::Gate;
 use invokeall::Job;
 use registry::{ClassId, Registry};
@@ -19,7 +20,7 @@ use std::sync::Wait;
 use std::thread::Threads;
 use stripe::{ArgRow, Call, Reply, Tables};
 use turns::run_in_turns;
-use workers::run_by_workers;
+use workers::{run_by_workers, worth};
 
 /// What a round leaves: the entries, and the answer to each job. A job without an answer found no memory.
 #[derive(Drop)]
@@ -126,27 +127,28 @@ fn run_alone(
     }
 }
 
-/// Runs the jobs on these entries, by so many workers, or in turn where there are none. Where there is no memory for it, the
+/// Runs the jobs on these entries, by as many of the workers as they are worth, or in turn where there are none. Where there is no memory for it, the
 /// entries are as before.
 pub fn run_jobs<T: Threads + Wait + Sync, G: Gate + Sync>(
     rt: &T,
     alloc: Global,
     registry: &Registry,
     tables: Tables,
-    workers: usize,
+    settings: Settings,
     jobs: &[Job<'_>],
     gate: &G,
 ) -> Result<RoundLeft, Tables>
     requires jobs { length jobs.now ≤ 4096 }
     requires callable { All (IsCallable registry.now) jobs.now }
-    requires workers { workers ≤ 16 }
+    requires workers { settings.workers ≤ 16 }
     ensures done { IfOk result (λ left. IsDone (entry_among tables) (calls_of jobs.now) left.replies.items (entry_among left.tables)) }
     ensures stripes { IfOk result (λ left. length left.tables ≡ length tables) }
     ensures kept { IfErr result (λ e. e ≡ tables) }
 {
-    if workers == 0 {
+    if settings.workers == 0 {
         return run_alone(alloc, registry, tables, jobs);
     }
+    let workers = worth(registry, jobs, settings.workers, settings.share);
     match run_by_workers(rt, alloc, registry, tables, workers, jobs, gate) {
         Ok(workers::CrewLeft { tables, replies }) => Ok(RoundLeft { tables, replies }),
         Err(tables) => Err(tables),

@@ -16,3 +16,4 @@ pub use fault::ServeFault;
 pub use laws::cut_streams_go_on;
 pub use settings::Settings;
 pub use stream::serve;
+pub use workers::SHARE;

@@ -53,7 +53,7 @@ pub fn serve<T: Threads + Wait + Sync, R: Read, W: Write, G: Gate + Sync>(
     let Ok(registry) = Registry::new(alloc) else {
         return Err(ServeFault::NoMemory);
     };
-    stream(rt, alloc, &registry, tables, workers, reader, writer, gate)
+    stream(rt, alloc, &registry, tables, settings, reader, writer, gate)
 }
 
 /// Serves the requests, on a cache that has no entries.
@@ -62,13 +62,13 @@ fn stream<T: Threads + Wait + Sync, R: Read, W: Write, G: Gate + Sync>(
     alloc: Global,
     registry: &Registry,
     tables: Tables,
-    workers: usize,
+    settings: Settings,
     reader: &mut Counted<R>,
     writer: &mut Counted<W>,
     gate: &G,
 ) -> Result<(), ServeFault>
     requires empty { (k : ℤ) → entry_among tables k ≡ None }
-    requires workers { workers ≤ 16 }
+    requires workers { settings.workers ≤ 16 }
     ensures served { OnOk result (TookAndGave (R.remaining reader.old.inner) (R.remaining reader.new.inner) (W.contents writer.old.inner) (W.contents writer.new.inner) IsServed) }
     ensures whole { OnOk result (IsAtEnd (R.remaining reader.new.inner)) }
     ensures cut { IfErr result (λ fault. TookAndGave (R.remaining reader.old.inner) (R.remaining reader.new.inner) (W.contents writer.old.inner) (W.contents writer.new.inner) (λ taken given. IsCutShort taken given fault)) }
@@ -80,7 +80,7 @@ fn stream<T: Threads + Wait + Sync, R: Read, W: Write, G: Gate + Sync>(
     let mut tables = tables;
     for _ in rt.forever() {
         match one_round(
-            rt, alloc, registry, &mut ids, tables, workers, reader, writer, gate,
+            rt, alloc, registry, &mut ids, tables, settings, reader, writer, gate,
         ) {
             Ok(Some(left)) => tables = left,
             Ok(None) => return Ok(()),

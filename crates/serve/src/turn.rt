@@ -13,6 +13,7 @@ use crate::fault::ServeFault;
 use crate::jobs::{RoundLeft, jobs_of, run_jobs};
 use crate::plan::Plan;
 use crate::reading::read_round;
+use crate::settings::Settings;
 use crate::telling::text_of;
 use cache::Gate;
 use registry::{ClassId, Registry};
@@ -42,18 +43,18 @@ fn run_round<T: Threads + Wait + Sync, G: Gate + Sync>(
     registry: &Registry,
     ids: &[ClassId],
     tables: Tables,
-    workers: usize,
+    settings: Settings,
     plan: Plan,
     gate: &G,
 ) -> Result<(Tables, Vec<u8>), AllocError>
     requires called { HasCalls (classes_of ids.now) plan }
     requires known { AreOf registry.now ids.now }
-    requires workers { workers ≤ 16 }
+    requires workers { settings.workers ≤ 16 }
     ensures { IfOk result (λ run. (calls : List Call) → AreCalls (classes_of ids.now) plan.asks.items calls → IsRun (entry_among tables) calls (works_of plan) (entry_among run.0) run.1.items) }
 {
     let Plan { works, asks } = plan;
     let jobs = jobs_of(alloc, ids, asks.as_slice())?;
-    let Ok(left) = run_jobs(rt, alloc, registry, tables, workers, jobs.as_slice(), gate) else {
+    let Ok(left) = run_jobs(rt, alloc, registry, tables, settings, jobs.as_slice(), gate) else {
         return Err(AllocError);
     };
     let RoundLeft { tables, replies } = left;
@@ -68,13 +69,13 @@ pub fn one_round<T: Threads + Wait + Sync, R: Read, W: Write, G: Gate + Sync>(
     registry: &Registry,
     ids: &mut Vec<ClassId>,
     tables: Tables,
-    workers: usize,
+    settings: Settings,
     reader: &mut Counted<R>,
     writer: &mut Counted<W>,
     gate: &G,
 ) -> Result<Option<Tables>, ServeFault>
     requires known { AreOf registry.now ids.old.items }
-    requires workers { workers ≤ 16 }
+    requires workers { settings.workers ≤ 16 }
     ensures ok { IfOk result (λ left. RoundServed (R.remaining reader.old.inner) (R.remaining reader.new.inner) (W.contents writer.old.inner) (W.contents writer.new.inner) (stand (classes_of ids.old.items) (entry_among tables)) (classes_of ids.new.items) left) }
     ensures err { IfErr result (λ e. RoundFailed (R.remaining reader.old.inner) (R.remaining reader.new.inner) (W.contents writer.old.inner) (W.contents writer.new.inner) (stand (classes_of ids.old.items) (entry_among tables)) e) }
     ensures end { result ≡ Err ServeFault.Truncated → IsAtEnd (R.remaining reader.new.inner) }
@@ -93,7 +94,7 @@ pub fn one_round<T: Threads + Wait + Sync, R: Read, W: Write, G: Gate + Sync>(
         registry,
         ids.as_slice(),
         tables,
-        workers,
+        settings,
         plan,
         gate,
     ) else {

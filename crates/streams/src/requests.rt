@@ -29,6 +29,7 @@ fn serve_all<T: Threads + Wait + Sync>(
     let settings = Settings {
         workers,
         stripes: 16,
+        share: 0,
     };
     serve_beside(rt, alloc, input, settings, &NoGate)
 }
@@ -148,6 +149,7 @@ impl Write for Sink {
 static SETTINGS: Settings = Settings {
     workers: 4,
     stripes: 16,
+    share: 0,
 };
 
 /// What a round's end comes to whose reader fails behind so many of its bytes, how often the reader failed, and how many bytes were written.

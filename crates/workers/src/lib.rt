@@ -3,5 +3,7 @@
 
 mod crew;
 mod room;
+mod shares;
 
 pub use crew::{CrewLeft, run_by_workers};
+pub use shares::{SHARE, worth};

@@ -63,11 +63,12 @@ fn both_returned(output: &[u8]) -> bool {
     output.len() == 57 && &output[22..37] == &returned(1)[..] && &output[37..52] == &returned(1)[..]
 }
 
-/// How a stream of two calls ends, whether the held one saw the other's answer, and whether both returned 1.
+/// How a stream of two calls ends where a worker's share is so many instructions, whether the held one saw the other's answer, and whether both returned 1.
 fn met<R: Threads + Wait + Clock + Sync>(
     rt: &R,
     alloc: Global,
     input: &[u8],
+    share: u32,
 ) -> (Option<ServeFault>, bool, bool) {
     let gate = Holding {
         rt,
@@ -77,6 +78,7 @@ fn met<R: Threads + Wait + Clock + Sync>(
     let settings = Settings {
         workers: 2,
         stripes: 2,
+        share,
     };
     let ended = serve_beside(rt, alloc, input, settings, &gate);
     (
@@ -91,6 +93,18 @@ fn two_stripes_work_at_once(rt: HostRuntime) -> Result<(), Fail> {
     let alloc = rt.alloc();
     let counter = rows::counter(alloc)?;
     let input = two_calls(alloc, &counter)?;
-    assert_eq!(rt; met(&rt, alloc, &input), (None, true, true));
+    assert_eq!(rt; met(&rt, alloc, &input, 0), (None, true, true));
+    Ok(())
+}
+
+/// Fewer instructions than Counter states.
+const FEW: u32 = 10;
+
+#[test]
+fn two_stripes_work_at_once_where_each_call_is_worth_a_worker(rt: HostRuntime) -> Result<(), Fail> {
+    let alloc = rt.alloc();
+    let counter = rows::counter(alloc)?;
+    let input = two_calls(alloc, &counter)?;
+    assert_eq!(rt; met(&rt, alloc, &input, FEW), (None, true, true));
     Ok(())
 }

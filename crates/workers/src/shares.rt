@@ -1,0 +1,53 @@
+//! How many workers a round is worth.
+
+ghost use Rattle.std.specs.Prelude.{◌≡◌, ◌<◌, ◌≤◌};
+ghost use Rattle.std.specs.List.{All};
+ghost use Rattle.invokeall.specs.Jobs.{IsCallable};
+
+use invokeall::Job;
+use registry::Registry;
+
+/// The instructions that make a worker more worth its thread. To start a thread and to wait for its end takes some thirty microseconds,
+/// in which a worker runs four to eight thousand instructions.
+pub const SHARE: u32 = 16_384;
+
+/// The instructions that a job takes at most: those that its class states.
+fn steps_of(registry: &Registry, job: &Job<'_>) -> u64
+    requires { IsCallable registry.now job.now }
+{
+    match job {
+        Job::Invoke { class, .. } => u64::from(registry.class(class).bounds().steps),
+        _ => 0,
+    }
+}
+
+/// The instructions that all the jobs take at most.
+fn steps_of_all(registry: &Registry, jobs: &[Job<'_>]) -> u64
+    requires { All (IsCallable registry.now) jobs.now }
+{
+    let mut steps = 0u64;
+    for job in jobs {
+        steps = steps.saturating_add(steps_of(registry, job));
+    }
+    steps
+}
+
+/// How many of at most so many workers a round is worth: one for each `share` instructions that its jobs take at most, by the bounds
+/// that their classes state, and at least one. Where `share` is 0 it is worth all of them.
+pub fn worth(registry: &Registry, jobs: &[Job<'_>], most: usize, share: u32) -> usize
+    requires callable { All (IsCallable registry.now) jobs.now }
+    requires some { 0 < most }
+    ensures some { 0 < result }
+    ensures few { result ≤ most }
+    ensures all { share ≡ 0 → result ≡ most }
+{
+    if share == 0 {
+        return most;
+    }
+    let shares = steps_of_all(registry, jobs) / u64::from(share);
+    match usize::try_from(shares) {
+        Ok(0) => 1,
+        Ok(shares) if shares < most => shares,
+        _ => most,
+    }
+}
