@@ -17,6 +17,7 @@ Keys and values are numbers that a Java long holds. An argument is such a number
 
 This client is outside of what is proved about the server: an error in it can tell a caller anything.
 """
+import os
 import socket
 import struct
 import subprocess
@@ -28,6 +29,8 @@ import jentry_processors
 MOST_JOBS = 4_096
 LONGEST = 131_072
 PROGRAM = ("jentry", "serve", "--workers", "1")
+# What a round of the server frees stays for its next one, where its C library is glibc: memory that is new each time costs as much as the calls.
+KEEPS_MEMORY = {"MALLOC_MMAP_THRESHOLD_": "33554432", "MALLOC_TRIM_THRESHOLD_": "67108864"}
 REFUSALS = (None, "TooLarge", "Truncated", "BadMagic", "BadVersion", "BadPool", "TrailingBytes", "BadDescriptor", "BadHeader", "ConstructorForm",
             "ClassInitialiser", "NoProcess", "DuplicateMethod", "NoBody", "BadCode", "ExceptionTable", "UnknownOpcode", "OutsideProfile",
             "BadOperand", "BadTarget", "BackwardBranch", "BadStackMap", "TypeMismatch", "FallsOff", "UnknownMember", "Recursive",
@@ -308,7 +311,7 @@ class Cache(Requests, Processors):
     def start(cls, *command):
         """A server of one's own, by its command (`jentry serve --workers 1` where none is given). Its entries are gone when this is
         closed."""
-        child = subprocess.Popen(command or PROGRAM, stdin=subprocess.PIPE, stdout=subprocess.PIPE)
+        child = subprocess.Popen(command or PROGRAM, stdin=subprocess.PIPE, stdout=subprocess.PIPE, env={**KEEPS_MEMORY, **os.environ})
 
         def close():
             try:

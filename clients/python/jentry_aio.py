@@ -11,6 +11,7 @@ task's calls keep their order where it awaits each. Errors, arguments and classe
 This client is outside of what is proved about the server: an error in it can tell a caller anything.
 """
 import asyncio
+import os
 from collections import deque
 
 import jentry
@@ -149,5 +150,5 @@ async def connect(address):
 async def start(*command):
     """A server of one's own, by its command (`jentry serve --workers 1` where none is given)."""
     pipe = asyncio.subprocess.PIPE
-    child = await asyncio.create_subprocess_exec(*(command or jentry.PROGRAM), stdin=pipe, stdout=pipe)
+    child = await asyncio.create_subprocess_exec(*(command or jentry.PROGRAM), stdin=pipe, stdout=pipe, env={**jentry.KEEPS_MEMORY, **os.environ})
     return Cache(child.stdout, child.stdin, child)

@@ -1,5 +1,6 @@
 //! The server's process: its start, what it says on its standard error, and its end, which is the front's.
 
+use std::env;
 use std::io::{self, BufRead, BufReader};
 use std::process::{exit, Child, ChildStderr, ChildStdin, ChildStdout, Command, Stdio};
 use std::sync::mpsc::{channel, Receiver};
@@ -12,10 +13,15 @@ const STATUS: i32 = 3;
 /// How long the front waits for the server's end where its replies have ended, and for its last words where it has ended itself.
 const PATIENCE: Duration = Duration::from_secs(5);
 
+/// What a round of the server frees stays for its next one, where its C library is glibc: memory that is new each time costs as much as
+/// the calls.
+const KEEPS_MEMORY: [(&str, &str); 2] = [("MALLOC_MMAP_THRESHOLD_", "33554432"), ("MALLOC_TRIM_THRESHOLD_", "67108864")];
+
 /// Starts the server, and a thread that ends the front with it. `last` is done right before.
 pub fn start(program: &[String], last: impl Fn() + Send + 'static) -> io::Result<(ChildStdin, ChildStdout)> {
     let mut command = Command::new(&program[0]);
     command.args(&program[1..]).stdin(Stdio::piped()).stdout(Stdio::piped()).stderr(Stdio::piped());
+    command.envs(KEEPS_MEMORY.iter().filter(|(name, _)| env::var_os(name).is_none()).copied());
     let mut child = command.spawn()?;
     match (child.stdin.take(), child.stdout.take(), child.stderr.take()) {
         (Some(into), Some(out), Some(words)) => {

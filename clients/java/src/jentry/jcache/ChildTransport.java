@@ -5,6 +5,7 @@ import java.io.InputStream;
 import java.io.OutputStream;
 import java.nio.charset.StandardCharsets;
 import java.util.List;
+import java.util.Map;
 import java.util.concurrent.TimeUnit;
 
 /** A child process that is the server, by two pipes. Its entries are gone when it ends. */
@@ -12,6 +13,9 @@ final class ChildTransport implements Transport {
     private static final int CLOSE_MILLIS = 2_000;
     private static final int LAST_WORDS_MILLIS = 250;
     private static final int MOST_WORDS = 1_000;
+
+    // What a round of the server frees stays for its next one, where its C library is glibc: memory that is new each time costs as much as the calls.
+    private static final Map<String, String> KEEPS_MEMORY = Map.of("MALLOC_MMAP_THRESHOLD_", "33554432", "MALLOC_TRIM_THRESHOLD_", "67108864");
 
     private final Process process;
     private final InputStream in;
@@ -21,7 +25,9 @@ final class ChildTransport implements Transport {
 
     /** Starts the command. */
     ChildTransport(List<String> command) throws IOException {
-        process = new ProcessBuilder(command).start();
+        ProcessBuilder builder = new ProcessBuilder(command);
+        KEEPS_MEMORY.forEach(builder.environment()::putIfAbsent);
+        process = builder.start();
         in = process.getInputStream();
         out = process.getOutputStream();
         listener = new Thread(this::listen, "jentry-standard-error");
