@@ -1,6 +1,6 @@
 """jentry: a client of `jentry serve`, for Python 3.9 and later. It needs nothing but the standard library.
 
-    with jentry.Cache.start("jentry", "serve", "--workers", "1") as cache:     # a server of its own
+    with jentry.Cache.start("jentry", "serve") as cache:         # a server of its own
         cache.put(7, 41)
         cache.get(7)                                           # 41
         cache.put_if_absent(7, 1)                              # False
@@ -28,7 +28,7 @@ import jentry_processors
 
 MOST_JOBS = 4_096
 LONGEST = 131_072
-PROGRAM = ("jentry", "serve", "--workers", "1")
+PROGRAM = ("jentry", "serve")
 # What a round of the server frees stays for its next one, where its C library is glibc: memory that is new each time costs as much as the calls.
 KEEPS_MEMORY = {"MALLOC_MMAP_THRESHOLD_": "33554432", "MALLOC_TRIM_THRESHOLD_": "67108864"}
 REFUSALS = (None, "TooLarge", "Truncated", "BadMagic", "BadVersion", "BadPool", "TrailingBytes", "BadDescriptor", "BadHeader", "ConstructorForm",
@@ -309,7 +309,7 @@ class Cache(Requests, Processors):
 
     @classmethod
     def start(cls, *command):
-        """A server of one's own, by its command (`jentry serve --workers 1` where none is given). Its entries are gone when this is
+        """A server of one's own, by its command (`jentry serve` where none is given). Its entries are gone when this is
         closed."""
         child = subprocess.Popen(command or PROGRAM, stdin=subprocess.PIPE, stdout=subprocess.PIPE, env={**KEEPS_MEMORY, **os.environ})
 

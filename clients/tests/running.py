@@ -14,7 +14,7 @@ HERE = os.path.dirname(os.path.abspath(__file__))
 PROGRAM = os.environ.get("JENTRY_PROGRAM")
 FRONT = os.environ.get("JENTRY_FRONT")
 STAND_IN = [sys.executable, os.path.join(HERE, "fake_server.py")]
-SERVER = [PROGRAM, "serve", "--workers", "1"] if PROGRAM else STAND_IN
+SERVER = [PROGRAM, "serve"] if PROGRAM else STAND_IN
 PATIENCE = 60
 
 

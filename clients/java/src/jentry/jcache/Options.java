@@ -100,10 +100,12 @@ final class Options {
     }
 
     private List<String> command() {
-        List<String> command = new ArrayList<>(List.of(program(), "serve", "--workers", properties.getProperty("jentry.workers", "1")));
-        String stripes = properties.getProperty("jentry.stripes");
-        if (stripes != null) {
-            command.addAll(List.of("--stripes", stripes));
+        List<String> command = new ArrayList<>(List.of(program(), "serve"));
+        for (String name : List.of("workers", "stripes")) {
+            String value = properties.getProperty(PREFIX + name);
+            if (value != null) {
+                command.addAll(List.of("--" + name, value));
+            }
         }
         return command;
     }
