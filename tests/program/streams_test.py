@@ -3,6 +3,7 @@ import os
 import struct
 import subprocess
 import tempfile
+import time
 
 import row_classes as rows
 from running import LIMIT, Row, Runs, Told, side_by_side, told
@@ -241,3 +242,32 @@ class Requests(Runs):
         self.assertEqual(len(output), 22 + 1000 * REPLIES_BESIDE)
         for at in range(22, len(output), REPLIES_BESIDE):
             self.are_in_some_order(output[at:at + REPLIES_BESIDE])
+
+    def most_threads(self, given, count):
+        """The most threads that the program was seen to have while it served this input, with so many workers."""
+        with subprocess.Popen([self.program, "serve", "--workers", count], stdin=subprocess.PIPE, stdout=subprocess.DEVNULL) as it:
+            it.stdin.write(given)
+            it.stdin.close()
+            most, end = 0, time.monotonic() + LIMIT
+            while it.poll() is None and time.monotonic() < end:
+                most = max(most, threads_of(it.pid))
+                time.sleep(0.001)
+        self.assertEqual(it.returncode, 0)
+        return most
+
+    def test_a_round_has_the_workers_that_it_is_worth(self):
+        """A round of 512 invocations that take 131,072 instructions each, and one of a single such invocation."""
+        long = define(rows.line_of(16, 2)) + ROUND_END
+        jobs = b"".join(bytes([0, 0, 0, 14, 6, 0, 0, 0, 0]) + struct.pack(">qB", key, 0) for key in range(512))
+        for count in WORKERS[1:]:
+            with self.subTest(workers=count):
+                self.assertEqual(self.most_threads(long + jobs + ROUND_END, count), int(count))
+                self.assertEqual(self.most_threads(long + jobs[:18] + ROUND_END, count), 1)
+
+
+def threads_of(process):
+    """How many threads a process has, none where it has ended."""
+    try:
+        return len(os.listdir(f"/proc/{process}/task"))
+    except OSError:
+        return 0
