@@ -1,0 +1,4 @@
+mod Ordered
+mod Found
+mod Kept
+mod Lengths
