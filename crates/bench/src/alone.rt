@@ -2,7 +2,7 @@
 //!
 //! A round makes as many calls as the stripe's history may have records. The calls alone are timed; that the tables become a stripe, and the stripe tables again, is not.
 
-ghost use Rattle.std.specs.Prelude.{◌≡◌, ◌<◌, None, length, IfOk};
+ghost use Rattle.std.specs.Prelude.{◌≡◌, ◌<◌, false, None, length, IfOk};
 ghost use Rattle.stripe.specs.History.{stripe_of};
 ghost use Rattle.stripe.specs.Kept.{IsEnd};
 ghost use Rattle.stripe.specs.Seen.{call_of};
@@ -46,7 +46,7 @@ fn has_one_stripe(key: i64)
 
 /// How a call ends that found this entry, an invocation by a run of its class.
 fn end_of(call: &Call<'_>, before: Option<i64>, workspace: &mut Workspace) -> Option<Done>
-    ensures { IsEnd before (call_of call.now) result }
+    ensures { IsEnd false before (call_of call.now) result None }
 {
     match call {
         Call::Invoke { class, key, args } => {
@@ -67,11 +67,11 @@ fn make<'a>(stripe: &mut Stripe<'a>, number: u32, call: Call<'a>, workspace: &mu
     ensures idle { stripe.new.running ≡ None }
 {
     has_one_stripe(call.key());
-    let Ok(before) = stripe.begin(0, number, call) else {
+    let Ok(before) = stripe.begin(0, number, call, &NoLoader) else {
         return;
     };
     let done = end_of(&call, before, workspace);
-    let _record = stripe.commit(done);
+    let _record = stripe.commit(done, None);
 }
 
 /// Makes a call of a kind.

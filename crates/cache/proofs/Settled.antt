@@ -1,5 +1,5 @@
 -- The last state settles the accounts.
-use Rattle.std.proofs.Common.{◌≡◌, ℕ, ℤ, zero, suc, ◌<◌, ◌≤◌, List, [], ◌∷◌, length, map, get_or, drop, Some, Bool, sym, refl, ap, ◌∙◌, subst, ⊎_elim, arith}
+use Rattle.std.proofs.Common.{false, ◌≡◌, ℕ, ℤ, zero, suc, ◌<◌, ◌≤◌, List, [], ◌∷◌, length, map, get_or, drop, Some, Bool, sym, refl, ap, ◌∙◌, subst, ⊎_elim, arith}
 use Rattle.std.specs.Prelude.{slice_get, option_and_then, pos, negsuc}
 use Rattle.std.proofs.Math.Nat.{mod-lt}
 use mathlib.Core.Option.{some, some-injective, some-ne-none}
@@ -111,7 +111,7 @@ settles d seats ended some_stripe all e =
     record {
       tables_count = length-map_of (λ (y : Kept). y.stored) ended ∙ e.count;
       histories_count = length-map_of (λ (y : Kept). y.records) ended ∙ e.count;
-      legal = λ i h. let y = stripe i h in let at = e.each i y.0 y.1 in subst (λ (l : List Record). IsLegal (entry_among d.tables) l) at.records at.kept.legal;
+      legal = λ i h. let y = stripe i h in let at = e.each i y.0 y.1 in subst (λ (l : List Record). IsLegal false (entry_among d.tables) l) at.records at.kept.legal;
       left = λ k.
           let i : ℕ = stripe_of n k in
           let y = stripe i (stripe_below n k some_stripe) in

@@ -45,7 +45,7 @@ fresh_at n journal place (m ∷ ms) (suc i) y e =
     (h.0, h.1, h.2 ∙ ap (λ (q : ℕ). fresh n journal q h.0) (let s : suc place + i ≡ place + suc i = omega arith in s))
 
 -- without a history, what a stripe stores is what there was
-starts_kept : (ms : List Stored) (journal i : ℕ) (m : Stored) → slice_get ms i ≡ Some m → IsKept (entry_among ms) (fresh (length ms) journal i m)
+starts_kept : (ms : List Stored) (journal i : ℕ) (m : Stored) → slice_get ms i ≡ Some m → IsKept false (entry_among ms) (fresh (length ms) journal i m)
 starts_kept ms journal i m is = record { legal = tt; left = λ k of. sym (ap (option_and_then (λ t. entry_in t k)) (ap (slice_get ms) of ∙ is)) }
 
 starts_at : (ms : List Stored) (journal i : ℕ) (y : Kept) → i < length ms → get_elem? (fresh_stripes journal ms) i ≡ some y → IsAt ms journal (λ _. []) i y

@@ -1,5 +1,5 @@
 -- What a closed cache hands out.
-use Rattle.std.specs.Prelude.{◌≡◌, ℕ, ℤ, zero, suc, ◌<◌, List, [], ◌∷◌, Bool, length, map}
+use Rattle.std.specs.Prelude.{◌≡◌, false, ℕ, ℤ, zero, suc, ◌<◌, List, [], ◌∷◌, Bool, length, map}
 use Rattle.stripe.specs.History.{Record, IsLegal, entries_after, stripe_of}
 use Rattle.stripe.specs.Stored.{Stored, entry_among}
 use Rattle.std.specs.Global.{Vec}
@@ -44,6 +44,6 @@ receipts_in seats = map (λ (s : Sitting). s.receipts) seats
 pub record Settles (d : Opened) (seats : List Sitting) (tables : List Stored) (histories : List (List Record)) : Type 0 where
   pub tables_count : length tables ≡ length d.tables
   pub histories_count : length histories ≡ length d.tables
-  pub legal : (i : ℕ) → i < length d.tables → IsLegal (entry_among d.tables) (history_at histories i)
+  pub legal : (i : ℕ) → i < length d.tables → IsLegal false (entry_among d.tables) (history_at histories i)
   pub left : (k : ℤ) → entry_among tables k ≡ entries_after (entry_among d.tables) (history_at histories (stripe_of (length d.tables) k)) k
   pub accounts : Accounts d.journal d.seats (history_at histories) (receipts_at seats) (full_at seats)

@@ -1,5 +1,5 @@
 -- The rule of the stripes' locks.
-use Rattle.std.specs.Prelude.{◌≡◌, ◌⊎◌, ℕ, zero, suc, ◌+◌, ◌<◌, ◌≤◌, List, [], ◌∷◌, Some, None, Bool, length, slice_index}
+use Rattle.std.specs.Prelude.{◌≡◌, false, ◌⊎◌, ℕ, zero, suc, ◌+◌, ◌<◌, ◌≤◌, List, [], ◌∷◌, Some, None, Bool, length, slice_index}
 use mathlib.Core.Option.{some, none}
 use lib.ListN.{get_elem?}
 use Rattle.atomic_table.specs.Table.{State}
@@ -17,7 +17,7 @@ pub record IsLater (y z : Kept) : Type 0 where
   pub place : z.place ≡ y.place
   pub journal : z.journal ≡ y.journal
   pub idle : z.running ≡ None
-  pub kept : (opening : Entries) → IsKept opening y → IsKept opening z
+  pub kept : (opening : Entries) → IsKept false opening y → IsKept false opening z
 
 -- a stripe as it stands between two calls: its history is legal from what the tables had, and what it stores is what the history leaves
 pub record IsAt (tables : List Stored) (journal : ℕ) (history : ℕ → List Record) (i : ℕ) (y : Kept) : Type 0 where
@@ -26,7 +26,7 @@ pub record IsAt (tables : List Stored) (journal : ℕ) (history : ℕ → List R
   pub place : y.place ≡ i
   pub journal_is : y.journal ≡ journal
   pub idle : y.running ≡ None
-  pub kept : IsKept (entry_among tables) y
+  pub kept : IsKept false (entry_among tables) y
   pub records : y.records ≡ history i
   pub few : length y.records ≤ journal
 

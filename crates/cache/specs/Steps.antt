@@ -1,5 +1,5 @@
 -- What is asked and told of the steps of a call.
-use Rattle.std.specs.Prelude.{◌≡◌, ◌≢◌, ℕ, ℤ, ◌≤◌, List, [], ◌∷◌, ◌++◌, None, length}
+use Rattle.std.specs.Prelude.{◌≡◌, false, ◌≢◌, ℕ, ℤ, ◌≤◌, List, [], ◌∷◌, ◌++◌, None, length}
 use Rattle.jtypes.specs.Entry.{Entry}
 use Rattle.stripe.specs.History.{Begun, Record, Entries, key_of}
 use Rattle.stripe.specs.Kept.{Kept, IsKept, IsOf, IsRecord, begun, committed, entry_of}
@@ -33,14 +33,14 @@ pub record HasBegun (i : ℕ) (b : Begun) (before : Entry) (y : Kept) (held : Li
   pub found : before ≡ entry_of y (key_of b.call)
   pub room : length y.records ≢ y.journal
   pub same : (k : ℤ) → entry_of (begun y b) k ≡ entry_of y k
-  pub kept : (opening : Entries) → IsKept opening y → IsKept opening (begun y b)
+  pub kept : (opening : Entries) → IsKept false opening y → IsKept false opening (begun y b)
 
 -- the call has ended, with this record at this place
 pub record HasCommitted (i : ℕ) (b : Begun) (y : Kept) (r : Record) (place : ℕ) (held : List (ℕ × Kept)) : Type 0 where
   pub is : held ≡ (i, committed y r) ∷ []
   pub made : IsRecord b (entry_of y (key_of b.call)) r
   pub place_is : place ≡ length y.records
-  pub kept : (opening : Entries) → IsKept opening y → IsKept opening (committed y r)
+  pub kept : b.loads ≡ false → (opening : Entries) → IsKept false opening y → IsKept false opening (committed y r)
 
 -- the seat holds the stripe as it took it
 pub record CanReturn (i : ℕ) (m : Sat) : Type 0 where

@@ -27,7 +27,7 @@ fn place_of(stripes: usize, call: &Call<'_>) -> usize
 }
 
 impl<'a> Cache<'a> {
-    ghost use Rattle.std.specs.Prelude.{◌≡◌, ℤ, Option, None, IfOk, IfErr};
+    ghost use Rattle.std.specs.Prelude.{◌≡◌, false, ℤ, Option, None, IfOk, IfErr};
     ghost use Rattle.machine.specs.declared.done.Done.{Done as DoneSeen};
     ghost use Rattle.stripe.specs.History.{Call as CallSeen, Invoke, Get, Put, Remove, Contains};
     ghost use Rattle.stripe.specs.Kept.{IsEnd};
@@ -47,7 +47,7 @@ impl<'a> Cache<'a> {
     ) -> Result<Reply, InvokeRefusal>
         requires seat { seat.old.table ≡ self.now.table }
         requires callable { (before : Option ℤ) → F.pre end before }
-        requires ends { (before : Option ℤ) (done : Option DoneSeen) → F.post end before done → IsEnd before (call_of call) done }
+        requires ends { (before : Option ℤ) (done : Option DoneSeen) → F.post end before done → IsEnd false before (call_of call) done None }
         ensures ok { IfOk result (λ reply. IsAnswered self.now seat.old (call_of call.entry) reply seat.new) }
         ensures err { IfErr result (λ refusal. IsTurnedAway self.now seat.old (call_of call.entry) refusal seat.new) }
     {
@@ -94,7 +94,7 @@ impl<'a> Cache<'a> {
         gate: &G,
     ) -> Result<Reply, InvokeRefusal>
         requires seat { seat.old.table ≡ self.now.table }
-        requires plain { (before : Option ℤ) → IsEnd before (call_of call) None }
+        requires plain { (before : Option ℤ) → IsEnd false before (call_of call) None None }
         ensures ok { IfOk result (λ reply. IsAnswered self.now seat.old (call_of call.entry) reply seat.new) }
         ensures err { IfErr result (λ refusal. IsTurnedAway self.now seat.old (call_of call.entry) refusal seat.new) }
     {

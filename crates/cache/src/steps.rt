@@ -1,6 +1,6 @@
 //! A stripe is taken, worked on and given back.
 
-ghost use Rattle.std.specs.Prelude.{◌≡◌, ◌<◌, ◌∷◌, [], ℕ, length, Some, Err, IfOk, OnErr, IsTrue, IsFalse};
+ghost use Rattle.std.specs.Prelude.{◌≡◌, ◌<◌, ◌∷◌, [], ℕ, length, Some, None, false, Err, IfOk, OnErr, IsTrue, IsFalse};
 ghost use Rattle.stripe.specs.History.{Begun, key_of};
 ghost use Rattle.stripe.specs.Kept.{Kept, CanCommit};
 ghost use Rattle.stripe.specs.Seen.{call_of, record_of};
@@ -12,6 +12,7 @@ ghost use Rattle.cache.specs.Steps.{IsIdle, HasTaken, CanBegin, HasBegun, HasCom
 use crate::known::{Known, Terms};
 use crate::locks::{Fill, Locks, Return, Take, Tell};
 use atomic_table::{Seat as Pass, Shared};
+use jtypes::NoLoader;
 use machine::Done;
 use std::sync::Wait;
 use stripe::{BeginRefusal, Call, Record, Stripe};
@@ -87,14 +88,15 @@ pub fn begin<'a>(
     call: Call<'a>,
 ) -> Result<Option<i64>, BeginRefusal>
     requires table { pass.old.table_id ≡ board.now.table_id }
-    requires held { CanBegin index (record { caller = caller; number = number; call = call_of call }) pass.old.me.1 }
+    requires held { CanBegin index (record { caller = caller; number = number; call = call_of call; loads = false }) pass.old.me.1 }
     ensures table { pass.new.table_id ≡ pass.old.table_id }
     ensures view { pass.new.me.0 ≡ pass.old.me.0 }
-    ensures ok { IfOk result (λ before. (y : Kept) → pass.old.me.1 ≡ (index, y) ∷ [] → HasBegun index (record { caller = caller; number = number; call = call_of call.entry }) before y pass.new.me.1) }
+    ensures ok { IfOk result (λ before. (y : Kept) → pass.old.me.1 ≡ (index, y) ∷ [] → HasBegun index (record { caller = caller; number = number; call = call_of call.entry; loads = false }) before y pass.new.me.1) }
     ensures err { OnErr result (pass.new.me.1 ≡ pass.old.me.1) }
     ensures full { result ≡ Err JournalFull → (y : Kept) → pass.old.me.1 ≡ (index, y) ∷ [] → length y.records ≡ y.journal }
 {
-    pass.slot_mut(board, index).begin(caller, number, call)
+    pass.slot_mut(board, index)
+        .begin(caller, number, call, &NoLoader)
 }
 
 /// Ends the call that was begun on it. Answers its record and the record's place.
@@ -105,14 +107,14 @@ pub fn commit<'a>(
     done: Option<Done>,
 ) -> (Record<'a>, usize)
     requires table { pass.old.table_id ≡ board.now.table_id }
-    requires held { (y : Kept) × (pass.old.me.1 ≡ (index, y) ∷ []) × CanCommit y done }
+    requires held { (y : Kept) × (pass.old.me.1 ≡ (index, y) ∷ []) × CanCommit y done None }
     ensures table { pass.new.table_id ≡ pass.old.table_id }
     ensures view { pass.new.me.0 ≡ pass.old.me.0 }
     ensures committed { (y : Kept) (b : Begun) → pass.old.me.1 ≡ (index, y) ∷ [] → y.running ≡ Some b → HasCommitted index b y (record_of result.0) result.1 pass.new.me.1 }
 {
     let stripe = pass.slot_mut(board, index);
     let place = stripe.history().len();
-    (stripe.commit(done), place)
+    (stripe.commit(done, None), place)
 }
 
 /// Gives the stripe back with one record more.

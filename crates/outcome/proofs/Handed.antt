@@ -1,5 +1,5 @@
 -- What a closed cache hands out is a history of the calls at its seats.
-use Rattle.std.proofs.Common.{arith, ◌≡◌, ℕ, zero, suc, ◌+◌, List, [], ◌∷◌, ◌++◌, map, length, refl, sym, ap, ◌∙◌, subst, IsPermutation}
+use Rattle.std.proofs.Common.{false, arith, ◌≡◌, ℕ, zero, suc, ◌+◌, List, [], ◌∷◌, ◌++◌, map, length, refl, sym, ap, ◌∙◌, subst, IsPermutation}
 use Rattle.std.proofs.lemmas.List.Sorted.{IsPermutation-map, IsPermutation-trans, IsPermutation-refl, IsPermutation-append}
 use Rattle.std.proofs.lemmas.List.{append-nil, map-append}
 use Rattle.std.proofs.lemmas.List.Folds.{flat_map-map}
@@ -151,7 +151,7 @@ pub caches_hand_out_histories : CachesHandOutHistories
 caches_hand_out_histories d seats tables hs s filed =
     let from : AreFrom (length d.tables) 0 hs = own_keys d seats tables hs s filed in
     record {
-      legal = all_legal (entry_among d.tables) (length d.tables) 0 [] hs tt from (λ j lt. s.legal j (omega (arith, lt, s.histories_count)));
+      legal = all_legal false (entry_among d.tables) (length d.tables) 0 [] hs tt from (λ j lt. s.legal j (omega (arith, lt, s.histories_count)));
       once = same_calls d.journal d.seats seats hs s.accounts;
       left = λ k. s.left k ∙ sym (after_all (entry_among d.tables k) (length d.tables) 0 k hs from (stripe_of (length d.tables) k) (omega arith));
     }
@@ -192,7 +192,7 @@ rounds_are_done before made after history h calls answers count once =
 pub histories_follow : HistoriesFollow
 histories_follow before between after made more first second f s =
     record {
-      legal = legal_append before [] first second f.legal (subst (λ (l : List Record). IsLegalAfter before l second) (append-nil first) (legal_from before between first [] second f.left s.legal));
+      legal = legal_append false before [] first second f.legal (subst (λ (l : List Record). IsLegalAfter false before l second) (append-nil first) (legal_from false before between first [] second f.left s.legal));
       once = subst (λ l. IsPermutation (made ++ more) l) (sym (map-append (λ (r : Record). (r.call, r.reply)) first second)) (IsPermutation-append made (calls_in first) more (calls_in second) f.once s.once);
       left = λ k. s.left k ∙ ap (λ e. entry_after e second k) (f.left k) ∙ sym (after_append (before k) first second k);
     }

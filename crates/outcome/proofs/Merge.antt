@@ -45,29 +45,29 @@ pub after_append : (e : Entry) (xs ys : List Record) (k : ℤ) → entry_after e
 after_append e [] ys k = refl
 after_append e (x ∷ xs) ys k = after_append (if int_eq (key_of x.call) k then x.after else e) xs ys k
 
-pub legal_append : (b : Entries) (seen xs ys : List Record) → IsLegalAfter b seen xs → IsLegalAfter b (seen ++ xs) ys → IsLegalAfter b seen (xs ++ ys)
-legal_append b seen [] ys h g = subst (λ (l : List Record). IsLegalAfter b l ys) (append-nil seen) g
-legal_append b seen (x ∷ xs) ys h g =
-    (h.0, legal_append b (seen ++ x ∷ []) xs ys h.1 (subst (λ (l : List Record). IsLegalAfter b l ys) (sym (append_assoc seen (x ∷ []) xs)) g))
+pub legal_append : (loads : Bool) (b : Entries) (seen xs ys : List Record) → IsLegalAfter loads b seen xs → IsLegalAfter loads b (seen ++ xs) ys → IsLegalAfter loads b seen (xs ++ ys)
+legal_append loads b seen [] ys h g = subst (λ (l : List Record). IsLegalAfter loads b l ys) (append-nil seen) g
+legal_append loads b seen (x ∷ xs) ys h g =
+    (h.0, legal_append loads b (seen ++ x ∷ []) xs ys h.1 (subst (λ (l : List Record). IsLegalAfter loads b l ys) (sym (append_assoc seen (x ∷ []) xs)) g))
 
 -- they may stand in front
-legal_behind : (b : Entries) (front own xs : List Record) → Each (λ r. Each (λ f. key_of f.call ≢ key_of r.call) front) xs → IsLegalAfter b own xs → IsLegalAfter b (front ++ own) xs
-legal_behind b front own [] apart h = tt
-legal_behind b front own (r ∷ rs) apart h =
+legal_behind : (loads : Bool) (b : Entries) (front own xs : List Record) → Each (λ r. Each (λ f. key_of f.call ≢ key_of r.call) front) xs → IsLegalAfter loads b own xs → IsLegalAfter loads b (front ++ own) xs
+legal_behind loads b front own [] apart h = tt
+legal_behind loads b front own (r ∷ rs) apart h =
     let k : ℤ = key_of r.call in
     let same : entry_after (b k) (front ++ own) k ≡ entry_after (b k) own k = after_append (b k) front own k ∙ ap (λ e. entry_after e own k) (after_other (b k) front k apart.0) in (
-      subst (λ e. Answers e r.call r.reply r.after) (sym same) h.0,
-      subst (λ (l : List Record). IsLegalAfter b l rs) (sym (append_assoc front own (r ∷ []))) (legal_behind b front (own ++ r ∷ []) rs apart.1 h.1),
+      subst (λ e. Answers loads e r.call r.reply r.after r.asked) (sym same) h.0,
+      subst (λ (l : List Record). IsLegalAfter loads b l rs) (sym (append_assoc front own (r ∷ []))) (legal_behind loads b front (own ++ r ∷ []) rs apart.1 h.1),
     )
 
 -- ---- behind what others left
 
-pub legal_from : (b m : Entries) (front own xs : List Record) → ((k : ℤ) → m k ≡ entries_after b front k) → IsLegalAfter m own xs → IsLegalAfter b (front ++ own) xs
-legal_from b m front own [] same h = tt
-legal_from b m front own (r ∷ rs) same h =
+pub legal_from : (loads : Bool) (b m : Entries) (front own xs : List Record) → ((k : ℤ) → m k ≡ entries_after b front k) → IsLegalAfter loads m own xs → IsLegalAfter loads b (front ++ own) xs
+legal_from loads b m front own [] same h = tt
+legal_from loads b m front own (r ∷ rs) same h =
     let k : ℤ = key_of r.call in (
-      subst (λ e. Answers e r.call r.reply r.after) (ap (λ e. entry_after e own k) (same k) ∙ sym (after_append (b k) front own k)) h.0,
-      subst (λ (l : List Record). IsLegalAfter b l rs) (sym (append_assoc front own (r ∷ []))) (legal_from b m front (own ++ r ∷ []) rs same h.1),
+      subst (λ e. Answers loads e r.call r.reply r.after r.asked) (ap (λ e. entry_after e own k) (same k) ∙ sym (after_append (b k) front own k)) h.0,
+      subst (λ (l : List Record). IsLegalAfter loads b l rs) (sym (append_assoc front own (r ∷ []))) (legal_from loads b m front (own ++ r ∷ []) rs same h.1),
     )
 
 -- ---- the records of one stripe behind those of others
@@ -94,10 +94,10 @@ first_from n i h hs each = each_map (λ r. stripe_of n (key_of r.call) ≡ i + 0
 away : (n i : ℕ) (x k : ℤ) → stripe_of n x < i → stripe_of n k ≡ i → x ≢ k
 away n i x k low at e = let same : stripe_of n x ≡ stripe_of n k = ap (stripe_of n) e in absurd (omega (arith, low, at, same))
 
-pub all_legal : (b : Entries) (n i : ℕ) (front : List Record) (hs : List (List Record)) → AreBelow n i front → AreFrom n i hs
-    → ((j : ℕ) → j < length hs → IsLegalAfter b [] (history_at hs j)) → IsLegalAfter b front (all_records hs)
-all_legal b n i front [] small each legal = tt
-all_legal b n i front (h ∷ hs) small each legal =
+pub all_legal : (loads : Bool) (b : Entries) (n i : ℕ) (front : List Record) (hs : List (List Record)) → AreBelow n i front → AreFrom n i hs
+    → ((j : ℕ) → j < length hs → IsLegalAfter loads b [] (history_at hs j)) → IsLegalAfter loads b front (all_records hs)
+all_legal loads b n i front [] small each legal = tt
+all_legal loads b n i front (h ∷ hs) small each legal =
     let here : AreOn n i h = first_from n i h hs each in
     let apart : Each (λ r. Each (λ f. key_of f.call ≢ key_of r.call) front) h =
     each_map (λ r. stripe_of n (key_of r.call) ≡ i) (λ r. Each (λ f. key_of f.call ≢ key_of r.call) front) h
@@ -105,9 +105,9 @@ all_legal b n i front (h ∷ hs) small each legal =
     let below : AreBelow n (suc i) (front ++ h) = each_append (λ r. stripe_of n (key_of r.call) < suc i) front h
     (each_map (λ r. stripe_of n (key_of r.call) < i) (λ r. stripe_of n (key_of r.call) < suc i) front (λ r low. omega (arith, low)) small)
     (each_map (λ r. stripe_of n (key_of r.call) ≡ i) (λ r. stripe_of n (key_of r.call) < suc i) h (λ r at. omega (arith, at)) here) in
-    legal_append b front h (all_records hs)
-    (subst (λ (l : List Record). IsLegalAfter b l h) (append-nil front) (legal_behind b front [] h apart (legal 0 (omega arith))))
-    (all_legal b n (suc i) (front ++ h) hs below (rest_from n i h hs each) (λ j lt. legal (suc j) (omega (arith, lt))))
+    legal_append loads b front h (all_records hs)
+    (subst (λ (l : List Record). IsLegalAfter loads b l h) (append-nil front) (legal_behind loads b front [] h apart (legal 0 (omega arith))))
+    (all_legal loads b n (suc i) (front ++ h) hs below (rest_from n i h hs each) (λ j lt. legal (suc j) (omega (arith, lt))))
 
 -- ---- the entry of a key
 

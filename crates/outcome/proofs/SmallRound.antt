@@ -15,7 +15,7 @@ round_is_done =
       count = refl;
       history = round_history;
       is = record {
-        legal = ((refl, refl), ((refl, refl), ((refl, refl), tt)));
+        legal = ((refl, refl, refl), ((refl, refl, refl), ((refl, refl, refl), tt)));
         once = IsPermutation-middle ((Get (pos 1), Value (Some (pos 7))) ∷ []) (Put (pos 1) (pos 7), Done) ((Contains (pos 1), Flag true) ∷ []);
         left = λ k. by (int_eq (pos 1) k);
       };
@@ -38,12 +38,12 @@ no_value_from_nowhere after d = by d.history d.is.legal d.is.once
     none_short : ◌≡◌ {A = ℕ} 0 1 → ⊥
     none_short e = absurd (omega (arith, e))
 
-    by : (rs : List Record) → IsLegal no_entries rs → IsPermutation (told ∷ []) (calls_in rs) → ⊥
+    by : (rs : List Record) → IsLegal false no_entries rs → IsPermutation (told ∷ []) (calls_in rs) → ⊥
     by [] legal once = none_short (length_permutation (told ∷ []) [] once)
     by (r ∷ rs) legal once =
         let one : All (λ (x : Call × Reply). x ≡ told) (calls_in (r ∷ rs)) =
         All-permutation (λ (x : Call × Reply). x ≡ told) (told ∷ []) (calls_in (r ∷ rs)) once
         (All-cons (λ (x : Call × Reply). x ≡ told) told [] refl (All-nil (λ (x : Call × Reply). x ≡ told))) in
         let is : (r.call, r.reply) ≡ told = All-head (λ (x : Call × Reply). x ≡ told) (r.call, r.reply) (calls_in rs) one in
-        let answers : Answers None (Get (pos 1)) (Value (Some (pos 7))) r.after = subst (λ (x : Call × Reply). Answers None x.0 x.1 r.after) is legal.0 in
+        let answers : Answers false None (Get (pos 1)) (Value (Some (pos 7))) r.after r.asked = subst (λ (x : Call × Reply). Answers false None x.0 x.1 r.after r.asked) is legal.0 in
         wrong answers.0

@@ -16,7 +16,7 @@ abbrev pub replies : List (Option Reply)
 replies = Some (Value (Some (pos 7))) ∷ Some Done ∷ None ∷ Some (Flag true) ∷ []
 
 abbrev made : ℕ → Call → Reply → Record
-made number call reply = record { caller = 0; number = number; call = call; reply = reply; after = Some (pos 7) }
+made number call reply = record { caller = 0; number = number; call = call; reply = reply; after = Some (pos 7); asked = None }
 
 -- the put comes first
 abbrev pub round_history : List Record

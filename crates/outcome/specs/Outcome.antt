@@ -1,5 +1,5 @@
 -- What a finished round of calls leaves (JSR 107, Cache).
-use Rattle.std.specs.Prelude.{◌≡◌, ℤ, List, [], ◌∷◌, Option, Some, None, length, map, IsPermutation}
+use Rattle.std.specs.Prelude.{◌≡◌, false, ℤ, List, [], ◌∷◌, Option, Some, None, length, map, IsPermutation}
 use Rattle.stripe.specs.declared.call.Reply.{Reply}
 use Rattle.stripe.specs.History.{Call, Record, Entries, IsLegal, entries_after}
 
@@ -9,7 +9,7 @@ calls_in history = map (λ (r : Record). (r.call, r.reply)) history
 
 -- Of calls with their replies: a legal history that has each of them once, in some order, and leads from the entries before to those after
 pub record IsHistoryOf (before : Entries) (made : List (Call × Reply)) (after : Entries) (history : List Record) : Type 0 where
-  pub legal : IsLegal before history
+  pub legal : IsLegal false before history
   pub once : IsPermutation made (calls_in history)
   pub left : (k : ℤ) → after k ≡ entries_after before history k
 

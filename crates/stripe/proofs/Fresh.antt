@@ -1,5 +1,5 @@
 -- Stripes that begin.
-use Rattle.std.proofs.Common.{rules, arith, ◌≡◌, ℕ, zero, suc, ◌+◌, ◌<◌, ◌≤◌, List, [], ◌∷◌, ◌++◌, length, vec_capacity, All, Option, Some, None, IfSome, refl, sym, ap, subst, ◌∙◌}
+use Rattle.std.proofs.Common.{arith, ◌≡◌, ℕ, suc, ◌+◌, ◌<◌, ◌≤◌, List, [], ◌∷◌, ◌++◌, length, vec_capacity, All, Option, Some, None, refl, sym, ap, subst, ◌∙◌}
 use Rattle.std.proofs.lemmas.List.{length-append}
 use Rattle.std.proofs.lemmas.List.Elements.{All-nil, All-push, All-pop}
 use Rattle.std.specs.Prelude as Prelude
@@ -7,11 +7,10 @@ use Rattle.std.specs.Global.{Vec}
 use Rattle.std.specs.Ordering.{int_cmp}
 use Rattle.std.specs.FinMap as map
 use Rattle.jtypes.specs.Entry.{Entry}
-use Rattle.stripe.specs.declared.stripe.Stripe.TheInside.{Inside}
 use Rattle.stripe.specs.declared.call.Record.{Record}
 use Rattle.stripe.specs.History.{Record as Told, key_of, stripe_of}
 use Rattle.stripe.specs.Stored.{Stored, HasValues}
-use Rattle.stripe.specs.Kept.{Kept, fresh}
+use Rattle.stripe.specs.Kept.{fresh}
 use Rattle.stripe.specs.Inside.{IsSound}
 use Rattle.stripe.specs.Room.{AreEmpty}
 use Rattle.stripe.specs.Seen.{record_of}

@@ -1,16 +1,18 @@
 -- What calls leave of what is stored, and of histories.
-use Rattle.std.proofs.Common.{rules, arith, ◌≡◌, ◌≢◌, ℕ, zero, suc, ℤ, ◌<◌, ◌+◌, Bool, true, false, not, ◌&&◌, cond, if◌then◌else◌, List, [], ◌∷◌, ◌++◌, length, map, All, Option, None, Some, is_some, IsSome, refl, sym, ap, subst, ◌∙◌, true≢false, append_assoc}
+use Rattle.std.proofs.Common.{arith, ◌≡◌, zero, suc, ℤ, Bool, true, false, not, ◌&&◌, cond, if◌then◌else◌, List, [], ◌∷◌, ◌++◌, All, Option, None, Some, is_some, IsSome, refl, sym, ap, subst, ◌∙◌, true≢false, append_assoc}
 use Rattle.std.proofs.lemmas.List.{append-nil}
 use Rattle.std.proofs.lemmas.List.Elements.{All-append}
 use Rattle.std.proofs.lemmas.Bool.Decides.{Decides-int_eq}
 use Rattle.std.specs.Option.{option_flatten}
-use Rattle.std.specs.Ordering.{int_cmp, int_eq}
+use Rattle.std.specs.Ordering.{int_eq}
 use Rattle.std.specs.Cmp.{int_cmp_total, eq_by_cmp_equiv}
 use Rattle.std.specs.FinMap as map
 use Rattle.jtypes.specs.Entry.{Entry}
-use Rattle.stripe.specs.History.{Call, Begun, Record, Entries, key_of, entry_after, entries_after, Answers, IsLegalAfter, IsLegal}
+use Rattle.jtypes.specs.declared.loader.LoadAnswer.{LoadAnswer}
+use Rattle.stripe.specs.declared.call.Reply.{Reply}
+use Rattle.stripe.specs.History.{Call, Invoke, Get, Put, Remove, Contains, Begun, Record, Entries, key_of, entry_after, entries_after, Answers, IsLegalAfter}
 use Rattle.stripe.specs.Stored.{Stored, entry_in, left, HasValues}
-use Rattle.stripe.specs.Kept.{Kept, IsOf, AreOf, entry_of, may_make, is_absent, held, begun, committed, IsHeld, IsKept}
+use Rattle.stripe.specs.Kept.{Kept, IsOf, AreOf, entry_of, may_make, is_absent, held, begun, committed, IsKept, IsEnd, IsRecord, IsMade, IsPlain}
 
 -- ---- keys
 
@@ -52,46 +54,46 @@ not_true false e = refl
 
 -- ---- the place of a call's entry
 
-module _ (m : Stored) (call : Call) where
-  absent : is_absent m call ≡ true → (may_make call ≡ true) × (map.get m (key_of call) ≡ None)
+module _ (loads : Bool) (m : Stored) (call : Call) where
+  absent : is_absent loads m call ≡ true → (may_make loads call ≡ true) × (map.get m (key_of call) ≡ None)
   absent e = let p = both _ _ e in (p.0, no_one _ (not_true _ p.1))
 
   got : (k : ℤ) → map.get (map.insert m (key_of call) None) k ≡ cond (int_eq k (key_of call)) (Some None) (map.get m k)
   got k = map.get-insert int_cmp_total m (key_of call) None k
 
   -- the entries are as they were
-  pub entry_held : (k : ℤ) → entry_in (held m call) k ≡ entry_in m k
-  entry_held k = by (is_absent m call) refl
+  pub entry_held : (k : ℤ) → entry_in (held loads m call) k ≡ entry_in m k
+  entry_held k = by (is_absent loads m call) refl
     where
       at : (b : Bool) → int_eq k (key_of call) ≡ b → map.get m (key_of call) ≡ None → option_flatten (cond b (Some None) (map.get m k)) ≡ entry_in m k
       at false e none = refl
       at true e none = sym (ap (λ x. entry_in m x) ((Decides-int_eq k (key_of call)).0 e) ∙ ap option_flatten none)
 
-      by : (b : Bool) → is_absent m call ≡ b → entry_in (if b then map.insert m (key_of call) None else m) k ≡ entry_in m k
+      by : (b : Bool) → is_absent loads m call ≡ b → entry_in (if b then map.insert m (key_of call) None else m) k ≡ entry_in m k
       by false e = refl
       by true e = ap option_flatten (got k) ∙ at (int_eq k (key_of call)) refl (absent e).1
 
   -- a call that may make an entry has a place for it
-  pub held_stored : may_make call ≡ true → IsSome (map.get (held m call) (key_of call))
-  held_stored makes = by (is_absent m call) refl
+  pub held_stored : may_make loads call ≡ true → IsSome (map.get (held loads m call) (key_of call))
+  held_stored makes = by (is_absent loads m call) refl
     where
       there : (b : Bool) → not b ≡ false → b ≡ true
       there true e = refl
       there false e = absurd (true≢false e)
 
-      by : (b : Bool) → is_absent m call ≡ b → IsSome (map.get (if b then map.insert m (key_of call) None else m) (key_of call))
+      by : (b : Bool) → is_absent loads m call ≡ b → IsSome (map.get (if b then map.insert m (key_of call) None else m) (key_of call))
       by true e = ap is_some (got (key_of call) ∙ at_true (λ o. o) _ _ _ (itself (key_of call)))
       by false e = there _ (sym (ap (λ b. b && not (is_some (map.get m (key_of call)))) makes) ∙ e)
 
   -- no other key is stored without a value
-  pub values_held : HasValues m → (k : ℤ) → map.get (held m call) k ≡ Some None → (may_make call ≡ true) × (k ≡ key_of call)
-  values_held values k = by (is_absent m call) refl
+  pub values_held : HasValues m → (k : ℤ) → map.get (held loads m call) k ≡ Some None → (may_make loads call ≡ true) × (k ≡ key_of call)
+  values_held values k = by (is_absent loads m call) refl
     where
       at : (b : Bool) → int_eq k (key_of call) ≡ b → cond b (Some None) (map.get m k) ≡ Some None → k ≡ key_of call
       at true e g = (Decides-int_eq k (key_of call)).0 e
       at false e g = absurd (values k g)
 
-      by : (b : Bool) → is_absent m call ≡ b → map.get (if b then map.insert m (key_of call) None else m) k ≡ Some None → (may_make call ≡ true) × (k ≡ key_of call)
+      by : (b : Bool) → is_absent loads m call ≡ b → map.get (if b then map.insert m (key_of call) None else m) k ≡ Some None → (may_make loads call ≡ true) × (k ≡ key_of call)
       by false e g = absurd (values k g)
       by true e g = ((absent e).0, at (int_eq k (key_of call)) refl (sym (got k) ∙ g))
 
@@ -128,7 +130,7 @@ module _ (m : Stored) (k : ℤ) where
       by false e p = true≢false (sym ((Decides-int_eq q k).1 (others q p)) ∙ e)
 
 -- the place that was made is used, or given up
-module _ (m : Stored) (call : Call) where
+module _ (loads : Bool) (m : Stored) (call : Call) where
   over : (b : Bool) (o x : Option Entry) → cond b o (cond b (Some None) x) ≡ cond b o x
   over true o x = refl
   over false o x = refl
@@ -141,8 +143,8 @@ module _ (m : Stored) (call : Call) where
       map.get-insert int_cmp_total (map.insert m (key_of call) None) (key_of call) (Some v) q ∙ ap (cond (int_eq q (key_of call)) (Some (Some v))) (map.get-insert int_cmp_total m (key_of call) None q)
       ∙ over (int_eq q (key_of call)) (Some (Some v)) (map.get m q) ∙ sym (map.get-insert int_cmp_total m (key_of call) (Some v) q))
 
-  pub left_held : (e : Entry) → left (held m call) (key_of call) e ≡ left m (key_of call) e
-  left_held e = by (is_absent m call)
+  pub left_held : (e : Entry) → left (held loads m call) (key_of call) e ≡ left m (key_of call) e
+  left_held e = by (is_absent loads m call)
     where
       by : (b : Bool) → left (if b then map.insert m (key_of call) None else m) (key_of call) e ≡ left m (key_of call) e
       by false = refl
@@ -154,11 +156,14 @@ entry_snoc : (e : Entry) (rs : List Record) (r : Record) (k : ℤ) → entry_aft
 entry_snoc e [] r k = refl
 entry_snoc e (x ∷ xs) r k = entry_snoc (if int_eq (key_of x.call) k then x.after else e) xs r k
 
-module _ (opening : Entries) (r : Record) where
-  legal_after : (seen rs : List Record) → IsLegalAfter opening seen rs → Answers (entries_after opening (seen ++ rs) (key_of r.call)) r.call r.reply r.after → IsLegalAfter opening seen (rs ++ r ∷ [])
-  legal_after seen [] l a = (subst (λ (xs : List Record). Answers (entries_after opening xs (key_of r.call)) r.call r.reply r.after) (append-nil seen) a, tt)
+module _ (loads : Bool) (opening : Entries) (r : Record) where
+  abbrev AnswersAfter : List Record → Type 0
+  AnswersAfter rs = Answers loads (entries_after opening rs (key_of r.call)) r.call r.reply r.after r.asked
+
+  legal_after : (seen rs : List Record) → IsLegalAfter loads opening seen rs → AnswersAfter (seen ++ rs) → IsLegalAfter loads opening seen (rs ++ r ∷ [])
+  legal_after seen [] l a = (subst AnswersAfter (append-nil seen) a, tt)
   legal_after seen (x ∷ xs) l a =
-      (l.0, legal_after (seen ++ x ∷ []) xs l.1 (subst (λ (ys : List Record). Answers (entries_after opening ys (key_of r.call)) r.call r.reply r.after) (sym (append_assoc seen (x ∷ []) xs)) a))
+      (l.0, legal_after (seen ++ x ∷ []) xs l.1 (subst AnswersAfter (sym (append_assoc seen (x ∷ []) xs)) a))
 
 all_of : {X : Type 0} (P : X → Type 0) (x : X) → P x → All P (x ∷ [])
 all_of P x p zero d h = p
@@ -170,12 +175,52 @@ are_of_more s r are of = All-append (λ (x : Record). IsOf s (key_of x.call)) s.
 
 -- ---- the history and what is stored
 
-pub kept_begun : (opening : Entries) (s : Kept) (b : Begun) → IsKept opening s → IsKept opening (begun s b)
-kept_begun opening s b h = record { legal = h.legal; left = λ k of. entry_held s.stored b.call k ∙ h.left k of }
+pub kept_begun : (loads : Bool) (opening : Entries) (s : Kept) (b : Begun) → IsKept loads opening s → IsKept loads opening (begun s b)
+kept_begun loads opening s b h = record { legal = h.legal; left = λ k of. entry_held b.loads s.stored b.call k ∙ h.left k of }
 
-pub kept_committed : (opening : Entries) (s : Kept) (r : Record) → IsOf s (key_of r.call) → Answers (entry_of s (key_of r.call)) r.call r.reply r.after → IsKept opening s → IsKept opening (committed s r)
-kept_committed opening s r of answers h =
+pub kept_committed : (loads : Bool) (opening : Entries) (s : Kept) (r : Record) → IsOf s (key_of r.call) → Answers loads (entry_of s (key_of r.call)) r.call r.reply r.after r.asked
+    → IsKept loads opening s → IsKept loads opening (committed s r)
+kept_committed loads opening s r of answers h =
     record {
-      legal = legal_after opening r [] s.records h.legal (subst (λ e. Answers e r.call r.reply r.after) (h.left (key_of r.call) of) answers);
+      legal = legal_after loads opening r [] s.records h.legal (subst (λ e. Answers loads e r.call r.reply r.after r.asked) (h.left (key_of r.call) of) answers);
       left = λ k of_k. entry_left s.stored (key_of r.call) r.after k ∙ ap (λ e. if int_eq (key_of r.call) k then r.after else e) (h.left k of_k) ∙ sym (entry_snoc (opening k) s.records r k);
     }
+
+-- ---- a call that was made at once
+
+-- it began, and ended
+pub made_of : (s mid new : Kept) (b : Begun) (r : Record) → mid ≡ begun s b → ((k : ℤ) → entry_of mid k ≡ entry_of s k) → IsRecord b (entry_of mid (key_of b.call)) r → new ≡ committed mid r → IsMade s b r new
+made_of s mid new b r is entries told left_is =
+    let stored : left (begun s b).stored (key_of r.call) r.after ≡ left s.stored (key_of r.call) r.after =
+    subst (λ (x : Call). left (begun s b).stored (key_of x) r.after ≡ left s.stored (key_of x) r.after) (sym told.call) (left_held b.loads s.stored b.call r.after) in
+    let over : committed (begun s b) r ≡ committed s r = ap (λ m. record (committed s r) { stored = m }) stored in
+    record { told = subst (λ e. IsRecord b e r) (entries (key_of b.call)) told; left = left_is ∙ ap (λ x. committed x r) is ∙ over }
+
+pub plain_ends : (loads : Bool) (before : Entry) (call : Call) → IsPlain call → IsEnd loads before call None None
+plain_ends loads before (Invoke c k args) p = absurd p
+plain_ends loads before (Get k) p = absurd p
+plain_ends loads before (Put k v) p = tt
+plain_ends loads before (Remove k) p = tt
+plain_ends loads before (Contains k) p = tt
+
+-- what a plain call answers has nothing to do with a loader
+plain_answers : (loads : Bool) (before : Entry) (call : Call) (reply : Reply) (after : Entry) (asked : Option LoadAnswer) → IsPlain call → Answers false before call reply after asked → Answers loads before call reply after asked
+plain_answers loads before (Invoke c k args) reply after asked p a = absurd p
+plain_answers loads before (Get k) reply after asked p a = absurd p
+plain_answers loads before (Put k v) reply after asked p a = a
+plain_answers loads before (Remove k) reply after asked p a = a
+plain_answers loads before (Contains k) reply after asked p a = a
+
+module _ (loads : Bool) (opening : Entries) (s : Kept) (b : Begun) (r : Record) (new : Kept) (of : IsOf s (key_of b.call)) (is : IsMade s b r new) where
+  kept_answers : Answers loads (entry_of s (key_of b.call)) b.call r.reply r.after r.asked → IsKept loads opening s → IsKept loads opening new
+  kept_answers answers h =
+      subst (IsKept loads opening) (sym is.left)
+      (kept_committed loads opening s r (subst (λ (x : Call). IsOf s (key_of x)) (sym is.told.call) of)
+      (subst (λ (x : Call). Answers loads (entry_of s (key_of x)) x r.reply r.after r.asked) (sym is.told.call) answers) h)
+
+  pub kept_made : b.loads ≡ loads → IsKept loads opening s → IsKept loads opening new
+  kept_made same = kept_answers (subst (λ l. Answers l (entry_of s (key_of b.call)) b.call r.reply r.after r.asked) same is.told.answers)
+
+  pub kept_plain : b.loads ≡ false → IsPlain b.call → IsKept loads opening s → IsKept loads opening new
+  kept_plain same plain =
+      kept_answers (plain_answers loads _ b.call r.reply r.after r.asked plain (subst (λ l. Answers l (entry_of s (key_of b.call)) b.call r.reply r.after r.asked) same is.told.answers))

@@ -1,8 +1,13 @@
 -- Calls, entries and histories (JSR 107, Cache).
-use Rattle.std.specs.Prelude.{◌≡◌, ℕ, List, [], ◌∷◌, ◌++◌, Some, None, is_some, if◌then◌else◌, ℤ, pos, unsigned_abs, false}
+use Rattle.std.specs.Prelude.{◌≡◌, ℕ, Bool, true, List, [], ◌∷◌, ◌++◌, All, Option, Some, None, is_some, if◌then◌else◌, ℤ, pos, unsigned_abs}
 use Rattle.std.specs.Int.{int_rem_euclid}
 use Rattle.std.specs.Ordering.{int_eq}
 use Rattle.jtypes.specs.declared.types.Arg.{Arg}
+use Rattle.jtypes.specs.declared.types.Outcome.TheVariants.{Threw}
+use Rattle.jtypes.specs.declared.types.JavaFault.TheVariants.{CacheLoader}
+use Rattle.jtypes.specs.declared.loader.LoadAnswer.{LoadAnswer}
+use Rattle.jtypes.specs.declared.loader.LoadAnswer.TheVariants as load
+use Rattle.jtypes.specs.Loading.{IsGiven, entry_loaded}
 use Rattle.jtypes.specs.Entry.{Entry}
 use Rattle.typecheck.specs.Typing.{Class}
 use Rattle.verdict.specs.Machine.{Invocation, Final}
@@ -18,19 +23,21 @@ pub data Call : Type 0 where
   Remove : (key : ℤ) → Call
   Contains : (key : ℤ) → Call
 
--- a call that was begun, with its caller and its number among the caller's calls
+-- a call that was begun, with its caller and its number among the caller's calls, and whether there is a loader to ask (JSR 107, CacheLoader)
 pub record Begun : Type 0 where
   pub caller : ℕ
   pub number : ℕ
   pub call : Call
+  pub loads : Bool
 
--- a call that was made, with its reply and the entry that it left
+-- a call that was made, with its reply, the entry that it left, and what the loader answered if it was asked
 pub record Record : Type 0 where
   pub caller : ℕ
   pub number : ℕ
   pub call : Call
   pub reply : Reply
   pub after : Entry
+  pub asked : Option LoadAnswer
 
 -- the key that a call names
 abbrev pub key_of : Call → ℤ
@@ -53,27 +60,43 @@ entry_after e (r ∷ rs) k = entry_after (if int_eq (key_of r.call) k then r.aft
 abbrev pub entries_after : Entries → List Record → Entries
 entries_after opening records k = entry_after (opening k) records k
 
--- an invocation without a loader
-abbrev pub invocation : ℤ → List Arg → Entry → Invocation
-invocation k args before = record { key = k; args = args; before = before; loads = false }
+-- an invocation, with a loader or without one
+abbrev pub invocation : Bool → ℤ → List Arg → Entry → Invocation
+invocation loads k args before = record { key = k; args = args; before = before; loads = loads }
 
--- on this entry a call has this reply, and leaves this entry
-abbrev pub Answers : Entry → Call → Reply → Entry → Type 0
-Answers before (Invoke c k args) reply after = (f : Final) × Means c (invocation k args before) f × (reply ≡ Result f.outcome) × (after ≡ f.entry)
-Answers before (Get k) reply after = (reply ≡ Value before) × (after ≡ before)
-Answers before (Put k v) reply after = (reply ≡ Done) × (after ≡ Some v)
-Answers before (Remove k) reply after = (reply ≡ Flag (is_some before)) × (after ≡ None)
-Answers before (Contains k) reply after = (reply ≡ Flag (is_some before)) × (after ≡ before)
+-- what a get is told that asked the loader
+abbrev pub told_by : LoadAnswer → Reply
+told_by (load.Value v) = Value (Some v)
+told_by load.None = Value None
+told_by load.Failed = Result (Threw CacheLoader)
+
+-- a get of an absent key asks the loader, if there is one: a value becomes the entry
+abbrev pub IsGot : Bool → Entry → Reply → Entry → Option LoadAnswer → Type 0
+IsGot true None reply after asked = (a : LoadAnswer) × (asked ≡ Some a) × (reply ≡ told_by a) × (after ≡ entry_loaded None a)
+IsGot loads before reply after asked = (reply ≡ Value before) × (after ≡ before) × (asked ≡ None)
+
+-- on this entry a call has this reply, leaves this entry, and had this answer of the loader if it asked it; `loads`: whether there is a loader to ask
+abbrev pub Answers : Bool → Entry → Call → Reply → Entry → Option LoadAnswer → Type 0
+Answers loads before (Invoke c k args) reply after asked =
+    (f : Final) × Means c (invocation loads k args before) f × (reply ≡ Result f.outcome) × (after ≡ f.entry) × (asked ≡ f.asked)
+Answers loads before (Get k) reply after asked = IsGot loads before reply after asked
+Answers loads before (Put k v) reply after asked = (reply ≡ Done) × (after ≡ Some v) × (asked ≡ None)
+Answers loads before (Remove k) reply after asked = (reply ≡ Flag (is_some before)) × (after ≡ None) × (asked ≡ None)
+Answers loads before (Contains k) reply after asked = (reply ≡ Flag (is_some before)) × (after ≡ before) × (asked ≡ None)
 
 -- each of these records answers on the entry that the records before it leave; `seen` are the records before these
-abbrev pub IsLegalAfter : Entries → List Record → List Record → Type 0
-IsLegalAfter opening seen [] = Unit {0}
-IsLegalAfter opening seen (r ∷ rs) =
-    Answers (entries_after opening seen (key_of r.call)) r.call r.reply r.after × IsLegalAfter opening (seen ++ r ∷ []) rs
+abbrev pub IsLegalAfter : Bool → Entries → List Record → List Record → Type 0
+IsLegalAfter loads opening seen [] = Unit {0}
+IsLegalAfter loads opening seen (r ∷ rs) =
+    Answers loads (entries_after opening seen (key_of r.call)) r.call r.reply r.after r.asked × IsLegalAfter loads opening (seen ++ r ∷ []) rs
 
 -- a legal history, from the opening entries
-abbrev pub IsLegal : Entries → List Record → Type 0
-IsLegal opening records = IsLegalAfter opening [] records
+abbrev pub IsLegal : Bool → Entries → List Record → Type 0
+IsLegal loads opening records = IsLegalAfter loads opening [] records
+
+-- each answer of the loader in these records is one that it gives for its key
+abbrev pub AreGiven : (ℤ → LoadAnswer → Type 0) → List Record → Type 0
+AreGiven gives records = All (λ (r : Record). IsGiven gives (key_of r.call) r.asked) records
 
 -- the stripe of a key, of so many: the remainder, which isn't negative
 abbrev pub stripe_of : ℕ → ℤ → ℕ

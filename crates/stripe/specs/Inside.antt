@@ -1,9 +1,9 @@
 -- What is true of every stripe.
-use Rattle.std.specs.Prelude.{◌≡◌, ℤ, ◌<◌, ◌≤◌, length, map, true, vec_capacity, Option, Some, None, IsSome, option_map}
+use Rattle.std.specs.Prelude.{◌≡◌, ℤ, ◌<◌, ◌≤◌, length, map, true, vec_capacity, Some, None, IsSome, option_map}
 use Rattle.std.specs.FinMap as stored
 use Rattle.stripe.specs.declared.stripe.Stripe.TheInside.{Inside}
 use Rattle.stripe.specs.declared.call.OpenCall.{OpenCall}
-use Rattle.stripe.specs.History.{Begun, key_of}
+use Rattle.stripe.specs.History.{key_of}
 use Rattle.stripe.specs.Seen.{begun_of, record_of}
 use Rattle.stripe.specs.Kept.{Kept, AreOf, IsHeld, IsOf, may_make, entry_of}
 
@@ -15,7 +15,7 @@ pub record IsOpen (s : Kept) (c : OpenCall) : Type 0 where
   pub room : length s.records < s.journal
   pub of : IsOf s (key_of (begun_of c).call)
   pub before : c.before ≡ entry_of s (key_of (begun_of c).call)
-  pub held : may_make (begun_of c).call ≡ true → IsSome (stored.get s.stored (key_of (begun_of c).call))
+  pub held : may_make c.loads (begun_of c).call ≡ true → IsSome (stored.get s.stored (key_of (begun_of c).call))
 
 pub record IsSound (s : Inside) : Type 0 where
   pub inside : s.place < s.stripes

@@ -1,7 +1,8 @@
 -- A stripe, as contracts see it.
-use Rattle.std.specs.Prelude.{◌≡◌, ℕ, ℤ, Bool, true, false, List, [], ◌∷◌, ◌++◌, All, Option, Some, None, is_some, not, ◌&&◌, if◌then◌else◌}
+use Rattle.std.specs.Prelude.{◌≡◌, ℕ, ℤ, Bool, true, false, List, [], ◌∷◌, ◌++◌, All, Option, Some, None, is_some, IsSome, not, ◌&&◌, if◌then◌else◌}
 use Rattle.std.specs.FinMap as map
 use Rattle.jtypes.specs.Entry.{Entry}
+use Rattle.jtypes.specs.declared.loader.LoadAnswer.{LoadAnswer}
 use Rattle.machine.specs.declared.done.Done.{Done}
 use Rattle.machine.specs.Running.{IsMeant}
 use Rattle.stripe.specs.History.{Call, Invoke, Get, Put, Remove, Contains, Begun, Record, Entries, key_of, entries_after, invocation, Answers, IsLegal, stripe_of}
@@ -29,44 +30,63 @@ entry_of s = entry_in s.stored
 
 -- ---- how a call begins
 
--- whether a call may make an entry
-abbrev pub may_make : Call → Bool
-may_make (Invoke c k args) = true
-may_make (Put k v) = true
-may_make _ = false
+-- whether a call may make an entry; a get may where there is a loader
+abbrev pub may_make : Bool → Call → Bool
+may_make loads (Invoke c k args) = true
+may_make loads (Put k v) = true
+may_make loads (Get k) = loads
+may_make loads _ = false
 
 -- whether a call has to have a place made for its entry
-abbrev pub is_absent : Stored → Call → Bool
-is_absent m call = may_make call && not (is_some (map.get m (key_of call)))
+abbrev pub is_absent : Bool → Stored → Call → Bool
+is_absent loads m call = may_make loads call && not (is_some (map.get m (key_of call)))
 
 -- the key of a call that may make an entry is stored, without a value if there is none
-abbrev pub held : Stored → Call → Stored
-held m call = if is_absent m call then map.insert m (key_of call) None else m
+abbrev pub held : Bool → Stored → Call → Stored
+held loads m call = if is_absent loads m call then map.insert m (key_of call) None else m
 
 abbrev pub begun : Kept → Begun → Kept
-begun s b = record s { stored = held s.stored b.call; running = Some b }
+begun s b = record s { stored = held b.loads s.stored b.call; running = Some b }
 
 -- ---- how it ends
 
--- what an invocation ends with; another call ends with nothing
-abbrev pub IsEnd : Entry → Call → Option Done → Type 0
-IsEnd before (Invoke c k args) (Some d) = IsMeant c (invocation k args before) d
-IsEnd before (Invoke c k args) None = ⊥
-IsEnd before _ (Some d) = ⊥
-IsEnd before _ None = Unit {0}
+-- a get asks the loader where there is one and no entry, and nowhere else
+abbrev pub IsAsked : Bool → Entry → Option LoadAnswer → Type 0
+IsAsked true None asked = IsSome asked
+IsAsked loads before asked = asked ≡ None
+
+-- what an invocation ends with, and what the loader answered to a get; another call ends with nothing
+abbrev pub IsEnd : Bool → Entry → Call → Option Done → Option LoadAnswer → Type 0
+IsEnd loads before (Invoke c k args) (Some d) None = IsMeant c (invocation loads k args before) d
+IsEnd loads before (Get k) None asked = IsAsked loads before asked
+IsEnd loads before (Put k v) None None = Unit {0}
+IsEnd loads before (Remove k) None None = Unit {0}
+IsEnd loads before (Contains k) None None = Unit {0}
+IsEnd loads before _ _ _ = ⊥
+
+-- a call that is neither an invocation nor a get: it asks nobody
+abbrev pub IsPlain : Call → Type 0
+IsPlain (Invoke c k args) = ⊥
+IsPlain (Get k) = ⊥
+IsPlain _ = Unit {0}
+
+-- what the loader answered, by what a call ended with
+abbrev pub asked_by : Option Done → Option LoadAnswer → Option LoadAnswer
+asked_by (Some d) asked = d.asked
+asked_by None asked = asked
 
 -- a call is open that ends so
-pub record CanCommit (s : Kept) (done : Option Done) : Type 0 where
+pub record CanCommit (s : Kept) (done : Option Done) (asked : Option LoadAnswer) : Type 0 where
   pub begun : Begun
   pub running : s.running ≡ Some begun
-  pub ends : IsEnd (entry_of s (key_of begun.call)) begun.call done
+  pub ends : IsEnd begun.loads (entry_of s (key_of begun.call)) begun.call done asked
 
 -- this is the record of a call that found this entry
 pub record IsRecord (b : Begun) (before : Entry) (r : Record) : Type 0 where
   pub caller : r.caller ≡ b.caller
   pub number : r.number ≡ b.number
   pub call : r.call ≡ b.call
-  pub answers : Answers before b.call r.reply r.after
+  pub answers : Answers b.loads before b.call r.reply r.after r.asked
 
 -- a record more, whose entry is left, and no call open
 abbrev pub committed : Kept → Record → Kept
@@ -86,9 +106,9 @@ AreOf s = All (λ (r : Record). IsOf s (key_of r.call)) s.records
 -- the open call may make an entry, and this is its key
 abbrev pub IsHeld : Option Begun → ℤ → Type 0
 IsHeld None k = ⊥
-IsHeld (Some b) k = (may_make b.call ≡ true) × (k ≡ key_of b.call)
+IsHeld (Some b) k = (may_make b.loads b.call ≡ true) × (k ≡ key_of b.call)
 
--- the history is legal from these entries, and what is stored is what it leaves of them
-pub record IsKept (opening : Entries) (s : Kept) : Type 0 where
-  pub legal : IsLegal opening s.records
+-- the history is legal from these entries, with a loader to ask or without one, and what is stored is what it leaves of them
+pub record IsKept (loads : Bool) (opening : Entries) (s : Kept) : Type 0 where
+  pub legal : IsLegal loads opening s.records
   pub left : (k : ℤ) → IsOf s k → entry_of s k ≡ entries_after opening s.records k

@@ -1,5 +1,5 @@
 -- What is true of stripes that come back.
-use Rattle.std.specs.Prelude.{◌≡◌, ◌≤◌, List, length, map, vec_capacity, All}
+use Rattle.std.specs.Prelude.{◌≡◌, ◌≤◌, length, map, vec_capacity, All}
 use Rattle.stripe.specs.declared.rest.Rest.TheInside.{Inside}
 use Rattle.stripe.specs.Seen.{record_of}
 use Rattle.stripe.specs.Stored.{HasValues}

@@ -1,6 +1,4 @@
 -- Calls and records of the code, as the definitions see them: a class is named by itself, not by where it lies.
-use Rattle.std.specs.Prelude.{List}
-use Rattle.jtypes.specs.declared.types.Arg.{Arg}
 use Rattle.stripe.specs.Rows.{arguments}
 use Rattle.stripe.specs.declared.call.Call.{Call as CallTaken}
 use Rattle.stripe.specs.declared.call.Call.TheVariants as taken
@@ -16,7 +14,7 @@ call_of (taken.Remove key) = Remove key
 call_of (taken.Contains key) = Contains key
 
 abbrev pub begun_of : OpenCall → Begun
-begun_of b = record { caller = b.caller; number = b.number; call = call_of b.call }
+begun_of b = record { caller = b.caller; number = b.number; call = call_of b.call; loads = b.loads }
 
 abbrev pub record_of : RecordKept → Record
-record_of r = record { caller = r.caller; number = r.number; call = call_of r.call; reply = r.reply; after = r.after }
+record_of r = record { caller = r.caller; number = r.number; call = call_of r.call; reply = r.reply; after = r.after; asked = r.asked }

@@ -1,5 +1,5 @@
 -- What is stored under the keys.
-use Rattle.std.specs.Prelude.{◌≡◌, ◌≢◌, ℤ, List, Option, Some, None, slice_get, length, option_and_then}
+use Rattle.std.specs.Prelude.{◌≢◌, ℤ, List, Some, None, slice_get, length, option_and_then}
 use Rattle.std.specs.Option.{option_flatten}
 use Rattle.std.specs.Ordering.{int_cmp}
 use Rattle.std.specs.Coded.{Coded, coded_ℤ, coded_option}

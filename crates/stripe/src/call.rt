@@ -1,10 +1,13 @@
 //! What is asked of a stripe, and what it writes down.
 
-ghost use Rattle.std.specs.Prelude.{◌≡◌};
+ghost use Rattle.std.specs.Prelude.{◌≡◌, Bool};
 ghost use Rattle.jtypes.specs.Entry.{after_effect};
+ghost use Rattle.jtypes.specs.Loading.{IsGiven};
+ghost use Rattle.stripe.specs.History.{IsGot};
+ghost use Rattle.stripe.specs.Kept.{IsAsked};
 
 use crate::args::ArgRow;
-use jtypes::{Effect, Outcome};
+use jtypes::{Effect, JavaFault, LoadAnswer, Loader, Outcome};
 use machine::Done;
 use mutentry::effect_leads_from_before_to_now;
 use verify::Verified;
@@ -44,7 +47,7 @@ pub enum Reply {
     Result(Outcome),
     /// Of `put`.
     Done,
-    /// Of `get`: the entry.
+    /// Of `get`: the entry. Where the loader failed a `get` is told that by a result.
     Value(Option<i64>),
     /// Of `remove` and `containsKey`: whether there was an entry.
     Flag(bool),
@@ -59,6 +62,8 @@ pub struct Record<'a> {
     pub call: Call<'a>,
     pub reply: Reply,
     pub after: Option<i64>,
+    /// What the loader answered, if the call asked it.
+    pub asked: Option<LoadAnswer>,
 }
 
 /// A call that is open, with the entry that it found.
@@ -67,6 +72,8 @@ pub struct OpenCall<'a> {
     pub caller: u8,
     pub number: u32,
     pub call: Call<'a>,
+    /// Whether there is a loader to ask.
+    pub loads: bool,
     pub before: Option<i64>,
 }
 
@@ -89,13 +96,14 @@ impl<'a> Call<'a> {
         }
     }
 
-    /// Whether the call may make an entry.
-    pub(crate) fn may_make(&self) -> bool
-        ensures { result ≡ may_make (call_of self.now) }
+    /// Whether the call may make an entry, with a loader to ask or without one.
+    pub(crate) fn may_make(&self, loads: bool) -> bool
+        ensures { result ≡ may_make loads (call_of self.now) }
     {
         match self {
             Call::Invoke { .. } | Call::Put { .. } => true,
-            Call::Get { .. } | Call::Remove { .. } | Call::Contains { .. } => false,
+            Call::Get { .. } => loads,
+            Call::Remove { .. } | Call::Contains { .. } => false,
         }
     }
 }
@@ -111,30 +119,56 @@ fn entry_after(effect: Effect, before: Option<i64>) -> Option<i64>
     }
 }
 
+/// Asks the loader for a `get` that found this entry, where there is none (JSR 107, `CacheLoader`).
+pub fn ask<L: Loader>(loader: &L, key: i64, before: Option<i64>) -> Option<LoadAnswer>
+    ensures asked { IsAsked L.ASKS before result }
+    ensures given { IsGiven (L.gives loader.now) key result }
+{
+    if L::ASKS && before.is_none() {
+        Some(LoadAnswer::of(loader.load(key)))
+    } else {
+        None
+    }
+}
+
+/// What a `get` is told that found this entry, and the entry that it leaves; the loader answered this if it was asked.
+fn got(before: Option<i64>, asked: Option<LoadAnswer>) -> (Reply, Option<i64>)
+    ensures { (loads : Bool) → IsAsked loads before asked → IsGot loads before result.0 result.1 asked }
+{
+    match asked {
+        None => (Reply::Value(before), before),
+        Some(LoadAnswer::None) => (Reply::Value(None), None),
+        Some(LoadAnswer::Value(value)) => (Reply::Value(Some(value)), Some(value)),
+        Some(LoadAnswer::Failed) => (Reply::Result(Outcome::Threw(JavaFault::CacheLoader)), None),
+    }
+}
+
 impl<'a> OpenCall<'a> {
     ghost use Rattle.std.specs.Prelude.{◌≡◌};
-    ghost use Rattle.stripe.specs.Kept.{IsEnd, IsRecord};
+    ghost use Rattle.stripe.specs.Kept.{IsEnd, IsRecord, asked_by};
     ghost use Rattle.stripe.specs.Seen.{call_of, begun_of, record_of};
 
-    /// The record of the call. An invocation ended so.
-    pub(crate) fn record(&self, done: Option<Done>) -> Record<'a>
-        requires { IsEnd self.now.before (call_of self.now.call) done }
-        ensures { IsRecord (begun_of self.now) self.now.before (record_of result) }
+    /// The record of the call. An invocation ended so, and a `get` had this answer of the loader.
+    pub(crate) fn record(&self, done: Option<Done>, asked: Option<LoadAnswer>) -> Record<'a>
+        requires { IsEnd self.now.loads self.now.before (call_of self.now.call) done asked }
+        ensures is { IsRecord (begun_of self.now) self.now.before (record_of result) }
+        ensures asked { result.asked ≡ asked_by done asked }
     {
         effect_leads_from_before_to_now();
         let before = self.before;
-        let (reply, after) = match self.call {
+        let (reply, after, asked) = match self.call {
             Call::Invoke { .. } => {
                 let Some(done) = done else { unreachable!() };
-                (
-                    Reply::Result(done.outcome),
-                    entry_after(done.effect, before),
-                )
+                let after = entry_after(done.effect, before);
+                (Reply::Result(done.outcome), after, done.asked)
             }
-            Call::Get { .. } => (Reply::Value(before), before),
-            Call::Put { value, .. } => (Reply::Done, Some(value)),
-            Call::Remove { .. } => (Reply::Flag(before.is_some()), None),
-            Call::Contains { .. } => (Reply::Flag(before.is_some()), before),
+            Call::Get { .. } => {
+                let (reply, after) = got(before, asked);
+                (reply, after, asked)
+            }
+            Call::Put { value, .. } => (Reply::Done, Some(value), None),
+            Call::Remove { .. } => (Reply::Flag(before.is_some()), None, None),
+            Call::Contains { .. } => (Reply::Flag(before.is_some()), before, None),
         };
         Record {
             caller: self.caller,
@@ -142,6 +176,7 @@ impl<'a> OpenCall<'a> {
             call: self.call,
             reply,
             after,
+            asked,
         }
     }
 }

@@ -11,7 +11,7 @@ mod table;
 mod tables;
 
 pub use args::ArgRow;
-pub use call::{Call, OpenCall, Record, Reply};
+pub use call::{Call, OpenCall, Record, Reply, ask};
 pub use key::stripe_of;
 pub use refusal::{BeginRefusal, OpenRefusal};
 pub use rest::Rest;

@@ -3,9 +3,10 @@
 ghost use Rattle.std.specs.Prelude.{◌≡◌, ◌↔◌, ℕ, ℤ, ◌<◌, ◌≤◌, length, map, option_map, None, Some, Err, IfSome, IfOk, OnOk, OnErr, IsTrue};
 ghost use Rattle.std.specs.FinMap as stored;
 
-use crate::call::{Call, OpenCall, Record};
+use crate::call::{Call, OpenCall, Record, ask};
 use crate::refusal::BeginRefusal;
 use crate::table::Table;
+use jtypes::{LoadAnswer, Loader, NoLoader};
 use machine::Done;
 use std::marker::Model;
 
@@ -40,12 +41,13 @@ impl<'a> Model for Stripe<'a> {
 }
 
 impl<'a> Stripe<'a> {
-    ghost use Rattle.std.specs.Prelude.{◌≡◌, ◌↔◌, ℕ, ℤ, ◌<◌, ◌≤◌, length, map, option_map, None, Some, Err, IfSome, IfOk, OnOk, OnErr, IsTrue};
+    ghost use Rattle.std.specs.Prelude.{◌≡◌, ◌↔◌, ℕ, ℤ, Bool, false, ◌<◌, ◌≤◌, length, map, option_map, None, Some, Err, IfSome, IfOk, OnOk, OnErr, IsTrue};
     ghost use Rattle.std.specs.FinMap as stored;
     ghost use Rattle.stripe.specs.declared.refusal.BeginRefusal.TheVariants.{JournalFull, NoMemory};
     ghost use Rattle.stripe.specs.History.{Begun, Entries, Get, Put, Remove, Contains, key_of};
     ghost use Rattle.stripe.specs.Stored.{HasValues};
-    ghost use Rattle.stripe.specs.Kept.{IsOf, AreOf, IsKept, IsHeld, CanCommit, IsEnd, IsMade, IsRecord, is_absent, entry_of, begun, committed};
+    ghost use Rattle.stripe.specs.Kept.{IsOf, AreOf, IsKept, IsHeld, CanCommit, IsPlain, IsMade, IsRecord, is_absent, entry_of, begun, committed, asked_by};
+    ghost use Rattle.jtypes.specs.Loading.{IsGiven};
     ghost use Rattle.stripe.specs.Seen.{call_of, begun_of, record_of};
 
     /// The calls that were made on the stripe, in their order.
@@ -82,81 +84,94 @@ impl<'a> Stripe<'a> {
         self.table.entry(key)
     }
 
-    /// Begins a call, and answers the entry that it finds. An Invoke or a Put that finds none has a place made for one.
-    pub fn begin(
+    /// Begins a call, and answers the entry that it finds. An Invoke or a Put that finds none has a place made for one, and so
+    /// has a Get where there is a loader, which isn't asked yet.
+    pub fn begin<L: Loader>(
         &mut self,
         caller: u8,
         number: u32,
         call: Call<'a>,
+        _loader: &L,
     ) -> Result<Option<i64>, BeginRefusal>
         requires idle { self.old.running ≡ None }
         requires of { IsOf self.old (key_of (call_of call)) }
         ensures entry { IfOk result (λ entry. entry ≡ entry_of self.old (key_of (call_of call.entry))) }
-        ensures begun { OnOk result (self.new ≡ begun self.old (record { caller = caller; number = number; call = call_of call.entry })) }
+        ensures begun { OnOk result (self.new ≡ begun self.old (record { caller = caller; number = number; call = call_of call.entry; loads = L.ASKS })) }
         ensures err { OnErr result (self.new ≡ self.old) }
         ensures full { (result ≡ Err JournalFull) ↔ (length self.old.records ≡ self.old.journal) }
-        ensures memory { result ≡ Err NoMemory → IsTrue (is_absent self.old.stored (call_of call.entry)) }
+        ensures memory { result ≡ Err NoMemory → IsTrue (is_absent L.ASKS self.old.stored (call_of call.entry)) }
         ensures entries { (k : ℤ) → entry_of self.new k ≡ entry_of self.old k }
-        ensures kept { (opening : Entries) → IsKept opening self.old → IsKept opening self.new }
+        ensures kept { (loads : Bool) (opening : Entries) → IsKept loads opening self.old → IsKept loads opening self.new }
     {
         if self.records.len() == self.journal {
             return Err(BeginRefusal::JournalFull);
         }
-        let before = self.table.find(&call)?;
+        let loads = L::ASKS;
+        let before = self.table.find(&call, loads)?;
         self.running = Some(OpenCall {
             caller,
             number,
             call,
+            loads,
             before,
         });
         Ok(before)
     }
 
-    /// Ends the call that was begun. An invocation is given what its run answered.
-    pub fn commit(&mut self, done: Option<Done>) -> Record<'a>
-        requires { CanCommit self.old done }
+    /// Ends the call that was begun. An invocation is given what its run answered, a `get` what the loader did if it was asked.
+    pub fn commit(&mut self, done: Option<Done>, asked: Option<LoadAnswer>) -> Record<'a>
+        requires { CanCommit self.old done asked }
         ensures record { (b : Begun) → self.old.running ≡ Some b → IsRecord b (entry_of self.old (key_of b.call)) (record_of result) }
         ensures committed { self.new ≡ committed self.old (record_of result) }
         ensures entry { entry_of self.new (key_of (call_of result.call)) ≡ result.after }
         ensures others { (k : ℤ) → ¬ (k ≡ key_of (call_of result.call)) → entry_of self.new k ≡ entry_of self.old k }
-        ensures kept { (opening : Entries) → IsKept opening self.old → IsKept opening self.new }
+        ensures asked { result.asked ≡ asked_by done asked }
+        ensures kept { (b : Begun) (opening : Entries) → self.old.running ≡ Some b → IsKept b.loads opening self.old → IsKept b.loads opening self.new }
     {
         let Some(begun) = self.running else {
             unreachable!()
         };
-        let record = begun.record(done);
+        let record = begun.record(done, asked);
         self.table.leave(record.call.key(), record.after);
         self.records.push_reserved(record);
         self.running = None;
         record
     }
 
-    /// Makes a call that isn't an invocation: it begins and ends at once.
+    /// Makes a call that is neither an invocation nor a `get`: it begins and ends at once.
     fn make(&mut self, caller: u8, number: u32, call: Call<'a>) -> Result<Record<'a>, BeginRefusal>
         requires idle { self.old.running ≡ None }
         requires of { IsOf self.old (key_of (call_of call)) }
-        requires plain { IsEnd (entry_of self.old (key_of (call_of call))) (call_of call) None }
-        ensures ok { IfOk result (λ r. IsMade self.old (record { caller = caller; number = number; call = call_of call.entry }) (record_of r) self.new) }
+        requires plain { IsPlain (call_of call) }
+        ensures ok { IfOk result (λ r. IsMade self.old (record { caller = caller; number = number; call = call_of call.entry; loads = false }) (record_of r) self.new) }
         ensures err { OnErr result (self.new ≡ self.old) }
         ensures full { (result ≡ Err JournalFull) ↔ (length self.old.records ≡ self.old.journal) }
-        ensures memory { result ≡ Err NoMemory → IsTrue (is_absent self.old.stored (call_of call.entry)) }
-        ensures kept { (opening : Entries) → IsKept opening self.old → IsKept opening self.new }
+        ensures memory { result ≡ Err NoMemory → IsTrue (is_absent false self.old.stored (call_of call.entry)) }
+        ensures kept { (loads : Bool) (opening : Entries) → IsKept loads opening self.old → IsKept loads opening self.new }
     {
-        self.begin(caller, number, call)?;
-        Ok(self.commit(None))
+        self.begin(caller, number, call, &NoLoader)?;
+        Ok(self.commit(None, None))
     }
 
-    /// `get` (JSR 107, `Cache`), of this caller and number.
-    pub fn get(&mut self, caller: u8, number: u32, key: i64) -> Result<Record<'a>, BeginRefusal>
+    /// `get` (JSR 107, `Cache`), of this caller and number. Where there is no entry the loader is asked for it, if there is one.
+    pub fn get<L: Loader>(
+        &mut self,
+        caller: u8,
+        number: u32,
+        key: i64,
+        loader: &L,
+    ) -> Result<Record<'a>, BeginRefusal>
         requires idle { self.old.running ≡ None }
         requires of { IsOf self.old key }
-        ensures ok { IfOk result (λ r. IsMade self.old (record { caller = caller; number = number; call = Get key }) (record_of r) self.new) }
+        ensures ok { IfOk result (λ r. IsMade self.old (record { caller = caller; number = number; call = Get key; loads = L.ASKS }) (record_of r) self.new) }
+        ensures given { IfOk result (λ r. IsGiven (L.gives loader.now) key r.asked) }
         ensures err { OnErr result (self.new ≡ self.old) }
         ensures full { (result ≡ Err JournalFull) ↔ (length self.old.records ≡ self.old.journal) }
-        ensures memory { ¬ (result ≡ Err NoMemory) }
-        ensures kept { (opening : Entries) → IsKept opening self.old → IsKept opening self.new }
+        ensures memory { result ≡ Err NoMemory → IsTrue (is_absent L.ASKS self.old.stored (Get key)) }
+        ensures kept { (opening : Entries) → IsKept L.ASKS opening self.old → IsKept L.ASKS opening self.new }
     {
-        self.make(caller, number, Call::Get { key })
+        let before = self.begin(caller, number, Call::Get { key }, loader)?;
+        Ok(self.commit(None, ask(loader, key, before)))
     }
 
     /// `put` (JSR 107, `Cache`), of this caller and number.
@@ -169,11 +184,11 @@ impl<'a> Stripe<'a> {
     ) -> Result<Record<'a>, BeginRefusal>
         requires idle { self.old.running ≡ None }
         requires of { IsOf self.old key }
-        ensures ok { IfOk result (λ r. IsMade self.old (record { caller = caller; number = number; call = Put key value }) (record_of r) self.new) }
+        ensures ok { IfOk result (λ r. IsMade self.old (record { caller = caller; number = number; call = Put key value; loads = false }) (record_of r) self.new) }
         ensures err { OnErr result (self.new ≡ self.old) }
         ensures full { (result ≡ Err JournalFull) ↔ (length self.old.records ≡ self.old.journal) }
-        ensures memory { result ≡ Err NoMemory → IsTrue (is_absent self.old.stored (Put key value)) }
-        ensures kept { (opening : Entries) → IsKept opening self.old → IsKept opening self.new }
+        ensures memory { result ≡ Err NoMemory → IsTrue (is_absent false self.old.stored (Put key value)) }
+        ensures kept { (loads : Bool) (opening : Entries) → IsKept loads opening self.old → IsKept loads opening self.new }
     {
         self.make(caller, number, Call::Put { key, value })
     }
@@ -182,11 +197,11 @@ impl<'a> Stripe<'a> {
     pub fn remove(&mut self, caller: u8, number: u32, key: i64) -> Result<Record<'a>, BeginRefusal>
         requires idle { self.old.running ≡ None }
         requires of { IsOf self.old key }
-        ensures ok { IfOk result (λ r. IsMade self.old (record { caller = caller; number = number; call = Remove key }) (record_of r) self.new) }
+        ensures ok { IfOk result (λ r. IsMade self.old (record { caller = caller; number = number; call = Remove key; loads = false }) (record_of r) self.new) }
         ensures err { OnErr result (self.new ≡ self.old) }
         ensures full { (result ≡ Err JournalFull) ↔ (length self.old.records ≡ self.old.journal) }
         ensures memory { ¬ (result ≡ Err NoMemory) }
-        ensures kept { (opening : Entries) → IsKept opening self.old → IsKept opening self.new }
+        ensures kept { (loads : Bool) (opening : Entries) → IsKept loads opening self.old → IsKept loads opening self.new }
     {
         self.make(caller, number, Call::Remove { key })
     }
@@ -200,11 +215,11 @@ impl<'a> Stripe<'a> {
     ) -> Result<Record<'a>, BeginRefusal>
         requires idle { self.old.running ≡ None }
         requires of { IsOf self.old key }
-        ensures ok { IfOk result (λ r. IsMade self.old (record { caller = caller; number = number; call = Contains key }) (record_of r) self.new) }
+        ensures ok { IfOk result (λ r. IsMade self.old (record { caller = caller; number = number; call = Contains key; loads = false }) (record_of r) self.new) }
         ensures err { OnErr result (self.new ≡ self.old) }
         ensures full { (result ≡ Err JournalFull) ↔ (length self.old.records ≡ self.old.journal) }
         ensures memory { ¬ (result ≡ Err NoMemory) }
-        ensures kept { (opening : Entries) → IsKept opening self.old → IsKept opening self.new }
+        ensures kept { (loads : Bool) (opening : Entries) → IsKept loads opening self.old → IsKept loads opening self.new }
     {
         self.make(caller, number, Call::Contains { key })
     }

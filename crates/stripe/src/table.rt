@@ -66,17 +66,17 @@ impl Table {
         self.get(key).flatten()
     }
 
-    /// Finds the entry of a call, and keeps a place for one that the call may make.
-    pub fn find(&mut self, call: &Call<'_>) -> Result<Option<i64>, BeginRefusal>
+    /// Finds the entry of a call, and keeps a place for one that the call may make, with a loader to ask or without one.
+    pub fn find(&mut self, call: &Call<'_>, loads: bool) -> Result<Option<i64>, BeginRefusal>
         ensures entry { IfOk result (λ entry. entry ≡ entry_in self.old (key_of (call_of call.now))) }
-        ensures held { OnOk result (self.new ≡ held self.old (call_of call.now)) }
+        ensures held { OnOk result (self.new ≡ held loads self.old (call_of call.now)) }
         ensures err { OnErr result (self.new ≡ self.old) }
-        ensures absent { OnErr result (IsTrue (is_absent self.old (call_of call.now))) }
+        ensures absent { OnErr result (IsTrue (is_absent loads self.old (call_of call.now))) }
         ensures memory { IsOkUnless result NoMemory }
     {
         let key = call.key();
         let found = self.get(key);
-        if found.is_none() && call.may_make() {
+        if found.is_none() && call.may_make(loads) {
             self.hold(key)?;
         }
         Ok(found.flatten())

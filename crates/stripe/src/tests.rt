@@ -1,6 +1,6 @@
 //! Calls on stripes, one after the other.
 
-ghost use Rattle.std.specs.Prelude.{◌≡◌, None, IsTrue, length};
+ghost use Rattle.std.specs.Prelude.{◌≡◌, None, IsTrue, false, length};
 ghost use Rattle.stripe.specs.Kept.{IsOf, IsEnd};
 ghost use Rattle.stripe.specs.Seen.{call_of};
 ghost use Rattle.stripe.specs.Tables.{IsNext};
@@ -41,7 +41,7 @@ fn is_ready(stripe: &Stripe<'_>, key: i64) -> bool
 
 /// How an invocation ends that found this entry; nothing for another call.
 fn end_of(call: &Call<'_>, before: Option<i64>, workspace: &mut Workspace) -> Option<Done>
-    ensures { IsEnd before (call_of call.now) result }
+    ensures { IsEnd false before (call_of call.now) result None }
 {
     match call {
         Call::Invoke { class, key, args } => {
@@ -64,11 +64,11 @@ fn made<'a>(
     if !is_ready(stripe, call.key()) {
         return None;
     }
-    let Ok(before) = stripe.begin(7, number, call) else {
+    let Ok(before) = stripe.begin(7, number, call, &NoLoader) else {
         return None;
     };
     let done = end_of(&call, before, workspace);
-    let record = stripe.commit(done);
+    let record = stripe.commit(done, None);
     Some((record.reply, record.after))
 }
 
@@ -360,7 +360,7 @@ fn open_in(stripe: &Stripe<'_>) -> Option<(u8, u32, i64, Option<i64>)> {
 
 /// Whether a put of 6 on key 5 begins on a stripe without an entry.
 fn begins(stripe: &mut Stripe<'_>) -> bool {
-    is_ready(stripe, 5) && stripe.begin(3, 9, Call::Put { key: 5, value: 6 }) == Ok(None)
+    is_ready(stripe, 5) && stripe.begin(3, 9, Call::Put { key: 5, value: 6 }, &NoLoader) == Ok(None)
 }
 
 #[test]
@@ -380,7 +380,7 @@ fn plain_told(stripe: &mut Stripe<'_>, number: u32) -> Told {
     }
     let made = match number {
         0 => stripe.put(0, number, -3, i64::MIN),
-        1 => stripe.get(0, number, -3),
+        1 => stripe.get(0, number, -3, &NoLoader),
         2 => stripe.remove(0, number, -3),
         _ => stripe.contains(0, number, -3),
     };

@@ -5,6 +5,7 @@ use Rattle.stripe.specs.declared.call.Reply.{Reply}
 use Rattle.stripe.specs.History.{Call, key_of}
 use Rattle.stripe.specs.Kept.{may_make}
 use Rattle.jtypes.specs.Entry.{Entry}
+use Rattle.jtypes.specs.declared.loader.LoadAnswer.{LoadAnswer}
 use Rattle.world.specs.World.{World, Running, Progress, Working, Settled, Start, Step, Finish, entries_now, stripe_in, history_of, starts_of, progress_of, running_call, with_progress, with_running, with_record, record_of_call, after_begin, after_start, stepped, after_step, finished, after_finish, apply}
 use Rattle.world.specs.Refused.{is_working, is_final, is_possible, is_start_on_full, is_start_on_absent}
 use Rattle.world.specs.Forward.{turns_of, turns_on}
@@ -16,7 +17,7 @@ no_some e = absurd (cc)
 
 pub some_turns : (q : Progress) → 0 < turns_of q
 some_turns (Working c s) = omega arith
-some_turns (Settled reply after) = omega arith
+some_turns (Settled reply after asked) = omega arith
 
 -- no turns are left exactly where no call runs
 pub no_turns : (o : Option Running) → turns_on (Some o) ≡ 0 → o ≡ None
@@ -35,7 +36,7 @@ step_moves w i = by (slice_get w.running i) refl
   where
     turn : (r : Running) (q : Progress) → slice_get w.running i ≡ Some (Some r) → Steps w i (stepped w i r q)
     turn r (Working c s) e = goes r _ e
-    turn r (Settled reply after) e = nothing
+    turn r (Settled reply after asked) e = nothing
 
     by : (o : Option (Option Running)) → slice_get w.running i ≡ o → Steps w i (after_step w i o)
     by None e = nothing
@@ -47,14 +48,15 @@ step_moves w i = by (slice_get w.running i) refl
 pub record Finishes (w : World) (i : ℕ) (r : Running) : Type 0 where
   pub reply : Reply
   pub after : Entry
-  pub is : apply w (Finish i) ≡ with_record w i (record_of_call r reply after)
+  pub asked : Option LoadAnswer
+  pub is : apply w (Finish i) ≡ with_record w i (record_of_call r reply after asked)
 
 pub finish_moves : (w : World) (i : ℕ) (r : Running) → slice_get w.running i ≡ Some (Some r) → is_possible w (Finish i) ≡ true → Finishes w i r
 finish_moves w i r e t = by r.progress refl (sym (ap is_final e) ∙ t)
   where
     by : (q : Progress) → r.progress ≡ q → not (is_working r.progress) ≡ true → Finishes w i r
     by (Working c s) is u = absurd (true≢false (sym u ∙ ap (λ q. not (is_working q)) is))
-    by (Settled reply after) is u = record { reply = reply; after = after; is = ap (after_finish w i) e ∙ ap (finished w i r) is }
+    by (Settled reply after asked) is u = record { reply = reply; after = after; asked = asked; is = ap (after_finish w i) e ∙ ap (finished w i r) is }
 
 -- ---- a start
 
@@ -78,5 +80,5 @@ both false b e = absurd (true≢false (sym e))
 pub full_of : (w : World) (caller : ℕ) (call : Call) → IsTrue (is_start_on_full w (Start caller call)) → length (history_of w (stripe_in w call)) ≡ w.journal
 full_of w caller call e = eqb-true (length (history_of w (stripe_in w call))) w.journal (both (is_possible w (Start caller call)) (length (history_of w (stripe_in w call)) == w.journal) e).1
 
-pub absent_of : (w : World) (caller : ℕ) (call : Call) → IsTrue (is_start_on_absent w (Start caller call)) → may_make call ≡ true
-absent_of w caller call e = (both (may_make call) _ (both (is_possible w (Start caller call)) _ e).1).0
+pub absent_of : (w : World) (caller : ℕ) (call : Call) → IsTrue (is_start_on_absent w (Start caller call)) → may_make false call ≡ true
+absent_of w caller call e = (both (may_make false call) _ (both (is_possible w (Start caller call)) _ e).1).0

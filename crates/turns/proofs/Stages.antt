@@ -5,6 +5,7 @@ use Rattle.std.proofs.lemmas.Option.{slice_get_within}
 use Rattle.std.proofs.lemmas.List.{length-set, length-map, length-replicate}
 use Rattle.std.proofs.lemmas.List.Sorted.{IsPermutation-refl, length_permutation}
 use Rattle.jtypes.specs.Entry.{Entry}
+use Rattle.jtypes.specs.declared.loader.LoadAnswer.{LoadAnswer}
 use Rattle.stripe.specs.declared.call.Reply.{Reply}
 use Rattle.stripe.specs.History.{Call, Record, key_of, stripe_of}
 use Rattle.stripe.specs.Kept.{may_make}
@@ -150,9 +151,9 @@ stepped_others w i v (goes r q e) j other = ap turns_on (get_other w.running i j
 
 -- ---- a finish
 
-module _ (s : Stage) (h : IsGoing s) (i k : ℕ) (r : Running) (number : slice_get s.numbers i ≡ Some (Some k)) (runs : slice_get s.world.running i ≡ Some (Some r)) (reply : Reply) (after : Entry) where
+module _ (s : Stage) (h : IsGoing s) (i k : ℕ) (r : Running) (number : slice_get s.numbers i ≡ Some (Some k)) (runs : slice_get s.world.running i ≡ Some (Some r)) (reply : Reply) (after : Entry) (asked : Option LoadAnswer) where
   abbrev its_record : Record
-  its_record = record_of_call r reply after
+  its_record = record_of_call r reply after asked
 
   abbrev pub ended : Stage
   ended = record { calls = s.calls; begun = s.begun; world = with_record s.world i its_record; numbers = slice_set s.numbers i None; replies = slice_set s.replies k (Some reply) }
@@ -255,7 +256,7 @@ module _ (s : Stage) (h : IsGoing s) (call : Call) (next : slice_get s.calls s.b
   this_call : {a b : Call} → Some a ≡ Some b → a ≡ b
   this_call e = cc e
 
-  pub going_passed : may_make call ≡ true → IsGoing passed
+  pub going_passed : may_make false call ≡ true → IsGoing passed
   going_passed may =
       record {
         replies = h.replies;
@@ -275,7 +276,7 @@ module _ (s : Stage) (h : IsGoing s) (call : Call) (next : slice_get s.calls s.b
       there j (Some m) (Some p) x = earlier_numbered j m p x
 
       by : (k : ℕ) (c : Call) → k < s.begun + 1 → slice_get s.calls k ≡ Some c → slice_get s.replies k ≡ Some None → (b : Bool) → (k == s.begun) ≡ b → RunsOrRefused passed k c
-      by k c lt e none true t = inr (subst (λ (x : Call). may_make x ≡ true) (this_call (sym next ∙ ap (slice_get s.calls) (sym (eqb-true k s.begun t)) ∙ e)) may)
+      by k c lt e none true t = inr (subst (λ (x : Call). may_make false x ≡ true) (this_call (sym next ∙ ap (slice_get s.calls) (sym (eqb-true k s.begun t)) ∙ e)) may)
       by k c lt e none false t = h.refused k c (later k lt (λ q. true≢false (sym (eq-eqb k s.begun q) ∙ t))) e none
 
   -- it runs

@@ -54,7 +54,7 @@ module _ (p : Parts) (h : IsSteady p) (i : ℕ) (x : Seated) (there : slice_get 
   entry_is : entry_of x.stripe (key_of call) ≡ entries_now (world_of p) (key_of call)
   entry_is = start_at.left (key_of call) of_stripe
 
-  pub start_done : (number : ℕ) (y : Seated) → x.running ≡ None → IsBegun x (record { caller = caller; number = number; call = call }) y → number ≡ starts_of (world_of p) caller
+  pub start_done : (number : ℕ) (y : Seated) → x.running ≡ None → IsBegun x (record { caller = caller; number = number; call = call; loads = false }) y → number ≡ starts_of (world_of p) caller
       → with_running (world_of p) i y.running ≡ apply (world_of p) (Start caller call)
   start_done number y none is same =
       let idle : slice_get (world_of p).running (stripe_in (world_of p) call) ≡ Some None = found ∙ ap Some none in
@@ -64,7 +64,7 @@ module _ (p : Parts) (h : IsSteady p) (i : ℕ) (x : Seated) (there : slice_get 
       ∙ ap (λ j. with_running (world_of p) j (Some (running_call caller (starts_of (world_of p) caller) call is.progress))) place in
       at ∙ sym (ap (after_start (world_of p) caller call) idle ∙ ap (after_begin (world_of p) caller call) goes)
 
-  pub start_forward : (number : ℕ) (y : Seated) → IsBegun x (record { caller = caller; number = number; call = call }) y → IsSome (progress_of (entries_now (world_of p) (key_of call)) call)
+  pub start_forward : (number : ℕ) (y : Seated) → IsBegun x (record { caller = caller; number = number; call = call; loads = false }) y → IsSome (progress_of (entries_now (world_of p) (key_of call)) call)
   start_forward number y is = ap is_some (ap (λ e. progress_of e call) (sym entry_is) ∙ is.is)
 
   start_ignored : IsSome x.running → apply (world_of p) (Start caller call) ≡ world_of p
@@ -77,8 +77,8 @@ module _ (p : Parts) (h : IsSteady p) (i : ℕ) (x : Seated) (there : slice_get 
   records_are : length x.stripe.records ≡ length (history_of (world_of p) (stripe_in (world_of p) call))
   records_are = ap length (start_at.records ∙ ap (history_of (world_of p)) place)
 
-  absent : IsTrue (is_absent x.stripe.stored call) → (may_make call && not (is_some (entries_now (world_of p) (key_of call)))) ≡ true
-  absent e = ap (λ o. may_make call && not (is_some o)) (sym entry_is) ∙ by (may_make call) (map.get x.stripe.stored (key_of call)) e
+  absent : IsTrue (is_absent false x.stripe.stored call) → (may_make false call && not (is_some (entries_now (world_of p) (key_of call)))) ≡ true
+  absent e = ap (λ o. may_make false call && not (is_some o)) (sym entry_is) ∙ by (may_make false call) (map.get x.stripe.stored (key_of call)) e
     where
       by : (b : Bool) (o : Option Entry) → (b && not (is_some o)) ≡ true → (b && not (is_some (option_flatten o))) ≡ true
       by true None e = e
@@ -86,7 +86,7 @@ module _ (p : Parts) (h : IsSteady p) (i : ℕ) (x : Seated) (there : slice_get 
       by false o e = absurd (true≢false (sym e))
 
   pub applied_start : (a : Applied) (new : World) → ((a ≡ Ignored) ↔ IsSome x.running) → ((a ≡ Refused JournalFull) ↔ ((x.running ≡ None) × (length x.stripe.records ≡ x.stripe.journal)))
-      → (a ≡ Refused NoMemory → IsTrue (is_absent x.stripe.stored call)) → (¬ (a ≡ Done) → new ≡ world_of p) → (a ≡ Done → new ≡ apply (world_of p) (Start caller call))
+      → (a ≡ Refused NoMemory → IsTrue (is_absent false x.stripe.stored call)) → (¬ (a ≡ Done) → new ≡ world_of p) → (a ≡ Done → new ≡ apply (world_of p) (Start caller call))
       → IsApplied (world_of p) (Start caller call) a new
   applied_start a new ignored full memory same done =
       record {
@@ -117,7 +117,7 @@ module _ (p : Parts) (h : IsSteady p) (i : ℕ) (x : Seated) (there : slice_get 
       on_absent : a ≡ Refused NoMemory → IsTrue (is_start_on_absent (world_of p) (Start caller call))
       on_absent e =
           let none : x.running ≡ None = not_some x.running (λ s. not_refused (sym (ignored.1 s) ∙ e)) in
-          ap (λ o. is_idle o && (may_make call && not (is_some (entries_now (world_of p) (key_of call))))) (found ∙ ap Some none) ∙ absent (memory e)
+          ap (λ o. is_idle o && (may_make false call && not (is_some (entries_now (world_of p) (key_of call))))) (found ∙ ap Some none) ∙ absent (memory e)
         where
           not_refused : Ignored ≡ Refused NoMemory → ⊥
           not_refused q = absurd (cc)
@@ -126,7 +126,7 @@ module _ (p : Parts) (h : IsSteady p) (i : ℕ) (x : Seated) (there : slice_get 
 
 step_settled : (w : World) (i : ℕ) (r : Running) (q : Progress) → slice_get w.running i ≡ Some (Some r) → r.progress ≡ q → with_running w i (Some (with_progress r (further q))) ≡ stepped w i r q
 step_settled w i r (Working c s) e is = refl
-step_settled w i r (Settled reply after) e is =
+step_settled w i r (Settled reply after asked) e is =
     ap (λ rs. record w { running = rs }) (ap (λ q. slice_set w.running i (Some (with_progress r q))) (sym is) ∙ set_same w.running i (Some r) e)
 
 step_is : (w : World) (i : ℕ) (o : Option Running) → slice_get w.running i ≡ Some o → with_running w i (turned o) ≡ after_step w i (Some o)
@@ -139,7 +139,7 @@ step_kept w i (Some r) e b = by r.progress b
   where
     by : (q : Progress) → is_working q ≡ false → stepped w i r q ≡ w
     by (Working c s) t = absurd (true≢false t)
-    by (Settled reply after) t = refl
+    by (Settled reply after asked) t = refl
 
 pub applied_step : (w : World) (i : ℕ) (o : Option Running) (a : Applied) (new : World) → slice_get w.running i ≡ Some o → a ≡ cond (works (Some o)) Done Ignored → new ≡ with_running w i (turned o)
     → IsApplied w (Step i) a new
@@ -197,7 +197,7 @@ kept_finish w i o e b = (ap (after_finish w i) e ∙ by o b, ap is_final e ∙ b
   where
     inner : (r : Running) (q : Progress) → not (is_working q) ≡ false → finished w i r q ≡ w
     inner r (Working c s) t = refl
-    inner r (Settled reply after) t = absurd (true≢false t)
+    inner r (Settled reply after asked) t = absurd (true≢false t)
 
     by : (o : Option Running) → is_final (Some o) ≡ false → after_finish w i (Some o) ≡ w
     by None t = refl

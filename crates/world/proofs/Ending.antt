@@ -106,7 +106,7 @@ module _ (p : Parts) (h : IsSteady p) (i : ℕ) (x y : Seated) (there : slice_ge
         journal = h.journal;
         same = many ∙ h.same;
         seats = ended_seats;
-        legal = legal_more (opening_entries (world_of p)) r p.finished h.legal (subst (λ e. Answers e r.call r.reply r.after) (old_at.left (key_of r.call) is.of) is.answers);
+        legal = legal_more false (opening_entries (world_of p)) r p.finished h.legal (subst (λ e. Answers false e r.call r.reply r.after r.asked) (old_at.left (key_of r.call) is.of) is.answers);
         room = ended_room;
         reserved = subst (λ n. n * p.journal ≤ reserved) (sym many) (omega (arith, h.reserved, room));
         numbers = ended_numbers;

@@ -40,13 +40,16 @@ module _ (e : Entry) (rs : List Record) (r : Record) (k : ℤ) where
 
 -- ---- legality
 
-module _ (opening : Entries) (r : Record) where
-  legal_after : (seen rs : List Record) → IsLegalAfter opening seen rs → Answers (entries_after opening (seen ++ rs) (key_of r.call)) r.call r.reply r.after → IsLegalAfter opening seen (rs ++ r ∷ [])
-  legal_after seen [] l a = (subst (λ (xs : List Record). Answers (entries_after opening xs (key_of r.call)) r.call r.reply r.after) (append-nil seen) a, tt)
-  legal_after seen (x ∷ xs) l a =
-      (l.0, legal_after (seen ++ x ∷ []) xs l.1 (subst (λ (ys : List Record). Answers (entries_after opening ys (key_of r.call)) r.call r.reply r.after) (sym (append_assoc seen (x ∷ []) xs)) a))
+module _ (loads : Bool) (opening : Entries) (r : Record) where
+  abbrev AnswersAfter : List Record → Type 0
+  AnswersAfter rs = Answers loads (entries_after opening rs (key_of r.call)) r.call r.reply r.after r.asked
 
-  pub legal_more : (rs : List Record) → IsLegal opening rs → Answers (entries_after opening rs (key_of r.call)) r.call r.reply r.after → IsLegal opening (rs ++ r ∷ [])
+  legal_after : (seen rs : List Record) → IsLegalAfter loads opening seen rs → AnswersAfter (seen ++ rs) → IsLegalAfter loads opening seen (rs ++ r ∷ [])
+  legal_after seen [] l a = (subst AnswersAfter (append-nil seen) a, tt)
+  legal_after seen (x ∷ xs) l a =
+      (l.0, legal_after (seen ++ x ∷ []) xs l.1 (subst AnswersAfter (sym (append_assoc seen (x ∷ []) xs)) a))
+
+  pub legal_more : (rs : List Record) → IsLegal loads opening rs → AnswersAfter rs → IsLegal loads opening (rs ++ r ∷ [])
   legal_more rs l a = legal_after [] rs l a
 
 -- ---- the part of a list on a stripe

@@ -30,28 +30,28 @@ module _ (n i : ℕ) where
       by true t with_it without = with_it
       by false t with_it without = without ∙ ap (λ v. entry_after v rs k) (sym (other t (int_eq (key_of r.call) k) refl))
 
-  pub legal_part : (opening : Entries) (seen rs : List Record) → IsLegalAfter opening seen rs → IsLegalAfter opening (records_on n i seen) (records_on n i rs)
-  legal_part opening seen [] l = tt
-  legal_part opening seen (r ∷ rs) l = by (is_on n i r) refl (legal_part opening (seen ++ r ∷ []) rs l.1)
+  pub legal_part : (loads : Bool) (opening : Entries) (seen rs : List Record) → IsLegalAfter loads opening seen rs → IsLegalAfter loads opening (records_on n i seen) (records_on n i rs)
+  legal_part loads opening seen [] l = tt
+  legal_part loads opening seen (r ∷ rs) l = by (is_on n i r) refl (legal_part loads opening (seen ++ r ∷ []) rs l.1)
     where
-      by : (b : Bool) → is_on n i r ≡ b → IsLegalAfter opening (records_on n i (seen ++ r ∷ [])) (records_on n i rs)
-          → IsLegalAfter opening (records_on n i seen) (cond b (r ∷ records_on n i rs) (records_on n i rs))
+      by : (b : Bool) → is_on n i r ≡ b → IsLegalAfter loads opening (records_on n i (seen ++ r ∷ [])) (records_on n i rs)
+          → IsLegalAfter loads opening (records_on n i seen) (cond b (r ∷ records_on n i rs) (records_on n i rs))
       by true t rest =
           let at : stripe_of n (key_of r.call) ≡ i = eqb-true (stripe_of n (key_of r.call)) i t in (
-            subst (λ e. Answers e r.call r.reply r.after) (sym (part_after (opening (key_of r.call)) seen (key_of r.call) at)) l.0,
-            subst (λ (xs : List Record). IsLegalAfter opening xs (records_on n i rs)) (part_there n i seen r at) rest,
+            subst (λ e. Answers loads e r.call r.reply r.after r.asked) (sym (part_after (opening (key_of r.call)) seen (key_of r.call) at)) l.0,
+            subst (λ (xs : List Record). IsLegalAfter loads opening xs (records_on n i rs)) (part_there n i seen r at) rest,
           )
       by false t rest =
-          subst (λ (xs : List Record). IsLegalAfter opening xs (records_on n i rs)) (part_elsewhere n i seen r (λ q. true≢false (sym (eq-eqb (stripe_of n (key_of r.call)) i q) ∙ t))) rest
+          subst (λ (xs : List Record). IsLegalAfter loads opening xs (records_on n i rs)) (part_elsewhere n i seen r (λ q. true≢false (sym (eq-eqb (stripe_of n (key_of r.call)) i q) ∙ t))) rest
 
 -- ---- all of it
 
-pub is_lawful : (opening : List Stored) (finished : List Record) (now : Entries) → IsLegal (entry_among opening) finished
+pub is_lawful : (opening : List Stored) (finished : List Record) (now : Entries) → IsLegal false (entry_among opening) finished
     → ((k : ℤ) → now k ≡ entries_after (entry_among opening) finished k) → IsLawful opening finished now
 is_lawful opening finished now legal left =
     record {
       legal = legal;
-      by_stripe = λ i. legal_part (length opening) i (entry_among opening) [] finished legal;
+      by_stripe = λ i. legal_part (length opening) i false (entry_among opening) [] finished legal;
       left = left;
       left_by_stripe = λ k. left k ∙ sym (part_after (length opening) (stripe_of (length opening) k) (entry_among opening k) finished k refl);
     }

@@ -45,7 +45,7 @@ opening_applied w (Step i) = turned (slice_get w.running i)
   where
     turn : (r : Running) (q : Progress) → (stepped w i r q).opening ≡ w.opening
     turn r (Working c s) = refl
-    turn r (Settled reply after) = refl
+    turn r (Settled reply after asked) = refl
 
     turned : (o : Option (Option Running)) → (after_step w i o).opening ≡ w.opening
     turned None = refl
@@ -55,7 +55,7 @@ opening_applied w (Finish i) = ended (slice_get w.running i)
   where
     end : (r : Running) (q : Progress) → (finished w i r q).opening ≡ w.opening
     end r (Working c s) = refl
-    end r (Settled reply after) = refl
+    end r (Settled reply after asked) = refl
 
     ended : (o : Option (Option Running)) → (after_finish w i o).opening ≡ w.opening
     ended None = refl

@@ -16,7 +16,7 @@ use Rattle.soundness.proofs.OneMeaning.{plain_step}
 use Rattle.stripe.specs.declared.call.OpenCall.{OpenCall}
 use Rattle.stripe.specs.History.{Call, Invoke, Begun, Record, Answers, key_of, invocation}
 use Rattle.stripe.specs.Seen.{call_of, begun_of}
-use Rattle.stripe.specs.Kept.{Kept, IsOf, IsRecord, CanCommit, entry_of, begun, committed}
+use Rattle.stripe.specs.Kept.{Kept, IsOf, IsEnd, IsRecord, CanCommit, entry_of, begun, committed}
 use Rattle.world.specs.World as world
 use Rattle.world.specs.World.{Progress, Working, Settled, Running, running_call, progress_of, record_of_call}
 use Rattle.world.specs.Refused.{works}
@@ -27,9 +27,9 @@ use Rattle.world.specs.Seating.{running_in}
 use Rattle.world.proofs.Calls.{start_zero, first_state, next_state, going_some, call_in, works_going, turned_goes, turned_ends, going_end, ended_progress}
 use Rattle.jtypes.specs.Profile.{Second}
 
--- each open call is under way, or ended
+-- each open call is under way, or ended, without a loader
 abbrev pub AreGoing : Kept → Machine → Option Done → Type 0
-AreGoing s m ended = (b : Begun) → s.running ≡ Some b → IsGoing (entry_of s (key_of b.call)) b.call ended m
+AreGoing s m ended = (b : Begun) → s.running ≡ Some b → IsGoing (entry_of s (key_of b.call)) b.call ended m × (b.loads ≡ false)
 
 no_some : {X P : Type 0} {x : X} → None ≡ Some x → P
 no_some e = absurd (cc)
@@ -37,7 +37,7 @@ no_some e = absurd (cc)
 module _ (s : Kept) (m : Machine) (ended : Option Done) (sound : AreGoing s m ended) where
   pub busy : (b : Begun) → s.running ≡ Some b → IsSome (running_in s m ended s.running)
   busy b e =
-      let p = going_some (entry_of s (key_of b.call)) b.call ended m (sound b e) in
+      let p = going_some (entry_of s (key_of b.call)) b.call ended m (sound b e).0 in
       ap is_some (ap (running_in s m ended) e ∙ ap (option_map (running_call b.caller b.number b.call)) p.1)
 
   pub none_runs : running_in s m ended s.running ≡ None → s.running ≡ None
@@ -67,7 +67,10 @@ before_in s o = entry_of s (key_of (call_of o.call))
 
 module _ (s : Kept) (m : Machine) (ended : Option Done) (sound : AreGoing s m ended) (o : OpenCall) (runs : Some (begun_of o) ≡ s.running) where
   open_going : IsGoing (before_in s o) (call_of o.call) ended m
-  open_going = sound (begun_of o) (sym runs)
+  open_going = (sound (begun_of o) (sym runs)).0
+
+  without : o.loads ≡ false
+  without = (sound (begun_of o) (sym runs)).1
 
   open_seen : running_in s m ended s.running ≡ call_in o.caller o.number (before_in s o) (call_of o.call) ended m
   open_seen = ap (running_in s m ended) (sym runs)
@@ -75,22 +78,24 @@ module _ (s : Kept) (m : Machine) (ended : Option Done) (sound : AreGoing s m en
   pub open_works : works (Some (running_in s m ended s.running)) ≡ not (is_ended (call_of o.call) ended)
   open_works = ap (λ r. works (Some r)) open_seen ∙ works_going o.caller o.number (before_in s o) (call_of o.call) ended m open_going
 
-  pub can_commit : is_ended (call_of o.call) ended ≡ true → CanCommit s ended
-  can_commit e = record { begun = begun_of o; running = sym runs; ends = going_end (before_in s o) (call_of o.call) ended m open_going e }
+  pub can_commit : is_ended (call_of o.call) ended ≡ true → CanCommit s ended None
+  can_commit e = record { begun = begun_of o; running = sym runs; ends = subst (λ l. IsEnd l (before_in s o) (call_of o.call) ended None) (sym without) (going_end (before_in s o) (call_of o.call) ended m open_going e) }
 
   -- the record that was made is that of the call
   pub open_ended : ((b now : Entry) → after_effect (effect b now) b ≡ now) → is_ended (call_of o.call) ended ≡ true → (r : Record) → IsRecord (begun_of o) (before_in s o) r → IsOf s (key_of (call_of o.call))
       → (new : Kept) (m' : Machine) → new ≡ committed s r → entry_of new (key_of r.call) ≡ r.after → ((k : ℤ) → ¬ (k ≡ key_of r.call) → entry_of new k ≡ entry_of s k)
       → IsEnded (record { stripe = s; running = running_in s m ended s.running }) r (record { stripe = new; running = running_in new m' None new.running })
   open_ended leads e r told of new m' is entry others =
+      let answers : Answers false (before_in s o) (call_of o.call) r.reply r.after r.asked = subst (λ l. Answers l (before_in s o) (call_of o.call) r.reply r.after r.asked) without told.answers in
       record {
-        running = running_call o.caller o.number (call_of o.call) (Settled r.reply r.after);
+        running = running_call o.caller o.number (call_of o.call) (Settled r.reply r.after r.asked);
         reply = r.reply;
         after = r.after;
-        runs = open_seen ∙ ap (option_map (running_call o.caller o.number (call_of o.call))) (ended_progress (before_in s o) (call_of o.call) ended m r.reply r.after open_going e told.answers leads);
+        asked = r.asked;
+        runs = open_seen ∙ ap (option_map (running_call o.caller o.number (call_of o.call))) (ended_progress (before_in s o) r.reply r.after r.asked (call_of o.call) ended m open_going e answers leads);
         settled = refl;
-        told = λ i. record { caller = told.caller i; number = told.number i; call = told.call i; reply = r.reply; after = r.after };
-        answers = subst (λ (x : Call). Answers (entry_of s (key_of x)) x r.reply r.after) (sym told.call) told.answers;
+        told = λ i. record { caller = told.caller i; number = told.number i; call = told.call i; reply = r.reply; after = r.after; asked = r.asked };
+        answers = subst (λ (x : Call). Answers false (entry_of s (key_of x)) x r.reply r.after r.asked) (sym told.call) answers;
         of = subst (λ (x : Call). IsOf s (key_of x)) (sym told.call) of;
         stripe = is;
         entry = entry;
@@ -107,16 +112,16 @@ followed c s (going.Ended d) m without (a, f, e, means, told) = (f, sym (plain_s
 -- ---- an invocation that is under way
 
 under_way_of : (before : Entry) (call : Call) (ended : Option Done) (m : Machine) (c : Class) (k : ℤ) (args : List Arg) → call ≡ Invoke c k args → is_ended call ended ≡ false → IsGoing before call ended m
-    → (ended ≡ None) × IsUnderWay c (invocation k args before) m
+    → (ended ≡ None) × IsUnderWay c (invocation false k args before) m
 under_way_of before call ended m c k args is not h =
     by ended (subst (λ x. is_ended x ended ≡ false) is not) (subst (λ x. IsGoing before x ended m) is h)
   where
-    by : (ended : Option Done) → is_ended (Invoke c k args) ended ≡ false → IsGoing before (Invoke c k args) ended m → (ended ≡ None) × IsUnderWay c (invocation k args before) m
+    by : (ended : Option Done) → is_ended (Invoke c k args) ended ≡ false → IsGoing before (Invoke c k args) ended m → (ended ≡ None) × IsUnderWay c (invocation false k args before) m
     by None e h = (refl, h)
     by (Some d) e h = absurd (true≢false e)
 
 module _ (s : Kept) (m : Machine) (ended : Option Done) (sound : AreGoing s m ended) (o : OpenCall) (runs : Some (begun_of o) ≡ s.running) (c : Class) (k : ℤ) (args : List Arg) (is : call_of o.call ≡ Invoke c k args) (not : is_ended (call_of o.call) ended ≡ false) where
-  way : (ended ≡ None) × IsUnderWay c (invocation k args (before_in s o)) m
+  way : (ended ≡ None) × IsUnderWay c (invocation false k args (before_in s o)) m
   way = under_way_of (before_in s o) (call_of o.call) ended m c k args is not (open_going s m ended sound o runs)
 
   unloaded : IsRunningWith false c way.1.state m
@@ -130,8 +135,10 @@ module _ (s : Kept) (m : Machine) (ended : Option Done) (sound : AreGoing s m en
 
   -- the open call is this invocation
   of_open : (done : Option Done) (new : Machine) → IsGoing (before_in s o) (Invoke c k args) done new → AreGoing s new done
-  of_open done new h b e =
-      subst (λ (x : Begun). IsGoing (entry_of s (key_of x.call)) x.call done new) (same_begun b e) (subst (λ x. IsGoing (before_in s o) x done new) (sym is) h)
+  of_open done new h b e = (
+    subst (λ (x : Begun). IsGoing (entry_of s (key_of x.call)) x.call done new) (same_begun b e) (subst (λ x. IsGoing (before_in s o) x done new) (sym is) h),
+    (sound b e).1,
+  )
 
   seen_as : (done : Option Done) (new : Machine) → running_in s new done s.running ≡ call_in o.caller o.number (before_in s o) (Invoke c k args) done new
   seen_as done new = ap (running_in s new done) (sym runs) ∙ ap (λ x. call_in o.caller o.number (before_in s o) x done new) is
@@ -153,7 +160,7 @@ module _ (s : Kept) (m : Machine) (ended : Option Done) (sound : AreGoing s m en
         (record {
           state = next.0;
           call_is = next.2 ∙ way.1.call_is;
-          is = ap (state_in c (invocation k args (before_in s o))) counts ∙ next_state c (invocation k args (before_in s o)) m.steps way.1.state next.0 way.1.is next.1;
+          is = ap (state_in c (invocation false k args (before_in s o))) counts ∙ next_state c (invocation false k args (before_in s o)) m.steps way.1.state next.0 way.1.is next.1;
           running = next.3;
         }))
 
@@ -168,7 +175,7 @@ module _ (s : Kept) (m : Machine) (ended : Option Done) (sound : AreGoing s m en
         let seen : running_in s new ended s.running ≡ Some (running_call o.caller o.number (Invoke c k args) (Working c next.0)) =
         ap (λ e. running_in s new e s.running) way.0 ∙ seen_as None new
         ∙ ap (λ x. option_map (running_call o.caller o.number (Invoke c k args)) (option_map (λ s. Working c s) x))
-        (ap (state_in c (invocation k args (before_in s o))) counts ∙ next_state c (invocation k args (before_in s o)) m.steps way.1.state next.0 way.1.is next.1) in
+        (ap (state_in c (invocation false k args (before_in s o))) counts ∙ next_state c (invocation false k args (before_in s o)) m.steps way.1.state next.0 way.1.is next.1) in
         let is : turns_on (Some (running_in s new ended s.running)) ≡ (step_limit Second - next.0.steps) + 2 = ap (λ r. turns_on (Some r)) seen in
         let was : turns_on (Some (running_in s m ended s.running)) ≡ (step_limit Second - way.1.state.steps) + 2 = ap (λ r. turns_on (Some r)) seen_old in
         let now = next.3.state.at.rest.steps in
@@ -202,19 +209,21 @@ module _ (s : Kept) (m : Machine) (ended : Option Done) (sound : AreGoing s m en
 -- ---- an invocation begins
 
 module _ (old new : Kept) (b : Begun) (is : new ≡ begun old b) (same : (k : ℤ) → entry_of new k ≡ entry_of old k) (c : Class) (k : ℤ) (args : List Arg) (call_is : b.call ≡ Invoke c k args) (m : Machine)
-    (h : IsStarted c (invocation k args (entry_of old (key_of b.call))) m) where
+    (h : IsStarted c (invocation false k args (entry_of old (key_of b.call))) m) where
   zero_steps : m.steps ≡ 0
-  zero_steps = sym h.running.state.at.rest.steps ∙ start_zero c (invocation k args (entry_of old (key_of b.call))) h.state h.starts
+  zero_steps = sym h.running.state.at.rest.steps ∙ start_zero c (invocation false k args (entry_of old (key_of b.call))) h.state h.starts
 
-  first : state_in c (invocation k args (entry_of old (key_of b.call))) m.steps ≡ Some h.state
-  first = ap (state_in c (invocation k args (entry_of old (key_of b.call)))) zero_steps ∙ first_state c (invocation k args (entry_of old (key_of b.call))) h.state h.starts
+  first : state_in c (invocation false k args (entry_of old (key_of b.call))) m.steps ≡ Some h.state
+  first = ap (state_in c (invocation false k args (entry_of old (key_of b.call)))) zero_steps ∙ first_state c (invocation false k args (entry_of old (key_of b.call))) h.state h.starts
 
-  pub start_going : AreGoing new m None
-  start_going x e =
-      subst (λ (y : Begun). IsGoing (entry_of new (key_of y.call)) y.call None m) (this x (sym (ap (λ (s : Kept). s.running) is) ∙ e))
-      (subst (λ v. IsGoing v b.call None m) (sym (same (key_of b.call)))
-      (subst (λ y. IsGoing (entry_of old (key_of b.call)) y None m) (sym call_is)
-      (record { state = h.state; call_is = h.call_is; is = first; running = h.running })))
+  pub start_going : b.loads ≡ false → AreGoing new m None
+  start_going without x e =
+      subst (λ (y : Begun). IsGoing (entry_of new (key_of y.call)) y.call None m × (y.loads ≡ false)) (this x (sym (ap (λ (s : Kept). s.running) is) ∙ e)) (
+        subst (λ v. IsGoing v b.call None m) (sym (same (key_of b.call)))
+            (subst (λ y. IsGoing (entry_of old (key_of b.call)) y None m) (sym call_is)
+            (record { state = h.state; call_is = h.call_is; is = first; running = h.running })),
+        without,
+      )
     where
       this : (x : Begun) → Some b ≡ Some x → b ≡ x
       this x q = cc q

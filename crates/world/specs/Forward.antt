@@ -8,7 +8,7 @@ use Rattle.jtypes.specs.Profile.{Second}
 -- how many events a call still takes at most: its steps, of which an accepted class takes no more than the limit, and the finish
 abbrev pub turns_of : Progress → ℕ
 turns_of (Working c s) = (step_limit Second - s.steps) + 2
-turns_of (Settled reply after) = 1
+turns_of (Settled reply after asked) = 1
 
 abbrev pub turns_on : Option (Option Running) → ℕ
 turns_on (Some (Some r)) = turns_of r.progress

@@ -27,8 +27,8 @@ state_in c call steps = option_and_then (state_after steps c) (start c call)
 
 -- a call that found this entry: an invocation that ended so, or that is in the state after so many steps, or another call
 abbrev pub progress_in : Entry → ℕ → Call → Option Done → Option Progress
-progress_in before steps (Invoke c k args) (Some d) = Some (Settled (Result d.outcome) (after_effect d.effect before))
-progress_in before steps (Invoke c k args) None = option_map (λ s. Working c s) (state_in c (invocation k args before) steps)
+progress_in before steps (Invoke c k args) (Some d) = Some (Settled (Result d.outcome) (after_effect d.effect before) d.asked)
+progress_in before steps (Invoke c k args) None = option_map (λ s. Working c s) (state_in c (invocation false k args before) steps)
 progress_in before steps call _ = progress_of before call
 
 -- whether a call is final: it isn't an invocation, or that has ended
@@ -45,8 +45,8 @@ pub record IsUnderWay (c : Class) (call : Invocation) (m : Machine) : Type 0 whe
 
 -- an invocation is under way, or ended as it means; another call has no end of an invocation
 abbrev pub IsGoing : Entry → Call → Option Done → Machine → Type 0
-IsGoing before (Invoke c k args) (Some d) m = IsMeant c (invocation k args before) d
-IsGoing before (Invoke c k args) None m = IsUnderWay c (invocation k args before) m
+IsGoing before (Invoke c k args) (Some d) m = IsMeant c (invocation false k args before) d
+IsGoing before (Invoke c k args) None m = IsUnderWay c (invocation false k args before) m
 IsGoing before _ (Some d) m = ⊥
 IsGoing before _ None m = Unit {0}
 

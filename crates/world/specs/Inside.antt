@@ -1,5 +1,5 @@
 -- What is true of every world.
-use Rattle.std.specs.Prelude.{◌≡◌, ℕ, ◌+◌, ◌-◌, ◌*◌, ◌<◌, ◌≤◌, ℤ, List, length, map, vec_capacity, Option, Some, IsSome, slice_get, slice_index, sum_by}
+use Rattle.std.specs.Prelude.{◌≡◌, false, ℕ, ◌+◌, ◌-◌, ◌*◌, ◌<◌, ◌≤◌, ℤ, List, length, map, vec_capacity, Option, Some, IsSome, slice_get, slice_index, sum_by}
 use Rattle.stripe.specs.History.{Record, key_of, IsLegal}
 use Rattle.stripe.specs.Seen.{record_of}
 use Rattle.stripe.specs.Stored.{Stored}
@@ -63,7 +63,7 @@ pub record IsSteady (p : Parts) : Type 0 where
   pub journal : IsJournal p.journal
   pub same : length p.seats ≡ length p.opening
   pub seats : AreSeats (world_of p) p.seats
-  pub legal : IsLegal (opening_entries (world_of p)) p.finished
+  pub legal : IsLegal false (opening_entries (world_of p)) p.finished
   pub room : length p.finished + sum_by room_of p.seats ≡ length p.seats * p.journal
   pub reserved : length p.seats * p.journal ≤ p.reserved
   pub numbers : (caller : ℕ) → caller < 256 → slice_index p.starts caller ≡ starts_of (world_of p) caller

@@ -10,7 +10,7 @@ use Rattle.world.specs.World.{World, Running, Progress, Working, Settled, Event,
 
 abbrev pub is_working : Progress → Bool
 is_working (Working c s) = true
-is_working (Settled reply after) = false
+is_working (Settled reply after asked) = false
 
 -- a call runs on the stripe, and it isn't final; or it is final; or no call runs on it
 abbrev pub works : Option (Option Running) → Bool
@@ -42,7 +42,7 @@ is_start_on_full w _ = false
 
 -- a possible start of a call that may make an entry, on a key without one
 abbrev pub is_start_on_absent : World → Event → Bool
-is_start_on_absent w (Start caller call) = is_possible w (Start caller call) && (may_make call && not (is_some (entries_now w (key_of call))))
+is_start_on_absent w (Start caller call) = is_possible w (Start caller call) && (may_make false call && not (is_some (entries_now w (key_of call))))
 is_start_on_absent w _ = false
 
 -- what a refused event is

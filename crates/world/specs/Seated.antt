@@ -1,6 +1,7 @@
 -- A stripe with the call that runs on it, as contracts see it.
-use Rattle.std.specs.Prelude.{◌≡◌, ℕ, ℤ, List, slice_get, Option, Some, None}
+use Rattle.std.specs.Prelude.{◌≡◌, false, ℕ, ℤ, List, slice_get, Option, Some, None}
 use Rattle.jtypes.specs.Entry.{Entry}
+use Rattle.jtypes.specs.declared.loader.LoadAnswer.{LoadAnswer}
 use Rattle.verdict.specs.Machine.{step}
 use Rattle.stripe.specs.declared.call.Reply.{Reply}
 use Rattle.stripe.specs.History.{Begun, Record, Answers, key_of}
@@ -30,7 +31,7 @@ pub record IsBegun (old : Seated) (b : Begun) (new : Seated) : Type 0 where
 -- a step further, if the call isn't final
 abbrev pub further : Progress → Progress
 further (Working c s) = progress_after c s (step c s)
-further (Settled reply after) = Settled reply after
+further (Settled reply after asked) = Settled reply after asked
 
 abbrev pub turned : Option Running → Option Running
 turned None = None
@@ -41,10 +42,11 @@ pub record IsEnded (old : Seated) (r : Record) (new : Seated) : Type 0 where
   pub running : Running
   pub reply : Reply
   pub after : Entry
+  pub asked : Option LoadAnswer
   pub runs : old.running ≡ Some running
-  pub settled : running.progress ≡ Settled reply after
-  pub told : r ≡ record_of_call running reply after
-  pub answers : Answers (entry_of old.stripe (key_of r.call)) r.call r.reply r.after
+  pub settled : running.progress ≡ Settled reply after asked
+  pub told : r ≡ record_of_call running reply after asked
+  pub answers : Answers false (entry_of old.stripe (key_of r.call)) r.call r.reply r.after r.asked
   pub of : IsOf old.stripe (key_of r.call)
   pub stripe : new.stripe ≡ committed old.stripe r
   pub entry : entry_of new.stripe (key_of r.call) ≡ r.after

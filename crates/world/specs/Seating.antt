@@ -1,5 +1,5 @@
 -- What is true of every seat.
-use Rattle.std.specs.Prelude.{◌≡◌, Option, Some, None, option_map}
+use Rattle.std.specs.Prelude.{◌≡◌, false, Option, Some, None, option_map}
 use Rattle.machine.specs.declared.machine.Machine.{Machine}
 use Rattle.machine.specs.declared.done.Done.{Done}
 use Rattle.stripe.specs.History.{Begun, key_of}
@@ -18,4 +18,4 @@ abbrev pub seated : Inside → Seated
 seated x = record { stripe = x.stripe; running = running_in x.stripe x.workspace x.done x.stripe.running }
 
 abbrev pub IsSound : Inside → Type 0
-IsSound x = (b : Begun) → x.stripe.running ≡ Some b → IsGoing (entry_of x.stripe (key_of b.call)) b.call x.done x.workspace
+IsSound x = (b : Begun) → x.stripe.running ≡ Some b → IsGoing (entry_of x.stripe (key_of b.call)) b.call x.done x.workspace × (b.loads ≡ false)

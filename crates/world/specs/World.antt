@@ -1,6 +1,7 @@
 -- A world: running calls, and the calls that are finished. One event is a start, one instruction, or a finish (JSR 107, Cache and EntryProcessor).
 use Rattle.std.specs.Prelude.{ℕ, ◌+◌, ◌==◌, Bool, false, List, [], ◌∷◌, ◌++◌, Option, Some, None, is_some, slice_get, slice_set, replicate, length, filter, count_by}
 use Rattle.jtypes.specs.Entry.{Entry}
+use Rattle.jtypes.specs.declared.loader.LoadAnswer.{LoadAnswer}
 use Rattle.typecheck.specs.Typing.{Class}
 use Rattle.verdict.specs.Machine.{State, Next, Goes, Ends, start, step}
 use Rattle.stripe.specs.declared.call.Reply.{Reply}
@@ -8,10 +9,10 @@ use Rattle.stripe.specs.declared.call.Reply.TheVariants.{Result, Done, Value, Fl
 use Rattle.stripe.specs.History.{Call, Invoke, Get, Put, Remove, Contains, Record, Entries, key_of, entries_after, invocation, stripe_of}
 use Rattle.stripe.specs.Stored.{Stored, entry_among}
 
--- how far a running call is: in a state of its class, or final, with its reply and the entry that it leaves
+-- how far a running call is: in a state of its class, or final, with its reply, the entry that it leaves, and what a loader answered if it was asked
 pub data Progress : Type 0 where
   Working : Class → State → Progress
-  Settled : Reply → Entry → Progress
+  Settled : Reply → Entry → (asked : Option LoadAnswer) → Progress
 
 pub record Running : Type 0 where
   pub caller : ℕ
@@ -65,13 +66,13 @@ abbrev pub begun : Class → Option State → Option Progress
 begun c None = None
 begun c (Some s) = Some (Working c s)
 
--- a call that isn't an invocation is final at its start
+-- a call that isn't an invocation is final at its start; no loader is asked
 abbrev pub progress_of : Entry → Call → Option Progress
-progress_of before (Invoke c k args) = begun c (start c (invocation k args before))
-progress_of before (Get k) = Some (Settled (Value before) before)
-progress_of before (Put k v) = Some (Settled Done (Some v))
-progress_of before (Remove k) = Some (Settled (Flag (is_some before)) None)
-progress_of before (Contains k) = Some (Settled (Flag (is_some before)) before)
+progress_of before (Invoke c k args) = begun c (start c (invocation false k args before))
+progress_of before (Get k) = Some (Settled (Value before) before None)
+progress_of before (Put k v) = Some (Settled Done (Some v) None)
+progress_of before (Remove k) = Some (Settled (Flag (is_some before)) None None)
+progress_of before (Contains k) = Some (Settled (Flag (is_some before)) before None)
 
 -- ---- numbers
 
@@ -103,7 +104,7 @@ after_start w caller call _ = w
 abbrev pub progress_after : Class → State → Option Next → Progress
 progress_after c s None = Working c s
 progress_after c s (Some (Goes t)) = Working c t
-progress_after c s (Some (Ends f)) = Settled (Result f.outcome) f.entry
+progress_after c s (Some (Ends f)) = Settled (Result f.outcome) f.entry f.asked
 
 abbrev pub with_progress : Running → Progress → Running
 with_progress r p = running_call r.caller r.number r.call p
@@ -111,14 +112,14 @@ with_progress r p = running_call r.caller r.number r.call p
 -- a step is possible where a call runs that is not final
 abbrev pub stepped : World → ℕ → Running → Progress → World
 stepped w i r (Working c s) = with_running w i (Some (with_progress r (progress_after c s (step c s))))
-stepped w i r (Settled reply after) = w
+stepped w i r (Settled reply after asked) = w
 
 abbrev pub after_step : World → ℕ → Option (Option Running) → World
 after_step w i (Some (Some r)) = stepped w i r r.progress
 after_step w i _ = w
 
-abbrev pub record_of_call : Running → Reply → Entry → Record
-record_of_call r reply after = record { caller = r.caller; number = r.number; call = r.call; reply = reply; after = after }
+abbrev pub record_of_call : Running → Reply → Entry → Option LoadAnswer → Record
+record_of_call r reply after asked = record { caller = r.caller; number = r.number; call = r.call; reply = reply; after = after; asked = asked }
 
 -- a record more, and no call runs on the stripe
 abbrev pub with_record : World → ℕ → Record → World
@@ -127,7 +128,7 @@ with_record w i r = record w { running = slice_set w.running i None; finished = 
 -- a finish is possible where a call runs that is final
 abbrev pub finished : World → ℕ → Running → Progress → World
 finished w i r (Working c s) = w
-finished w i r (Settled reply after) = with_record w i (record_of_call r reply after)
+finished w i r (Settled reply after asked) = with_record w i (record_of_call r reply after asked)
 
 abbrev pub after_finish : World → ℕ → Option (Option Running) → World
 after_finish w i (Some (Some r)) = finished w i r r.progress

@@ -96,15 +96,15 @@ impl<'a> Seat<'a> {
     pub fn start(&mut self, caller: u8, number: u32, call: Call<'a>) -> Applied
         requires { IsOf self.old.stripe (key_of (call_of call)) }
         ensures ignored { (result ≡ Applied.Ignored) ↔ IsSome self.old.running }
-        ensures done { result ≡ Applied.Done → IsBegun self.old (record { caller = caller; number = number; call = call_of call.entry }) self.new }
+        ensures done { result ≡ Applied.Done → IsBegun self.old (record { caller = caller; number = number; call = call_of call.entry; loads = false }) self.new }
         ensures same { ¬ (result ≡ Applied.Done) → self.new ≡ self.old }
         ensures full { (result ≡ Applied.Refused JournalFull) ↔ ((self.old.running ≡ None) × (length self.old.stripe.records ≡ self.old.stripe.journal)) }
-        ensures memory { result ≡ Applied.Refused NoMemory → IsTrue (is_absent self.old.stripe.stored (call_of call.entry)) }
+        ensures memory { result ≡ Applied.Refused NoMemory → IsTrue (is_absent false self.old.stripe.stored (call_of call.entry)) }
     {
         if self.stripe.open().is_some() {
             return Applied::Ignored;
         }
-        match self.stripe.begin(caller, number, call) {
+        match self.stripe.begin(caller, number, call, &NoLoader) {
             Ok(before) => {
                 self.done = None;
                 if let Call::Invoke { class, key, args } = call {
@@ -151,7 +151,7 @@ impl<'a> Seat<'a> {
         if !is_ended(&open.call, &self.done) {
             return None;
         }
-        let record = self.stripe.commit(self.done);
+        let record = self.stripe.commit(self.done, None);
         self.done = None;
         Some(record)
     }

@@ -179,7 +179,7 @@ impl<'a> World<'a> {
     /// The finished calls are a legal history from the opening entries, and so are those of each stripe: each answers on the entry
     /// that those before it leave.
     pub fn is_legal(&self)
-        ensures legal { IsLegal (opening_entries self.now) self.now.finished }
+        ensures legal { IsLegal false (opening_entries self.now) self.now.finished }
         ensures lawful { IsLawful self.now.opening self.now.finished (entries_now self.now) }
     {
         let _seats = &self.seats;
@@ -229,7 +229,7 @@ impl<'a> World<'a> {
     pub fn close(self) -> (Tables, Vec<Record<'a>>)
         requires { NoneRuns self }
         ensures finished { map record_of result.1.items ≡ self.entry.finished }
-        ensures legal { IsLegal (opening_entries self.entry) self.entry.finished }
+        ensures legal { IsLegal false (opening_entries self.entry) self.entry.finished }
         ensures left { (k : ℤ) → entry_among result.0 k ≡ entries_now self.entry k }
         ensures stripes { length result.0 ≡ length self.entry.opening }
         ensures lawful { IsLawful self.entry.opening (map record_of result.1.items) (entry_among result.0) }

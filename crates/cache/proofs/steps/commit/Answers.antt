@@ -1,4 +1,4 @@
-use Rattle.std.proofs.Common.{◌≡◌, ◌∷◌, List, ℕ, length, get_or, ap, sym, subst, ◌∙◌}
+use Rattle.std.proofs.Common.{◌≡◌, false, ◌∷◌, List, ℕ, length, get_or, ap, sym, subst, ◌∙◌}
 use Rattle.std.proofs.lemmas.List.{length-map}
 use Rattle.atomic_table.specs.Table.{rest}
 use Rattle.stripe.specs.History.{Record, key_of}
@@ -19,5 +19,8 @@ returns-clause-committed c = λ y b is running.
       is = λ t. (c.args.index, now t) ∷ none_left t;
       made = subst (λ (x : Kept). IsRecord b (entry_of x (key_of b.call)) r) same (c.commit.ensures.record b (ap (λ (x : Kept). x.running) same ∙ running));
       place_is = sym (length-map c.history-place.result.now record_of) ∙ ap (λ (l : List Record). length l) c.history-place.ensures.records ∙ ap (λ (x : Kept). length x.records) same;
-      kept = λ opening k. subst (λ (x : Kept). IsKept opening x) now (c.commit.ensures.kept opening (subst (λ (x : Kept). IsKept opening x) (sym same) k));
+      kept = λ without opening k.
+          let before : IsKept b.loads opening c.slot_mut-stripe.result.now = subst (λ l. IsKept l opening c.slot_mut-stripe.result.now) (sym without) (subst (λ (x : Kept). IsKept false opening x) (sym same) k) in
+          let after : IsKept b.loads opening c.commit.new.self = c.commit.ensures.kept b opening (ap (λ (x : Kept). x.running) same ∙ running) before in
+          subst (λ (x : Kept). IsKept false opening x) now (subst (λ l. IsKept l opening c.commit.new.self) without after);
     }

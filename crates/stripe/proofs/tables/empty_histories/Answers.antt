@@ -1,4 +1,4 @@
-use Rattle.std.proofs.Common.{rules, arith, ◌≡◌, ◌+◌, ◌≤◌, length, vec_capacity, refl, sym, ap, subst, ◌∙◌}
+use Rattle.std.proofs.Common.{arith, subst}
 use Rattle.std.proofs.lemmas.Grind.{common_steps}
 use Rattle.stripe.specs.Room.{AreEmpty}
 use Rattle.stripe.proofs.Fresh.{none_empty, one_more_empty}

@@ -1,11 +1,11 @@
-use Rattle.std.proofs.Common.{rules, arith, ◌≡◌, ◌+◌, ◌≤◌, length, vec_capacity, [], ◌∷◌, ◌++◌, All, refl, sym, ap, subst, ◌∙◌}
+use Rattle.std.proofs.Common.{arith, ◌≡◌, length, [], ◌∷◌, ◌++◌, All, sym, ap, subst, ◌∙◌}
 use Rattle.std.proofs.lemmas.Grind.{common_steps}
 use Rattle.std.proofs.lemmas.List.{replicate-append-replicate, length-replicate}
 use Rattle.std.specs.Prelude.{replicate}
 use Rattle.std.specs.FinMap as map
 use Rattle.std.proofs.lemmas.List.Elements.{All-replicate}
 use Rattle.stripe.specs.Stored.{Stored, HasValues}
-use Rattle.stripe.specs.Tables.{IsCount, AreTables}
+use Rattle.stripe.specs.Tables.{IsCount}
 use Rattle.stripe.proofs.Fresh.{no_values}
 use Rattle.stripe.proofs.tables.empty_tables.Goals as goal
 

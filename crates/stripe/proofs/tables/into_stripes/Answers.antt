@@ -1,4 +1,4 @@
-use Rattle.std.proofs.Common.{rules, arith, ◌≡◌, ℕ, suc, ◌+◌, ◌<◌, ◌≤◌, ◌++◌, ◌∷◌, [], length, map, vec_capacity, List, All, Some, None, refl, sym, ap, subst, ◌∙◌, append_assoc}
+use Rattle.std.proofs.Common.{arith, ◌≡◌, ℕ, suc, ◌+◌, ◌<◌, ◌++◌, ◌∷◌, [], length, map, List, All, None, sym, ap, subst, ◌∙◌, append_assoc}
 use Rattle.std.proofs.lemmas.List.{length-append, append-nil}
 use Rattle.std.proofs.lemmas.List.Elements.{All-rest, All-head}
 use Rattle.std.proofs.lemmas.Grind.{common_steps}
@@ -7,7 +7,7 @@ use Rattle.stripe.specs.declared.call.Record.{Record}
 use Rattle.stripe.specs.Stored.{Stored, HasValues}
 use Rattle.stripe.specs.Seen.{record_of}
 use Rattle.stripe.specs.Kept.{Kept, fresh}
-use Rattle.stripe.specs.Tables.{fresh_from, fresh_stripes}
+use Rattle.stripe.specs.Tables.{fresh_from}
 use Rattle.stripe.specs.Room.{AreEmpty}
 use Rattle.stripe.proofs.Fresh.{one_less_empty, popped_none, popped_room, fresh_more, length_fresh, sound_fresh, nothing}
 use Rattle.stripe.proofs.tables.into_stripes.Goals as goal

@@ -1,4 +1,4 @@
-use Rattle.std.proofs.Common.{refl, ap, sym, subst, ◌∙◌, ◌≡◌, ◌≤◌, ◌++◌, [], ◌∷◌, List, ℕ, ℤ, length, Err, true, set, arith, length-append, length-set}
+use Rattle.std.proofs.Common.{refl, ap, sym, subst, ◌∙◌, ◌≡◌, ◌≤◌, ◌++◌, [], ◌∷◌, List, ℕ, ℤ, length, Err, None, true, false, set, arith, length-append, length-set}
 use Rattle.std.proofs.lemmas.Grind.{common_steps}
 use Rattle.std.proofs.lemmas.List.{length-map, map-append}
 use Rattle.stripe.specs.History.{Begun, Record, key_of, stripe_of}
@@ -39,17 +39,17 @@ pub commit-place-requires-clause-held : goal.commit-place-requires-clause-held
 commit-place-requires-clause-held g c =
     let s = c.seat.inside in
     let t = c.take.ensures.taken s.made (part s.caller (receipts_of s.receipts.items) s.full) c.seat.invariant.known in
-    let b : Begun = record { caller = s.caller; number = c.len-number.result; call = call_of c.args.call } in
+    let b : Begun = record { caller = s.caller; number = c.len-number.result; call = call_of c.args.call; loads = false } in
     let u = c.in-Ok.ensures.ok t.stripe (ap (λ (m : Sat). m.1) t.is) in
     let ends = c.requires.ends c.in-Ok.before c.end.result c.end.ensures in
-    (begun t.stripe b, u.is, record { begun = b; running = refl; ends = subst (λ (e : Entry). IsEnd e (call_of c.args.call) c.end.result) (u.found ∙ sym (u.same (key_of b.call))) ends })
+    (begun t.stripe b, u.is, record { begun = b; running = refl; ends = subst (λ (e : Entry). IsEnd false e (call_of c.args.call) c.end.result None) (u.found ∙ sym (u.same (key_of b.call))) ends })
 
 pub tell-requires-clause-held : goal.tell-requires-clause-held
 tell-requires-clause-held g c =
     let s = c.seat.inside in
     let p : Part = part s.caller (receipts_of s.receipts.items) s.full in
     let t = c.take.ensures.taken s.made p c.seat.invariant.known in
-    let b : Begun = record { caller = s.caller; number = c.len-number.result; call = call_of c.args.call } in
+    let b : Begun = record { caller = s.caller; number = c.len-number.result; call = call_of c.args.call; loads = false } in
     let u = c.in-Ok.ensures.ok t.stripe (ap (λ (m : Sat). m.1) t.is) in
     let r : Record = record_of c.commit-place.result.0 in
     let w = c.commit-place.ensures.committed (begun t.stripe b) b u.is refl in
@@ -62,7 +62,7 @@ tell-requires-clause-held g c =
       stripe = committed (begun t.stripe b) r;
       one = r;
       is = λ k. (view k, w.is k);
-      later = record { stripes = refl; place = refl; journal = refl; idle = refl; kept = λ opening h. w.kept opening (u.kept opening h) };
+      later = record { stripes = refl; place = refl; journal = refl; idle = refl; kept = λ opening h. w.kept refl opening (u.kept opening h) };
       more = refl;
       few = let whole = u.room in let few = t.free.few in omega (arith, few, whole, length-append t.stripe.records (r ∷ []));
       caller = w.made.caller;
@@ -74,7 +74,7 @@ invariant_of-seat-in-Ok g c =
     let s = c.seat.inside in
     let p : Part = part s.caller (receipts_of s.receipts.items) s.full in
     let t = c.take.ensures.taken s.made p c.seat.invariant.known in
-    let b : Begun = record { caller = s.caller; number = c.len-number.result; call = call_of c.args.call } in
+    let b : Begun = record { caller = s.caller; number = c.len-number.result; call = call_of c.args.call; loads = false } in
     let u = c.in-Ok.ensures.ok t.stripe (ap (λ (m : Sat). m.1) t.is) in
     let r0 = c.commit-place.result.0 in
     let r : Record = record_of r0 in
@@ -92,7 +92,7 @@ returns-in-Ok-clause-ok g c =
     let s = c.seat.inside in
     let p : Part = part s.caller (receipts_of s.receipts.items) s.full in
     let t = c.take.ensures.taken s.made p c.seat.invariant.known in
-    let b : Begun = record { caller = s.caller; number = c.len-number.result; call = call_of c.args.call } in
+    let b : Begun = record { caller = s.caller; number = c.len-number.result; call = call_of c.args.call; loads = false } in
     let u = c.in-Ok.ensures.ok t.stripe (ap (λ (m : Sat). m.1) t.is) in
     let r0 = c.commit-place.result.0 in
     let r : Record = record_of r0 in

@@ -1,4 +1,4 @@
-use Rattle.std.proofs.Common.{rules, ◌≡◌, sym, ap, ◌∙◌, None, w64}
+use Rattle.std.proofs.Common.{ap, ◌∙◌, None, w64}
 use Rattle.std.proofs.lemmas.Int.{to_z-of_z}
 use Rattle.std.specs.FinMap as map
 use Rattle.stripe.proofs.Stored.{inserted}

@@ -1,4 +1,4 @@
-use Rattle.std.proofs.Common.{◌≡◌, sym, ap, ◌∙◌, Some, None, is_some, OnOk, subst, w64, refl, true≢false}
+use Rattle.std.proofs.Common.{sym, ap, ◌∙◌, Some, is_some, w64, true≢false}
 use Rattle.std.proofs.lemmas.Int.{to_z-of_z}
 use Rattle.std.specs.FinMap as map
 use Rattle.stripe.proofs.Stored.{found, inserted, ok_unless, on_ok}

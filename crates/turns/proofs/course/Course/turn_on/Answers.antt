@@ -70,17 +70,17 @@ returns c =
     let stepped : IsTold s.world (Step i) c.apply.result = record { ignored = c.apply.ensures.ignored; full = c.apply.ensures.full; memory = c.apply.ensures.memory } in
     let possible : is_possible s.world (Finish i) ≡ true = was_finished s.world i found.0 found.1 (not_stepped s.world i c.apply.result stepped c.in_default-apply.not-Done) in
     let end : Finishes s.world i found.0 = finish_moves s.world i found.0 found.1 possible in
-    let r : Record = record_of_call found.0 end.reply end.after in
+    let r : Record = record_of_call found.0 end.reply end.after end.asked in
     let is : c.apply-2.new.self ≡ with_record s.world i r = c.in-Done-apply.ensures.world not_refused ∙ ap (λ (w : World). apply w (Finish i)) same ∙ end.is in
     let last : record_of told ≡ r = last_of record_of c.finished.result.now s.world.finished told r (c.finished.ensures ∙ ap (λ (w : World). w.finished) is) (sym c.in-Some-last.ensures.value) in
     let reply : told.reply ≡ end.reply = ap (λ (x : Record). x.reply) last in
-    let idle : turns_left c.apply-2.new.self i ≡ 0 = ap (λ (w : World). turns_left w i) is ∙ ended_idle s c.requires.going i k found.0 there found.1 end.reply end.after in
+    let idle : turns_left c.apply-2.new.self i ≡ 0 = ap (λ (w : World). turns_left w i) is ∙ ended_idle s c.requires.going i k found.0 there found.1 end.reply end.after end.asked in
     record {
       going =
           subst (λ (w : World). IsGoing (record { calls = s.calls; begun = s.begun; world = w; numbers = slice_set s.numbers i None; replies = slice_set s.replies k (Some told.reply) })) (sym is)
           (subst (λ (x : Reply). IsGoing (record { calls = s.calls; begun = s.begun; world = with_record s.world i r; numbers = slice_set s.numbers i None; replies = slice_set s.replies k (Some x) })) (sym reply)
-          (going_ended s c.requires.going i k found.0 there found.1 end.reply end.after));
+          (going_ended s c.requires.going i k found.0 there found.1 end.reply end.after end.asked));
       same = record { calls = refl; begun = refl; opening = ap (λ (w : World). w.opening) is };
       nearer = omega (arith, idle);
-      others = λ j other. ap (λ (w : World). turns_left w j) is ∙ ended_others s c.requires.going i k found.0 there found.1 end.reply end.after j other;
+      others = λ j other. ap (λ (w : World). turns_left w j) is ∙ ended_others s c.requires.going i k found.0 there found.1 end.reply end.after end.asked j other;
     }

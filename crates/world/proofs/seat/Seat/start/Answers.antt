@@ -19,19 +19,19 @@ returns-then-is_some-clause-ignored c = (
 )
 
 -- the invocation was started on the entry that was found
-started : (c : goal.After-start) → IsStarted c.in-Invoke.class.now (invocation c.in-Invoke.key (arguments c.in-Invoke.args) (entry_of c.self.inside.stripe (key_of (call_of c.args.call)))) c.start.new.self
+started : (c : goal.After-start) → IsStarted c.in-Invoke.class.now (invocation false c.in-Invoke.key (arguments c.in-Invoke.args) (entry_of c.self.inside.stripe (key_of (call_of c.args.call)))) c.start.new.self
 started c =
     let key = to_z-of_z w64 c.in-Invoke.key (search rules) in
-    subst (λ e. IsStarted c.in-Invoke.class.now (invocation c.in-Invoke.key (arguments c.in-Invoke.args) e) c.start.new.self) c.in-Ok.ensures.entry
-    (subst (λ a. IsStarted c.in-Invoke.class.now (invocation c.in-Invoke.key a c.in-Ok.before) c.start.new.self) c.args-in-Invoke.ensures
-    (subst (λ k. IsStarted c.in-Invoke.class.now (invocation k c.args-in-Invoke.result c.in-Ok.before) c.start.new.self) key (c.start.ensures.started false)))
+    subst (λ e. IsStarted c.in-Invoke.class.now (invocation false c.in-Invoke.key (arguments c.in-Invoke.args) e) c.start.new.self) c.in-Ok.ensures.entry
+    (subst (λ a. IsStarted c.in-Invoke.class.now (invocation false c.in-Invoke.key a c.in-Ok.before) c.start.new.self) c.args-in-Invoke.ensures
+    (subst (λ k. IsStarted c.in-Invoke.class.now (invocation false k c.args-in-Invoke.result c.in-Ok.before) c.start.new.self) key (c.start.ensures.started false)))
 
 abbrev begun_by : (c : goal.After-start) → Begun
-begun_by c = record { caller = c.args.caller; number = c.args.number; call = call_of c.args.call }
+begun_by c = record { caller = c.args.caller; number = c.args.number; call = call_of c.args.call; loads = false }
 
 pub invariant_of-self : goal.invariant_of-self
 invariant_of-self c =
-    start_going c.self.inside.stripe c.begin.new.self (begun_by c) c.in-Ok.ensures.begun c.in-Ok.ensures.entries c.in-Invoke.class.now c.in-Invoke.key (arguments c.in-Invoke.args) (ap call_of c.in-Invoke.is) c.start.new.self (started c)
+    start_going c.self.inside.stripe c.begin.new.self (begun_by c) c.in-Ok.ensures.begun c.in-Ok.ensures.entries c.in-Invoke.class.now c.in-Invoke.key (arguments c.in-Invoke.args) (ap call_of c.in-Invoke.is) c.start.new.self (started c) refl
 
 pub returns-in-Invoke-clause-done : goal.returns-in-Invoke-clause-done
 returns-in-Invoke-clause-done c _ =

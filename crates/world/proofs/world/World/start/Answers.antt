@@ -1,4 +1,4 @@
-use Rattle.std.proofs.Common.{rules, arith, ◌≡◌, ◌<◌, ◌+◌, ℕ, length, Some, None, vec_len, slice_get, slice_set, slice_index, w64, to_z, of_z, refl, ap, subst, ◌∙◌}
+use Rattle.std.proofs.Common.{rules, arith, ◌≡◌, ◌<◌, ◌+◌, ℕ, false, length, Some, None, vec_len, slice_get, slice_set, slice_index, w64, to_z, of_z, refl, ap, subst, ◌∙◌}
 use Rattle.std.proofs.lemmas.Option.{slice_get_read}
 use Rattle.std.proofs.lemmas.Int.{to_z-of_z}
 use Rattle.stripe.specs.declared.refusal.BeginRefusal.TheVariants.{JournalFull}
@@ -38,7 +38,7 @@ none_ran : (c : goal.In-Done) → c.index_mut-seat.result.now.running ≡ None
 none_ran c = idle_running c.index_mut-seat.result.now.running (λ s. not_ignored (c.in-Done.ensures.ignored.1 s))
 
 abbrev begun_by : (c : goal.In-Done) → Begun
-begun_by c = record { caller = c.args.caller; number = slice_index c.self.inside.starts c.args.caller; call = call_of c.args.call }
+begun_by c = record { caller = c.args.caller; number = slice_index c.self.inside.starts c.args.caller; call = call_of c.args.call; loads = false }
 
 is_begun : (c : goal.In-Done) → IsBegun c.index_mut-seat.result.now (begun_by c) c.start-applied.new.self
 is_begun c = c.in-Done.ensures.done refl
