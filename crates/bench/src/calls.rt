@@ -10,7 +10,7 @@ use crate::crew::{Callers, Kind, serve_all};
 use crate::measure::{ROUNDS, Times, tenths, times_of};
 use crate::report::Failure;
 use cache::{Cache, Closed, Seat};
-use jtypes::Refusal;
+use jtypes::{NoLoader, Refusal};
 use registry::{ClassId, Registry};
 use std::alloc::{AllocError, Global};
 use std::sync::Wait;
@@ -184,11 +184,11 @@ fn opened<'a>(
     registry: &'a Registry,
     tables: Tables,
     seats: usize,
-) -> Result<(Cache<'a>, Vec<Seat<'a>>), Failure>
+) -> Result<(Cache<'a, 'static, NoLoader>, Vec<Seat<'a>>), Failure>
     ensures registry { IfOk result (λ r. r.0.registry ≡ registry.now) }
     ensures seats { IfOk result (λ r. AreFresh r.0.table r.0.seats r.1.items) }
 {
-    match Cache::open(alloc, registry, tables, MOST_RECORDS, seats) {
+    match Cache::open(alloc, registry, tables, MOST_RECORDS, seats, &NoLoader) {
         Ok(opened) => Ok(opened),
         Err(_) => Err(Failure::NoMemory),
     }

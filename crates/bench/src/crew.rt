@@ -5,7 +5,7 @@ ghost use Rattle.std.specs.List.{All};
 ghost use Rattle.registry.specs.Ids.{IsOf};
 
 use cache::{Cache, Seat};
-use jtypes::Args;
+use jtypes::{Args, NoLoader};
 use machine::Workspace;
 use registry::ClassId;
 use std::alloc::Global;
@@ -50,7 +50,7 @@ pub fn serve_all<R: Threads + Sync, W: Send, S: Shift<W> + Sync>(
 pub struct Callers<'s, 'a, R> {
     pub rt: &'s R,
     pub alloc: Global,
-    pub cache: &'s Cache<'a>,
+    pub cache: &'s Cache<'a, 'static, NoLoader>,
     pub class: &'s ClassId,
     pub kind: Kind,
     pub plan: &'s [Vec<i64>],
@@ -78,7 +78,7 @@ impl<'s, 'a, R: Wait> Shift<Seat<'a>> for Callers<'s, 'a, R> {
 fn invokes<'a, R: Wait>(
     rt: &R,
     alloc: Global,
-    cache: &Cache<'a>,
+    cache: &Cache<'a, 'static, NoLoader>,
     seat: &mut Seat<'a>,
     class: &ClassId,
     keys: &[i64],
@@ -98,7 +98,7 @@ fn invokes<'a, R: Wait>(
 }
 
 /// Puts an entry on each key.
-fn puts<'a, R: Wait>(rt: &R, cache: &Cache<'a>, seat: &mut Seat<'a>, keys: &[i64])
+fn puts<'a, R: Wait>(rt: &R, cache: &Cache<'a, 'static, NoLoader>, seat: &mut Seat<'a>, keys: &[i64])
     requires { seat.old.table ≡ cache.now.table }
     ensures table { seat.new.table ≡ seat.old.table }
     ensures caller { seat.new.caller ≡ seat.old.caller }

@@ -13,7 +13,7 @@ use crate::measure::{Times, tenths, times_of};
 use crate::report::Failure;
 use cache::NoGate;
 use invokeall::Job;
-use jtypes::Args;
+use jtypes::{Args, NoLoader};
 use registry::{ClassId, Registry};
 use std::alloc::{AllocError, Global};
 use std::sync::Wait;
@@ -58,7 +58,7 @@ pub fn one<R: Threads + Wait + Clock + Sync>(
 {
     let begin = now(rt)?;
     let workers = worth(registry, jobs, seats, SHARE);
-    let Ok(left) = run_by_workers(rt, alloc, registry, tables, workers, jobs, &NoGate) else {
+    let Ok(left) = run_by_workers(rt, alloc, registry, tables, workers, jobs, &NoGate, &NoLoader) else {
         return Err(Failure::NoMemory);
     };
     let time = now(rt)?.saturating_duration_since(begin);

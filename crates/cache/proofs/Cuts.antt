@@ -1,9 +1,10 @@
 -- Seats are cut and joined.
-use Rattle.std.proofs.Common.{◌≡◌, ◌≢◌, ◌⊎◌, ℕ, ◌+◌, ◌<◌, ◌≤◌, List, [], ◌∷◌, ◌++◌, length, set, Some, None, sym, refl, ap, ◌∙◌, subst, inl, inr, ⊎_elim, arith}
+use Rattle.std.proofs.Common.{ℤ, Bool, ◌≡◌, ◌≢◌, ◌⊎◌, ℕ, ◌+◌, ◌<◌, ◌≤◌, List, [], ◌∷◌, ◌++◌, length, set, Some, None, sym, refl, ap, ◌∙◌, subst, inl, inr, ⊎_elim, arith}
 use mathlib.Core.Option.{some, some-injective, some-ne-none}
 use lib.ListN.{get_elem?}
 use Rattle.atomic_table.specs.Table.{Splits, Joins}
 use Rattle.atomic_table.proofs.Lists.{at_set, set_else, at_longer}
+use Rattle.jtypes.specs.declared.loader.LoadAnswer.{LoadAnswer}
 use Rattle.stripe.specs.Stored.{Stored}
 use Rattle.stripe.specs.Kept.{Kept}
 use Rattle.cache.specs.Views.{Part, View, part, none_full, taken, seat_view, cut_left, cut_right, joined, spent}
@@ -13,21 +14,21 @@ use Rattle.cache.proofs.Puts.{by_place, append_cases, get_length}
 use Rattle.cache.proofs.Keeps.{S, nothing_held, at_one, Placed, one_set, one_less}
 
 -- the views have changed, but not those that hold a stripe
-stays_placed : (tables : List Stored) (journal : ℕ) (s : S) (g : IsGuarded tables journal s) (views : List View)
+stays_placed : (loads : Bool) (may : ℤ → LoadAnswer → Type 0) (tables : List Stored) (journal : ℕ) (s : S) (g : IsGuarded loads may tables journal s) (views : List View)
     → ((j : ℕ) (v : View) (i : ℕ) (y : Kept) → get_elem? s.views j ≡ some v → v.held ≡ Some (taken i y) → get_elem? views j ≡ some v)
-    → (seats : ℕ) (i : ℕ) → i < length tables → Placed tables journal seats g.history g.receipts g.full record { words = s.words; homes = s.homes; views = views } i
-stays_placed tables journal s g views keep seats i below = ⊎_elim
-    (λ (h : IsHome tables journal g.seats g.history g.receipts g.full s i). inl record { free = h.free; stripe = h.stripe; there = h.there; at = h.at })
-    (λ (h : IsOut tables journal g.seats g.history g.receipts g.full s i). inr record { held = h.held; away = h.away; seat = h.seat; view = h.view; before = h.before; there = keep h.seat h.view i h.before h.there h.holds; holds = h.holds })
+    → (seats : ℕ) (i : ℕ) → i < length tables → Placed loads may tables journal seats g.history g.receipts g.full record { words = s.words; homes = s.homes; views = views } i
+stays_placed loads may tables journal s g views keep seats i below = ⊎_elim
+    (λ (h : IsHome loads may tables journal g.seats g.history g.receipts g.full s i). inl record { free = h.free; stripe = h.stripe; there = h.there; at = h.at })
+    (λ (h : IsOut loads may tables journal g.seats g.history g.receipts g.full s i). inr record { held = h.held; away = h.away; seat = h.seat; view = h.view; before = h.before; there = keep h.seat h.view i h.before h.there h.holds; holds = h.holds })
     (g.each_stripe i below)
 
 lt-suc : (a b : ℕ) → a < b → a < b + 1
 lt-suc a b h = omega arith
 
 -- what a view that is not changed knows, where there may be more seats
-still_fits : (tables : List Stored) (journal : ℕ) (s : S) (g : IsGuarded tables journal s) (views : List View) (seats : ℕ) → g.seats ≤ seats → (j k : ℕ) (v : View) → (0 < v.made → (k ≡ 0) × (v.made ≡ seats))
-    → Fits tables journal g.seats g.history g.receipts g.full s j v → Fits tables journal seats g.history g.receipts g.full record { words = s.words; homes = s.homes; views = views } k v
-still_fits tables journal s g views seats more j k v maker f = record {
+still_fits : (loads : Bool) (may : ℤ → LoadAnswer → Type 0) (tables : List Stored) (journal : ℕ) (s : S) (g : IsGuarded loads may tables journal s) (views : List View) (seats : ℕ) → g.seats ≤ seats → (j k : ℕ) (v : View) → (0 < v.made → (k ≡ 0) × (v.made ≡ seats))
+    → Fits loads may tables journal g.seats g.history g.receipts g.full s j v → Fits loads may tables journal seats g.history g.receipts g.full record { words = s.words; homes = s.homes; views = views } k v
+still_fits loads may tables journal s g views seats more j k v maker f = record {
   parts = λ n x e. let o = f.parts n x e in record { caller = omega (arith, o.caller, more); receipts_are = o.receipts_are; full_is = o.full_is };
   holds = λ i y e. let o = f.holds i y e in record { held = o.held; at = o.at; only = o.only };
   maker = maker;
@@ -43,11 +44,11 @@ one_behind has views b only_b old j m u w eu ew hu hw = go (get_length views b u
     go (inr x) (inl y) = absurd (only_b (subst has (sym x.1) hu) m w y hw)
     go (inr x) (inr y) = x.0 ∙ sym y.0
 
-module _ (k : Terms) (id : ℕ) where
+module _ {L : Type 0} (loads : Bool) (may : ℤ → LoadAnswer → Type 0) (k : Terms L) (id : ℕ) where
   abbrev tables : List Stored
   tables = k.tables.value
 
-  pub may_cut : (made : ℕ) (p : Part) → 0 < made → Splits (Guarded k) id (seat_view made p) (cut_left (seat_view made p)) (cut_right (seat_view made p))
+  pub may_cut : (made : ℕ) (p : Part) → 0 < made → Splits (Guarded loads may k) id (seat_view made p) (cut_left (seat_view made p)) (cut_right (seat_view made p))
   may_cut made p some_made s g at =
       let v : View = seat_view made p in
       let a : View = seat_view (made + 1) p in
@@ -59,16 +60,16 @@ module _ (k : Terms) (id : ℕ) where
       let views : List View = one ++ b ∷ [] in
       let s' : S = record { words = s.words; homes = s.homes; views = views } in
       let seats' : ℕ = g.seats + 1 in
-      let left_fits : Fits tables k.journal seats' g.history g.receipts g.full s' id a
+      let left_fits : Fits loads may tables k.journal seats' g.history g.receipts g.full s' id a
       = record {
         parts = λ n x e. let o = was.parts n x e in record { caller = lt-suc _ _ o.caller; receipts_are = o.receipts_are; full_is = o.full_is };
         holds = λ i y e. absurd (nothing_held i y e);
         maker = λ _. (first.0, ap (λ (n : ℕ). n + 1) all);
       } in
       let none_yet = g.no_receipts made (omega arith) in
-      let right_fits : (j : ℕ) → Fits tables k.journal seats' g.history g.receipts g.full s' j b
+      let right_fits : (j : ℕ) → Fits loads may tables k.journal seats' g.history g.receipts g.full s' j b
       = λ j. record {
-        parts = λ n x e. subst (λ (q : Part). IsPart tables k.journal seats' g.history g.receipts g.full s' q) (at_one (part made [] none_full) x n e) record { caller = omega arith; receipts_are = sym none_yet.0; full_is = sym none_yet.1 };
+        parts = λ n x e. subst (λ (q : Part). IsPart loads may tables k.journal seats' g.history g.receipts g.full s' q) (at_one (part made [] none_full) x n e) record { caller = omega arith; receipts_are = sym none_yet.0; full_is = sym none_yet.1 };
         holds = λ i y e. absurd (nothing_held i y e);
         maker = λ h. absurd (omega arith);
       } in
@@ -101,19 +102,19 @@ module _ (k : Terms) (id : ℕ) where
         counted = g.counted;
         no_history = g.no_history;
         no_receipts = λ c far. g.no_receipts c (omega arith);
-        each_stripe = stays_placed tables k.journal s g views (λ j u i y e h. at_longer one (b ∷ []) j u (set_else s.views id j a (λ same. nothing_held i y (ap (λ (x : View). x.held) (some-injective v u (sym at ∙ subst (λ (x : ℕ). get_elem? s.views x ≡ some u) same e)) ∙ h)) ∙ e)) seats';
+        each_stripe = stays_placed loads may tables k.journal s g views (λ j u i y e h. at_longer one (b ∷ []) j u (set_else s.views id j a (λ same. nothing_held i y (ap (λ (x : View). x.held) (some-injective v u (sym at ∙ subst (λ (x : ℕ). get_elem? s.views x ≡ some u) same e)) ∙ h)) ∙ e)) seats';
         each_view = λ j u e. ⊎_elim
             (λ (h : get_elem? one j ≡ some u). ⊎_elim
-            (λ (t : (j ≡ id) × (a ≡ u)). subst (λ (x : ℕ × View). Fits tables k.journal seats' g.history g.receipts g.full s' x.0 x.1) (λ q. (sym t.0 q, t.1 q)) left_fits)
-            (λ (t : (j ≢ id) × (get_elem? s.views j ≡ some u)). let f = g.each_view j u t.1 in still_fits tables k.journal s g views seats' (omega arith) j j u (λ h'. absurd (t.0 ((f.maker h').0 ∙ sym first.0))) f)
+            (λ (t : (j ≡ id) × (a ≡ u)). subst (λ (x : ℕ × View). Fits loads may tables k.journal seats' g.history g.receipts g.full s' x.0 x.1) (λ q. (sym t.0 q, t.1 q)) left_fits)
+            (λ (t : (j ≢ id) × (get_elem? s.views j ≡ some u)). let f = g.each_view j u t.1 in still_fits loads may tables k.journal s g views seats' (omega arith) j j u (λ h'. absurd (t.0 ((f.maker h').0 ∙ sym first.0))) f)
             (at_set s.views id j a u h))
-            (λ (h : (j ≡ length one) × (b ≡ u)). subst (λ (x : View). Fits tables k.journal seats' g.history g.receipts g.full s' j x) h.1 (right_fits j))
+            (λ (h : (j ≡ length one) × (b ≡ u)). subst (λ (x : View). Fits loads may tables k.journal seats' g.history g.receipts g.full s' j x) h.1 (right_fits j))
             (get_length one b u j e);
         one_holder = λ i. one_behind (HoldsStripe i) one b (λ h _ _ _ _. nothing_held i h.0 h.1) (one_less (HoldsStripe i) s.views id v a at (λ h. absurd (nothing_held i h.0 h.1)) (g.one_holder i));
         one_place = λ c. one_behind (λ (x : View). Has x c) one b (λ h j u e hu. fresh j u e (subst (λ (x : ℕ). Has u x) (only c h) hu)) (one_less (λ (x : View). Has x c) s.views id v a at (λ h. h) (g.one_place c));
       }
 
-  pub may_join : (v : View) (other : ℕ) (w : View) → v.held ≡ None → w.held ≡ None → Joins (Guarded k) id v other w (joined v w) spent
+  pub may_join : (v : View) (other : ℕ) (w : View) → v.held ≡ None → w.held ≡ None → Joins (Guarded loads may k) id v other w (joined v w) spent
   may_join v other w free free' s g at apart there =
       let a : View = joined v w in
       let one : List View = set s.views id a in
@@ -122,7 +123,7 @@ module _ (k : Terms) (id : ℕ) where
       let at' : get_elem? s.views other ≡ some w = sym (set_else s.views id other a apart) ∙ there in
       let was = g.each_view id v at in
       let theirs = g.each_view other w at' in
-      let a_fits : Fits tables k.journal g.seats g.history g.receipts g.full s' id a
+      let a_fits : Fits loads may tables k.journal g.seats g.history g.receipts g.full s' id a
       = record {
         parts = λ n x e. ⊎_elim
             (λ (h : get_elem? v.parts n ≡ some x). let o = was.parts n x h in record { caller = o.caller; receipts_are = o.receipts_are; full_is = o.full_is })
@@ -131,7 +132,7 @@ module _ (k : Terms) (id : ℕ) where
         holds = λ i y e. absurd (nothing_held i y (sym free ∙ e));
         maker = was.maker;
       } in
-      let spent_fits : Fits tables k.journal g.seats g.history g.receipts g.full s' other spent
+      let spent_fits : Fits loads may tables k.journal g.seats g.history g.receipts g.full s' other spent
       = record { parts = λ n x e. absurd (some-ne-none x (sym e)); holds = λ i y e. absurd (nothing_held i y e); maker = λ h. absurd (omega arith) } in
       -- where a view stood before
       let before : (c j : ℕ) (x : View) → get_elem? views j ≡ some x → Has x c → (i : ℕ) × (u : View) × (get_elem? s.views i ≡ some u) × Has u c × ((i ≡ id) ⊎ (i ≡ other) → j ≡ id) × ((i ≢ id) → (i ≢ other) → j ≡ i)
@@ -156,16 +157,16 @@ module _ (k : Terms) (id : ℕ) where
         counted = g.counted;
         no_history = g.no_history;
         no_receipts = g.no_receipts;
-        each_stripe = stays_placed tables k.journal s g views
+        each_stripe = stays_placed loads may tables k.journal s g views
             (λ j u i y e h.
             let not_id : j ≢ id = λ same. nothing_held i y (sym free ∙ ap (λ (x : View). x.held) (some-injective v u (sym at ∙ subst (λ (x : ℕ). get_elem? s.views x ≡ some u) same e)) ∙ h) in
             let not_other : j ≢ other = λ same. nothing_held i y (sym free' ∙ ap (λ (x : View). x.held) (some-injective w u (sym at' ∙ subst (λ (x : ℕ). get_elem? s.views x ≡ some u) same e)) ∙ h) in
             set_else one other j spent not_other ∙ (set_else s.views id j a not_id ∙ e)) g.seats;
         each_view = λ j u e. ⊎_elim
-            (λ (t : (j ≡ other) × (spent ≡ u)). subst (λ (x : ℕ × View). Fits tables k.journal g.seats g.history g.receipts g.full s' x.0 x.1) (λ q. (sym t.0 q, t.1 q)) spent_fits)
+            (λ (t : (j ≡ other) × (spent ≡ u)). subst (λ (x : ℕ × View). Fits loads may tables k.journal g.seats g.history g.receipts g.full s' x.0 x.1) (λ q. (sym t.0 q, t.1 q)) spent_fits)
             (λ (t : (j ≢ other) × (get_elem? one j ≡ some u)). ⊎_elim
-            (λ (r : (j ≡ id) × (a ≡ u)). subst (λ (x : ℕ × View). Fits tables k.journal g.seats g.history g.receipts g.full s' x.0 x.1) (λ q. (sym r.0 q, r.1 q)) a_fits)
-            (λ (r : (j ≢ id) × (get_elem? s.views j ≡ some u)). let f = g.each_view j u r.1 in still_fits tables k.journal s g views g.seats (omega arith) j j u f.maker f)
+            (λ (r : (j ≡ id) × (a ≡ u)). subst (λ (x : ℕ × View). Fits loads may tables k.journal g.seats g.history g.receipts g.full s' x.0 x.1) (λ q. (sym r.0 q, r.1 q)) a_fits)
+            (λ (r : (j ≢ id) × (get_elem? s.views j ≡ some u)). let f = g.each_view j u r.1 in still_fits loads may tables k.journal s g views g.seats (omega arith) j j u f.maker f)
             (at_set s.views id j a u t.1))
             (at_set one other j spent u e);
         one_holder = λ i. one_set (HoldsStripe i) one other spent (λ h _ _ _ _ _. nothing_held i h.0 h.1) (one_set (HoldsStripe i) s.views id a (λ h _ _ _ _ _. nothing_held i h.0 (sym free ∙ h.1)) (g.one_holder i));

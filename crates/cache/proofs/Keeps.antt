@@ -1,9 +1,10 @@
 -- The steps on a stripe's lock keep the rule.
-use Rattle.std.proofs.Common.{◌≡◌, ◌≢◌, ◌⊎◌, ℕ, zero, suc, ◌<◌, ◌≤◌, List, [], ◌∷◌, length, get_or, set, Option, Some, None, Bool, sym, refl, ap, ◌∙◌, subst, inl, inr, ⊎_elim, arith, length-set, get_or-set_other, get_or-set_same}
+use Rattle.std.proofs.Common.{ℤ, Bool, ◌≡◌, ◌≢◌, ◌⊎◌, ℕ, zero, suc, ◌<◌, ◌≤◌, List, [], ◌∷◌, length, get_or, set, Option, Some, None, sym, refl, ap, ◌∙◌, subst, inl, inr, ⊎_elim, arith, length-set, get_or-set_other, get_or-set_same}
 use mathlib.Core.Option.{some, none, some-injective, some-ne-none}
 use lib.ListN.{get_elem?}
 use Rattle.atomic_table.specs.Table.{State}
 use Rattle.atomic_table.proofs.Lists.{at_set, set_here, set_else}
+use Rattle.jtypes.specs.declared.loader.LoadAnswer.{LoadAnswer}
 use Rattle.stripe.specs.History.{Record}
 use Rattle.stripe.specs.Stored.{Stored, entry_among}
 use Rattle.stripe.specs.Kept.{Kept}
@@ -48,8 +49,8 @@ one_set has views id w mine old j k v u ej ek hv hu = go (at_set views id j w v 
 pub one_less : (has : View → Type 0) (views : List View) (id : ℕ) (v w : View) → get_elem? views id ≡ some v → (has w → has v) → AreOne views has → AreOne (set views id w) has
 one_less has views id v w at back old = one_set has views id w (λ h k u apart e hu. apart (old k id u v e at hu (back h))) old
 
-pub at_more : (tables : List Stored) (journal : ℕ) (h h' : ℕ → List Record) (i : ℕ) (y : Kept) → h' i ≡ h i → IsAt tables journal h i y → IsAt tables journal h' i y
-at_more tables journal h h' i y same a = record { inside = a.inside; stripes = a.stripes; place = a.place; journal_is = a.journal_is; idle = a.idle; kept = a.kept; records = a.records ∙ sym same; few = a.few }
+pub at_more : (loads : Bool) (may : ℤ → LoadAnswer → Type 0) (tables : List Stored) (journal : ℕ) (h h' : ℕ → List Record) (i : ℕ) (y : Kept) → h' i ≡ h i → IsAt loads may tables journal h i y → IsAt loads may tables journal h' i y
+at_more loads may tables journal h h' i y same a = record { inside = a.inside; stripes = a.stripes; place = a.place; journal_is = a.journal_is; idle = a.idle; kept = a.kept; given = a.given; records = a.records ∙ sym same; few = a.few }
 
 -- the word of a stripe that is held, after another one's change and after its own
 still_held : (words : List ℕ) (i j word : ℕ) → j ≢ i → 0 < get_or words j 0 → 0 < get_or (set words i word) j 0
@@ -61,14 +62,14 @@ now_held words i word below above = subst (λ (n : ℕ). 0 < n) (sym (get_or-set
 abbrev pub S : Type 0
 S = State Kept View
 
-abbrev pub Placed : List Stored → ℕ → ℕ → (ℕ → List Record) → (ℕ → List Receipt) → (ℕ → List Bool) → S → ℕ → Type 0
-Placed tables journal seats history receipts full s i = IsHome tables journal seats history receipts full s i ⊎ IsOut tables journal seats history receipts full s i
+abbrev pub Placed : Bool → (ℤ → LoadAnswer → Type 0) → List Stored → ℕ → ℕ → (ℕ → List Record) → (ℕ → List Receipt) → (ℕ → List Bool) → S → ℕ → Type 0
+Placed loads may tables journal seats history receipts full s i = IsHome loads may tables journal seats history receipts full s i ⊎ IsOut loads may tables journal seats history receipts full s i
 
-module _ (tables : List Stored) (journal : ℕ) (s : S) (g : IsGuarded tables journal s) (id i made : ℕ) (p : Part) where
+module _ (loads : Bool) (may : ℤ → LoadAnswer → Type 0) (tables : List Stored) (journal : ℕ) (s : S) (g : IsGuarded loads may tables journal s) (id i made : ℕ) (p : Part) where
   module _ (y : Kept) (at : get_elem? s.views id ≡ some (holding made p i y)) where
     -- a stripe that the seat holds goes back
-    pub gives_back : (z : Kept) (l : List Receipt) (f : List Bool) → IsLater y z → length z.records ≤ journal → Books (length tables) journal g.seats (put g.history i z.records) (put g.receipts p.caller l) (put g.full p.caller f)
-        → IsGuarded tables journal record { words = set s.words i 0; homes = set s.homes i (some z); views = set s.views id (seat_view made (part p.caller l f)) }
+    pub gives_back : (z : Kept) (l : List Receipt) (f : List Bool) → IsLater loads may y z → length z.records ≤ journal → Books (length tables) journal g.seats (put g.history i z.records) (put g.receipts p.caller l) (put g.full p.caller f)
+        → IsGuarded loads may tables journal record { words = set s.words i 0; homes = set s.homes i (some z); views = set s.views id (seat_view made (part p.caller l f)) }
     gives_back z l f later few books =
         let was = g.each_view id (holding made p i y) at in
         let here = (was.holds i y refl).at in
@@ -92,7 +93,7 @@ module _ (tables : List Stored) (journal : ℕ) (s : S) (g : IsGuarded tables jo
           no_history = λ j far. put_else g.history i j z.records (λ e. omega arith) ∙ g.no_history j far;
           no_receipts = λ c far. (put_else g.receipts p.caller c l (λ e. omega (arith, of.caller)) ∙ (g.no_receipts c far).0, put_else g.full p.caller c f (λ e. omega (arith, of.caller)) ∙ (g.no_receipts c far).1);
           each_stripe = λ j l'. by_place i j
-              (λ e. subst (λ (k : ℕ). Placed tables journal g.seats h' r' f' s' k) (sym e)
+              (λ e. subst (λ (k : ℕ). Placed loads may tables journal g.seats h' r' f' s' k) (sym e)
               (inl record {
                 free = get_or-set_same s.words i 0 0 (omega (arith, g.words));
                 stripe = z;
@@ -104,18 +105,19 @@ module _ (tables : List Stored) (journal : ℕ) (s : S) (g : IsGuarded tables jo
                   journal_is = later.journal ∙ here.journal_is;
                   idle = later.idle;
                   kept = later.kept (entry_among tables) here.kept;
+                  given = later.given here.given;
                   records = sym (put_here g.history i z.records);
                   few = few;
                 };
               }))
               (λ n. ⊎_elim
-              (λ (h : IsHome tables journal g.seats g.history g.receipts g.full s j). inl record {
+              (λ (h : IsHome loads may tables journal g.seats g.history g.receipts g.full s j). inl record {
                 free = get_or-set_other s.words i j 0 0 n ∙ h.free;
                 stripe = h.stripe;
                 there = set_else s.homes i j (some z) n ∙ h.there;
-                at = at_more tables journal g.history h' j h.stripe (put_else g.history i j z.records n) h.at;
+                at = at_more loads may tables journal g.history h' j h.stripe (put_else g.history i j z.records n) h.at;
               })
-              (λ (h : IsOut tables journal g.seats g.history g.receipts g.full s j).
+              (λ (h : IsOut loads may tables journal g.seats g.history g.receipts g.full s j).
               let apart : h.seat ≢ id = λ e. n (sym (same_stripe i j y h.before (ap (λ (x : View). x.held) (some-injective (holding made p i y) h.view (sym at ∙ subst (λ (k : ℕ). get_elem? s.views k ≡ some h.view) e h.there)) ∙ h.holds))) in
               inr record {
                 held = still_held s.words i j 0 n h.held;
@@ -128,8 +130,8 @@ module _ (tables : List Stored) (journal : ℕ) (s : S) (g : IsGuarded tables jo
               })
               (g.each_stripe j l'));
           each_view = λ j v e. ⊎_elim
-              (λ (a : (j ≡ id) × (w ≡ v)). subst (λ (x : ℕ × View). Fits tables journal g.seats h' r' f' s' x.0 x.1) (λ k. (sym a.0 k, a.1 k)) (record {
-                parts = λ n x e'. subst (λ (x : Part). IsPart tables journal g.seats h' r' f' s' x) (at_one q x n e') record { caller = of.caller; receipts_are = sym (put_here g.receipts p.caller l); full_is = sym (put_here g.full p.caller f) };
+              (λ (a : (j ≡ id) × (w ≡ v)). subst (λ (x : ℕ × View). Fits loads may tables journal g.seats h' r' f' s' x.0 x.1) (λ k. (sym a.0 k, a.1 k)) (record {
+                parts = λ n x e'. subst (λ (x : Part). IsPart loads may tables journal g.seats h' r' f' s' x) (at_one q x n e') record { caller = of.caller; receipts_are = sym (put_here g.receipts p.caller l); full_is = sym (put_here g.full p.caller f) };
                 holds = λ k u none. absurd (nothing_held k u none);
                 maker = was.maker;
               }))
@@ -142,7 +144,7 @@ module _ (tables : List Stored) (journal : ℕ) (s : S) (g : IsGuarded tables jo
                 holds = λ k u e'.
                     let o = old.holds k u e' in
                     let apart : k ≢ i = λ same. a.0 (g.one_holder i j id v (holding made p i y) a.1 at (u, e' ∙ ap (λ (q : ℕ). Some (taken q u)) same) (y, refl)) in
-                    record { held = still_held s.words i k 0 apart o.held; at = at_more tables journal g.history h' k u (put_else g.history i k z.records apart) o.at; only = o.only };
+                    record { held = still_held s.words i k 0 apart o.held; at = at_more loads may tables journal g.history h' k u (put_else g.history i k z.records apart) o.at; only = o.only };
                 maker = old.maker;
               })
               (at_set s.views id j w v e);
@@ -151,8 +153,8 @@ module _ (tables : List Stored) (journal : ℕ) (s : S) (g : IsGuarded tables jo
         }
 
   -- a stripe that is at home is taken
-  module _ (home : IsHome tables journal g.seats g.history g.receipts g.full s i) (at : get_elem? s.views id ≡ some (seat_view made p)) where
-    pub takes_one : (word : ℕ) → 0 < word → IsGuarded tables journal record { words = set s.words i word; homes = set s.homes i none; views = set s.views id (holding made p i home.stripe) }
+  module _ (home : IsHome loads may tables journal g.seats g.history g.receipts g.full s i) (at : get_elem? s.views id ≡ some (seat_view made p)) where
+    pub takes_one : (word : ℕ) → 0 < word → IsGuarded loads may tables journal record { words = set s.words i word; homes = set s.homes i none; views = set s.views id (holding made p i home.stripe) }
     takes_one word above =
         let y : Kept = home.stripe in
         let here = home.at in
@@ -173,7 +175,7 @@ module _ (tables : List Stored) (journal : ℕ) (s : S) (g : IsGuarded tables jo
           no_history = g.no_history;
           no_receipts = g.no_receipts;
           each_stripe = λ j l'. by_place i j
-              (λ e. subst (λ (k : ℕ). Placed tables journal g.seats g.history g.receipts g.full s' k) (sym e)
+              (λ e. subst (λ (k : ℕ). Placed loads may tables journal g.seats g.history g.receipts g.full s' k) (sym e)
               (inr record {
                 held = now_held s.words i word (omega (arith, g.words)) above;
                 away = set_here s.homes i none (omega (arith, g.homes));
@@ -184,8 +186,8 @@ module _ (tables : List Stored) (journal : ℕ) (s : S) (g : IsGuarded tables jo
                 holds = refl;
               }))
               (λ n. ⊎_elim
-              (λ (h : IsHome tables journal g.seats g.history g.receipts g.full s j). inl record { free = get_or-set_other s.words i j word 0 n ∙ h.free; stripe = h.stripe; there = set_else s.homes i j none n ∙ h.there; at = h.at })
-              (λ (h : IsOut tables journal g.seats g.history g.receipts g.full s j).
+              (λ (h : IsHome loads may tables journal g.seats g.history g.receipts g.full s j). inl record { free = get_or-set_other s.words i j word 0 n ∙ h.free; stripe = h.stripe; there = set_else s.homes i j none n ∙ h.there; at = h.at })
+              (λ (h : IsOut loads may tables journal g.seats g.history g.receipts g.full s j).
               let apart : h.seat ≢ id = λ e. nothing_held j h.before (ap (λ (x : View). x.held) (some-injective (seat_view made p) h.view (sym at ∙ subst (λ (k : ℕ). get_elem? s.views k ≡ some h.view) e h.there)) ∙ h.holds) in
               inr record {
                 held = still_held s.words i j word n h.held;
@@ -198,9 +200,9 @@ module _ (tables : List Stored) (journal : ℕ) (s : S) (g : IsGuarded tables jo
               })
               (g.each_stripe j l'));
           each_view = λ j v e. ⊎_elim
-              (λ (a : (j ≡ id) × (w ≡ v)). subst (λ (x : ℕ × View). Fits tables journal g.seats g.history g.receipts g.full s' x.0 x.1) (λ k. (sym a.0 k, a.1 k)) (record {
+              (λ (a : (j ≡ id) × (w ≡ v)). subst (λ (x : ℕ × View). Fits loads may tables journal g.seats g.history g.receipts g.full s' x.0 x.1) (λ k. (sym a.0 k, a.1 k)) (record {
                 parts = λ n x e'. let o = was.parts n x e' in record { caller = o.caller; receipts_are = o.receipts_are; full_is = o.full_is };
-                holds = λ k u e'. subst (λ (x : ℕ × Kept). IsHolder tables journal g.seats g.history g.receipts g.full s' w x.0 x.1) (λ t. (same_stripe i k y u e' t, same_before i k y u e' t)) record { held = now_held s.words i word (omega (arith, g.words)) above; at = here; only = (p, refl) };
+                holds = λ k u e'. subst (λ (x : ℕ × Kept). IsHolder loads may tables journal g.seats g.history g.receipts g.full s' w x.0 x.1) (λ t. (same_stripe i k y u e' t, same_before i k y u e' t)) record { held = now_held s.words i word (omega (arith, g.words)) above; at = here; only = (p, refl) };
                 maker = was.maker;
               }))
               (λ (a : (j ≢ id) × (get_elem? s.views j ≡ some v)).
@@ -218,7 +220,7 @@ module _ (tables : List Stored) (journal : ℕ) (s : S) (g : IsGuarded tables jo
         }
 
   -- a stripe that another seat holds is marked
-  pub stays_out : (word : ℕ) → 0 < word → IsOut tables journal g.seats g.history g.receipts g.full s i → IsGuarded tables journal record { words = set s.words i word; homes = s.homes; views = s.views }
+  pub stays_out : (word : ℕ) → 0 < word → IsOut loads may tables journal g.seats g.history g.receipts g.full s i → IsGuarded loads may tables journal record { words = set s.words i word; homes = s.homes; views = s.views }
   stays_out word above out =
       let s' : S = record { words = set s.words i word; homes = s.homes; views = s.views } in
       let held : (j : ℕ) → j < length tables → 0 < get_or s.words j 0 → 0 < get_or (set s.words i word) j 0 = λ j below h.
@@ -235,11 +237,11 @@ module _ (tables : List Stored) (journal : ℕ) (s : S) (g : IsGuarded tables jo
         no_history = g.no_history;
         no_receipts = g.no_receipts;
         each_stripe = λ j below. by_place i j
-            (λ e. subst (λ (k : ℕ). Placed tables journal g.seats g.history g.receipts g.full s' k) (sym e)
+            (λ e. subst (λ (k : ℕ). Placed loads may tables journal g.seats g.history g.receipts g.full s' k) (sym e)
             (inr record { held = now_held s.words i word (omega (arith, g.words, e, below)) above; away = out.away; seat = out.seat; view = out.view; before = out.before; there = out.there; holds = out.holds }))
             (λ other. ⊎_elim
-            (λ (h : IsHome tables journal g.seats g.history g.receipts g.full s j). inl record { free = get_or-set_other s.words i j word 0 other ∙ h.free; stripe = h.stripe; there = h.there; at = h.at })
-            (λ (h : IsOut tables journal g.seats g.history g.receipts g.full s j). inr record { held = still_held s.words i j word other h.held; away = h.away; seat = h.seat; view = h.view; before = h.before; there = h.there; holds = h.holds })
+            (λ (h : IsHome loads may tables journal g.seats g.history g.receipts g.full s j). inl record { free = get_or-set_other s.words i j word 0 other ∙ h.free; stripe = h.stripe; there = h.there; at = h.at })
+            (λ (h : IsOut loads may tables journal g.seats g.history g.receipts g.full s j). inr record { held = still_held s.words i j word other h.held; away = h.away; seat = h.seat; view = h.view; before = h.before; there = h.there; holds = h.holds })
             (g.each_stripe j below));
         each_view = λ j v e. let old = g.each_view j v e in record {
           parts = λ n x e'. let o = old.parts n x e' in record { caller = o.caller; receipts_are = o.receipts_are; full_is = o.full_is };

@@ -1,18 +1,20 @@
 -- What the steps on a stripe's lock ask of the table.
-use Rattle.std.proofs.Common.{◌≡◌, ℕ, suc, ◌+◌, ◌*◌, ◌<◌, ◌≤◌, List, [], ◌∷◌, ◌++◌, length, set, None, Bool, true, sym, refl, ap, ◌∙◌, subst, ⊎_elim, arith, length-append}
+use Rattle.std.proofs.Common.{zero, All, ℤ, Bool, ◌≡◌, ℕ, suc, ◌+◌, ◌*◌, ◌<◌, ◌≤◌, List, [], ◌∷◌, ◌++◌, length, set, Option, None, true, sym, refl, ap, ◌∙◌, subst, ⊎_elim, arith, length-append}
 use mathlib.Core.Option.{none, some-injective}
 use lib.ListN.{get_elem?}
 use Rattle.atomic_table.specs.Table.{Allows, step, keeps, takes, gives}
 use Rattle.atomic_table.proofs.Lists.{set_again}
-use Rattle.stripe.specs.History.{Record}
+use Rattle.jtypes.specs.declared.loader.LoadAnswer.{LoadAnswer}
+use Rattle.jtypes.specs.Entry.{Entry}
+use Rattle.stripe.specs.History.{Call, Invoke, Get, Put, Remove, Contains, Record}
 use Rattle.stripe.specs.Stored.{Stored}
-use Rattle.stripe.specs.Kept.{Kept}
+use Rattle.stripe.specs.Kept.{Kept, IsPlain}
 use Rattle.stripe.specs.Tables.{IsCount, IsJournal}
 use Rattle.cache.specs.Receipts.{Receipt, receipt_behind}
 use Rattle.cache.specs.Views.{Part, View, seat_view, holding, told_part, filled_part}
 use Rattle.cache.specs.Guarded.{IsLater, IsHome, IsOut, IsGuarded, Guarded, count_records}
 use Rattle.cache.specs.Plays.{Sat, on_take, on_return, on_fill, on_tell, last_receipt, told_last}
-use Rattle.cache.specs.Steps.{CanReturn, CanFill, CanTell}
+use Rattle.cache.specs.Steps.{EndsSo, CanReturn, CanFill, CanTell}
 use Rattle.cache.specs.declared.known.Terms.{Terms}
 use Rattle.cache.proofs.Puts.{put}
 use Rattle.cache.proofs.Counts.{count_few}
@@ -28,36 +30,36 @@ told_snoc i [] r p = refl
 told_snoc i (x ∷ xs) r p = ap (told_part p) (last_after i 0 x xs r ∙ ap (λ (n : ℕ). record { stripe = i; place = n; call = r.call; reply = r.reply }) (omega arith))
 
 -- no stripe has more records than it may have
-few_records : (tables : List Stored) (journal : ℕ) (s : S) (g : IsGuarded tables journal s) (i : ℕ) → i < length tables → length (g.history i) ≤ journal
-few_records tables journal s g i below =
+few_records : (loads : Bool) (may : ℤ → LoadAnswer → Type 0) (tables : List Stored) (journal : ℕ) (s : S) (g : IsGuarded loads may tables journal s) (i : ℕ) → i < length tables → length (g.history i) ≤ journal
+few_records loads may tables journal s g i below =
     ⊎_elim
-    (λ (h : IsHome tables journal g.seats g.history g.receipts g.full s i). subst (λ (l : List Record). length l ≤ journal) h.at.records h.at.few)
-    (λ (h : IsOut tables journal g.seats g.history g.receipts g.full s i).
+    (λ (h : IsHome loads may tables journal g.seats g.history g.receipts g.full s i). subst (λ (l : List Record). length l ≤ journal) h.at.records h.at.few)
+    (λ (h : IsOut loads may tables journal g.seats g.history g.receipts g.full s i).
     let at = ((g.each_view h.seat h.view h.there).holds i h.before h.holds).at in
     subst (λ (l : List Record). length l ≤ journal) at.records at.few)
     (g.each_stripe i below)
 
 -- so no seat has more receipts than so many
-few_receipts : (tables : List Stored) (journal : ℕ) (s : S) (g : IsGuarded tables journal s) (c : ℕ) → IsCount (length tables) → IsJournal journal → length (g.receipts c) ≤ 262144
-few_receipts tables journal s g c count size =
-    let few : count_records g.history (length tables) ≤ length tables * 4096 = count_few g.history (length tables) (λ i h. let one = few_records tables journal s g i h in omega (arith, size.1)) in
+few_receipts : (loads : Bool) (may : ℤ → LoadAnswer → Type 0) (tables : List Stored) (journal : ℕ) (s : S) (g : IsGuarded loads may tables journal s) (c : ℕ) → IsCount (length tables) → IsJournal journal → length (g.receipts c) ≤ 262144
+few_receipts loads may tables journal s g c count size =
+    let few : count_records g.history (length tables) ≤ length tables * 4096 = count_few g.history (length tables) (λ i h. let one = few_records loads may tables journal s g i h in omega (arith, size.1)) in
     omega (arith, few, g.counted c, count.1)
 
-module _ (k : Terms) (n id i : ℕ) where
+module _ {L : Type 0} (loads : Bool) (may : ℤ → LoadAnswer → Type 0) (k : Terms L) (n id i : ℕ) where
   abbrev tables : List Stored
   tables = k.tables.value
 
   module _ (made : ℕ) (p : Part) where
-    may_take : (word : ℕ) → 0 < word → n ≡ length tables → IsCount (length tables) → IsJournal k.journal → i < length tables → Allows (Guarded k) n id (seat_view made p, []) i (λ _. word) (on_take (step n i word 0 none) (seat_view made p, []))
+    may_take : (word : ℕ) → 0 < word → n ≡ length tables → IsCount (length tables) → IsJournal k.journal → i < length tables → Allows (Guarded loads may k) n id (seat_view made p, []) i (λ _. word) (on_take (step n i word 0 none) (seat_view made p, []))
     may_take word above slots count size below s g long at fits =
         let of = (g.each_view id (seat_view made p) at).parts 0 p refl in
-        let few : length p.receipts ≤ 262144 = subst (λ (l : List Receipt). length l ≤ 262144) (sym of.receipts_are) (few_receipts tables k.journal s g p.caller count size) in
+        let few : length p.receipts ≤ 262144 = subst (λ (l : List Receipt). length l ≤ 262144) (sym of.receipts_are) (few_receipts loads may tables k.journal s g p.caller count size) in
         ⊎_elim
-        (λ (h : IsHome tables k.journal g.seats g.history g.receipts g.full s i). (
+        (λ (h : IsHome loads may tables k.journal g.seats g.history g.receipts g.full s i). (
           holding made p i h.stripe,
           takes i h.stripe,
           h.there,
-          takes_one tables k.journal s g id i made p h at word above,
+          takes_one loads may tables k.journal s g id i made p h at word above,
           (
             (λ _. (
               h.stripe,
@@ -73,21 +75,21 @@ module _ (k : Terms) (n id i : ℕ) where
             (λ apart. absurd (apart h.free)),
           ),
         ))
-        (λ (h : IsOut tables k.journal g.seats g.history g.receipts g.full s i). (
+        (λ (h : IsOut loads may tables k.journal g.seats g.history g.receipts g.full s i). (
           seat_view made p,
           keeps,
           tt,
-          subst (λ (x : List View). IsGuarded tables k.journal record { words = set s.words i word; homes = s.homes; views = x }) (sym (set_again s.views id (seat_view made p) at)) (stays_out tables k.journal s g id i made p word above h),
+          subst (λ (x : List View). IsGuarded loads may tables k.journal record { words = set s.words i word; homes = s.homes; views = x }) (sym (set_again s.views id (seat_view made p) at)) (stays_out loads may tables k.journal s g id i made p word above h),
           ((λ none_there. let one = h.held in absurd (omega (arith, one, none_there))), (λ _. refl)),
         ))
         (g.each_stripe i below)
 
     -- the same, at what the seat is known to be
-    pub may_take_as : (word : ℕ) → 0 < word → (m : Sat) → m ≡ (seat_view made p, []) → n ≡ length tables → IsCount (length tables) → IsJournal k.journal → i < length tables → Allows (Guarded k) n id m i (λ _. word) (on_take (step n i word 0 none) m)
-    may_take_as word above m is slots count size below = subst (λ (x : Sat). Allows (Guarded k) n id x i (λ _. word) (on_take (step n i word 0 none) x)) (sym is) (may_take word above slots count size below)
+    pub may_take_as : (word : ℕ) → 0 < word → (m : Sat) → m ≡ (seat_view made p, []) → n ≡ length tables → IsCount (length tables) → IsJournal k.journal → i < length tables → Allows (Guarded loads may k) n id m i (λ _. word) (on_take (step n i word 0 none) m)
+    may_take_as word above m is slots count size below = subst (λ (x : Sat). Allows (Guarded loads may k) n id x i (λ _. word) (on_take (step n i word 0 none) x)) (sym is) (may_take word above slots count size below)
 
-    module _ (y z : Kept) (later : IsLater y z) where
-      may_return : z.records ≡ y.records → Allows (Guarded k) n id (holding made p i y, (i, z) ∷ []) i (λ _. 0) (on_return (step n i 0 0 none) (holding made p i y, (i, z) ∷ []))
+    module _ (y z : Kept) (later : IsLater loads may y z) where
+      may_return : z.records ≡ y.records → Allows (Guarded loads may k) n id (holding made p i y, (i, z) ∷ []) i (λ _. 0) (on_return (step n i 0 0 none) (holding made p i y, (i, z) ∷ []))
       may_return same s g long at fits =
           let was = g.each_view id (holding made p i y) at in
           let here = (was.holds i y refl).at in
@@ -96,12 +98,12 @@ module _ (k : Terms) (n id i : ℕ) where
             seat_view made p,
             gives,
             tt,
-            gives_back tables k.journal s g id i made p y at z p.receipts p.full later few
+            gives_back loads may tables k.journal s g id i made p y at z p.receipts p.full later few
                 (same_books (length tables) k.journal g.seats g.history g.receipts g.full record { accounts = g.accounts; counted = g.counted } i p.caller z.records p.receipts p.full (same ∙ here.records) of.receipts_are of.full_is),
             refl,
           )
 
-      may_fill : z.records ≡ y.records → length z.records ≡ z.journal → Allows (Guarded k) n id (holding made p i y, (i, z) ∷ []) i (λ _. 0) (on_fill (step n i 0 0 none) (holding made p i y, (i, z) ∷ []))
+      may_fill : z.records ≡ y.records → length z.records ≡ z.journal → Allows (Guarded loads may k) n id (holding made p i y, (i, z) ∷ []) i (λ _. 0) (on_fill (step n i 0 0 none) (holding made p i y, (i, z) ∷ []))
       may_fill same whole s g long at fits =
           let was = g.each_view id (holding made p i y) at in
           let here = (was.holds i y refl).at in
@@ -112,14 +114,14 @@ module _ (k : Terms) (n id i : ℕ) where
             seat_view made (filled_part p i),
             gives,
             tt,
-            gives_back tables k.journal s g id i made p y at z p.receipts (set p.full i true) later few
+            gives_back loads may tables k.journal s g id i made p y at z p.receipts (set p.full i true) later few
                 (subst (λ (x : (ℕ → List Record) × (ℕ → List Receipt) × List Bool). Books (length tables) k.journal g.seats x.0 x.1 (put g.full p.caller (set x.2 i true))) (λ t. (sym (put_is g.history i z.records e) t, sym (put_is g.receipts p.caller p.receipts of.receipts_are) t, sym of.full_is t))
                 (more_full (length tables) k.journal g.seats g.history g.receipts g.full record { accounts = g.accounts; counted = g.counted } i p.caller much)),
             refl,
           )
 
       may_tell : (r : Record) → z.records ≡ y.records ++ r ∷ [] → length z.records ≤ z.journal → r.caller ≡ p.caller → r.number ≡ length p.receipts
-          → Allows (Guarded k) n id (holding made p i y, (i, z) ∷ []) i (λ _. 0) (on_tell (step n i 0 0 none) (holding made p i y, (i, z) ∷ []))
+          → Allows (Guarded loads may k) n id (holding made p i y, (i, z) ∷ []) i (λ _. 0) (on_tell (step n i 0 0 none) (holding made p i y, (i, z) ∷ []))
       may_tell r more room by number s g long at fits =
           let was = g.each_view id (holding made p i y) at in
           let here = (was.holds i y refl).at in
@@ -131,21 +133,34 @@ module _ (k : Terms) (n id i : ℕ) where
             seat_view made q,
             gives,
             tt,
-            gives_back tables k.journal s g id i made p y at z q.receipts q.full later (omega (arith, room, size))
+            gives_back loads may tables k.journal s g id i made p y at z q.receipts q.full later (omega (arith, room, size))
                 (subst (λ (x : List Record × List Receipt × (ℕ → List Bool)). Books (length tables) k.journal g.seats (put g.history i x.0) (put g.receipts p.caller x.1) x.2)
                 (λ t. (sym e t, sym of.receipts_are t ++ receipt_behind i (sym here.records t) r ∷ [], sym (put_is g.full p.caller p.full of.full_is) t))
                 (more_books (length tables) k.journal g.seats g.history g.receipts g.full record { accounts = g.accounts; counted = g.counted } i p.caller r here.inside much of.caller by (number ∙ ap (λ (l : List Receipt). length l) of.receipts_are))),
             (λ t. (seat_view made (sym (ap (λ (l : List Record). told_last i l p) more ∙ told_snoc i y.records r p) t), [])),
           )
 
-  same_later : (y : Kept) → y.running ≡ None → IsLater y y
-  same_later y idle = record { stripes = refl; place = refl; journal = refl; idle = idle; kept = λ opening h. h }
+  same_later : (y : Kept) → y.running ≡ None → IsLater loads may y y
+  same_later y idle = record { stripes = refl; place = refl; journal = refl; idle = idle; kept = λ opening h. h; given = λ h. h }
 
-  pub may_return_as : (m : Sat) → CanReturn i m → Allows (Guarded k) n id m i (λ _. 0) (on_return (step n i 0 0 none) m)
-  may_return_as m h = subst (λ (x : Sat). Allows (Guarded k) n id x i (λ _. 0) (on_return (step n i 0 0 none) x)) (sym h.is) (may_return h.made h.part h.stripe h.stripe (same_later h.stripe h.idle) refl)
+  pub may_return_as : (m : Sat) → CanReturn i m → Allows (Guarded loads may k) n id m i (λ _. 0) (on_return (step n i 0 0 none) m)
+  may_return_as m h = subst (λ (x : Sat). Allows (Guarded loads may k) n id x i (λ _. 0) (on_return (step n i 0 0 none) x)) (sym h.is) (may_return h.made h.part h.stripe h.stripe (same_later h.stripe h.idle) refl)
 
-  pub may_fill_as : (m : Sat) → CanFill i m → Allows (Guarded k) n id m i (λ _. 0) (on_fill (step n i 0 0 none) m)
-  may_fill_as m f = let h = f.held in subst (λ (x : Sat). Allows (Guarded k) n id x i (λ _. 0) (on_fill (step n i 0 0 none) x)) (sym h.is) (may_fill h.made h.part h.stripe h.stripe (same_later h.stripe h.idle) refl f.whole)
+  pub may_fill_as : (m : Sat) → CanFill i m → Allows (Guarded loads may k) n id m i (λ _. 0) (on_fill (step n i 0 0 none) m)
+  may_fill_as m f = let h = f.held in subst (λ (x : Sat). Allows (Guarded loads may k) n id x i (λ _. 0) (on_fill (step n i 0 0 none) x)) (sym h.is) (may_fill h.made h.part h.stripe h.stripe (same_later h.stripe h.idle) refl f.whole)
 
-  pub may_tell_as : (m : Sat) → CanTell i m → Allows (Guarded k) n id m i (λ _. 0) (on_tell (step n i 0 0 none) m)
-  may_tell_as m h = subst (λ (x : Sat). Allows (Guarded k) n id x i (λ _. 0) (on_tell (step n i 0 0 none) x)) (sym h.is) (may_tell h.made h.part h.before h.stripe h.later h.one h.more h.few h.caller h.number)
+  pub may_tell_as : (m : Sat) → CanTell loads may i m → Allows (Guarded loads may k) n id m i (λ _. 0) (on_tell (step n i 0 0 none) m)
+  may_tell_as m h = subst (λ (x : Sat). Allows (Guarded loads may k) n id x i (λ _. 0) (on_tell (step n i 0 0 none) x)) (sym h.is) (may_tell h.made h.part h.before h.stripe h.later h.one h.more h.few h.caller h.number)
+
+-- what holds of one record
+pub one_of : (P : Record → Type 0) (r : Record) → P r → All P (r ∷ [])
+one_of P r h zero d k = h
+one_of P r h (suc n) d k = absurd (omega (arith, k))
+
+-- a call that is neither an invocation nor a get ends with nothing
+pub plain_ends : (loads : Bool) (may : ℤ → LoadAnswer → Type 0) (before : Entry) (call : Call) → IsPlain call → EndsSo loads may before call (None, None)
+plain_ends loads may before (Invoke c k args) p = absurd p
+plain_ends loads may before (Get k) p = absurd p
+plain_ends loads may before (Put k v) p = (tt, tt)
+plain_ends loads may before (Remove k) p = (tt, tt)
+plain_ends loads may before (Contains k) p = (tt, tt)

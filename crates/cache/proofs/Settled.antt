@@ -1,5 +1,5 @@
 -- The last state settles the accounts.
-use Rattle.std.proofs.Common.{false, ◌≡◌, ℕ, ℤ, zero, suc, ◌<◌, ◌≤◌, List, [], ◌∷◌, length, map, get_or, drop, Some, Bool, sym, refl, ap, ◌∙◌, subst, ⊎_elim, arith}
+use Rattle.std.proofs.Common.{ℤ, Bool, false, ◌≡◌, ℕ, zero, suc, ◌<◌, ◌≤◌, List, [], ◌∷◌, length, map, get_or, drop, Some, sym, refl, ap, ◌∙◌, subst, ⊎_elim, arith}
 use Rattle.std.specs.Prelude.{slice_get, option_and_then, pos, negsuc}
 use Rattle.std.proofs.Math.Nat.{mod-lt}
 use mathlib.Core.Option.{some, some-injective, some-ne-none}
@@ -8,7 +8,8 @@ use native.Mathlib.Decide.{dec_le}
 use lib.ListN.{get_elem?}
 use Rattle.atomic_table.specs.Table.{Final, Seen}
 use Rattle.atomic_table.proofs.Lists.{at_map}
-use Rattle.stripe.specs.History.{Record, IsLegal, entries_after, stripe_of}
+use Rattle.jtypes.specs.declared.loader.LoadAnswer.{LoadAnswer}
+use Rattle.stripe.specs.History.{Record, IsLegal, AreGiven, entries_after, stripe_of}
 use Rattle.stripe.specs.Stored.{Stored, entry_in, entry_among}
 use Rattle.stripe.specs.Kept.{Kept, entry_of}
 use Rattle.cache.specs.Receipts.{Receipt}
@@ -23,9 +24,9 @@ use Rattle.cache.proofs.Keeps.{nothing_held}
 use Rattle.cache.proofs.Starts.{there}
 
 -- the stripes that come back, each as its history leaves it, and the accounts of it all
-pub record HasEnded (tables : List Stored) (journal : ℕ) (seats : List Sitting) (ended : List Kept) : Type 0 where
+pub record HasEnded (loads : Bool) (may : ℤ → LoadAnswer → Type 0) (tables : List Stored) (journal : ℕ) (seats : List Sitting) (ended : List Kept) : Type 0 where
   pub count : length ended ≡ length tables
-  pub each : (i : ℕ) (y : Kept) → get_elem? ended i ≡ some y → IsAt tables journal (history_at (histories_of ended)) i y
+  pub each : (i : ℕ) (y : Kept) → get_elem? ended i ≡ some y → IsAt loads may tables journal (history_at (histories_of ended)) i y
   pub accounts : Accounts journal (length seats) (history_at (histories_of ended)) (receipts_at seats) (full_at seats)
 
 records_there : (ys : List Kept) (i : ℕ) (y : Kept) → get_elem? ys i ≡ some y → history_at (histories_of ys) i ≡ y.records
@@ -49,9 +50,9 @@ no_seat (x ∷ xs) zero h = absurd (omega arith)
 no_seat (x ∷ xs) (suc c) h = no_seat xs c (omega arith)
 
 -- the words are 0 and the stripes at home once one view has all seats
-pub ends : (tables : List Stored) (journal id : ℕ) (words : List ℕ) (seats : List Sitting) (ended : List Kept) → 0 < length seats → ((c : ℕ) (s : Sitting) → get_elem? seats c ≡ some s → s.caller ≡ c)
-    → Final (Seen (IsGuarded tables journal) id (view_of (length seats) seats)) words ended → HasEnded tables journal seats ended
-ends tables journal id words seats ended some_seat numbered last =
+pub ends : (loads : Bool) (may : ℤ → LoadAnswer → Type 0) (tables : List Stored) (journal id : ℕ) (words : List ℕ) (seats : List Sitting) (ended : List Kept) → 0 < length seats → ((c : ℕ) (s : Sitting) → get_elem? seats c ≡ some s → s.caller ≡ c)
+    → Final (Seen (IsGuarded loads may tables journal) id (view_of (length seats) seats)) words ended → HasEnded loads may tables journal seats ended
+ends loads may tables journal id words seats ended some_seat numbered last =
     let s = last.0 in
     let g = last.1.0 in
     let v : View = view_of (length seats) seats in
@@ -60,9 +61,9 @@ ends tables journal id words seats ended some_seat numbered last =
     let all : length seats ≡ g.seats = (mine.maker some_seat).1 in
     let seat : (c : ℕ) → c < g.seats → (x : Sitting) × (get_elem? seats c ≡ some x) = λ c h. there seats c (omega (arith, all)) in
     let has : (c : ℕ) → c < g.seats → Has v c = λ c h. let x = seat c h in (c, part_of x.0, at_map part_of seats c x.0 x.1, numbered c x.0 x.1) in
-    let home : (i : ℕ) → i < length tables → IsHome tables journal g.seats g.history g.receipts g.full s i = λ i h. ⊎_elim
-    (λ (x : IsHome tables journal g.seats g.history g.receipts g.full s i). x)
-    (λ (x : IsOut tables journal g.seats g.history g.receipts g.full s i).
+    let home : (i : ℕ) → i < length tables → IsHome loads may tables journal g.seats g.history g.receipts g.full s i = λ i h. ⊎_elim
+    (λ (x : IsHome loads may tables journal g.seats g.history g.receipts g.full s i). x)
+    (λ (x : IsOut loads may tables journal g.seats g.history g.receipts g.full s i).
     let f = g.each_view x.seat x.view x.there in
     let p = (f.holds i x.before x.holds).only in
     let in_it : get_elem? x.view.parts 0 ≡ some p.0 = ap (λ (l : List Part). get_elem? l 0) p.1 in
@@ -86,7 +87,7 @@ ends tables journal id words seats ended some_seat numbered last =
       each = λ i y e.
           let x = home i (omega (arith, within ended i y e, count)) in
           let same : x.stripe ≡ y = some-injective x.stripe y (sym (last.4 i x.stripe x.there) ∙ e) in
-          subst (λ (z : (ℕ → List Record) × Kept). IsAt tables journal z.0 i z.1) (λ j. ((λ q. histories q j), same j)) x.at;
+          subst (λ (z : (ℕ → List Record) × Kept). IsAt loads may tables journal z.0 i z.1) (λ j. ((λ q. histories q j), same j)) x.at;
       accounts = subst (λ (x : ℕ × (ℕ → List Record) × (ℕ → List Receipt) × (ℕ → List Bool)). Accounts journal x.0 x.1 x.2 x.3)
           (λ j. (sym all j, (λ i. histories i j), (λ c. (lists c).0 j), (λ c. (lists c).1 j))) g.accounts;
     }
@@ -104,14 +105,15 @@ stored_there [] i y e = absurd (some-ne-none y (sym e))
 stored_there (x ∷ xs) zero y e = ap (λ (z : Kept). Some z.stored) (some-injective x y e)
 stored_there (x ∷ xs) (suc i) y e = stored_there xs i y e
 
-pub settles : (d : Opened) (seats : List Sitting) (ended : List Kept) → 0 < length d.tables → length seats ≡ d.seats → HasEnded d.tables d.journal seats ended → Settles d seats (tables_of ended) (histories_of ended)
-settles d seats ended some_stripe all e =
+pub settles : {L : Type 0} (loads : Bool) (may : ℤ → LoadAnswer → Type 0) (d : Opened L) (seats : List Sitting) (ended : List Kept) → 0 < length d.tables → length seats ≡ d.seats → HasEnded loads may d.tables d.journal seats ended → Settles loads may d seats (tables_of ended) (histories_of ended)
+settles loads may d seats ended some_stripe all e =
     let n : ℕ = length d.tables in
     let stripe : (i : ℕ) → i < n → (y : Kept) × (get_elem? ended i ≡ some y) = λ i h. there ended i (omega (arith, e.count)) in
     record {
       tables_count = length-map_of (λ (y : Kept). y.stored) ended ∙ e.count;
       histories_count = length-map_of (λ (y : Kept). y.records) ended ∙ e.count;
-      legal = λ i h. let y = stripe i h in let at = e.each i y.0 y.1 in subst (λ (l : List Record). IsLegal false (entry_among d.tables) l) at.records at.kept.legal;
+      legal = λ i h. let y = stripe i h in let at = e.each i y.0 y.1 in subst (λ (l : List Record). IsLegal loads (entry_among d.tables) l) at.records at.kept.legal;
+      given = λ i h. let y = stripe i h in let at = e.each i y.0 y.1 in subst (λ (l : List Record). AreGiven may l) at.records at.given;
       left = λ k.
           let i : ℕ = stripe_of n k in
           let y = stripe i (stripe_below n k some_stripe) in

@@ -1,10 +1,11 @@
 -- The first state keeps the rule.
-use Rattle.std.proofs.Common.{◌≡◌, ℕ, zero, suc, ◌+◌, ◌<◌, ◌≤◌, List, [], ◌∷◌, length, map, get_or, replicate, take, Some, true, false, true≢false, sym, refl, ap, ◌∙◌, subst, inl, arith}
+use Rattle.std.proofs.Common.{ℤ, Bool, ◌≡◌, ℕ, zero, suc, ◌+◌, ◌<◌, ◌≤◌, List, [], ◌∷◌, length, map, get_or, replicate, take, Some, true, false, true≢false, sym, refl, ap, ◌∙◌, subst, inl, arith}
 use Rattle.std.specs.Prelude.{slice_get, option_and_then}
 use mathlib.Core.Option.{some, some-injective, some-ne-none}
 use lib.ListN.{get_elem?}
 use Rattle.atomic_table.specs.Table.{opening}
 use Rattle.atomic_table.proofs.Lists.{at_map}
+use Rattle.jtypes.specs.declared.loader.LoadAnswer.{LoadAnswer}
 use Rattle.stripe.specs.History.{Record}
 use Rattle.stripe.specs.Stored.{Stored, entry_in, entry_among}
 use Rattle.stripe.specs.Kept.{Kept, IsKept, fresh}
@@ -45,26 +46,27 @@ fresh_at n journal place (m ∷ ms) (suc i) y e =
     (h.0, h.1, h.2 ∙ ap (λ (q : ℕ). fresh n journal q h.0) (let s : suc place + i ≡ place + suc i = omega arith in s))
 
 -- without a history, what a stripe stores is what there was
-starts_kept : (ms : List Stored) (journal i : ℕ) (m : Stored) → slice_get ms i ≡ Some m → IsKept false (entry_among ms) (fresh (length ms) journal i m)
-starts_kept ms journal i m is = record { legal = tt; left = λ k of. sym (ap (option_and_then (λ t. entry_in t k)) (ap (slice_get ms) of ∙ is)) }
+starts_kept : (loads : Bool) (ms : List Stored) (journal i : ℕ) (m : Stored) → slice_get ms i ≡ Some m → IsKept loads (entry_among ms) (fresh (length ms) journal i m)
+starts_kept loads ms journal i m is = record { legal = tt; left = λ k of. sym (ap (option_and_then (λ t. entry_in t k)) (ap (slice_get ms) of ∙ is)) }
 
-starts_at : (ms : List Stored) (journal i : ℕ) (y : Kept) → i < length ms → get_elem? (fresh_stripes journal ms) i ≡ some y → IsAt ms journal (λ _. []) i y
-starts_at ms journal i y below e =
+starts_at : (loads : Bool) (may : ℤ → LoadAnswer → Type 0) (ms : List Stored) (journal i : ℕ) (y : Kept) → i < length ms → get_elem? (fresh_stripes journal ms) i ≡ some y → IsAt loads may ms journal (λ _. []) i y
+starts_at loads may ms journal i y below e =
     let h = fresh_at (length ms) journal 0 ms i y e in
     let is : fresh (length ms) journal i h.0 ≡ y = ap (λ (q : ℕ). fresh (length ms) journal q h.0) (let s : i ≡ 0 + i = omega arith in s) ∙ sym h.2 in
-    subst (λ (z : Kept). IsAt ms journal (λ _. []) i z) is record {
+    subst (λ (z : Kept). IsAt loads may ms journal (λ _. []) i z) is record {
       inside = below;
       stripes = refl;
       place = refl;
       journal_is = refl;
       idle = refl;
-      kept = starts_kept ms journal i h.0 h.1;
+      kept = starts_kept loads ms journal i h.0 h.1;
+      given = λ q d e. absurd (omega (arith, e));
       records = refl;
       few = omega arith;
     }
 
-begins : (k : Terms) (ws : List ℕ) → length ws ≡ length k.tables.value → ((i : ℕ) → get_or ws i 0 ≡ 0) → Guarded k (opening ws (fresh_stripes k.journal k.tables.value) first_view)
-begins k ws long zeros =
+begins : {L : Type 0} (loads : Bool) (may : ℤ → LoadAnswer → Type 0) (k : Terms L) (ws : List ℕ) → length ws ≡ length k.tables.value → ((i : ℕ) → get_or ws i 0 ≡ 0) → Guarded loads may k (opening ws (fresh_stripes k.journal k.tables.value) first_view)
+begins loads may k ws long zeros =
     let tables : List Stored = k.tables.value in
     let stripes : List Kept = fresh_stripes k.journal tables in
     let s : S = opening ws stripes first_view in
@@ -91,10 +93,10 @@ begins k ws long zeros =
         free = zeros i;
         stripe = y.0;
         there = at_map some stripes i y.0 y.1;
-        at = starts_at tables k.journal i y.0 below y.1;
+        at = starts_at loads may tables k.journal i y.0 below y.1;
       };
-      each_view = λ j v e. let o = only j v e in subst (λ (x : View). Fits tables k.journal 1 (λ _. []) (λ _. []) (λ _. none_full) s j x) o.1 (record {
-        parts = λ n p e'. subst (λ (q : Part). IsPart tables k.journal 1 (λ _. []) (λ _. []) (λ _. none_full) s q) (at_one (part 0 [] none_full) p n e') record { caller = omega arith; receipts_are = refl; full_is = refl };
+      each_view = λ j v e. let o = only j v e in subst (λ (x : View). Fits loads may tables k.journal 1 (λ _. []) (λ _. []) (λ _. none_full) s j x) o.1 (record {
+        parts = λ n p e'. subst (λ (q : Part). IsPart loads may tables k.journal 1 (λ _. []) (λ _. []) (λ _. none_full) s q) (at_one (part 0 [] none_full) p n e') record { caller = omega arith; receipts_are = refl; full_is = refl };
         holds = λ i y e'. absurd (nothing_held i y e');
         maker = λ _. (o.0, refl);
       });
@@ -120,10 +122,10 @@ zeros_are (suc n) zero i = refl
 zeros_are (suc n) (suc m) zero = refl
 zeros_are (suc n) (suc m) (suc i) = zeros_are n m i
 
-pub begins_at : (k : Terms) (n : ℕ) (slots : List Kept) → fresh_stripes k.journal k.tables.value ≡ slots → n ≡ length k.tables.value → n ≤ 64 → Guarded k (opening (take n (zeros 64)) slots first_view)
-begins_at k n slots same count few =
-    subst (λ (l : List Kept). Guarded k (opening (take n (zeros 64)) l first_view)) same
-    (begins k (take n (zeros 64)) (zeros_long n 64 few ∙ count) (λ i. zeros_are n 64 i))
+pub begins_at : {L : Type 0} (loads : Bool) (may : ℤ → LoadAnswer → Type 0) (k : Terms L) (n : ℕ) (slots : List Kept) → fresh_stripes k.journal k.tables.value ≡ slots → n ≡ length k.tables.value → n ≤ 64 → Guarded loads may k (opening (take n (zeros 64)) slots first_view)
+begins_at loads may k n slots same count few =
+    subst (λ (l : List Kept). Guarded loads may k (opening (take n (zeros 64)) l first_view)) same
+    (begins loads may k (take n (zeros 64)) (zeros_long n 64 few ∙ count) (λ i. zeros_are n 64 i))
 
 -- stripes that are fresh are the stripes in their order
 ready_from : (n journal place : ℕ) (ms : List Stored) (i : ℕ) (y : Kept) → get_elem? (fresh_from n journal place ms) i ≡ some y → IsReady n (place + i) y

@@ -1,6 +1,7 @@
 -- What a closed cache hands out.
-use Rattle.std.specs.Prelude.{◌≡◌, false, ℕ, ℤ, zero, suc, ◌<◌, List, [], ◌∷◌, Bool, length, map}
-use Rattle.stripe.specs.History.{Record, IsLegal, entries_after, stripe_of}
+use Rattle.std.specs.Prelude.{◌≡◌, ℕ, ℤ, zero, suc, ◌<◌, List, [], ◌∷◌, Bool, length, map}
+use Rattle.jtypes.specs.declared.loader.LoadAnswer.{LoadAnswer}
+use Rattle.stripe.specs.History.{Record, IsLegal, AreGiven, entries_after, stripe_of}
 use Rattle.stripe.specs.Stored.{Stored, entry_among}
 use Rattle.std.specs.Global.{Vec}
 use Rattle.stripe.specs.declared.call.Record.{Record as RecordKept}
@@ -39,11 +40,12 @@ receipts_seen ts = map (λ (t : Vec ReceiptKept). receipts_of t.items) ts
 abbrev pub receipts_in : List Sitting → List (List Receipt)
 receipts_in seats = map (λ (s : Sitting). s.receipts) seats
 
--- each history is legal from the entries that the cache was opened with, each entry is what the history of its stripe leaves, and receipts and records
--- belong to one another
-pub record Settles (d : Opened) (seats : List Sitting) (tables : List Stored) (histories : List (List Record)) : Type 0 where
+-- each history is legal from the entries that the cache was opened with, with a loader to ask or without one, each entry is what the history of its stripe
+-- leaves, the loader gives what it answered, and receipts and records belong to one another
+pub record Settles {L : Type 0} (loads : Bool) (gives : ℤ → LoadAnswer → Type 0) (d : Opened L) (seats : List Sitting) (tables : List Stored) (histories : List (List Record)) : Type 0 where
   pub tables_count : length tables ≡ length d.tables
   pub histories_count : length histories ≡ length d.tables
-  pub legal : (i : ℕ) → i < length d.tables → IsLegal false (entry_among d.tables) (history_at histories i)
+  pub legal : (i : ℕ) → i < length d.tables → IsLegal loads (entry_among d.tables) (history_at histories i)
+  pub given : (i : ℕ) → i < length d.tables → AreGiven gives (history_at histories i)
   pub left : (k : ℤ) → entry_among tables k ≡ entries_after (entry_among d.tables) (history_at histories (stripe_of (length d.tables) k)) k
   pub accounts : Accounts d.journal d.seats (history_at histories) (receipts_at seats) (full_at seats)

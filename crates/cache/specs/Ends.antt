@@ -1,8 +1,9 @@
 -- How a cache is opened, and how its stripes come back.
-use Rattle.std.specs.Prelude.{◌≡◌, ℕ, ◌≤◌, List, [], length, map, vec_capacity, None}
+use Rattle.std.specs.Prelude.{◌≡◌, ℕ, ℤ, Bool, ◌≤◌, List, [], length, map, vec_capacity, None}
 use mathlib.Core.Option.{some}
 use lib.ListN.{get_elem?}
 use Rattle.atomic_table.specs.Table.{Final, Seen}
+use Rattle.jtypes.specs.declared.loader.LoadAnswer.{LoadAnswer}
 use Rattle.stripe.specs.History.{Record}
 use Rattle.stripe.specs.Stored.{Stored}
 use Rattle.stripe.specs.Kept.{Kept}
@@ -40,13 +41,13 @@ abbrev pub AreReady : ℕ → List Kept → Type 0
 AreReady n ys = (i : ℕ) (y : Kept) → get_elem? ys i ≡ some y → IsReady n i y
 
 -- whatever stripes the last state of the table had, with this view of a seat, they can come back
-abbrev pub CanComeBack : Terms → ℕ → ℕ → View → Type 0
-CanComeBack k n id v = (words : List ℕ) (ended : List Kept) → Final (Seen (Guarded k) id v) words ended → AreReady n ended
+abbrev pub CanComeBack : {L : Type 0} → Bool → (ℤ → LoadAnswer → Type 0) → Terms L → ℕ → ℕ → View → Type 0
+CanComeBack loads gives k n id v = (words : List ℕ) (ended : List Kept) → Final (Seen (Guarded loads gives k) id v) words ended → AreReady n ended
 
 -- the stripes of the last state came back
-pub record IsUnpacked (k : Terms) (n id : ℕ) (v : View) (rest : Back) : Type 0 where
+pub record IsUnpacked {L : Type 0} (loads : Bool) (gives : ℤ → LoadAnswer → Type 0) (k : Terms L) (n id : ℕ) (v : View) (rest : Back) : Type 0 where
   pub words : List ℕ
   pub ended : List Kept
-  pub last : Final (Seen (Guarded k) id v) words ended
+  pub last : Final (Seen (Guarded loads gives k) id v) words ended
   pub count : length ended ≡ n
   pub is : rest ≡ back_of n ended

@@ -10,17 +10,18 @@ use Rattle.cache.specs.declared.cache.Cache.TheInside.{Inside}
 use Rattle.cache.specs.declared.seat.Seat.TheInside.{Inside as InSeat}
 
 -- a table of the stripes of a cache: a word and a slot for each
-pub record IsBoard (id : TableId) (k : Terms) : Type 0 where
+pub record IsBoard {L : Type 0} (id : TableId) (k : Terms L) : Type 0 where
   pub words : id.words ≡ length k.tables.value
   pub slots : id.slots ≡ length k.tables.value
   pub count : IsCount (length k.tables.value)
   pub journal : IsJournal k.journal
 
-abbrev pub opened : Inside → Opened
-opened s = record { table = s.table.shared.table_id; registry = s.registry.now; tables = s.table.shared.key.tables.value; journal = s.table.shared.key.journal; seats = s.seats }
+abbrev pub opened : {L : Type 0} → Inside L → Opened L
+opened s = record { table = s.table.shared.table_id; registry = s.registry.now; tables = s.table.shared.key.tables.value; journal = s.table.shared.key.journal; seats = s.seats; loader = s.loader.now }
 
-pub record IsCache (s : Inside) : Type 0 where
+pub record IsCache {L : Type 0} (s : Inside L) : Type 0 where
   pub board : IsBoard s.table.shared.table_id s.table.shared.key
+  pub loader : s.table.shared.key.loader.value ≡ s.loader.now
   pub stripes : s.stripes ≡ length s.table.shared.key.tables.value
   pub some_seat : 0 < s.seats
   pub rest : s.rest ≡ none_back s.stripes

@@ -13,13 +13,14 @@ use Rattle.cache.specs.Views.{Part, View, part, none_full}
 use Rattle.cache.specs.declared.refusal.InvokeRefusal.{InvokeRefusal}
 use Rattle.cache.specs.declared.refusal.InvokeRefusal.TheVariants.{JournalFull, NoMemory}
 
--- a cache: what its stripes stored when it was opened, how many records each may have, and how many seats there are
-pub record Opened : Type 0 where
+-- a cache: what its stripes stored when it was opened, how many records each may have, how many seats there are, and its loader
+pub record Opened (L : Type 0) : Type 0 where
   pub table : TableId
   pub registry : Shelves
   pub tables : List Stored
   pub journal : ℕ
   pub seats : ℕ
+  pub loader : L
 
 -- a seat of a cache: its number, its receipts, and which stripes it found full; `made` is the number of seats in the first one, and 0 in the others
 pub record Sitting : Type 0 where
@@ -44,12 +45,13 @@ IsSeatCount seats = (0 < seats) × (seats ≤ 16)
 abbrev pub AreCounts : ℕ → ℕ → Type 0
 AreCounts journal seats = IsJournal journal × IsSeatCount seats
 
--- a cache over this registry, with these tables, so many records a stripe and so many seats
-pub record IsOpened (registry : Shelves) (tables : List Stored) (journal seats : ℕ) (d : Opened) : Type 0 where
+-- a cache over this registry, with these tables, so many records a stripe, so many seats and this loader
+pub record IsOpened {L : Type 0} (registry : Shelves) (tables : List Stored) (journal seats : ℕ) (loader : L) (d : Opened L) : Type 0 where
   pub registry_is : d.registry ≡ registry
   pub tables_are : d.tables ≡ tables
   pub journal_is : d.journal ≡ journal
   pub seats_are : d.seats ≡ seats
+  pub loader_is : d.loader ≡ loader
 
 -- the number of seats, in the first of n
 abbrev pub made_of : ℕ → ℕ → ℕ
@@ -72,7 +74,7 @@ pub record IsSeat (t : TableId) (n c : ℕ) (s : Sitting) : Type 0 where
   pub made_is : s.made ≡ made_of n c
 
 -- all the seats of a cache, in their order
-pub record AreSeats (d : Opened) (seats : List Sitting) : Type 0 where
+pub record AreSeats {L : Type 0} (d : Opened L) (seats : List Sitting) : Type 0 where
   pub count : length seats ≡ d.seats
   pub each : (c : ℕ) (s : Sitting) → get_elem? seats c ≡ some s → IsSeat d.table d.seats c s
 
@@ -85,11 +87,11 @@ abbrev pub with_full : Sitting → ℕ → Sitting
 with_full s i = record s { full = slice_set s.full i true }
 
 -- the stripe of a call's key
-abbrev pub stripe_in : Opened → Call → ℕ
+abbrev pub stripe_in : {L : Type 0} → Opened L → Call → ℕ
 stripe_in d call = stripe_of (length d.tables) (key_of call)
 
 -- the call was answered: the seat has one receipt more, of this call and this reply on the key's stripe
-pub record IsAnswered (d : Opened) (old : Sitting) (call : Call) (reply : Reply) (new : Sitting) : Type 0 where
+pub record IsAnswered {L : Type 0} (d : Opened L) (old : Sitting) (call : Call) (reply : Reply) (new : Sitting) : Type 0 where
   pub receipt : Receipt
   pub call_is : receipt.call ≡ call
   pub reply_is : receipt.reply ≡ reply
@@ -97,6 +99,6 @@ pub record IsAnswered (d : Opened) (old : Sitting) (call : Call) (reply : Reply)
   pub left : new ≡ with_receipt old receipt
 
 -- the call was refused: the seat has the key's stripe among the full ones, or there was no memory and the seat is as it was
-abbrev pub IsTurnedAway : Opened → Sitting → Call → InvokeRefusal → Sitting → Type 0
+abbrev pub IsTurnedAway : {L : Type 0} → Opened L → Sitting → Call → InvokeRefusal → Sitting → Type 0
 IsTurnedAway d old call JournalFull new = (new ≡ with_full old (stripe_in d call)) × (slice_index_or new.full (stripe_in d call) false ≡ true)
 IsTurnedAway d old call NoMemory new = new ≡ old

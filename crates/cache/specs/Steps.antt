@@ -1,12 +1,19 @@
 -- What is asked and told of the steps of a call.
-use Rattle.std.specs.Prelude.{◌≡◌, false, ◌≢◌, ℕ, ℤ, ◌≤◌, List, [], ◌∷◌, ◌++◌, None, length}
+use Rattle.std.specs.Prelude.{◌≡◌, Bool, Option, ◌≢◌, ℕ, ℤ, ◌≤◌, List, [], ◌∷◌, ◌++◌, None, length}
+use Rattle.jtypes.specs.declared.loader.LoadAnswer.{LoadAnswer}
 use Rattle.jtypes.specs.Entry.{Entry}
-use Rattle.stripe.specs.History.{Begun, Record, Entries, key_of}
-use Rattle.stripe.specs.Kept.{Kept, IsKept, IsOf, IsRecord, begun, committed, entry_of}
+use Rattle.jtypes.specs.Loading.{IsGiven}
+use Rattle.machine.specs.declared.done.Done.{Done}
+use Rattle.stripe.specs.History.{Call, Begun, Record, Entries, key_of}
+use Rattle.stripe.specs.Kept.{Kept, IsEnd, asked_by, IsKept, IsOf, IsRecord, begun, committed, entry_of}
 use Rattle.cache.specs.Receipts.{receipt_behind}
 use Rattle.cache.specs.Views.{Part, seat_view, holding, told_part}
 use Rattle.cache.specs.Guarded.{IsLater}
 use Rattle.cache.specs.Plays.{Sat, IsFree}
+
+-- a call that found this entry ends so, and the loader gives what it answered
+abbrev pub EndsSo : Bool → (ℤ → LoadAnswer → Type 0) → Entry → Call → Option Done × Option LoadAnswer → Type 0
+EndsSo loads gives before call e = IsEnd loads before call e.0 e.1 × IsGiven gives (key_of call) (asked_by e.0 e.1)
 
 -- the seat holds nothing
 pub record IsIdle (m : Sat) : Type 0 where
@@ -28,19 +35,20 @@ pub record CanBegin (i : ℕ) (b : Begun) (held : List (ℕ × Kept)) : Type 0 w
   pub of : IsOf stripe (key_of b.call)
 
 -- the call has begun, and found this entry
-pub record HasBegun (i : ℕ) (b : Begun) (before : Entry) (y : Kept) (held : List (ℕ × Kept)) : Type 0 where
+pub record HasBegun (loads : Bool) (i : ℕ) (b : Begun) (before : Entry) (y : Kept) (held : List (ℕ × Kept)) : Type 0 where
   pub is : held ≡ (i, begun y b) ∷ []
   pub found : before ≡ entry_of y (key_of b.call)
   pub room : length y.records ≢ y.journal
   pub same : (k : ℤ) → entry_of (begun y b) k ≡ entry_of y k
-  pub kept : (opening : Entries) → IsKept false opening y → IsKept false opening (begun y b)
+  pub kept : (opening : Entries) → IsKept loads opening y → IsKept loads opening (begun y b)
 
--- the call has ended, with this record at this place
-pub record HasCommitted (i : ℕ) (b : Begun) (y : Kept) (r : Record) (place : ℕ) (held : List (ℕ × Kept)) : Type 0 where
+-- the call has ended, with this record at this place, and this answer of the loader if it was asked
+pub record HasCommitted (i : ℕ) (b : Begun) (answer : Option LoadAnswer) (y : Kept) (r : Record) (place : ℕ) (held : List (ℕ × Kept)) : Type 0 where
   pub is : held ≡ (i, committed y r) ∷ []
   pub made : IsRecord b (entry_of y (key_of b.call)) r
   pub place_is : place ≡ length y.records
-  pub kept : b.loads ≡ false → (opening : Entries) → IsKept false opening y → IsKept false opening (committed y r)
+  pub asked : r.asked ≡ answer
+  pub kept : (opening : Entries) → IsKept b.loads opening y → IsKept b.loads opening (committed y r)
 
 -- the seat holds the stripe as it took it
 pub record CanReturn (i : ℕ) (m : Sat) : Type 0 where
@@ -56,14 +64,14 @@ pub record CanFill (i : ℕ) (m : Sat) : Type 0 where
   pub whole : length held.stripe.records ≡ held.stripe.journal
 
 -- the seat holds the stripe with one record more than when it took it: the next one of the seat
-pub record CanTell (i : ℕ) (m : Sat) : Type 0 where
+pub record CanTell (loads : Bool) (gives : ℤ → LoadAnswer → Type 0) (i : ℕ) (m : Sat) : Type 0 where
   pub made : ℕ
   pub part : Part
   pub before : Kept
   pub stripe : Kept
   pub one : Record
   pub is : m ≡ (holding made part i before, (i, stripe) ∷ [])
-  pub later : IsLater before stripe
+  pub later : IsLater loads gives before stripe
   pub more : stripe.records ≡ before.records ++ one ∷ []
   pub few : length stripe.records ≤ stripe.journal
   pub caller : one.caller ≡ part.caller

@@ -7,6 +7,7 @@ use crate::ends::{Locked, join_all, locked, rejoined, seated, unpack};
 use crate::known::Terms;
 use crate::receipt::Receipt;
 use crate::seat::Seat;
+use jtypes::Loader;
 use registry::Registry;
 use std::alloc::{AllocError, Global};
 use std::marker::Model;
@@ -16,28 +17,30 @@ use stripe::{OpenRefusal, Record, Rest, Tables};
 /// The most seats.
 const MOST_SEATS: usize = 16;
 
-/// A cache of Longs by Longs (JSR 107, `Cache`), which threads share. Each makes its calls with a seat of its own.
+/// A cache of Longs by Longs (JSR 107, `Cache`), which threads share. Each makes its calls with a seat of its own. Its classes live for
+/// `'a`, its loader for `'l`.
 #[derive(Drop)]
-pub struct Cache<'a> {
-    pub(crate) table: Locked<'a>,
+pub struct Cache<'a, 'l, L: Loader> {
+    pub(crate) table: Locked<'a, L>,
     pub(crate) registry: &'a Registry,
     pub(crate) stripes: usize,
     pub(crate) seats: usize,
     pub(crate) rest: Rest<'a>,
     pub(crate) receipts: Vec<Vec<Receipt<'a>>>,
+    pub(crate) loader: &'l L,
 }
 
-impl<'a> Model for Cache<'a> {
+impl<'a, 'l, L: Loader> Model for Cache<'a, 'l, L> {
     ghost use Rattle.cache.specs.Opened.{Opened};
 
-    ghost Value = { Opened };
+    ghost Value = { Opened L };
 
     ghost use Rattle.std.specs.Coded.{codes};
     ghost use Rattle.stripe.specs.Stored.{stored_code};
     ghost use Rattle.boxcar.specs.Table.{shelves_coded};
     ghost use Rattle.atomic_table.specs.Seated.{table_id_coded};
 
-    ghost coded = { Prim.hlevel (codes, stored_code, shelves_coded, table_id_coded) };
+    ghost coded = { Prim.hlevel (codes, stored_code, shelves_coded, table_id_coded, L.code) };
 
     ghost use Rattle.cache.specs.Inside.{IsCache, opened};
 
@@ -71,21 +74,23 @@ fn room_for<'a>(alloc: Global, seats: usize) -> Result<SeatRoom<'a>, AllocError>
     })
 }
 
-impl<'a> Cache<'a> {
+impl<'a, 'l, L: Loader> Cache<'a, 'l, L> {
     ghost use Rattle.std.specs.Prelude.{◌≡◌, ◌↔◌, IfOk, IfErr, OnOk};
     ghost use Rattle.stripe.specs.declared.refusal.OpenRefusal.TheVariants.{BadCount};
     ghost use Rattle.cache.specs.Opened.{IsOpened, AreFresh, AreCounts, AreSeats};
     ghost use Rattle.cache.specs.Closing.{Settles, histories_seen, receipts_seen, receipts_in};
 
-    /// A cache with these entries, whose stripes each may have so many records, and its seats; or the tables again.
+    /// A cache with these entries, whose stripes each may have so many records, and its seats; or the tables again. A `get` or a
+    /// `getValue` of an absent key asks the loader, if it is one that is asked.
     pub fn open(
         alloc: Global,
         registry: &'a Registry,
         tables: Tables,
         journal: usize,
         seats: usize,
-    ) -> Result<(Cache<'a>, Vec<Seat<'a>>), (OpenRefusal, Tables)>
-        ensures cache { IfOk result (λ r. IsOpened registry.now tables journal seats r.0) }
+        loader: &'l L,
+    ) -> Result<(Cache<'a, 'l, L>, Vec<Seat<'a>>), (OpenRefusal, Tables)>
+        ensures cache { IfOk result (λ r. IsOpened registry.now tables journal seats loader.now r.0) }
         ensures seats { IfOk result (λ r. AreFresh r.0.table seats r.1.items) }
         ensures counts { OnOk result (AreCounts journal seats) }
         ensures count { IfErr result (λ e. (e.0 ≡ BadCount) ↔ (¬ AreCounts journal seats)) }
@@ -97,6 +102,7 @@ impl<'a> Cache<'a> {
         let terms = Terms {
             tables: Snapshot::of(&tables),
             journal,
+            loader: Snapshot::of(loader),
         };
         let (stripes, rest) = tables.split(alloc, journal)?;
         let count = stripes.len();
@@ -114,6 +120,7 @@ impl<'a> Cache<'a> {
                     seats,
                     rest,
                     receipts,
+                    loader,
                 };
                 Ok((cache, list))
             }
@@ -124,7 +131,7 @@ impl<'a> Cache<'a> {
     /// Ends the cache, by all the seats that `open` gave, in their order.
     pub fn close(self, mut seats: Vec<Seat<'a>>) -> Closed<'a>
         requires { AreSeats self seats.items }
-        ensures settled { Settles self.entry seats.entry.items result.tables (histories_seen result.histories.items) }
+        ensures settled { Settles L.ASKS (L.gives self.entry.loader) self.entry seats.entry.items result.tables (histories_seen result.histories.items) }
         ensures receipts { receipts_seen result.receipts.items ≡ receipts_in seats.entry.items }
     {
         let Cache {

@@ -10,11 +10,11 @@ use crate::receipt::Receipt;
 use crate::refusal::InvokeRefusal;
 use crate::seat::Seat;
 use crate::steps::{begin, commit, give_back, give_full, take, tell};
-use jtypes::{Args, NoLoader};
+use jtypes::{Args, LoadAnswer, Loader};
 use machine::{Done, Workspace, run};
 use registry::ClassId;
 use std::sync::Wait;
-use stripe::{ArgRow, BeginRefusal, Call, Reply, stripe_of};
+use stripe::{ArgRow, BeginRefusal, Call, Reply, ask, stripe_of};
 
 /// The stripe of a call's key, of so many.
 fn place_of(stripes: usize, call: &Call<'_>) -> usize
@@ -26,17 +26,22 @@ fn place_of(stripes: usize, call: &Call<'_>) -> usize
     stripe_of(stripes, call.key())
 }
 
-impl<'a> Cache<'a> {
-    ghost use Rattle.std.specs.Prelude.{◌≡◌, false, ℤ, Option, None, IfOk, IfErr};
+/// How a call ended: an invocation by its run, a `get` by what the loader answered if it was asked.
+type Ended = (Option<Done>, Option<LoadAnswer>);
+
+impl<'a, 'l, L: Loader> Cache<'a, 'l, L> {
+    ghost use Rattle.std.specs.Prelude.{◌≡◌, ℤ, Option, None, IfOk, IfErr};
     ghost use Rattle.machine.specs.declared.done.Done.{Done as DoneSeen};
+    ghost use Rattle.jtypes.specs.declared.loader.LoadAnswer.{LoadAnswer as AnswerSeen};
     ghost use Rattle.stripe.specs.History.{Call as CallSeen, Invoke, Get, Put, Remove, Contains};
-    ghost use Rattle.stripe.specs.Kept.{IsEnd};
+    ghost use Rattle.stripe.specs.Kept.{IsPlain};
     ghost use Rattle.stripe.specs.Seen.{call_of};
     ghost use Rattle.registry.specs.Ids.{IsOf, class_of};
     ghost use Rattle.cache.specs.Opened.{IsAnswered, IsTurnedAway};
+    ghost use Rattle.cache.specs.Steps.{EndsSo};
 
     /// Makes a call under the lock of its key's stripe. `end` tells how it ends, by the entry that it found.
-    fn locked<R: Wait, F: FnOnce(Option<i64>) -> Option<Done>, G: Gate>(
+    fn locked<R: Wait, F: FnOnce(Option<i64>) -> Ended, G: Gate>(
         &self,
         rt: &R,
         seat: &mut Seat<'a>,
@@ -47,7 +52,7 @@ impl<'a> Cache<'a> {
     ) -> Result<Reply, InvokeRefusal>
         requires seat { seat.old.table ≡ self.now.table }
         requires callable { (before : Option ℤ) → F.pre end before }
-        requires ends { (before : Option ℤ) (done : Option DoneSeen) → F.post end before done → IsEnd false before (call_of call) done None }
+        requires ends { (before : Option ℤ) (e : Option DoneSeen × Option AnswerSeen) → F.post end before e → EndsSo L.ASKS (L.gives self.now.loader) before (call_of call) e }
         ensures ok { IfOk result (λ reply. IsAnswered self.now seat.old (call_of call.entry) reply seat.new) }
         ensures err { IfErr result (λ refusal. IsTurnedAway self.now seat.old (call_of call.entry) refusal seat.new) }
     {
@@ -59,10 +64,11 @@ impl<'a> Cache<'a> {
         let pass = &mut seat.pass;
         take(rt, board, pass, index);
         let number = seat.receipts.len() as u32;
-        match begin(board, pass, index, seat.caller, number, call) {
+        match begin(board, pass, index, seat.caller, number, call, self.loader) {
             Ok(before) => {
                 gate.started(job);
-                let (record, place) = commit(board, pass, index, end(before));
+                let (done, asked) = end(before);
+                let (record, place) = commit(board, pass, index, done, asked);
                 tell(board, pass, index);
                 seat.receipts.push_reserved(Receipt {
                     stripe: index,
@@ -84,7 +90,7 @@ impl<'a> Cache<'a> {
         }
     }
 
-    /// A call that isn't an invocation.
+    /// A call that is neither an invocation nor a `get`.
     fn plain<R: Wait, G: Gate>(
         &self,
         rt: &R,
@@ -94,13 +100,13 @@ impl<'a> Cache<'a> {
         gate: &G,
     ) -> Result<Reply, InvokeRefusal>
         requires seat { seat.old.table ≡ self.now.table }
-        requires plain { (before : Option ℤ) → IsEnd false before (call_of call) None None }
+        requires plain { IsPlain (call_of call) }
         ensures ok { IfOk result (λ reply. IsAnswered self.now seat.old (call_of call.entry) reply seat.new) }
         ensures err { IfErr result (λ refusal. IsTurnedAway self.now seat.old (call_of call.entry) refusal seat.new) }
     {
-        let end = |_before: Option<i64>| -> Option<Done>
-            ensures { result ≡ None }
-        { None };
+        let end = |_before: Option<i64>| -> Ended
+            ensures { result ≡ (None, None) }
+        { (None, None) };
         let answer = self.locked(rt, seat, call, end, job, gate);
         gate.answered(job);
         answer
@@ -147,7 +153,13 @@ impl<'a> Cache<'a> {
             key,
             args: ArgRow::of(&args),
         };
-        let end = |before: Option<i64>| Some(run(class, key, before, &args, workspace, &NoLoader));
+        let loader = self.loader;
+        let end = |before: Option<i64>| {
+            (
+                Some(run(class, key, before, &args, workspace, loader)),
+                None,
+            )
+        };
         let answer = self.locked(rt, seat, call, end, job, gate);
         gate.answered(job);
         answer
@@ -180,7 +192,11 @@ impl<'a> Cache<'a> {
         ensures ok { IfOk result (λ reply. IsAnswered self.now seat.old (Get key) reply seat.new) }
         ensures err { IfErr result (λ refusal. IsTurnedAway self.now seat.old (Get key) refusal seat.new) }
     {
-        self.plain(rt, seat, Call::Get { key }, job, gate)
+        let loader = self.loader;
+        let end = |before: Option<i64>| (None, ask(loader, key, before));
+        let answer = self.locked(rt, seat, Call::Get { key }, end, job, gate);
+        gate.answered(job);
+        answer
     }
 
     /// `put` (JSR 107, `Cache`).

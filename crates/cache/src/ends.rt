@@ -15,16 +15,17 @@ use crate::receipt::Receipt;
 use crate::seat::Seat;
 use crate::steps::{Board, Place};
 use atomic_table::Table;
+use jtypes::Loader;
 use std::alloc::Global;
 use stripe::{Rest, Stripe, Tables};
 
 /// A table of stripes, under their locks.
-pub type Locked<'a> = Table<Stripe<'a>, Known, Terms, Locks, Global>;
+pub type Locked<'a, L> = Table<Stripe<'a>, Known, Terms<L>, Locks, Global>;
 
 /// Cuts all seats but the first off the first.
-fn cut_all<'a>(
+fn cut_all<'a, L: Loader>(
     alloc: Global,
-    board: &Board<'a>,
+    board: &Board<'a, L>,
     pass: &mut Place<'a>,
     list: &mut Vec<Seat<'a>>,
     seats: usize,
@@ -66,11 +67,11 @@ fn first_seat<'a>(alloc: Global, pass: Place<'a>, seats: usize) -> Seat<'a>
 }
 
 /// Puts stripes that are fresh under locks; or the stripes again.
-pub fn locked<'a>(
+pub fn locked<'a, L: Loader>(
     alloc: Global,
     stripes: Vec<Stripe<'a>>,
-    terms: &Terms,
-) -> Result<(Locked<'a>, Place<'a>), Vec<Stripe<'a>>>
+    terms: &Terms<L>,
+) -> Result<(Locked<'a, L>, Place<'a>), Vec<Stripe<'a>>>
     requires count { IsCount (length terms.now.tables.value) }
     requires fresh { stripes.items ≡ fresh_stripes terms.now.journal terms.now.tables.value }
     ensures words { IfOk result (λ t. t.0.shared.table_id.words ≡ length terms.now.tables.value) }
@@ -88,9 +89,9 @@ pub fn locked<'a>(
 }
 
 /// All seats of a cache, in the room for them.
-pub fn seated<'a>(
+pub fn seated<'a, L: Loader>(
     alloc: Global,
-    board: &Board<'a>,
+    board: &Board<'a, L>,
     mut pass: Place<'a>,
     mut list: Vec<Seat<'a>>,
     seats: usize,
@@ -117,8 +118,8 @@ fn first_in<'a>(list: &mut Vec<Seat<'a>>, first: Seat<'a>)
 }
 
 /// Joins all seats into the first, and gathers their receipts.
-pub fn join_all<'a>(
-    board: &Board<'a>,
+pub fn join_all<'a, L: Loader>(
+    board: &Board<'a, L>,
     first: Seat<'a>,
     rest: Vec<Seat<'a>>,
     lists: &mut Vec<Vec<Receipt<'a>>>,
@@ -149,11 +150,11 @@ pub fn join_all<'a>(
 }
 
 /// Takes the stripes out of the table.
-pub fn unpack<'a>(table: Locked<'a>, pass: Place<'a>, rest: &mut Rest<'a>)
+pub fn unpack<'a, L: Loader>(table: Locked<'a, L>, pass: Place<'a>, rest: &mut Rest<'a>)
     requires table { pass.table_id ≡ table.shared.table_id }
-    requires ready { CanComeBack table.shared.key table.shared.table_id.slots pass.id pass.me.0 }
+    requires ready { CanComeBack L.ASKS (L.gives table.shared.key.loader.value) table.shared.key table.shared.table_id.slots pass.id pass.me.0 }
     requires rest { rest.old ≡ none_back table.shared.table_id.slots }
-    ensures { IsUnpacked table.entry.shared.key table.entry.shared.table_id.slots pass.entry.id pass.entry.me.0 rest.new }
+    ensures { IsUnpacked L.ASKS (L.gives table.entry.shared.key.loader.value) table.entry.shared.key table.entry.shared.table_id.slots pass.entry.id pass.entry.me.0 rest.new }
 {
     let mut closed = table.close_with(pass);
     for i in 0..closed.slot_count() {

@@ -1,5 +1,6 @@
 //! What the locks know. It stands in proofs alone but for `Terms`, which has a number.
 
+use jtypes::Loader;
 use std::marker::Model;
 use std::snapshot::Snapshot;
 use stripe::Tables;
@@ -19,9 +20,10 @@ impl Model for Known {
     ghost view = { λ _. first_view };
 }
 
-/// What a cache was opened with: its tables, and how many records each stripe may have.
+/// What a cache was opened with: its tables, how many records each stripe may have, and its loader.
 #[derive(Drop)]
-pub struct Terms {
+pub struct Terms<L: Loader> {
     pub tables: Snapshot<Tables>,
     pub journal: usize,
+    pub loader: Snapshot<L>,
 }

@@ -1,17 +1,18 @@
 //! The rule of the stripes' locks, and what each step tells. No value of these types is made.
 
 use crate::known::{Known, Terms};
+use jtypes::Loader;
 use atomic_table::{Join, Play, Split, TableRule};
 use stripe::Stripe;
 
 /// A word for each stripe is 0 where the stripe is free, and another number where a seat holds it.
 pub struct Locks;
 
-impl<'a> TableRule<Stripe<'a>, Known, Terms> for Locks {
+impl<'a, L: Loader> TableRule<Stripe<'a>, Known, Terms<L>> for Locks {
     ghost use Rattle.cache.specs.Guarded.{Guarded};
     ghost use Rattle.cache.specs.Views.{first_view};
 
-    ghost holds = { Guarded };
+    ghost holds = { λ k s. Guarded L.ASKS (L.gives k.loader.value) k s };
 
     ghost first = { λ _. first_view };
 }

@@ -1,8 +1,8 @@
 //! A stripe is taken, worked on and given back.
 
-ghost use Rattle.std.specs.Prelude.{◌≡◌, ◌<◌, ◌∷◌, [], ℕ, length, Some, None, false, Err, IfOk, OnErr, IsTrue, IsFalse};
+ghost use Rattle.std.specs.Prelude.{◌≡◌, ◌<◌, ◌∷◌, [], ℕ, length, Some, Err, IfOk, OnErr, IsTrue, IsFalse};
 ghost use Rattle.stripe.specs.History.{Begun, key_of};
-ghost use Rattle.stripe.specs.Kept.{Kept, CanCommit};
+ghost use Rattle.stripe.specs.Kept.{Kept, CanCommit, asked_by};
 ghost use Rattle.stripe.specs.Seen.{call_of, record_of};
 ghost use Rattle.stripe.specs.declared.refusal.BeginRefusal.TheVariants.{JournalFull};
 ghost use Rattle.cache.specs.Views.{Part, seat_view, holding, filled_part};
@@ -12,13 +12,13 @@ ghost use Rattle.cache.specs.Steps.{IsIdle, HasTaken, CanBegin, HasBegun, HasCom
 use crate::known::{Known, Terms};
 use crate::locks::{Fill, Locks, Return, Take, Tell};
 use atomic_table::{Seat as Pass, Shared};
-use jtypes::NoLoader;
+use jtypes::{LoadAnswer, Loader};
 use machine::Done;
 use std::sync::Wait;
 use stripe::{BeginRefusal, Call, Record, Stripe};
 
 /// The stripes, under their locks.
-pub type Board<'a> = Shared<Stripe<'a>, Known, Terms, Locks>;
+pub type Board<'a, L> = Shared<Stripe<'a>, Known, Terms<L>, Locks>;
 
 /// What a seat steps with.
 pub type Place<'a> = Pass<Stripe<'a>, Known>;
@@ -33,7 +33,7 @@ const HELD: u64 = 1;
 const AWAITED: u64 = 2;
 
 /// Takes a stripe if it is free. Its word becomes the mark in any case.
-fn try_take<'a>(board: &Board<'a>, pass: &mut Place<'a>, index: usize, mark: u64) -> bool
+fn try_take<'a, L: Loader>(board: &Board<'a, L>, pass: &mut Place<'a>, index: usize, mark: u64) -> bool
     requires table { pass.old.table_id ≡ board.now.table_id }
     requires board { IsBoard board.now.table_id board.now.key }
     requires index { index < board.now.table_id.words }
@@ -47,7 +47,7 @@ fn try_take<'a>(board: &Board<'a>, pass: &mut Place<'a>, index: usize, mark: u64
 }
 
 /// Wakes a seat that sleeps until the stripe is given back, where its word told that one may.
-fn wake(board: &Board<'_>, index: usize, word: u64)
+fn wake<L: Loader>(board: &Board<'_, L>, index: usize, word: u64)
     requires { index < board.now.table_id.words }
 {
     if word == AWAITED {
@@ -58,7 +58,7 @@ fn wake(board: &Board<'_>, index: usize, word: u64)
 /// Takes a stripe. Who finds it taken sleeps until it is given back.
 ///
 /// Who has waited takes it as one that is awaited, since others may sleep still; so whoever sleeps is woken in the end.
-pub fn take<'a, R: Wait>(rt: &R, board: &Board<'a>, pass: &mut Place<'a>, index: usize)
+pub fn take<'a, L: Loader, R: Wait>(rt: &R, board: &Board<'a, L>, pass: &mut Place<'a>, index: usize)
     requires table { pass.old.table_id ≡ board.now.table_id }
     requires board { IsBoard board.now.table_id board.now.key }
     requires index { index < board.now.table_id.words }
@@ -79,49 +79,50 @@ pub fn take<'a, R: Wait>(rt: &R, board: &Board<'a>, pass: &mut Place<'a>, index:
 }
 
 /// Begins a call on the stripe that the seat holds.
-pub fn begin<'a>(
-    board: &Board<'a>,
+pub fn begin<'a, L: Loader>(
+    board: &Board<'a, L>,
     pass: &mut Place<'a>,
     index: usize,
     caller: u8,
     number: u32,
     call: Call<'a>,
+    loader: &L,
 ) -> Result<Option<i64>, BeginRefusal>
     requires table { pass.old.table_id ≡ board.now.table_id }
-    requires held { CanBegin index (record { caller = caller; number = number; call = call_of call; loads = false }) pass.old.me.1 }
+    requires held { CanBegin index (record { caller = caller; number = number; call = call_of call; loads = L.ASKS }) pass.old.me.1 }
     ensures table { pass.new.table_id ≡ pass.old.table_id }
     ensures view { pass.new.me.0 ≡ pass.old.me.0 }
-    ensures ok { IfOk result (λ before. (y : Kept) → pass.old.me.1 ≡ (index, y) ∷ [] → HasBegun index (record { caller = caller; number = number; call = call_of call.entry; loads = false }) before y pass.new.me.1) }
+    ensures ok { IfOk result (λ before. (y : Kept) → pass.old.me.1 ≡ (index, y) ∷ [] → HasBegun L.ASKS index (record { caller = caller; number = number; call = call_of call.entry; loads = L.ASKS }) before y pass.new.me.1) }
     ensures err { OnErr result (pass.new.me.1 ≡ pass.old.me.1) }
     ensures full { result ≡ Err JournalFull → (y : Kept) → pass.old.me.1 ≡ (index, y) ∷ [] → length y.records ≡ y.journal }
 {
-    pass.slot_mut(board, index)
-        .begin(caller, number, call, &NoLoader)
+    pass.slot_mut(board, index).begin(caller, number, call, loader)
 }
 
 /// Ends the call that was begun on it. Answers its record and the record's place.
-pub fn commit<'a>(
-    board: &Board<'a>,
+pub fn commit<'a, L: Loader>(
+    board: &Board<'a, L>,
     pass: &mut Place<'a>,
     index: usize,
     done: Option<Done>,
+    asked: Option<LoadAnswer>,
 ) -> (Record<'a>, usize)
     requires table { pass.old.table_id ≡ board.now.table_id }
-    requires held { (y : Kept) × (pass.old.me.1 ≡ (index, y) ∷ []) × CanCommit y done None }
+    requires held { (y : Kept) × (pass.old.me.1 ≡ (index, y) ∷ []) × CanCommit y done asked }
     ensures table { pass.new.table_id ≡ pass.old.table_id }
     ensures view { pass.new.me.0 ≡ pass.old.me.0 }
-    ensures committed { (y : Kept) (b : Begun) → pass.old.me.1 ≡ (index, y) ∷ [] → y.running ≡ Some b → HasCommitted index b y (record_of result.0) result.1 pass.new.me.1 }
+    ensures committed { (y : Kept) (b : Begun) → pass.old.me.1 ≡ (index, y) ∷ [] → y.running ≡ Some b → HasCommitted index b (asked_by done asked) y (record_of result.0) result.1 pass.new.me.1 }
 {
     let stripe = pass.slot_mut(board, index);
     let place = stripe.history().len();
-    (stripe.commit(done, None), place)
+    (stripe.commit(done, asked), place)
 }
 
 /// Gives the stripe back with one record more.
-pub fn tell<'a>(board: &Board<'a>, pass: &mut Place<'a>, index: usize)
+pub fn tell<'a, L: Loader>(board: &Board<'a, L>, pass: &mut Place<'a>, index: usize)
     requires table { pass.old.table_id ≡ board.now.table_id }
     requires index { index < board.now.table_id.words }
-    requires held { CanTell index pass.old.me }
+    requires held { CanTell L.ASKS (L.gives board.now.key.loader.value) index pass.old.me }
     ensures table { pass.new.table_id ≡ pass.old.table_id }
     ensures given { HasTold index pass.old.me pass.new.me }
 {
@@ -130,7 +131,7 @@ pub fn tell<'a>(board: &Board<'a>, pass: &mut Place<'a>, index: usize)
 }
 
 /// Gives the stripe back as it was.
-pub fn give_back<'a>(board: &Board<'a>, pass: &mut Place<'a>, index: usize)
+pub fn give_back<'a, L: Loader>(board: &Board<'a, L>, pass: &mut Place<'a>, index: usize)
     requires table { pass.old.table_id ≡ board.now.table_id }
     requires index { index < board.now.table_id.words }
     requires held { CanReturn index pass.old.me }
@@ -142,7 +143,7 @@ pub fn give_back<'a>(board: &Board<'a>, pass: &mut Place<'a>, index: usize)
 }
 
 /// Gives the stripe back as it was. Its history is full.
-pub fn give_full<'a>(board: &Board<'a>, pass: &mut Place<'a>, index: usize)
+pub fn give_full<'a, L: Loader>(board: &Board<'a, L>, pass: &mut Place<'a>, index: usize)
     requires table { pass.old.table_id ≡ board.now.table_id }
     requires index { index < board.now.table_id.words }
     requires held { CanFill index pass.old.me }

@@ -5,7 +5,7 @@ ghost use Rattle.cache.specs.Opened.{IsSeat};
 ghost use Rattle.registry.specs.Ids.{IsOf};
 
 use cache::{Cache, Closed, InvokeRefusal, Receipt, Seat};
-use jtypes::{Arg, Args, Outcome};
+use jtypes::{Arg, Args, NoLoader, Outcome};
 use machine::Workspace;
 use registry::{ClassId, Registry};
 use rowclasses as rows;
@@ -43,7 +43,7 @@ fn refused(
         Ok(tables) => tables,
         Err(refusal) => return Some(refusal),
     };
-    match Cache::open(alloc, registry, tables, journal, seats) {
+    match Cache::open(alloc, registry, tables, journal, seats, &NoLoader) {
         Ok(_) => None,
         Err((refusal, _tables)) => Some(refusal),
     }
@@ -55,13 +55,13 @@ fn opened<'a>(
     registry: &'a Registry,
     stripes: usize,
     journal: usize,
-) -> Result<(Cache<'a>, Seat<'a>), OpenRefusal>
+) -> Result<(Cache<'a, 'static, NoLoader>, Seat<'a>), OpenRefusal>
     ensures registry { IfOk result (λ r. r.0.registry ≡ registry.now) }
     ensures count { IfOk result (λ r. r.0.seats ≡ 1) }
     ensures seat { IfOk result (λ r. IsSeat r.0.table 1 0 r.1) }
 {
     let tables = Tables::new(alloc, stripes)?;
-    match Cache::open(alloc, registry, tables, journal, 1) {
+    match Cache::open(alloc, registry, tables, journal, 1, &NoLoader) {
         Ok((cache, mut seats)) => {
             let seat = seats.remove(0);
             Ok((cache, seat))
@@ -71,7 +71,7 @@ fn opened<'a>(
 }
 
 /// Makes a call that isn't an invocation.
-fn asked<'a, R: Wait>(rt: &R, cache: &Cache<'a>, seat: &mut Seat<'a>, key: i64, call: Plain) -> Told
+fn asked<'a, R: Wait>(rt: &R, cache: &Cache<'a, 'static, NoLoader>, seat: &mut Seat<'a>, key: i64, call: Plain) -> Told
     requires { seat.old.table ≡ cache.now.table }
     ensures table { seat.new.table ≡ seat.old.table }
     ensures caller { seat.new.caller ≡ seat.old.caller }
@@ -88,7 +88,7 @@ fn asked<'a, R: Wait>(rt: &R, cache: &Cache<'a>, seat: &mut Seat<'a>, key: i64, 
 /// Invokes a class with no arguments.
 fn invoked<'a, R: Wait>(
     rt: &R,
-    cache: &Cache<'a>,
+    cache: &Cache<'a, 'static, NoLoader>,
     seat: &mut Seat<'a>,
     workspace: &mut Workspace,
     class: &ClassId,
@@ -104,7 +104,7 @@ fn invoked<'a, R: Wait>(
 }
 
 /// Closes a cache that has one seat.
-fn closed<'a>(alloc: Global, cache: Cache<'a>, seat: Seat<'a>) -> Result<Closed<'a>, AllocError>
+fn closed<'a>(alloc: Global, cache: Cache<'a, 'static, NoLoader>, seat: Seat<'a>) -> Result<Closed<'a>, AllocError>
     requires count { cache.seats ≡ 1 }
     requires seat { IsSeat cache.table 1 0 seat }
 {
@@ -116,7 +116,7 @@ fn closed<'a>(alloc: Global, cache: Cache<'a>, seat: Seat<'a>) -> Result<Closed<
 /// Makes each kind of call on a key, one after the other.
 fn asked_all<'a, R: Wait>(
     rt: &R,
-    cache: &Cache<'a>,
+    cache: &Cache<'a, 'static, NoLoader>,
     seat: &mut Seat<'a>,
     workspace: &mut Workspace,
     plus: &ClassId,
@@ -153,7 +153,7 @@ fn are_answers(told: &[Told; 5]) -> bool {
 fn asked_in_new<'a, R: Wait>(
     rt: &R,
     alloc: Global,
-    cache: &Cache<'a>,
+    cache: &Cache<'a, 'static, NoLoader>,
     seat: &mut Seat<'a>,
     plus: &ClassId,
 ) -> Option<[Told; 5]>
@@ -249,7 +249,7 @@ fn are_receipts(closed: &Closed<'_>) -> bool {
 fn counts_outside_are_refused(rt: HostRuntime) -> Result<(), Fail> {
     let alloc = rt.alloc();
     let registry = Registry::new(alloc)?;
-    for (stripes, journal, seats) in [
+    for (stripes, journal, seats, &NoLoader) in [
         (0, 1, 1),
         (65, 1, 1),
         (1, 0, 1),
@@ -258,12 +258,12 @@ fn counts_outside_are_refused(rt: HostRuntime) -> Result<(), Fail> {
         (1, 1, 17),
     ] {
         assert_eq!(rt;
-            refused(alloc, &registry, stripes, journal, seats),
+            refused(alloc, &registry, stripes, journal, seats, &NoLoader),
             Some(OpenRefusal::BadCount)
         );
     }
-    for (stripes, journal, seats) in [(1, 1, 1), (64, 16, 16), (1, 4096, 1)] {
-        assert_eq!(rt; refused(alloc, &registry, stripes, journal, seats), None);
+    for (stripes, journal, seats, &NoLoader) in [(1, 1, 1), (64, 16, 16), (1, 4096, 1)] {
+        assert_eq!(rt; refused(alloc, &registry, stripes, journal, seats, &NoLoader), None);
     }
     Ok(())
 }

@@ -6,7 +6,7 @@ ghost use Rattle.cache.specs.Opened.{AreFresh};
 ghost use Rattle.registry.specs.Ids.{IsOf};
 
 use cache::{Cache, Closed, Gate, Receipt, Seat};
-use jtypes::{Arg, Args, Outcome};
+use jtypes::{Arg, Args, NoLoader, Outcome};
 use machine::Workspace;
 use registry::{ClassId, Registry};
 use rowclasses as rows;
@@ -69,7 +69,7 @@ enum Work {
 struct Callers<'s, 'a, R> {
     rt: &'s R,
     alloc: Global,
-    cache: &'s Cache<'a>,
+    cache: &'s Cache<'a, 'static, NoLoader>,
     counter: &'s ClassId,
     barrier: &'s Barrier,
     work: Work,
@@ -93,7 +93,7 @@ impl<'s, 'a, R: Wait> Shift<Seat<'a>> for Callers<'s, 'a, R> {
 }
 
 /// Puts and gets on key 1, 500 times.
-fn put_and_get<'a, R: Wait>(rt: &R, cache: &Cache<'a>, seat: &mut Seat<'a>)
+fn put_and_get<'a, R: Wait>(rt: &R, cache: &Cache<'a, 'static, NoLoader>, seat: &mut Seat<'a>)
     requires { seat.old.table ≡ cache.now.table }
     ensures table { seat.new.table ≡ seat.old.table }
     ensures caller { seat.new.caller ≡ seat.old.caller }
@@ -109,7 +109,7 @@ fn put_and_get<'a, R: Wait>(rt: &R, cache: &Cache<'a>, seat: &mut Seat<'a>)
 fn count<'a, R: Wait>(
     rt: &R,
     alloc: Global,
-    cache: &Cache<'a>,
+    cache: &Cache<'a, 'static, NoLoader>,
     seat: &mut Seat<'a>,
     counter: &ClassId,
 )
@@ -130,7 +130,7 @@ fn count<'a, R: Wait>(
 /// Counts the entry of key 0 up.
 fn count_one<'a, R: Wait>(
     rt: &R,
-    cache: &Cache<'a>,
+    cache: &Cache<'a, 'static, NoLoader>,
     seat: &mut Seat<'a>,
     workspace: &mut Workspace,
     counter: &ClassId,
@@ -150,7 +150,7 @@ fn count_one<'a, R: Wait>(
 /// Puts on key 0 or key 1, when others have started too.
 fn meet<'a, R: Wait>(
     rt: &R,
-    cache: &Cache<'a>,
+    cache: &Cache<'a, 'static, NoLoader>,
     seat: &mut Seat<'a>,
     place: usize,
     barrier: &Barrier,
@@ -170,12 +170,12 @@ fn opened<'a>(
     registry: &'a Registry,
     stripes: usize,
     seats: usize,
-) -> Result<(Cache<'a>, Vec<Seat<'a>>), OpenRefusal>
+) -> Result<(Cache<'a, 'static, NoLoader>, Vec<Seat<'a>>), OpenRefusal>
     ensures registry { IfOk result (λ r. r.0.registry ≡ registry.now) }
     ensures seats { IfOk result (λ r. AreFresh r.0.table r.0.seats r.1.items) }
 {
     let tables = Tables::new(alloc, stripes)?;
-    match Cache::open(alloc, registry, tables, 4096, seats) {
+    match Cache::open(alloc, registry, tables, 4096, seats, &NoLoader) {
         Ok(opened) => Ok(opened),
         Err((refusal, _tables)) => Err(refusal),
     }

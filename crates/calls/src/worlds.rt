@@ -1,6 +1,6 @@
 //! Events in worlds.
 
-use jtypes::{Arg, Args, JavaFault, Outcome};
+use jtypes::{Arg, Args, JavaFault, NoLoader, Outcome};
 use rowclasses as rows;
 use std::alloc::Global;
 use stripe::{ArgRow, BeginRefusal, Call, OpenRefusal, Record, Reply, Tables, stripe_of};
@@ -24,9 +24,9 @@ fn plus(alloc: Global) -> Option<Verified> {
 }
 
 /// A world of so many empty stripes; none where it is refused.
-fn opened<'a>(alloc: Global, stripes: usize, journal: usize) -> Option<World<'a>> {
+fn opened<'a>(alloc: Global, stripes: usize, journal: usize) -> Option<World<'a, NoLoader>> {
     match Tables::new(alloc, stripes) {
-        Ok(tables) => World::new(alloc, tables, journal).ok(),
+        Ok(tables) => World::new(alloc, tables, journal, &NoLoader).ok(),
         Err(_) => None,
     }
 }
@@ -46,7 +46,7 @@ fn start(call: Call<'_>) -> Event<'_> {
 }
 
 /// What became of these events, one after the other.
-fn applied_all<'a>(world: &mut World<'a>, events: &[Event<'a>; 24]) -> [Applied; 24] {
+fn applied_all<'a>(world: &mut World<'a, NoLoader>, events: &[Event<'a>; 24]) -> [Applied; 24] {
     let mut told = [Applied::Ignored; 24];
     for place in 0..24 {
         told[place] = world.apply(events[place]);
@@ -87,12 +87,12 @@ fn told_of_table() -> [Applied; 24] {
 }
 
 /// The entries of the keys 1 and 2.
-fn entries_of(world: &World<'_>) -> (Option<i64>, Option<i64>) {
+fn entries_of(world: &World<'_, NoLoader>) -> (Option<i64>, Option<i64>) {
     (world.entry(1), world.entry(2))
 }
 
 /// How many records a stripe has, and the number and the key of the last one; none for another stripe, or without a record.
-fn last_of(world: &World<'_>, stripe: usize) -> Option<(usize, u32, i64)> {
+fn last_of(world: &World<'_, NoLoader>, stripe: usize) -> Option<(usize, u32, i64)> {
     if stripe >= world.stripes() {
         return None;
     }
@@ -184,7 +184,7 @@ fn are_rows(records: &[Record<'_>], rows: &[Row]) -> bool {
 }
 
 /// Whether no call runs in a world, and it has these records and, of these two keys, no entries when it is closed.
-fn closes_with(world: World<'_>, rows: &[Row], keys: (i64, i64)) -> bool {
+fn closes_with(world: World<'_, NoLoader>, rows: &[Row], keys: (i64, i64)) -> bool {
     if !world.is_idle() {
         return false;
     }
@@ -194,7 +194,7 @@ fn closes_with(world: World<'_>, rows: &[Row], keys: (i64, i64)) -> bool {
 }
 
 /// Whether each of these calls, which aren't invocations, starts and finishes at once.
-fn are_made<'a>(world: &mut World<'a>, stripes: usize, calls: &[Call<'a>]) -> bool {
+fn are_made<'a>(world: &mut World<'a, NoLoader>, stripes: usize, calls: &[Call<'a>]) -> bool {
     if stripes == 0 || stripes > 64 {
         return false;
     }
@@ -245,7 +245,7 @@ fn calls_on_one_key(rt: HostRuntime) {
 }
 
 /// Steps on stripes 0, 1 and 2 till nothing is left to do, and what became of the finish of each.
-fn finish_all(world: &mut World<'_>) -> [Applied; 3] {
+fn finish_all(world: &mut World<'_, NoLoader>) -> [Applied; 3] {
     let mut told = [Applied::Ignored; 3];
     for stripe in 0..3 {
         for _ in 0..40 {
@@ -330,7 +330,7 @@ fn histories_are_by_stripe(rt: HostRuntime) {
 /// Why a world of three stripes is not opened, and how many tables come back.
 fn refused(alloc: Global, journal: usize) -> Option<(OpenRefusal, usize)> {
     match Tables::new(alloc, 3) {
-        Ok(tables) => match World::new(alloc, tables, journal) {
+        Ok(tables) => match World::new(alloc, tables, journal, &NoLoader) {
             Ok(_) => None,
             Err((refusal, again)) => Some((refusal, again.stripes())),
         },

@@ -1,6 +1,7 @@
 //! Sixteen calls at once.
 
 use cache::Gate;
+use jtypes::NoLoader;
 use rowclasses as rows;
 use serve::{Settings, serve};
 use std::alloc::{AllocError, Global};
@@ -80,7 +81,7 @@ fn sixteen_stripes_work_at_once(rt: HostRuntime) -> Result<(), Fail> {
     };
     let mut reader = Counted::new(input.as_slice());
     let mut writer = Counted::new(Vec::new(alloc));
-    let result = serve(&rt, alloc, &mut reader, &mut writer, settings, &gate);
+    let result = serve(&rt, alloc, &mut reader, &mut writer, settings, &gate, &NoLoader);
     assert_eq!(rt; result, Ok(()));
     assert_eq!(rt; gate.last.load(Ordering::SeqCst), 1);
     assert_eq!(rt; gate.saw.load(Ordering::SeqCst), JOBS - 1);

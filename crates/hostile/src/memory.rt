@@ -1,6 +1,7 @@
 //! A stream with calls on one key, where one growth of memory is refused.
 
 use cache::NoGate;
+use jtypes::NoLoader;
 use rowclasses as rows;
 use serve::{ServeFault, Settings, serve};
 use std::alloc::{AllocError, Global};
@@ -185,7 +186,7 @@ fn is_served<T: Threads + Wait + Sync>(
         stripes: 16,
         share: 0,
     };
-    let fault = serve(rt, alloc, &mut reader, &mut writer, settings, &NoGate).err();
+    let fault = serve(rt, alloc, &mut reader, &mut writer, settings, &NoGate, &NoLoader).err();
     let output = writer.into_inner();
     Ok(are_right(output.as_slice(), fault))
 }

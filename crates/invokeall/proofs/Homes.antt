@@ -18,7 +18,7 @@ below_at (y ∷ ys) zero x e = omega arith
 below_at (y ∷ ys) (suc i) x e = let h = below_at ys i x e in omega arith
 
 -- the seats that a cache is opened with
-pub fresh_seats : (d : Opened) (n : ℕ) (seats : List Sitting) → d.seats ≡ n → AreFresh d.table n seats → AreSeats d seats
+pub fresh_seats : {L : Type 0} (d : Opened L) (n : ℕ) (seats : List Sitting) → d.seats ≡ n → AreFresh d.table n seats → AreSeats d seats
 fresh_seats d n seats same f = record {
   count = f.count ∙ sym same;
   each = λ c s at.
@@ -29,11 +29,11 @@ fresh_seats d n seats same f = record {
       };
 }
 
-pub seats_home : (d : Opened) (seats : List Sitting) → AreSeats d seats → All (IsAtHome d) seats
+pub seats_home : {L : Type 0} (d : Opened L) (seats : List Sitting) → AreSeats d seats → All (IsAtHome d) seats
 seats_home d seats a = λ i e below. (a.each i (get_or seats i e) (at_or seats i e below)).table_is
 
 -- after a round they are all the seats still
-pub still_seats : (d : Opened) (calls : List Call) (old new : List Sitting) (answers : List Answer) → AreSeats d old → IsRound d calls old new answers → AreSeats d new
+pub still_seats : {L : Type 0} (d : Opened L) (calls : List Call) (old new : List Sitting) (answers : List Answer) → AreSeats d old → IsRound d calls old new answers → AreSeats d new
 still_seats d calls old new answers a r = record {
   count = r.seats ∙ a.count;
   each = λ c s at.

@@ -24,7 +24,7 @@ abbrev pub told_seat : Sitting → List (Call × Reply)
 told_seat s = calls_told s.receipts
 
 -- what one call at a seat gives
-pub record OneCall (d : Opened) (c : Call) (a b : Sitting) (x : Answer) : Type 0 where
+pub record OneCall {L : Type 0} (d : Opened L) (c : Call) (a b : Sitting) (x : Answer) : Type 0 where
   pub later : IsLaterSeat a b
   pub receipts : calls_told b.receipts ≡ calls_told a.receipts ++ told_answer c x
   pub filed : AreFiled (length d.tables) a.receipts → AreFiled (length d.tables) b.receipts
@@ -49,25 +49,25 @@ still_set (x ∷ xs) zero (suc j) e = e
 still_set (x ∷ xs) (suc i) zero e = e
 still_set (x ∷ xs) (suc i) (suc j) e = still_set xs i j e
 
-pub one_call : (d : Opened) (c : Call) (a b : Sitting) (x : Answer) → IfOk x (λ reply. IsAnswered d a c reply b) → IfErr x (λ refusal. IsTurnedAway d a c refusal b) → OneCall d c a b x
+pub one_call : {L : Type 0} (d : Opened L) (c : Call) (a b : Sitting) (x : Answer) → IfOk x (λ reply. IsAnswered d a c reply b) → IfErr x (λ refusal. IsTurnedAway d a c refusal b) → OneCall d c a b x
 one_call d c a b (Ok r) ok err =
     let t : Receipt = ok.receipt in record {
       later = subst (IsLaterSeat a) (sym ok.left) (record { table = refl; caller = refl; made = refl; receipts = (t ∷ [], refl); full = λ i h. h });
       receipts = ap told_seat ok.left ∙ map-append (λ (u : Receipt). (u.call, u.reply)) a.receipts (t ∷ []) ∙ (λ k. told_seat a ++ (ok.call_is k, ok.reply_is k) ∷ []);
-      filed = filed_by_calls d a b c r ok;
+      filed = filed_by_calls _ d a b c r ok;
       full = λ e. absurd (cc);
     }
 one_call d c a b (Err JournalFull) ok err =
     let e = err.0 in record {
       later = subst (IsLaterSeat a) (sym e) (record { table = refl; caller = refl; made = refl; receipts = ([], sym (append-nil a.receipts)); full = λ i h. still_set a.full (stripe_in d c) i h });
       receipts = ap told_seat e ∙ sym (append-nil (told_seat a));
-      filed = filed_by_refusals d a b c JournalFull err;
+      filed = filed_by_refusals _ d a b c JournalFull err;
       full = λ _. err.1;
     }
 one_call d c a b (Err NoMemory) ok err = record {
   later = same_seat a b err;
   receipts = ap told_seat err ∙ sym (append-nil (told_seat a));
-  filed = filed_by_refusals d a b c NoMemory err;
+  filed = filed_by_refusals _ d a b c NoMemory err;
   full = λ x. absurd (cc);
 }
 
@@ -91,7 +91,7 @@ pub row_more : (cs : List Call) (xs : List (ℕ × Answer)) (k : ℕ) (c : Call)
 row_more cs xs k c x e =
     flat_map-append (λ (y : ℕ × Answer). told_at cs y.0 y.1) xs ((k, x) ∷ []) ∙ ap (λ l. told_row cs xs ++ l) (append-nil (told_at cs k x) ∙ told_there cs k c x e)
 
-pub full_more : (d : Opened) (cs : List Call) (a b : Sitting) (xs : List (ℕ × Answer)) (k : ℕ) (c : Call) (x : Answer) → get_elem? cs k ≡ some c → OneCall d c a b x → ShowsFull d cs a xs
+pub full_more : {L : Type 0} (d : Opened L) (cs : List Call) (a b : Sitting) (xs : List (ℕ × Answer)) (k : ℕ) (c : Call) (x : Answer) → get_elem? cs k ≡ some c → OneCall d c a b x → ShowsFull d cs a xs
     → ShowsFull d cs b (xs ++ (k, x) ∷ [])
 full_more d cs a b xs k c x at one old j m u e there = ⊎_elim
     (λ (h : get_elem? xs j ≡ some (m, Err JournalFull)). one.later.full (stripe_in d u) (old j m u h there))

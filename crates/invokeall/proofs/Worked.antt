@@ -50,7 +50,7 @@ some_same a b e = ap (λ (p : Option Answer). value p a) e
     value (Some x) d = x
     value None d = d
 
-module _ (d : Opened) (counter : Numbering) (jobs : List Job) where
+module _ {L : Type 0} (d : Opened L) (counter : Numbering) (jobs : List Job) where
   abbrev pub AllWorked : List Worker → List Worker → Type 0
   AllWorked [] [] = Unit {0}
   AllWorked (v ∷ vs) (w ∷ ws) = HasWorked d counter jobs v w × AllWorked vs ws

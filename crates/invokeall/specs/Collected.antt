@@ -34,7 +34,7 @@ abbrev pub invocations : Class → List Arg → List ℤ → List Call
 invocations c args keys = map (λ k. Invoke c k args) keys
 
 -- A round of one invocation for each key, and its answers by their keys
-pub record IsInvokedAll (d : Opened) (c : Class) (keys : List ℤ) (args : List Arg) (old new : List Sitting) (results : List (ℤ × Answer)) : Type 0 where
+pub record IsInvokedAll {L : Type 0} (d : Opened L) (c : Class) (keys : List ℤ) (args : List Arg) (old new : List Sitting) (results : List (ℤ × Answer)) : Type 0 where
   pub answers : List Answer
   pub round : IsRound d (invocations c args (different keys)) old new answers
   pub results_are : results ≡ listed (different keys) answers

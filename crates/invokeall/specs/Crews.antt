@@ -31,18 +31,18 @@ abbrev pub numbers : List (ℕ × Answer) → List ℕ
 numbers row = map (λ (a : ℕ × Answer). a.0) row
 
 -- a refusal for a full journal shows at this seat
-abbrev pub ShowsFull : Opened → List Call → Sitting → List (ℕ × Answer) → Type 0
+abbrev pub ShowsFull : {L : Type 0} → Opened L → List Call → Sitting → List (ℕ × Answer) → Type 0
 ShowsFull d calls s row = (j k : ℕ) (c : Call) → get_elem? row j ≡ some (k, Err JournalFull) → get_elem? calls k ≡ some c → IsFull d c s
 
 -- a worker that hasn't begun
-pub record IsReady (d : Opened) (counter : Numbering) (jobs : List Job) (w : Worker) : Type 0 where
+pub record IsReady {L : Type 0} (d : Opened L) (counter : Numbering) (jobs : List Job) (w : Worker) : Type 0 where
   pub home : w.seat.table ≡ d.table
   pub claimer : w.claimer ≡ fresh counter
   pub answers : w.answers.items ≡ []
   pub room : length jobs ≤ vec_capacity w.answers
 
 -- a worker that found no job left: it has an answer to each job that it claimed, and what these tell is what its new receipts tell
-pub record HasWorked (d : Opened) (counter : Numbering) (jobs : List Job) (v w : Worker) : Type 0 where
+pub record HasWorked {L : Type 0} (d : Opened L) (counter : Numbering) (jobs : List Job) (v w : Worker) : Type 0 where
   pub seat : IsLaterSeat v.seat w.seat
   pub at : w.claimer.counter ≡ counter
   pub done : w.claimer.done ≡ true

@@ -28,20 +28,20 @@ pub record IsLaterSeat (a b : Sitting) : Type 0 where
   pub full : (i : ℕ) → slice_index_or a.full i false ≡ true → slice_index_or b.full i false ≡ true
 
 -- the seat found the stripe of this call full
-abbrev pub IsFull : Opened → Call → Sitting → Type 0
+abbrev pub IsFull : {L : Type 0} → Opened L → Call → Sitting → Type 0
 IsFull d c s = slice_index_or s.full (stripe_in d c) false ≡ true
 
 -- a seat of this cache
-abbrev pub IsAtHome : Opened → Sitting → Type 0
+abbrev pub IsAtHome : {L : Type 0} → Opened L → Sitting → Type 0
 IsAtHome d s = s.table ≡ d.table
 
 -- a refusal for a full journal shows at one of these seats
-abbrev pub ShowsAtSeats : Opened → List Call → List Sitting → List Answer → Type 0
+abbrev pub ShowsAtSeats : {L : Type 0} → Opened L → List Call → List Sitting → List Answer → Type 0
 ShowsAtSeats d calls seats answers = (k : ℕ) (c : Call) → get_elem? answers k ≡ some (Err JournalFull) → get_elem? calls k ≡ some c
     → (i : ℕ) × (s : Sitting) × (get_elem? seats i ≡ some s) × IsFull d c s
 
 -- One answer for each call, in order. The receipts that came are, in some order, the calls that were answered, each with its reply
-pub record IsRound (d : Opened) (calls : List Call) (old new : List Sitting) (answers : List Answer) : Type 0 where
+pub record IsRound {L : Type 0} (d : Opened L) (calls : List Call) (old new : List Sitting) (answers : List Answer) : Type 0 where
   pub count : length answers ≡ length calls
   pub seats : length new ≡ length old
   pub later : (i : ℕ) (a b : Sitting) → get_elem? old i ≡ some a → get_elem? new i ≡ some b → IsLaterSeat a b

@@ -14,7 +14,7 @@ use crate::job::{Job, JobReply};
 use crate::round::run_round;
 use cache::{Cache, Gate, Seat};
 use indexmap::IndexSet;
-use jtypes::{Arg, Args, Outcome};
+use jtypes::{Arg, Args, Loader, Outcome};
 use machine::Workspace;
 use registry::ClassId;
 use std::alloc::{AllocError, Global};
@@ -85,10 +85,10 @@ fn list(keys: &[i64], answers: &[JobReply], results: &mut Vec<(i64, JobReply)>)
 
 /// `invokeAll`, by a round: one invocation for each key, doubles dropped. The results have the keys' order. A key whose processor returned null has none; one
 /// whose processor threw has its exception (`EntryProcessorResult`), and one that the cache refused the refusal.
-pub fn invoke_all<'a, R: Threads + Wait + Sync, G: Gate + Sync>(
+pub fn invoke_all<'a, R: Threads + Wait + Sync, G: Gate + Sync, L: Loader + Sync>(
     rt: &R,
     alloc: Global,
-    cache: &Cache<'a>,
+    cache: &Cache<'a, '_, L>,
     class: &ClassId,
     keys: &[i64],
     args: Args,

@@ -12,20 +12,21 @@ use crate::shift::{Shift, serve_all};
 use crate::work::{Worker, work};
 use cache::{Cache, Gate};
 use claims::Counter;
+use jtypes::Loader;
 use std::sync::Wait;
 use std::thread::Threads;
 
 /// What all workers of a round share.
 #[derive(Drop)]
-pub struct Day<'s, 'a, 'j, R, G> {
+pub struct Day<'s, 'a, 'l, 'j, R, G, L: Loader> {
     pub rt: &'s R,
-    pub cache: &'s Cache<'a>,
+    pub cache: &'s Cache<'a, 'l, L>,
     pub counter: &'s Counter,
     pub jobs: &'s [Job<'j>],
     pub gate: &'s G,
 }
 
-impl<'s, 'a, 'j, R: Wait, G: Gate> Shift<Worker<'a>> for Day<'s, 'a, 'j, R, G> {
+impl<'s, 'a, 'l, 'j, R: Wait, G: Gate, L: Loader> Shift<Worker<'a>> for Day<'s, 'a, 'l, 'j, R, G, L> {
     ghost use Rattle.std.specs.Prelude.{◌≡◌, length};
     ghost use Rattle.std.specs.List.{All};
     ghost use Rattle.invokeall.specs.Jobs.{IsCallable};
@@ -55,9 +56,9 @@ fn threads_for(jobs: usize, workers: usize) -> usize
 }
 
 /// Has all workers work.
-pub fn run_all<'a, 'j, R: Threads + Wait + Sync, G: Gate + Sync>(
+pub fn run_all<'a, 'j, R: Threads + Wait + Sync, G: Gate + Sync, L: Loader + Sync>(
     rt: &R,
-    cache: &Cache<'a>,
+    cache: &Cache<'a, '_, L>,
     counter: &Counter,
     jobs: &[Job<'j>],
     workers: &mut [Worker<'a>],

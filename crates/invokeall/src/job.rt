@@ -6,7 +6,7 @@ ghost use Rattle.cache.specs.Opened.{IsAnswered, IsTurnedAway};
 ghost use Rattle.invokeall.specs.Jobs.{call_of, IsCallable};
 
 use cache::{Cache, Gate, InvokeRefusal, Seat};
-use jtypes::Args;
+use jtypes::{Args, Loader};
 use machine::Workspace;
 use registry::ClassId;
 use std::sync::Wait;
@@ -49,10 +49,10 @@ impl<'j> Job<'j> {
     ghost use Rattle.invokeall.specs.Jobs.{call_of, IsCallable};
 
     /// Makes the call, as the job of this number.
-    pub(crate) fn call<'a, R: Wait, G: Gate>(
+    pub(crate) fn call<'a, R: Wait, G: Gate, L: Loader>(
         self,
         rt: &R,
-        cache: &Cache<'a>,
+        cache: &Cache<'a, '_, L>,
         seat: &mut Seat<'a>,
         workspace: &mut Workspace,
         number: usize,

@@ -11,6 +11,7 @@ use crate::crew::run_all;
 use crate::job::{Job, JobReply};
 use crate::room::{RoundRoom, collect, filled, gather, hire, room_for};
 use cache::{Cache, Gate, Seat};
+use jtypes::Loader;
 use machine::Workspace;
 use std::alloc::{AllocError, Global};
 use std::mem;
@@ -21,10 +22,10 @@ use std::thread::Threads;
 /// order of the jobs. There are as many threads as workers or jobs, whichever is fewer, the caller's own among them.
 ///
 /// All memory of the round itself is taken before the first claim. After that a job may be refused, by its answer.
-pub fn run_round<'a, 'j, R: Threads + Wait + Sync, G: Gate + Sync>(
+pub fn run_round<'a, 'j, R: Threads + Wait + Sync, G: Gate + Sync, L: Loader + Sync>(
     rt: &R,
     alloc: Global,
-    cache: &Cache<'a>,
+    cache: &Cache<'a, '_, L>,
     jobs: &[Job<'j>],
     seats: &mut Vec<Seat<'a>>,
     workspaces: &mut Vec<Workspace>,
@@ -44,9 +45,9 @@ pub fn run_round<'a, 'j, R: Threads + Wait + Sync, G: Gate + Sync>(
 }
 
 /// Runs the jobs in the room for them, as `run_round` does. So it takes no memory of its own, and a job may be refused by its answer alone.
-pub fn run_in<'a, 'j, R: Threads + Wait + Sync, G: Gate + Sync>(
+pub fn run_in<'a, 'j, R: Threads + Wait + Sync, G: Gate + Sync, L: Loader + Sync>(
     rt: &R,
-    cache: &Cache<'a>,
+    cache: &Cache<'a, '_, L>,
     jobs: &[Job<'j>],
     seats: &mut Vec<Seat<'a>>,
     workspaces: &mut Vec<Workspace>,

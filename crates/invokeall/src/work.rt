@@ -10,6 +10,7 @@ ghost use Rattle.invokeall.specs.Crews.{IsReady, HasWorked};
 use crate::job::{Job, JobReply};
 use cache::{Cache, Gate, Seat};
 use claims::{Claimer, Counter};
+use jtypes::Loader;
 use machine::Workspace;
 use std::sync::Wait;
 
@@ -23,9 +24,9 @@ pub struct Worker<'a> {
 }
 
 /// Claims jobs and makes their calls, until there is none left.
-pub fn work<'a, 'j, R: Wait, G: Gate>(
+pub fn work<'a, 'j, R: Wait, G: Gate, L: Loader>(
     rt: &R,
-    cache: &Cache<'a>,
+    cache: &Cache<'a, '_, L>,
     counter: &Counter,
     jobs: &[Job<'j>],
     worker: &mut Worker<'a>,

@@ -13,8 +13,8 @@ pub enum FileFault {
 
 /// Where a command finds its files.
 pub trait Files {
-    /// The bytes of a file by its name. Of a file of more than 65,536 bytes, which no class is, 65,537 or more.
-    fn read(&self, alloc: Global, name: &str) -> Result<Vec<u8>, FileFault>;
+    /// The bytes of a file by its name. Of a file of more than `most` bytes, more than `most` of them.
+    fn read(&self, alloc: Global, name: &str, most: usize) -> Result<Vec<u8>, FileFault>;
 }
 
 /// The files of the machine.
@@ -29,11 +29,12 @@ impl<'a, R: std::rt::Files> RealFiles<'a, R> {
     }
 }
 
-/// The most bytes that are asked of a file: one more than a class may have.
-const MOST: usize = 65_537;
-
-/// Reads to the end, or so many bytes that the file is no class.
-fn read_to_most<F: Read>(alloc: Global, file: &mut F) -> Result<Vec<u8>, FileFault> {
+/// Reads to the end, or more than so many bytes.
+fn read_to_most<F: Read>(
+    alloc: Global,
+    file: &mut F,
+    most: usize,
+) -> Result<Vec<u8>, FileFault> {
     let mut bytes = Vec::new(alloc);
     let mut buffer = [0u8; 4096];
     for _ in 0..u64::MAX {
@@ -49,7 +50,7 @@ fn read_to_most<F: Read>(alloc: Global, file: &mut F) -> Result<Vec<u8>, FileFau
         if bytes.extend_from_slice(&buffer[..n]).is_err() {
             return Err(FileFault::NoMemory);
         }
-        if bytes.len() >= MOST {
+        if bytes.len() > most {
             break;
         }
     }
@@ -57,9 +58,9 @@ fn read_to_most<F: Read>(alloc: Global, file: &mut F) -> Result<Vec<u8>, FileFau
 }
 
 impl<R: std::rt::Files> Files for RealFiles<'_, R> {
-    fn read(&self, alloc: Global, name: &str) -> Result<Vec<u8>, FileFault> {
+    fn read(&self, alloc: Global, name: &str, most: usize) -> Result<Vec<u8>, FileFault> {
         match OpenOptions::new().read(true).open(self.rt, name) {
-            Ok(mut file) => read_to_most(alloc, &mut file),
+            Ok(mut file) => read_to_most(alloc, &mut file, most),
             Err(e) if e.kind() == ErrorKind::OutOfMemory => Err(FileFault::NoMemory),
             Err(_) => Err(FileFault::CannotRead),
         }

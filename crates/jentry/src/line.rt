@@ -26,8 +26,11 @@ pub enum Request<'a> {
         before: Option<i64>,
         args: Args,
     },
-    /// Serve the requests of the input.
-    Serve(Settings),
+    /// Serve the requests of the input, with the rows of this file as a loader, if there is one.
+    Serve {
+        settings: Settings,
+        load: Option<&'a str>,
+    },
 }
 
 fn value<'a>(alloc: Global, name: &'a str) -> Word<'a> {
@@ -39,7 +42,8 @@ fn option<'a>(alloc: Global, name: &'a str) -> Word<'a> {
     Word::new(alloc, name).long(name).action(ArgAction::Set)
 }
 
-/// The form of a line: `check FILE`, `run FILE KEY VALUE [ARGS..]` and `serve [--workers N] [--stripes N]`, with no other options.
+/// The form of a line: `check FILE`, `run FILE KEY VALUE [ARGS..]` and `serve [--workers N] [--stripes N] [--load FILE]`,
+/// with no other options.
 fn form<'a>(alloc: Global) -> Result<Command<'a>, AllocError> {
     let check = Command::new(alloc, "check")
         .disable_help_flag(true)
@@ -56,7 +60,8 @@ fn form<'a>(alloc: Global) -> Result<Command<'a>, AllocError> {
     let serve = Command::new(alloc, "serve")
         .disable_help_flag(true)
         .arg(option(alloc, "workers"))?
-        .arg(option(alloc, "stripes"))?;
+        .arg(option(alloc, "stripes"))?
+        .arg(option(alloc, "load"))?;
     Command::new(alloc, "jentry")
         .no_binary_name(true)
         .disable_help_flag(true)
@@ -155,7 +160,10 @@ fn request_of<'a>(matches: &ArgMatches<'a>) -> Result<Request<'a>, Failure<'a>> 
     };
     if name == "serve" {
         return match settings_of(found) {
-            Some(settings) => Ok(Request::Serve(settings)),
+            Some(settings) => Ok(Request::Serve {
+                settings,
+                load: found.get_str("load"),
+            }),
             None => Err(Failure::BadCommandLine),
         };
     }

@@ -28,6 +28,9 @@ pub enum Failure<'a> {
     BadCommandLine,
     #[error("error: bad argument")]
     BadArgument,
+    /// The file of a loader has no whole number of rows, or too many.
+    #[error("error: bad load file")]
+    BadLoadFile,
     #[error("error: cannot read {0}")]
     CannotRead(&'a str),
     #[error("error: no memory")]
@@ -48,7 +51,7 @@ impl From<AllocError> for Failure<'_> {
 impl<'a> Failure<'a> {
     pub fn status(self) -> u8 {
         match self {
-            Failure::BadCommandLine | Failure::BadArgument => USAGE,
+            Failure::BadCommandLine | Failure::BadArgument | Failure::BadLoadFile => USAGE,
             Failure::CannotRead(_)
             | Failure::NoMemory
             | Failure::CannotWrite

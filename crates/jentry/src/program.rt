@@ -4,7 +4,8 @@ use crate::files::Files;
 use crate::line::{Request, parse};
 use crate::output::{Answer, Failure, OK, accepted, ran, refused};
 use cache::NoGate;
-use jtypes::{Args, NoLoader, Refusal};
+use jtypes::{Args, Loader, NoLoader, Refusal};
+use loading::Table;
 use machine::{Workspace, run};
 use serve::{Settings, serve};
 use std::alloc::{AllocError, Global};
@@ -17,13 +18,19 @@ use wire::Counted;
 /// How many bytes of the input are read ahead at most.
 const AHEAD: usize = 65_536;
 
+/// The most bytes that a class may have.
+const MOST_CLASS: usize = 65_536;
+
+/// The most bytes of a loader's file: 16,777,216 rows.
+const MOST_ROWS: usize = 268_435_456;
+
 /// The class of a file, verified.
 fn verified<'a>(
     alloc: Global,
     files: &impl Files,
     file: &'a str,
 ) -> Result<Result<Verified, Refusal>, Failure<'a>> {
-    let bytes = match files.read(alloc, file) {
+    let bytes = match files.read(alloc, file, MOST_CLASS) {
         Ok(bytes) => bytes,
         Err(fault) => return Err(Failure::of_file(fault, file)),
     };
@@ -61,20 +68,36 @@ fn run_answer<'a>(
     }
 }
 
+/// The table of a loader's file.
+fn table_of<'a>(alloc: Global, files: &impl Files, file: &'a str) -> Result<Table, Failure<'a>> {
+    let bytes = match files.read(alloc, file, MOST_ROWS) {
+        Ok(bytes) => bytes,
+        Err(fault) => return Err(Failure::of_file(fault, file)),
+    };
+    if bytes.len() > MOST_ROWS {
+        return Err(Failure::BadLoadFile);
+    }
+    match Table::read(alloc, &bytes)? {
+        Some(table) => Ok(table),
+        None => Err(Failure::BadLoadFile),
+    }
+}
+
 /// Serves the requests of the input to its end.
-fn serve_input<'a, T: Threads + Wait + Sync, I: Read, W: Write>(
+fn serve_input<'a, T: Threads + Wait + Sync, I: Read, W: Write, L: Loader + Sync>(
     rt: &T,
     alloc: Global,
     settings: Settings,
     input: &mut I,
     output: &mut W,
+    loader: &L,
 ) -> Result<u8, Failure<'a>> {
     let Ok(buffered) = BufReader::with_capacity(alloc, AHEAD, input) else {
         return Err(Failure::NoMemory);
     };
     let mut reader = Counted::new(buffered);
     let mut writer = Counted::new(output);
-    match serve(rt, alloc, &mut reader, &mut writer, settings, &NoGate) {
+    match serve(rt, alloc, &mut reader, &mut writer, settings, &NoGate, loader) {
         Ok(()) => Ok(OK),
         Err(fault) => Err(Failure::Fault(fault.number(), fault.name())),
     }
@@ -119,7 +142,17 @@ fn perform<'a, T: Threads + Wait + Sync, I: Read, W: Write>(
             let answer = run_answer(alloc, files, file, *key, *before, args)?;
             write_answer(output, &answer)
         }
-        Request::Serve(settings) => serve_input(rt, alloc, *settings, input, output),
+        Request::Serve {
+            settings,
+            load: None,
+        } => serve_input(rt, alloc, *settings, input, output, &NoLoader),
+        Request::Serve {
+            settings,
+            load: Some(file),
+        } => {
+            let table = table_of(alloc, files, file)?;
+            serve_input(rt, alloc, *settings, input, output, &table)
+        }
     }
 }
 

@@ -11,7 +11,7 @@ ghost use Rattle.invokeall.specs.Rounds.{IsAtHome};
 
 use cache::{Cache, InvokeRefusal, NoGate, Seat};
 use invokeall::{Job, JobReply, invoke_all, run_round};
-use jtypes::{Arg, Args, JavaFault, Outcome};
+use jtypes::{Arg, Args, JavaFault, NoLoader, Outcome};
 use machine::Workspace;
 use registry::{ClassId, Registry};
 use rowclasses as rows;
@@ -131,13 +131,13 @@ fn opened<'a>(
     registry: &'a Registry,
     tables: Tables,
     seats: usize,
-) -> Result<(Cache<'a>, Vec<Seat<'a>>), Tables>
+) -> Result<(Cache<'a, 'static, NoLoader>, Vec<Seat<'a>>), Tables>
     ensures registry { IfOk result (λ r. r.0.registry ≡ registry.now) }
     ensures count { IfOk result (λ r. IsWorkerCount (length r.1.items)) }
     ensures home { IfOk result (λ r. All (IsAtHome r.0) r.1.items) }
     ensures seats { IfOk result (λ r. AreSeats r.0 r.1.items) }
 {
-    match Cache::open(alloc, registry, tables, 64, seats) {
+    match Cache::open(alloc, registry, tables, 64, seats, &NoLoader) {
         Ok(opened) => Ok(opened),
         Err((_, tables)) => Err(tables),
     }

@@ -1,6 +1,7 @@
 //! Streams of requests.
 
 use cache::NoGate;
+use jtypes::NoLoader;
 use rowclasses as rows;
 use serve::{ServeFault, Settings, serve};
 use std::alloc::{AllocError, Global};
@@ -123,7 +124,7 @@ fn script_is_served<T: Threads + Wait + Sync>(
         stripes: 4,
         share: 0,
     };
-    let fault = serve(rt, alloc, &mut reader, &mut writer, settings, &NoGate).err();
+    let fault = serve(rt, alloc, &mut reader, &mut writer, settings, &NoGate, &NoLoader).err();
     let output = writer.into_inner();
     Ok(are_right(output.as_slice(), fault).unwrap_or(false))
 }

@@ -1,5 +1,6 @@
 //! Calls in a world.
 
+use jtypes::NoLoader;
 use std::test::Fail;
 use stripe::{BeginRefusal, Call, OpenRefusal, Tables};
 use world::{Applied, Event, World};
@@ -8,7 +9,7 @@ use world::{Applied, Event, World};
 const KEYS: usize = 64;
 
 /// Puts each key to its own number, and answers which puts were done. Others were refused for want of memory.
-fn put_all(world: &mut World<'_>) -> Option<[bool; KEYS]> {
+fn put_all(world: &mut World<'_, NoLoader>) -> Option<[bool; KEYS]> {
     let mut are_put = [false; KEYS];
     for place in 0..KEYS {
         let key = place as i64;
@@ -44,7 +45,7 @@ fn calls_in_a_world_are_done_or_change_nothing(rt: HostRuntime) -> Result<(), Fa
     let Ok(tables) = Tables::new(alloc, 2) else {
         return Ok(());
     };
-    let mut world = match World::new(alloc, tables, KEYS) {
+    let mut world = match World::new(alloc, tables, KEYS, &NoLoader) {
         Ok(world) => world,
         Err((refusal, tables)) => {
             assert_eq!(rt; refusal, OpenRefusal::NoMemory);

@@ -1,12 +1,15 @@
 -- What a closed cache hands out is a history of the calls at its seats.
-use Rattle.std.proofs.Common.{false, arith, ◌≡◌, ℕ, zero, suc, ◌+◌, List, [], ◌∷◌, ◌++◌, map, length, refl, sym, ap, ◌∙◌, subst, IsPermutation}
+use Rattle.std.proofs.Common.{arith, ◌≡◌, ℕ, ℤ, Bool, ◌<◌, zero, suc, ◌+◌, List, [], ◌∷◌, ◌++◌, map, length, refl, sym, ap, ◌∙◌, subst, IsPermutation}
 use Rattle.std.proofs.lemmas.List.Sorted.{IsPermutation-map, IsPermutation-trans, IsPermutation-refl, IsPermutation-append}
 use Rattle.std.proofs.lemmas.List.{append-nil, map-append}
+use Rattle.std.proofs.lemmas.List.Elements.{All-nil, All-append}
 use Rattle.std.proofs.lemmas.List.Folds.{flat_map-map}
 use mathlib.Core.Option.{some, some-injective, some-ne-none}
 use lib.ListN.{get_elem?}
 use Rattle.stripe.specs.declared.call.Reply.{Reply}
-use Rattle.stripe.specs.History.{Call, Record, key_of, entry_after, IsLegalAfter, stripe_of}
+use Rattle.jtypes.specs.declared.loader.LoadAnswer.{LoadAnswer}
+use Rattle.jtypes.specs.Loading.{IsGiven}
+use Rattle.stripe.specs.History.{Call, Record, AreGiven, key_of, entry_after, IsLegalAfter, stripe_of}
 use Rattle.stripe.specs.Stored.{Stored, entry_among}
 use Rattle.cache.specs.Receipts.{Receipt}
 use Rattle.cache.specs.Opened.{Opened, Sitting}
@@ -124,6 +127,13 @@ same_calls journal n seats hs a =
         same_members ts rs (distinct_rows by_receipt (λ (m : Made). (m.caller, m.number)) (λ c k t. refl) 0 (lists_of seats))
         (distinct_rows by_record (λ (m : Made). (m.stripe, m.place)) (λ i q r. refl) 0 hs) to back
 
+-- ---- what the loader answered
+
+all_given : (gives : ℤ → LoadAnswer → Type 0) (hs : List (List Record)) → ((j : ℕ) → j < length hs → AreGiven gives (history_at hs j)) → AreGiven gives (all_records hs)
+all_given gives [] each = All-nil (λ (r : Record). IsGiven gives (key_of r.call) r.asked)
+all_given gives (h ∷ hs) each =
+    All-append (λ (r : Record). IsGiven gives (key_of r.call) r.asked) h (all_records hs) (each 0 (omega arith)) (all_given gives hs (λ j lt. each (suc j) (omega (arith, lt))))
+
 -- ---- a closed cache
 
 -- the receipts of a seat
@@ -133,8 +143,8 @@ filed_at stripes (s ∷ ss) filed zero n t e = filed 0 s refl n t e
 filed_at stripes (s ∷ ss) filed (suc c) n t e = filed_at stripes ss (λ d x f. filed (suc d) x f) c n t e
 
 -- each record is on its key's stripe, since its receipt is
-own_keys : (d : Opened) (seats : List Sitting) (tables : List Stored) (hs : List (List Record)) → Settles d seats tables hs → AllAreFiled (length d.tables) seats → AreFrom (length d.tables) 0 hs
-own_keys d seats tables hs s filed j lt = each_of (λ r. stripe_of n (key_of r.call) ≡ 0 + j) (history_at hs j) each
+own_keys : {L : Type 0} (loads : Bool) (gives : ℤ → LoadAnswer → Type 0) (d : Opened L) (seats : List Sitting) (tables : List Stored) (hs : List (List Record)) → Settles loads gives d seats tables hs → AllAreFiled (length d.tables) seats → AreFrom (length d.tables) 0 hs
+own_keys loads gives d seats tables hs s filed j lt = each_of (λ r. stripe_of n (key_of r.call) ≡ 0 + j) (history_at hs j) each
   where
     n : ℕ
     n = length d.tables
@@ -147,11 +157,12 @@ own_keys d seats tables hs s filed j lt = each_of (λ r. stripe_of n (key_of r.c
         let at : t.stripe ≡ j = stripe_is d.journal d.seats seats hs s.accounts j q r e in
         omega (arith, own, same, at)
 
-pub caches_hand_out_histories : CachesHandOutHistories
-caches_hand_out_histories d seats tables hs s filed =
-    let from : AreFrom (length d.tables) 0 hs = own_keys d seats tables hs s filed in
+pub caches_hand_out_histories : (L : Type 0) (loads : Bool) (gives : ℤ → LoadAnswer → Type 0) → CachesHandOutHistories L loads gives
+caches_hand_out_histories L loads gives d seats tables hs s filed =
+    let from : AreFrom (length d.tables) 0 hs = own_keys loads gives d seats tables hs s filed in
     record {
-      legal = all_legal false (entry_among d.tables) (length d.tables) 0 [] hs tt from (λ j lt. s.legal j (omega (arith, lt, s.histories_count)));
+      legal = all_legal loads (entry_among d.tables) (length d.tables) 0 [] hs tt from (λ j lt. s.legal j (omega (arith, lt, s.histories_count)));
+      given = all_given gives hs (λ j lt. s.given j (omega (arith, lt, s.histories_count)));
       once = same_calls d.journal d.seats seats hs s.accounts;
       left = λ k. s.left k ∙ sym (after_all (entry_among d.tables k) (length d.tables) 0 k hs from (stripe_of (length d.tables) k) (omega arith));
     }
@@ -167,32 +178,33 @@ filed_more stripes [] u own filed (suc n) t e = absurd (some-ne-none t (sym e))
 filed_more stripes (x ∷ xs) u own filed zero t e = filed 0 t e
 filed_more stripes (x ∷ xs) u own filed (suc n) t e = filed_more stripes xs u own (λ m y f. filed (suc m) y f) n t e
 
-pub filed_by_calls : CallsAreFiled
-filed_by_calls d old new call reply a filed =
+pub filed_by_calls : (L : Type 0) → CallsAreFiled L
+filed_by_calls L d old new call reply a filed =
     subst (λ (s : Sitting). AreFiled (length d.tables) s.receipts) (sym a.left)
     (filed_more (length d.tables) old.receipts a.receipt (a.stripe_is ∙ ap (λ c. stripe_of (length d.tables) (key_of c)) (sym a.call_is)) filed)
 
-pub filed_by_refusals : RefusedCallsAreFiled
-filed_by_refusals d old new call JournalFull t filed = subst (λ (s : Sitting). AreFiled (length d.tables) s.receipts) (sym t.0) filed
-filed_by_refusals d old new call NoMemory t filed = subst (λ (s : Sitting). AreFiled (length d.tables) s.receipts) (sym t) filed
+pub filed_by_refusals : (L : Type 0) → RefusedCallsAreFiled L
+filed_by_refusals L d old new call JournalFull t filed = subst (λ (s : Sitting). AreFiled (length d.tables) s.receipts) (sym t.0) filed
+filed_by_refusals L d old new call NoMemory t filed = subst (λ (s : Sitting). AreFiled (length d.tables) s.receipts) (sym t) filed
 
 -- ---- worlds and rounds
 
-pub worlds_hand_out_histories : WorldsHandOutHistories
-worlds_hand_out_histories opening finished now l = record { legal = l.legal; once = IsPermutation-refl (calls_in finished); left = l.left }
+pub worlds_hand_out_histories : (loads : Bool) (gives : ℤ → LoadAnswer → Type 0) → WorldsHandOutHistories loads gives
+worlds_hand_out_histories loads gives opening finished now l given = record { legal = l.legal; given = given; once = IsPermutation-refl (calls_in finished); left = l.left }
 
-pub rounds_are_done : RoundsAreDone
-rounds_are_done before made after history h calls answers count once =
+pub rounds_are_done : (loads : Bool) (gives : ℤ → LoadAnswer → Type 0) → RoundsAreDone loads gives
+rounds_are_done loads gives before made after history h calls answers count once =
     record {
       count = count;
       history = history;
-      is = record { legal = h.legal; once = IsPermutation-trans (answered calls answers) made (calls_in history) once h.once; left = h.left };
+      is = record { legal = h.legal; given = h.given; once = IsPermutation-trans (answered calls answers) made (calls_in history) once h.once; left = h.left };
     }
 
-pub histories_follow : HistoriesFollow
-histories_follow before between after made more first second f s =
+pub histories_follow : (loads : Bool) (gives : ℤ → LoadAnswer → Type 0) → HistoriesFollow loads gives
+histories_follow loads gives before between after made more first second f s =
     record {
-      legal = legal_append false before [] first second f.legal (subst (λ (l : List Record). IsLegalAfter false before l second) (append-nil first) (legal_from false before between first [] second f.left s.legal));
+      legal = legal_append loads before [] first second f.legal (subst (λ (l : List Record). IsLegalAfter loads before l second) (append-nil first) (legal_from loads before between first [] second f.left s.legal));
+      given = All-append (λ (r : Record). IsGiven gives (key_of r.call) r.asked) first second f.given s.given;
       once = subst (λ l. IsPermutation (made ++ more) l) (sym (map-append (λ (r : Record). (r.call, r.reply)) first second)) (IsPermutation-append made (calls_in first) more (calls_in second) f.once s.once);
       left = λ k. s.left k ∙ ap (λ e. entry_after e second k) (f.left k) ∙ sym (after_append (before k) first second k);
     }

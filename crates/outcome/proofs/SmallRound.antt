@@ -1,26 +1,33 @@
 -- The small round is done, and one with a value from nowhere isn't.
-use Rattle.std.proofs.Common.{arith, ◌≡◌, ℕ, pos, Bool, true, false, List, [], ◌∷◌, All, Some, None, if◌then◌else◌, IsPermutation, refl, subst}
+use Rattle.std.proofs.Common.{arith, ◌≡◌, ℕ, zero, suc, pos, Bool, true, false, List, [], ◌∷◌, All, Some, None, if◌then◌else◌, IsPermutation, refl, subst}
 use Rattle.std.proofs.lemmas.List.Elements.{All-cons, All-nil, All-head}
 use Rattle.std.proofs.lemmas.List.Sorted.{IsPermutation-middle, All-permutation, length_permutation}
 use Rattle.std.specs.Ordering.{int_eq}
 use Rattle.stripe.specs.declared.call.Reply.{Reply}
 use Rattle.stripe.specs.declared.call.Reply.TheVariants.{Done, Value, Flag}
-use Rattle.stripe.specs.History.{Call, Get, Put, Contains, Record, Answers, IsLegal}
+use Rattle.stripe.specs.History.{Call, Get, Put, Contains, Record, Answers, IsLegal, AreGiven}
 use Rattle.outcome.specs.Outcome.{IsDone, calls_in}
-use Rattle.outcome.specs.Example.{no_entries, round, replies, round_history, left_by_round, NoValueFromNowhere}
+use Rattle.outcome.specs.Example.{no_answers, no_entries, round, replies, round_history, left_by_round, NoValueFromNowhere}
 
-pub round_is_done : IsDone no_entries round replies left_by_round
+pub round_is_done : IsDone false no_answers no_entries round replies left_by_round
 round_is_done =
     record {
       count = refl;
       history = round_history;
       is = record {
         legal = ((refl, refl, refl), ((refl, refl, refl), ((refl, refl, refl), tt)));
+        given = none_asked;
         once = IsPermutation-middle ((Get (pos 1), Value (Some (pos 7))) ∷ []) (Put (pos 1) (pos 7), Done) ((Contains (pos 1), Flag true) ∷ []);
         left = λ k. by (int_eq (pos 1) k);
       };
     }
   where
+    none_asked : AreGiven no_answers round_history
+    none_asked zero d h = tt
+    none_asked (suc zero) d h = tt
+    none_asked (suc (suc zero)) d h = tt
+    none_asked (suc (suc (suc k))) d h = absurd (omega (arith, h))
+
     by : (b : Bool) → (if b then Some (pos 7) else None) ≡ (if b then Some (pos 7) else (if b then Some (pos 7) else (if b then Some (pos 7) else None)))
     by true = refl
     by false = refl

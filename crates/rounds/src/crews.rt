@@ -8,7 +8,7 @@ ghost use Rattle.invokeall.specs.Jobs.{IsCallable};
 
 use cache::NoGate;
 use invokeall::Job;
-use jtypes::{Arg, Args, Outcome};
+use jtypes::{Arg, Args, NoLoader, Outcome};
 use registry::{ClassId, Registry};
 use rowclasses as rows;
 use std::alloc::Global;
@@ -37,7 +37,7 @@ fn round<R: Threads + Wait + Sync>(
     if workers == 0 || workers > 16 || jobs.len() > 4096 {
         return None;
     }
-    match run_by_workers(rt, alloc, registry, tables, workers, jobs, &NoGate) {
+    match run_by_workers(rt, alloc, registry, tables, workers, jobs, &NoGate, &NoLoader) {
         Ok(left) => Some(left),
         Err(_) => None,
     }

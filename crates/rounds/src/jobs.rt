@@ -11,7 +11,7 @@ ghost use Rattle.invokeall.specs.Rounds.{IsAtHome};
 
 use cache::{Cache, Gate, NoGate, Seat};
 use invokeall::{Job, JobReply, invoke_all, run_round};
-use jtypes::{Arg, Args, JavaFault, Outcome};
+use jtypes::{Arg, Args, JavaFault, NoLoader, Outcome};
 use machine::Workspace;
 use registry::{ClassId, Registry};
 use rowclasses as rows;
@@ -85,13 +85,13 @@ fn opened<'a>(
     registry: &'a Registry,
     tables: Tables,
     seats: usize,
-) -> Option<(Cache<'a>, Vec<Seat<'a>>)>
+) -> Option<(Cache<'a, 'static, NoLoader>, Vec<Seat<'a>>)>
     ensures registry { IfSome result (λ r. r.0.registry ≡ registry.now) }
     ensures count { IfSome result (λ r. IsWorkerCount (length r.1.items)) }
     ensures home { IfSome result (λ r. All (IsAtHome r.0) r.1.items) }
     ensures seats { IfSome result (λ r. AreSeats r.0 r.1.items) }
 {
-    match Cache::open(alloc, registry, tables, 4096, seats) {
+    match Cache::open(alloc, registry, tables, 4096, seats, &NoLoader) {
         Ok(opened) => Some(opened),
         Err(_) => None,
     }

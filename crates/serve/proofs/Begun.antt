@@ -7,10 +7,7 @@ use Rattle.std.specs.Ordering.{int_cmp}
 use Rattle.jtypes.specs.Entry.{Entry}
 use Rattle.stripe.specs.Stored.{Stored, entry_in, entry_among}
 use Rattle.std.proofs.lemmas.Bool.Decides.{nat_tests}
-use Rattle.std.proofs.lemmas.List.Sorted.{IsPermutation-refl}
-use Rattle.stripe.specs.History.{stripe_of, Call, Entries}
-use Rattle.stripe.specs.declared.call.Reply.{Reply}
-use Rattle.outcome.specs.Outcome.{IsDone}
+use Rattle.stripe.specs.History.{stripe_of}
 
 at_place : (n i : ℕ) (k : ℤ) → option_and_then (λ (m : Stored). entry_in m k) (slice_get (replicate n map.empty) i) ≡ None
 at_place zero i k = refl
@@ -29,11 +26,3 @@ is_some n b e f = grind (arith, nat_tests)
 pub nil_of : {A : Type 0} (xs : List A) → length xs ≡ 0 → xs ≡ []
 nil_of [] e = refl
 nil_of (x ∷ xs) e = absurd (omega (arith, e))
-
--- a round without calls is done
-pub nothing_done : (before : Entries) (calls : List Call) (answers : List (Option Reply)) → calls ≡ [] → answers ≡ [] → IsDone before calls answers before
-nothing_done before calls answers e f = subst (λ l. IsDone before l answers before) (sym e) (subst (λ l. IsDone before [] l before) (sym f) (record {
-  count = refl;
-  history = [];
-  is = record { legal = tt; once = IsPermutation-refl []; left = λ k. refl };
-}))

@@ -1,5 +1,6 @@
 -- Streams that end early.
-use Rattle.std.proofs.Common.{◌≡◌, ◌≢◌, ℕ, List, Option, Result, Ok, Err, IfOk, IfErr, refl, subst}
+use Rattle.std.proofs.Common.{◌≡◌, ◌≢◌, ℕ, ℤ, Bool, List, Option, Result, Ok, Err, IfOk, IfErr, refl, subst}
+use Rattle.jtypes.specs.declared.loader.LoadAnswer.{LoadAnswer}
 use Rattle.wire.specs.declared.request.Request.{Request}
 use Rattle.serve.specs.declared.fault.ServeFault.{ServeFault}
 use Rattle.serve.specs.declared.fault.ServeFault.TheVariants as fault
@@ -15,28 +16,28 @@ stops_not (reader extra is) e = absurd cc
 stops_not (frame_memory extra is) e = absurd cc
 stops_not memory e = absurd cc
 
-fails_not : {s : Stand} {taken given : List ℕ} {f : ServeFault} → Fails s taken given f → f ≢ fault.BadCount
+fails_not : {loads : Bool} {gives : ℤ → LoadAnswer → Type 0} {s : Stand} {taken given : List ℕ} {f : ServeFault} → Fails loads gives s taken given f → f ≢ fault.BadCount
 fails_not (unread requests extra f are t g stops) e = stops_not stops e
 fails_not (no_memory requests are t g) e = absurd cc
 fails_not (writer requests replies t missing are took round text) e = absurd cc
 
 -- what ends a stream early is no count
-pub ends_early : (input output : List ℕ) (f : ServeFault) → IsCutShort input output f → EndsEarly input output f
-ends_early input output fault.TooLong h = h
-ends_early input output fault.Truncated h = h
-ends_early input output fault.Malformed h = h
-ends_early input output fault.Read h = h
-ends_early input output fault.NoMemory h = h
-ends_early input output fault.Write h = h
-ends_early input output fault.BadCount h = absurd (fails_not h.fails refl)
+pub ends_early : (loads : Bool) (gives : ℤ → LoadAnswer → Type 0) (input output : List ℕ) (f : ServeFault) → IsCutShort loads gives input output f → EndsEarly loads gives input output f
+ends_early loads gives input output fault.TooLong h = h
+ends_early loads gives input output fault.Truncated h = h
+ends_early loads gives input output fault.Malformed h = h
+ends_early loads gives input output fault.Read h = h
+ends_early loads gives input output fault.NoMemory h = h
+ends_early loads gives input output fault.Write h = h
+ends_early loads gives input output fault.BadCount h = absurd (fails_not h.fails refl)
 
-pub all_end_early : {A : Type 0} (res : Result A ServeFault) (a b c d : Option (List ℕ)) → IfErr res (λ f. TookAndGave a b c d (λ taken given. IsCutShort taken given f)) → IfErr res (λ f. TookAndGave a b c d (λ taken given. EndsEarly taken given f))
-all_end_early (Ok x) a b c d h = tt
-all_end_early (Err f) a b c d h = let (taken, given, took, gave, ended) = h in (taken, given, took, gave, ends_early taken given f ended)
+pub all_end_early : (loads : Bool) (gives : ℤ → LoadAnswer → Type 0) {A : Type 0} (res : Result A ServeFault) (a b c d : Option (List ℕ)) → IfErr res (λ f. TookAndGave a b c d (λ taken given. IsCutShort loads gives taken given f)) → IfErr res (λ f. TookAndGave a b c d (λ taken given. EndsEarly loads gives taken given f))
+all_end_early loads gives (Ok x) a b c d h = tt
+all_end_early loads gives (Err f) a b c d h = let (taken, given, took, gave, ended) = h in (taken, given, took, gave, ends_early loads gives taken given f ended)
 
-pub not_count : {A : Type 0} (res : Result A ServeFault) (a b c d : Option (List ℕ)) → IfErr res (λ f. TookAndGave a b c d (λ taken given. IsCutShort taken given f)) → res ≢ Err fault.BadCount
-not_count (Ok x) a b c d h e = absurd cc
-not_count (Err f) a b c d h e =
+pub not_count : (loads : Bool) (gives : ℤ → LoadAnswer → Type 0) {A : Type 0} (res : Result A ServeFault) (a b c d : Option (List ℕ)) → IfErr res (λ f. TookAndGave a b c d (λ taken given. IsCutShort loads gives taken given f)) → res ≢ Err fault.BadCount
+not_count loads gives (Ok x) a b c d h e = absurd cc
+not_count loads gives (Err f) a b c d h e =
     let (taken, given, took, gave, ended) = h in
     let is : f ≡ fault.BadCount = cc in
     fails_not ended.fails is

@@ -1,11 +1,14 @@
 -- A stream that was cut short goes on.
-use Rattle.std.proofs.Common.{◌≡◌, ◌≢◌, ◌⊎◌, ℕ, List, [], ◌∷◌, ◌++◌, length, map, Option, None, refl, sym, ap, ◌∙◌, subst, inl, inr, arith, append_assoc, append-nil}
+use Rattle.std.proofs.Common.{◌≡◌, ◌≢◌, ◌⊎◌, ℕ, ℤ, Bool, List, [], ◌∷◌, ◌++◌, length, map, Option, None, refl, sym, ap, ◌∙◌, subst, inl, inr, arith, append_assoc, append-nil}
 use Rattle.std.specs.List.{AllByRecursion}
 use Rattle.std.proofs.lemmas.Bool.{cases_lt}
+use Rattle.std.proofs.lemmas.List.Elements.{All-nil}
 use Rattle.std.proofs.lemmas.List.Sorted.{IsPermutation-refl}
 use Rattle.jtypes.specs.declared.refusal.Refusal.TheVariants as refusal
+use Rattle.jtypes.specs.declared.loader.LoadAnswer.{LoadAnswer}
+use Rattle.jtypes.specs.Loading.{IsGiven}
 use Rattle.typecheck.specs.Typing.{Class}
-use Rattle.stripe.specs.History.{Call, Entries}
+use Rattle.stripe.specs.History.{Call, Entries, Record, key_of}
 use Rattle.stripe.specs.declared.call.Reply.{Reply as Answer}
 use Rattle.outcome.specs.Outcome.{IsDone, IsHistoryOf, answered}
 use Rattle.wire.specs.declared.request.Request.{Request}
@@ -79,110 +82,111 @@ none_is_answered : (calls : List Call) → answered calls (no_answers calls) ≡
 none_is_answered [] = refl
 none_is_answered (c ∷ calls) = none_is_answered calls
 
--- a round is done where none of its calls is answered
-none_done : (before : Entries) (calls : List Call) → IsDone before calls (no_answers calls) before
-none_done before calls = record {
-  count = as_many_answers calls;
-  history = [];
-  is = subst (λ made. IsHistoryOf before made before []) (sym (none_is_answered calls)) (record { legal = tt; once = IsPermutation-refl []; left = λ k. refl });
-}
+module _ (loads : Bool) (gives : ℤ → LoadAnswer → Type 0) where
+  -- a round is done where none of its calls is answered
+  none_done : (before : Entries) (calls : List Call) → IsDone loads gives before calls (no_answers calls) before
+  none_done before calls = record {
+    count = as_many_answers calls;
+    history = [];
+    is = subst (λ made. IsHistoryOf loads gives before made before []) (sym (none_is_answered calls)) (record { legal = tt; once = IsPermutation-refl []; left = λ k. refl; given = All-nil (λ (r : Record). IsGiven gives (key_of r.call) r.asked) });
+  }
 
-record Round (s : Stand) (requests : List Request) : Type 0 where
-  replies : List Reply
-  after : Stand
-  is : IsRound s requests replies after
+  record Round (s : Stand) (requests : List Request) : Type 0 where
+    replies : List Reply
+    after : Stand
+    is : IsRound loads gives s requests replies after
 
-some_round : (s : Stand) (requests : List Request) → AreOpen requests → Round s requests
-some_round s requests are =
-    let g = gather s.classes [] requests (record { works = []; calls = []; later = s.classes; gathered = rounds.none }) are in record {
-      replies = map (work_reply (no_answers g.calls)) g.works;
-      after = stand g.later s.entries;
-      is = record { works = g.works; calls = g.calls; answers = no_answers g.calls; gathered = g.gathered; done = none_done s.entries g.calls; told = refl };
-    }
+  some_round : (s : Stand) (requests : List Request) → AreOpen requests → Round s requests
+  some_round s requests are =
+      let g = gather s.classes [] requests (record { works = []; calls = []; later = s.classes; gathered = rounds.none }) are in record {
+        replies = map (work_reply (no_answers g.calls)) g.works;
+        after = stand g.later s.entries;
+        is = record { works = g.works; calls = g.calls; answers = no_answers g.calls; gathered = g.gathered; done = none_done s.entries g.calls; told = refl };
+      }
 
--- ---- so can each stream
+  -- ---- so can each stream
 
-behind : (input told text : List ℕ) → GoesOn input (told ++ text) → GoesOn input told
-behind input told text g = record { more = g.more; later = text ++ g.later; served = subst (IsServed (input ++ g.more)) (append_assoc told text g.later) g.served }
+  behind : (input told text : List ℕ) → GoesOn loads gives input (told ++ text) → GoesOn loads gives input told
+  behind input told text g = record { more = g.more; later = text ++ g.later; served = subst (IsServed loads gives (input ++ g.more)) (append_assoc told text g.later) g.served }
 
--- behind whole rounds that were served stand these requests of an open round, and the rest
-answer_all : (front told : List ℕ) (s : Stand) → Serves front told s → (begun rest : List Request) → AreOpen begun → AllByRecursion IsRequest rest
-    → GoesOn ((front ++ requests_text begun) ++ requests_text rest) told
-answer_all front told s v begun [] are each =
-    let r = some_round s begun are in
-    let text = front ++ requests_text begun in
-    let parts : front ++ requests_text (ended begun) ≡ (text ++ []) ++ request_frame RoundEnd =
-    ap (λ l. front ++ l) (texts_more request_frame begun RoundEnd) ∙ sym (append_assoc front (requests_text begun) (request_frame RoundEnd)) ∙ ap (λ l. l ++ request_frame RoundEnd) (sym (append-nil text)) in record {
-      more = request_frame RoundEnd;
-      later = replies_text (all_told r.replies);
-      served = subst (λ l. IsServed l (told ++ replies_text (all_told r.replies))) parts (record { left = r.after; serves = serves_more front told s r.after begun r.replies v are r.is });
-    }
-answer_all front told s v begun (q ∷ rest) are each = elim (is_end q) [
-  | inl e ↦
+  -- behind whole rounds that were served stand these requests of an open round, and the rest
+  answer_all : (front told : List ℕ) (s : Stand) → Serves loads gives front told s → (begun rest : List Request) → AreOpen begun → AllByRecursion IsRequest rest
+      → GoesOn loads gives ((front ++ requests_text begun) ++ requests_text rest) told
+  answer_all front told s v begun [] are each =
       let r = some_round s begun are in
-      let text = replies_text (all_told r.replies) in
-      let whole = front ++ requests_text (ended begun) in
-      let later = answer_all whole (told ++ text) r.after (serves_more front told s r.after begun r.replies v are r.is) [] rest tt each.1 in
-      let end : whole ++ [] ≡ (front ++ requests_text begun) ++ request_frame q =
-      append-nil whole ∙ ap (λ l. front ++ l) (texts_more request_frame begun RoundEnd) ∙ sym (append_assoc front (requests_text begun) (request_frame RoundEnd)) ∙ ap (λ x. (front ++ requests_text begun) ++ request_frame x) (sym e) in
-      let parts = ap (λ l. l ++ requests_text rest) end ∙ append_assoc (front ++ requests_text begun) (request_frame q) (requests_text rest) in
-      subst (λ l. GoesOn l told) parts (behind ((whole ++ []) ++ requests_text rest) told text later)
-  | inr open_yet ↦
-      let more = begun ++ q ∷ [] in
-      let later = answer_all front told s v more rest (each_more (λ x. IsRequest x × (x ≢ RoundEnd)) begun q are (each.0, open_yet)) each.1 in
-      let one : front ++ requests_text more ≡ (front ++ requests_text begun) ++ request_frame q = ap (λ l. front ++ l) (texts_more request_frame begun q) ∙ sym (append_assoc front (requests_text begun) (request_frame q)) in
-      let parts = ap (λ l. l ++ requests_text rest) one ∙ append_assoc (front ++ requests_text begun) (request_frame q) (requests_text rest) in
-      subst (λ l. GoesOn l told) parts later
-]
+      let text = front ++ requests_text begun in
+      let parts : front ++ requests_text (ended begun) ≡ (text ++ []) ++ request_frame RoundEnd =
+      ap (λ l. front ++ l) (texts_more request_frame begun RoundEnd) ∙ sym (append_assoc front (requests_text begun) (request_frame RoundEnd)) ∙ ap (λ l. l ++ request_frame RoundEnd) (sym (append-nil text)) in record {
+        more = request_frame RoundEnd;
+        later = replies_text (all_told r.replies);
+        served = subst (λ l. IsServed loads gives l (told ++ replies_text (all_told r.replies))) parts (record { left = r.after; serves = serves_more loads gives front told s r.after begun r.replies v are r.is });
+      }
+  answer_all front told s v begun (q ∷ rest) are each = elim (is_end q) [
+    | inl e ↦
+        let r = some_round s begun are in
+        let text = replies_text (all_told r.replies) in
+        let whole = front ++ requests_text (ended begun) in
+        let later = answer_all whole (told ++ text) r.after (serves_more loads gives front told s r.after begun r.replies v are r.is) [] rest tt each.1 in
+        let end : whole ++ [] ≡ (front ++ requests_text begun) ++ request_frame q =
+        append-nil whole ∙ ap (λ l. front ++ l) (texts_more request_frame begun RoundEnd) ∙ sym (append_assoc front (requests_text begun) (request_frame RoundEnd)) ∙ ap (λ x. (front ++ requests_text begun) ++ request_frame x) (sym e) in
+        let parts = ap (λ l. l ++ requests_text rest) end ∙ append_assoc (front ++ requests_text begun) (request_frame q) (requests_text rest) in
+        subst (λ l. GoesOn loads gives l told) parts (behind ((whole ++ []) ++ requests_text rest) told text later)
+    | inr open_yet ↦
+        let more = begun ++ q ∷ [] in
+        let later = answer_all front told s v more rest (each_more (λ x. IsRequest x × (x ≢ RoundEnd)) begun q are (each.0, open_yet)) each.1 in
+        let one : front ++ requests_text more ≡ (front ++ requests_text begun) ++ request_frame q = ap (λ l. front ++ l) (texts_more request_frame begun q) ∙ sym (append_assoc front (requests_text begun) (request_frame q)) in
+        let parts = ap (λ l. l ++ requests_text rest) one ∙ append_assoc (front ++ requests_text begun) (request_frame q) (requests_text rest) in
+        subst (λ l. GoesOn loads gives l told) parts later
+  ]
 
--- ---- so does each that was cut short
+  -- ---- so does each that was cut short
 
--- nothing was written behind the answers to whole rounds
-unwritten : OneFront → (front told : List ℕ) (s : Stand) → Serves front told s → (back input output : List ℕ) → input ≡ front ++ back → output ≡ told → FramesGoOn input output
-unwritten once front told s v back input output input_is output_is requests b =
-    let same : requests_text requests ++ b.rest ≡ requests_text v.requests ++ back = sym b.parts ∙ input_is ∙ ap (λ l. l ++ back) v.read in
-    subst (GoesOn (requests_text requests)) (sym output_is) (go (compare once requests v.requests b.rest back b.each v.each same))
-  where
-    served : IsServed front told
-    served = record { left = s; serves = v }
+  -- nothing was written behind the answers to whole rounds
+  unwritten : OneFront → (front told : List ℕ) (s : Stand) → Serves loads gives front told s → (back input output : List ℕ) → input ≡ front ++ back → output ≡ told → FramesGoOn loads gives input output
+  unwritten once front told s v back input output input_is output_is requests b =
+      let same : requests_text requests ++ b.rest ≡ requests_text v.requests ++ back = sym b.parts ∙ input_is ∙ ap (λ l. l ++ back) v.read in
+      subst (GoesOn loads gives (requests_text requests)) (sym output_is) (go (compare once requests v.requests b.rest back b.each v.each same))
+    where
+      served : IsServed loads gives front told
+      served = record { left = s; serves = v }
 
-    go : Compared requests v.requests b.rest back → GoesOn (requests_text requests) told
-    go (shorter zs is) =
-        let read : front ≡ requests_text requests ++ requests_text zs = v.read ∙ ap requests_text is ∙ texts_append request_frame requests zs in
-        record { more = requests_text zs; later = []; served = subst (IsServed (requests_text requests ++ requests_text zs)) (sym (append-nil told)) (subst (λ l. IsServed l told) read served) }
-    go (longer z zs is each parts) =
-        let read : front ++ [] ≡ requests_text v.requests = append-nil front ∙ v.read in
-        let all = ap (λ l. l ++ requests_text (z ∷ zs)) read ∙ sym (texts_append request_frame v.requests (z ∷ zs)) ∙ ap requests_text (sym is) in
-        subst (λ l. GoesOn l told) all (answer_all front told s v [] (z ∷ zs) tt each)
+      go : Compared requests v.requests b.rest back → GoesOn loads gives (requests_text requests) told
+      go (shorter zs is) =
+          let read : front ≡ requests_text requests ++ requests_text zs = v.read ∙ ap requests_text is ∙ texts_append request_frame requests zs in
+          record { more = requests_text zs; later = []; served = subst (IsServed loads gives (requests_text requests ++ requests_text zs)) (sym (append-nil told)) (subst (λ l. IsServed loads gives l told) read served) }
+      go (longer z zs is each parts) =
+          let read : front ++ [] ≡ requests_text v.requests = append-nil front ∙ v.read in
+          let all = ap (λ l. l ++ requests_text (z ∷ zs)) read ∙ sym (texts_append request_frame v.requests (z ∷ zs)) ∙ ap requests_text (sym is) in
+          subst (λ l. GoesOn loads gives l told) all (answer_all front told s v [] (z ∷ zs) tt each)
 
--- an answer was written in part
-begun : (whole answer output missing : List ℕ) → IsServed whole answer → answer ≡ output ++ missing → FramesGoOn whole output
-begun whole answer output missing v is requests b = record {
-  more = b.rest;
-  later = missing;
-  served = subst (λ l. IsServed l (output ++ missing)) b.parts (subst (IsServed whole) is v);
-}
+  -- an answer was written in part
+  begun : (whole answer output missing : List ℕ) → IsServed loads gives whole answer → answer ≡ output ++ missing → FramesGoOn loads gives whole output
+  begun whole answer output missing v is requests b = record {
+    more = b.rest;
+    later = missing;
+    served = subst (λ l. IsServed loads gives l (output ++ missing)) b.parts (subst (IsServed loads gives whole) is v);
+  }
 
-all_go_on : OneFront → (input output front back told part : List ℕ) (s : Stand) (f : ServeFault) → input ≡ front ++ back → output ≡ told ++ part → Serves front told s → Fails s back part f
-    → FramesGoOn input output
-all_go_on once input output front back told part s f input_is output_is v (unread requests extra g are taken given stops) =
-    unwritten once front told s v back input output input_is (output_is ∙ ap (λ l. told ++ l) given ∙ append-nil told)
-all_go_on once input output front back told part s f input_is output_is v (no_memory requests are taken given) =
-    unwritten once front told s v back input output input_is (output_is ∙ ap (λ l. told ++ l) given ∙ append-nil told)
-all_go_on once input output front back told part s f input_is output_is v (writer requests replies t missing are taken round text) =
-    let whole = front ++ requests_text (ended requests) in
-    let served : IsServed whole (told ++ replies_text (all_told replies)) = record { left = t; serves = serves_more front told s t requests replies v are round } in
-    let answer : told ++ replies_text (all_told replies) ≡ output ++ missing = ap (λ l. told ++ l) text ∙ sym (append_assoc told part missing) ∙ ap (λ l. l ++ missing) (sym output_is) in
-    subst (λ l. FramesGoOn l output) (sym (input_is ∙ ap (λ l. front ++ l) taken)) (begun whole (told ++ replies_text (all_told replies)) output missing served answer)
+  all_go_on : OneFront → (input output front back told part : List ℕ) (s : Stand) (f : ServeFault) → input ≡ front ++ back → output ≡ told ++ part → Serves loads gives front told s → Fails loads gives s back part f
+      → FramesGoOn loads gives input output
+  all_go_on once input output front back told part s f input_is output_is v (unread requests extra g are taken given stops) =
+      unwritten once front told s v back input output input_is (output_is ∙ ap (λ l. told ++ l) given ∙ append-nil told)
+  all_go_on once input output front back told part s f input_is output_is v (no_memory requests are taken given) =
+      unwritten once front told s v back input output input_is (output_is ∙ ap (λ l. told ++ l) given ∙ append-nil told)
+  all_go_on once input output front back told part s f input_is output_is v (writer requests replies t missing are taken round text) =
+      let whole = front ++ requests_text (ended requests) in
+      let served : IsServed loads gives whole (told ++ replies_text (all_told replies)) = record { left = t; serves = serves_more loads gives front told s t requests replies v are round } in
+      let answer : told ++ replies_text (all_told replies) ≡ output ++ missing = ap (λ l. told ++ l) text ∙ sym (append_assoc told part missing) ∙ ap (λ l. l ++ missing) (sym output_is) in
+      subst (λ l. FramesGoOn loads gives l output) (sym (input_is ∙ ap (λ l. front ++ l) taken)) (begun whole (told ++ replies_text (all_told replies)) output missing served answer)
 
-cut_short : OneFront → (input output : List ℕ) (f : ServeFault) → IsCutShort input output f → FramesGoOn input output
-cut_short once input output f c = all_go_on once input output c.front c.back c.told c.part c.left f c.input_is c.output_is c.serves c.fails
+  cut_short : OneFront → (input output : List ℕ) (f : ServeFault) → IsCutShort loads gives input output f → FramesGoOn loads gives input output
+  cut_short once input output f c = all_go_on once input output c.front c.back c.told c.part c.left f c.input_is c.output_is c.serves c.fails
 
-pub goes_on : OneFront → (input output : List ℕ) (f : ServeFault) → EndsEarly input output f → FramesGoOn input output
-goes_on once input output fault.TooLong h = cut_short once input output fault.TooLong h
-goes_on once input output fault.Truncated h = cut_short once input output fault.Truncated h
-goes_on once input output fault.Malformed h = cut_short once input output fault.Malformed h
-goes_on once input output fault.Read h = cut_short once input output fault.Read h
-goes_on once input output fault.NoMemory h = cut_short once input output fault.NoMemory h
-goes_on once input output fault.Write h = cut_short once input output fault.Write h
-goes_on once input output fault.BadCount h = unwritten once [] [] first_stand (nothing_yet [] (λ k. None) refl (λ k. refl)) [] input output h.0 h.1
+  pub goes_on : OneFront → (input output : List ℕ) (f : ServeFault) → EndsEarly loads gives input output f → FramesGoOn loads gives input output
+  goes_on once input output fault.TooLong h = cut_short once input output fault.TooLong h
+  goes_on once input output fault.Truncated h = cut_short once input output fault.Truncated h
+  goes_on once input output fault.Malformed h = cut_short once input output fault.Malformed h
+  goes_on once input output fault.Read h = cut_short once input output fault.Read h
+  goes_on once input output fault.NoMemory h = cut_short once input output fault.NoMemory h
+  goes_on once input output fault.Write h = cut_short once input output fault.Write h
+  goes_on once input output fault.BadCount h = unwritten once [] [] first_stand (nothing_yet loads gives [] (λ k. None) refl (λ k. refl)) [] input output h.0 h.1

@@ -1,9 +1,10 @@
 -- A request more, a round more.
-use Rattle.std.proofs.Common.{◌≡◌, ℕ, ◌+◌, List, [], ◌∷◌, ◌++◌, length, map, Option, None, Err, refl, sym, ap, ◌∙◌, subst, arith, length-append, append_assoc, append-nil}
+use Rattle.std.proofs.Common.{◌≡◌, ℕ, ℤ, ◌+◌, Bool, List, [], ◌∷◌, ◌++◌, length, map, Option, None, Err, refl, sym, ap, ◌∙◌, subst, arith, length-append, append_assoc, append-nil}
 use Rattle.std.proofs.lemmas.List.{map-append}
 use Rattle.std.specs.List.{AllByRecursion}
 use Rattle.std.specs.Io.KnownBytes.{Consumes}
 use Rattle.std.proofs.KnownBytes.{Consumes-trans}
+use Rattle.jtypes.specs.declared.loader.LoadAnswer.{LoadAnswer}
 use Rattle.typecheck.specs.Typing.{Class}
 use Rattle.stripe.specs.History.{Call, Entries}
 use Rattle.wire.specs.declared.request.Request.{Request}
@@ -75,9 +76,9 @@ stops_of left requests bytes wire.NoMemory gives = served.frame_memory bytes giv
 pub end_is_request : IsRequest RoundEnd
 end_is_request = record { in_range = tt; short = omega arith }
 
-pub serves_more : (taken given : List ℕ) (s t : Stand) (requests : List Request) (replies : List Reply) → Serves taken given s → AreOpen requests → IsRound s requests replies t
-    → Serves (taken ++ requests_text (ended requests)) (given ++ replies_text (all_told replies)) t
-serves_more taken given s t requests replies v are r = record {
+pub serves_more : (loads : Bool) (gives : ℤ → LoadAnswer → Type 0) (taken given : List ℕ) (s t : Stand) (requests : List Request) (replies : List Reply) → Serves loads gives taken given s → AreOpen requests → IsRound loads gives s requests replies t
+    → Serves loads gives (taken ++ requests_text (ended requests)) (given ++ replies_text (all_told replies)) t
+serves_more loads gives taken given s t requests replies v are r = record {
   requests = v.requests ++ ended requests;
   replies = v.replies ++ all_told replies;
   each = each_append IsRequest v.requests (ended requests) v.each (each_more IsRequest requests RoundEnd (open_requests requests are) end_is_request);
@@ -87,14 +88,14 @@ serves_more taken given s t requests replies v are r = record {
 }
 
 -- nothing was served yet
-pub nothing_yet : (classes : List Class) (entries : Entries) → classes ≡ [] → ((k : lib.IntN.ℤ) → entries k ≡ None) → Serves [] [] (stand classes entries)
-nothing_yet classes entries e f =
+pub nothing_yet : (loads : Bool) (gives : ℤ → LoadAnswer → Type 0) (classes : List Class) (entries : Entries) → classes ≡ [] → ((k : lib.IntN.ℤ) → entries k ≡ None) → Serves loads gives [] [] (stand classes entries)
+nothing_yet loads gives classes entries e f =
     let same : first_stand ≡ stand classes entries = λ i. stand (sym e i) (λ k. sym (f k) i) in
-    record { requests = []; replies = []; each = tt; read = refl; written = refl; answers = subst (λ (s : Stand). Answers [] [] s) same served.Answers.none }
+    record { requests = []; replies = []; each = tt; read = refl; written = refl; answers = subst (λ (s : Stand). Answers loads gives [] [] s) same served.Answers.none }
 
 -- nothing was read or written, for want of memory
-pub nothing_served : IsCutShort [] [] Rattle.serve.specs.declared.fault.ServeFault.TheVariants.NoMemory
-nothing_served = record {
+pub nothing_served : (loads : Bool) (gives : ℤ → LoadAnswer → Type 0) → IsCutShort loads gives [] [] Rattle.serve.specs.declared.fault.ServeFault.TheVariants.NoMemory
+nothing_served loads gives = record {
   front = [];
   back = [];
   input_is = refl;
@@ -102,13 +103,13 @@ nothing_served = record {
   part = [];
   output_is = refl;
   left = first_stand;
-  serves = nothing_yet [] (λ k. None) refl (λ k. refl);
+  serves = nothing_yet loads gives [] (λ k. None) refl (λ k. refl);
   fails = served.unread [] [] Rattle.serve.specs.declared.fault.ServeFault.TheVariants.NoMemory tt refl refl served.memory;
 }
 
 -- a round that was read and run
-pub round_of : {old new : Option (List ℕ)} {first later : List Class} {plan : Plan} (w : IsWhole old new first plan later) (before after : Entries) (text : List ℕ) (run : IsRun before w.calls (works_of plan) after text)
-    → IsRound (stand first before) w.requests (map (rounds.work_reply run.answers) (works_of plan)) (stand later after)
+pub round_of : {loads : Bool} {gives : ℤ → LoadAnswer → Type 0} {old new : Option (List ℕ)} {first later : List Class} {plan : Plan} (w : IsWhole old new first plan later) (before after : Entries) (text : List ℕ) (run : IsRun loads gives before w.calls (works_of plan) after text)
+    → IsRound loads gives (stand first before) w.requests (map (rounds.work_reply run.answers) (works_of plan)) (stand later after)
 round_of {plan = plan} w before after text run = record { works = works_of plan; calls = w.calls; answers = run.answers; gathered = w.gathered; done = run.done; told = refl }
 
 -- ---- texts

@@ -1,6 +1,7 @@
 -- Which rounds of a stream that was cut short were answered.
-use Rattle.std.proofs.Common.{◌≡◌, ℕ, ◌+◌, ◌≤◌, length, List, [], ◌∷◌, ◌++◌, None, refl, sym, ap, ◌∙◌, subst, arith, append_assoc, append-nil}
+use Rattle.std.proofs.Common.{◌≡◌, ℕ, ℤ, Bool, ◌+◌, ◌≤◌, length, List, [], ◌∷◌, ◌++◌, None, refl, sym, ap, ◌∙◌, subst, arith, append_assoc, append-nil}
 use Rattle.std.specs.List.{AllByRecursion}
+use Rattle.jtypes.specs.declared.loader.LoadAnswer.{LoadAnswer}
 use Rattle.wire.specs.declared.request.Request.{Request}
 use Rattle.wire.specs.declared.request.Request.TheVariants.{Define, Put, Get, Remove, Contains, Invoke, InvokeAll, RoundEnd}
 use Rattle.std.specs.Int.{bytes_high_first}
@@ -106,39 +107,40 @@ begun once back requests extra are taken is whole b = go (compare once whole req
     go (shorter zs parts) = let e = ap ends parts ∙ ends_append whole zs in let n = none_ends requests are in omega (arith, e, n)
     go (longer z zs parts each more) = let e = ap ends parts ∙ ends_append requests (z ∷ zs) in let n = none_ends requests are in let one = one_at_most once extra is z zs b.rest each more in omega (arith, e, n, one)
 
--- ---- what was told
+module _ (loads : Bool) (gives : ℤ → LoadAnswer → Type 0) where
+  -- ---- what was told
 
-all_but : (n : ℕ) (input output front back : List ℕ) (s : Stand) → input ≡ front ++ back → Serves front output s → EndAtMost n back → AnsweredBut n input output
-all_but n input output front back s parts v few = record { front = front; back = back; parts = parts; served = record { left = s; serves = v }; unanswered = few }
+  all_but : (n : ℕ) (input output front back : List ℕ) (s : Stand) → input ≡ front ++ back → Serves loads gives front output s → EndAtMost n back → AnsweredBut loads gives n input output
+  all_but n input output front back s parts v few = record { front = front; back = back; parts = parts; served = record { left = s; serves = v }; unanswered = few }
 
-told_unread : OneFront → (input output front back : List ℕ) (s : Stand) (f : ServeFault) (requests : List Request) (extra : List ℕ) → input ≡ front ++ back → Serves front output s → AreOpen requests
-    → back ≡ requests_text requests ++ extra → Stops requests extra f → IsTold input output f
-told_unread once input output front back s f requests extra parts v are taken (too_long other is) = all_but 0 input output front back s parts v (unended once back requests extra are taken (no_fault_is_read once extra frames.TooLong is))
-told_unread once input output front back s f requests extra parts v are taken (cut other is) = all_but 0 input output front back s parts v (unended once back requests extra are taken (no_fault_is_read once extra frames.Truncated is))
-told_unread once input output front back s f requests extra parts v are taken (input_ended some) = all_but 0 input output front back s parts v (unended once back requests [] are taken (nothing_is_read once))
-told_unread once input output front back s f requests extra parts v are taken (malformed other is) = all_but 0 input output front back s parts v (unended once back requests extra are taken (no_fault_is_read once extra frames.Malformed is))
-told_unread once input output front back s f requests extra parts v are taken (reader other is) = all_but 0 input output front back s parts v (unended once back requests extra are taken (part_has_none once extra is))
-told_unread once input output front back s f requests extra parts v are taken (frame_memory other is) = all_but 1 input output front back s parts v (begun once back requests extra are taken is)
-told_unread once input output front back s f requests extra parts v are taken memory = all_but 1 input output front back s parts v (few_end once back requests [] (open_requests requests are) taken (nothing_is_read once) 1 (let n = none_ends requests are in omega (arith, n)))
+  told_unread : OneFront → (input output front back : List ℕ) (s : Stand) (f : ServeFault) (requests : List Request) (extra : List ℕ) → input ≡ front ++ back → Serves loads gives front output s → AreOpen requests
+      → back ≡ requests_text requests ++ extra → Stops requests extra f → IsTold loads gives input output f
+  told_unread once input output front back s f requests extra parts v are taken (too_long other is) = all_but 0 input output front back s parts v (unended once back requests extra are taken (no_fault_is_read once extra frames.TooLong is))
+  told_unread once input output front back s f requests extra parts v are taken (cut other is) = all_but 0 input output front back s parts v (unended once back requests extra are taken (no_fault_is_read once extra frames.Truncated is))
+  told_unread once input output front back s f requests extra parts v are taken (input_ended some) = all_but 0 input output front back s parts v (unended once back requests [] are taken (nothing_is_read once))
+  told_unread once input output front back s f requests extra parts v are taken (malformed other is) = all_but 0 input output front back s parts v (unended once back requests extra are taken (no_fault_is_read once extra frames.Malformed is))
+  told_unread once input output front back s f requests extra parts v are taken (reader other is) = all_but 0 input output front back s parts v (unended once back requests extra are taken (part_has_none once extra is))
+  told_unread once input output front back s f requests extra parts v are taken (frame_memory other is) = all_but 1 input output front back s parts v (begun once back requests extra are taken is)
+  told_unread once input output front back s f requests extra parts v are taken memory = all_but 1 input output front back s parts v (few_end once back requests [] (open_requests requests are) taken (nothing_is_read once) 1 (let n = none_ends requests are in omega (arith, n)))
 
-told_of : OneFront → (input output front back told part : List ℕ) (s : Stand) (f : ServeFault) → input ≡ front ++ back → output ≡ told ++ part → Serves front told s → Fails s back part f → IsTold input output f
-told_of once input output front back told part s f parts is v (unread requests extra g are taken given stops) =
-    told_unread once input output front back s g requests extra parts (subst (λ l. Serves front l s) (sym (is ∙ ap (λ l. told ++ l) given ∙ append-nil told)) v) are taken stops
-told_of once input output front back told part s f parts is v (no_memory requests are taken given) =
-    all_but 1 input output front back s parts (subst (λ l. Serves front l s) (sym (is ∙ ap (λ l. told ++ l) given ∙ append-nil told)) v) (last once back requests are taken)
-told_of once input output front back told part s f parts is v (writer requests replies t missing are taken round text) =
-    (told, part, is, all_but 1 input told front back s parts v (last once back requests are taken))
+  told_of : OneFront → (input output front back told part : List ℕ) (s : Stand) (f : ServeFault) → input ≡ front ++ back → output ≡ told ++ part → Serves loads gives front told s → Fails loads gives s back part f → IsTold loads gives input output f
+  told_of once input output front back told part s f parts is v (unread requests extra g are taken given stops) =
+      told_unread once input output front back s g requests extra parts (subst (λ l. Serves loads gives front l s) (sym (is ∙ ap (λ l. told ++ l) given ∙ append-nil told)) v) are taken stops
+  told_of once input output front back told part s f parts is v (no_memory requests are taken given) =
+      all_but 1 input output front back s parts (subst (λ l. Serves loads gives front l s) (sym (is ∙ ap (λ l. told ++ l) given ∙ append-nil told)) v) (last once back requests are taken)
+  told_of once input output front back told part s f parts is v (writer requests replies t missing are taken round text) =
+      (told, part, is, all_but 1 input told front back s parts v (last once back requests are taken))
 
-cut_short : OneFront → (input output : List ℕ) (f : ServeFault) → IsCutShort input output f → IsTold input output f
-cut_short once input output f c = told_of once input output c.front c.back c.told c.part c.left f c.input_is c.output_is c.serves c.fails
+  cut_short : OneFront → (input output : List ℕ) (f : ServeFault) → IsCutShort loads gives input output f → IsTold loads gives input output f
+  cut_short once input output f c = told_of once input output c.front c.back c.told c.part c.left f c.input_is c.output_is c.serves c.fails
 
-pub is_told : OneFront → (input output : List ℕ) (f : ServeFault) → EndsEarly input output f → IsTold input output f
-is_told once input output fault.TooLong h = cut_short once input output fault.TooLong h
-is_told once input output fault.Truncated h = cut_short once input output fault.Truncated h
-is_told once input output fault.Malformed h = cut_short once input output fault.Malformed h
-is_told once input output fault.Read h = cut_short once input output fault.Read h
-is_told once input output fault.NoMemory h = cut_short once input output fault.NoMemory h
-is_told once input output fault.Write h = cut_short once input output fault.Write h
-is_told once input output fault.BadCount h =
-    let served : Serves [] output first_stand = subst (λ l. Serves [] l first_stand) (sym h.1) (nothing_yet [] (λ k. None) refl (λ k. refl)) in
-    all_but 0 input output [] [] first_stand h.0 served (unended once [] [] [] tt refl (nothing_is_read once))
+  pub is_told : OneFront → (input output : List ℕ) (f : ServeFault) → EndsEarly loads gives input output f → IsTold loads gives input output f
+  is_told once input output fault.TooLong h = cut_short once input output fault.TooLong h
+  is_told once input output fault.Truncated h = cut_short once input output fault.Truncated h
+  is_told once input output fault.Malformed h = cut_short once input output fault.Malformed h
+  is_told once input output fault.Read h = cut_short once input output fault.Read h
+  is_told once input output fault.NoMemory h = cut_short once input output fault.NoMemory h
+  is_told once input output fault.Write h = cut_short once input output fault.Write h
+  is_told once input output fault.BadCount h =
+      let served : Serves loads gives [] output first_stand = subst (λ l. Serves loads gives [] l first_stand) (sym h.1) (nothing_yet loads gives [] (λ k. None) refl (λ k. refl)) in
+      all_but 0 input output [] [] first_stand h.0 served (unended once [] [] [] tt refl (nothing_is_read once))

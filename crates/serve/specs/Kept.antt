@@ -1,8 +1,9 @@
 -- What the code keeps, as the definitions see it.
-use Rattle.std.specs.Prelude.{◌≡◌, ◌<◌, ◌≤◌, ℕ, List, [], ◌∷◌, ◌++◌, length, map, Option, Some, None, slice_get, All}
+use Rattle.std.specs.Prelude.{Bool, ℤ, ◌≡◌, ◌<◌, ◌≤◌, ℕ, List, [], ◌∷◌, ◌++◌, length, map, Option, Some, None, slice_get, All}
 use Rattle.std.specs.Option.{option_map}
 use Rattle.std.specs.Io.KnownBytes.{Consumes, Appends, IsAtEnd}
 use Rattle.boxcar.specs.Table.{Shelves, Where}
+use Rattle.jtypes.specs.declared.loader.LoadAnswer.{LoadAnswer}
 use Rattle.typecheck.specs.Typing.{Class}
 use Rattle.registry.specs.Ids.{IsOf, class_of}
 use Rattle.stripe.specs.History.{Call, Entries}
@@ -117,29 +118,29 @@ pub record IsBroken (old new : Option (List ℕ)) (f : ServeFault) : Type 0 wher
   pub stops : Stops requests extra f
 
 -- the calls were answered, and this is the text of the round's replies
-pub record IsRun (before : Entries) (calls : List Call) (works : List Work) (after : Entries) (text : List ℕ) : Type 0 where
+pub record IsRun (loads : Bool) (gives : ℤ → LoadAnswer → Type 0) (before : Entries) (calls : List Call) (works : List Work) (after : Entries) (text : List ℕ) : Type 0 where
   pub answers : List (Option Answer)
-  pub done : IsDone before calls answers after
+  pub done : IsDone loads gives before calls answers after
   pub text_is : text ≡ replies_text (all_told (map (work_reply answers) works))
 
 -- a round was served from this stand on, and left these classes and tables
-pub record IsAnswered (old new before after : Option (List ℕ)) (s : Stand) (classes : List Class) (tables : List Stored) : Type 0 where
+pub record IsAnswered (loads : Bool) (gives : ℤ → LoadAnswer → Type 0) (old new before after : Option (List ℕ)) (s : Stand) (classes : List Class) (tables : List Stored) : Type 0 where
   pub requests : List Request
   pub replies : List Reply
   pub are : AreOpen requests
   pub took : Consumes old new (requests_text (ended requests))
   pub gave : Appends before after (replies_text (all_told replies))
-  pub round : IsRound s requests replies (stand classes (entry_among tables))
+  pub round : IsRound loads gives s requests replies (stand classes (entry_among tables))
 
 -- a round was served, or the input ended before one
-abbrev pub RoundServed : Option (List ℕ) → Option (List ℕ) → Option (List ℕ) → Option (List ℕ) → Stand → List Class → Option (List Stored) → Type 0
-RoundServed old new before after s classes (Some tables) = IsAnswered old new before after s classes tables
-RoundServed old new before after s classes None = Consumes old new [] × IsAtEnd new × Appends before after []
+abbrev pub RoundServed : Bool → (ℤ → LoadAnswer → Type 0) → Option (List ℕ) → Option (List ℕ) → Option (List ℕ) → Option (List ℕ) → Stand → List Class → Option (List Stored) → Type 0
+RoundServed loads gives old new before after s classes (Some tables) = IsAnswered loads gives old new before after s classes tables
+RoundServed loads gives old new before after s classes None = Consumes old new [] × IsAtEnd new × Appends before after []
 
 -- what a round took and gave that failed
-pub record RoundFailed (old new before after : Option (List ℕ)) (s : Stand) (f : ServeFault) : Type 0 where
+pub record RoundFailed (loads : Bool) (gives : ℤ → LoadAnswer → Type 0) (old new before after : Option (List ℕ)) (s : Stand) (f : ServeFault) : Type 0 where
   pub taken : List ℕ
   pub given : List ℕ
   pub took : Consumes old new taken
   pub gave : Appends before after given
-  pub fails : Fails s taken given f
+  pub fails : Fails loads gives s taken given f

@@ -1,6 +1,7 @@
 -- Streams of requests, and what is served to them, round by round.
-use Rattle.std.specs.Prelude.{◌≡◌, ◌≢◌, ℕ, List, [], ◌∷◌, ◌++◌, map, Option, None}
+use Rattle.std.specs.Prelude.{Bool, ℤ, ◌≡◌, ◌≢◌, ℕ, List, [], ◌∷◌, ◌++◌, map, Option, None}
 use Rattle.std.specs.List.{AllByRecursion}
+use Rattle.jtypes.specs.declared.loader.LoadAnswer.{LoadAnswer}
 use Rattle.typecheck.specs.Typing.{Class}
 use Rattle.stripe.specs.History.{Call, Entries}
 use Rattle.stripe.specs.declared.call.Reply.{Reply as Answer}
@@ -36,12 +37,12 @@ abbrev pub first_stand : Stand
 first_stand = stand [] (λ k. None)
 
 -- a round's requests without its end, their replies, and what it leaves
-pub record IsRound (s : Stand) (requests : List Request) (replies : List Reply) (t : Stand) : Type 0 where
+pub record IsRound (loads : Bool) (gives : ℤ → LoadAnswer → Type 0) (s : Stand) (requests : List Request) (replies : List Reply) (t : Stand) : Type 0 where
   pub works : List Work
   pub calls : List Call
   pub answers : List (Option Answer)
   pub gathered : Gathers s.classes requests works calls t.classes
-  pub done : IsDone s.entries calls answers t.entries
+  pub done : IsDone loads gives s.entries calls answers t.entries
   pub told : replies ≡ map (work_reply answers) works
 
 -- requests, and the end of their round
@@ -52,24 +53,24 @@ abbrev pub all_told : List Reply → List Reply
 all_told replies = replies ++ reply.RoundEnd ∷ []
 
 -- the replies to whole rounds, and what they leave
-pub data Answers : List Request → List Reply → Stand → Type 0 where
-  none : Answers [] [] first_stand
-  round : (requests : List Request) (replies : List Reply) (s t : Stand) (more : List Request) (others : List Reply) → Answers requests replies s → IsRound s more others t
-      → Answers (requests ++ ended more) (replies ++ all_told others) t
+pub data Answers (loads : Bool) (gives : ℤ → LoadAnswer → Type 0) : List Request → List Reply → Stand → Type 0 where
+  none : Answers loads gives [] [] first_stand
+  round : (requests : List Request) (replies : List Reply) (s t : Stand) (more : List Request) (others : List Reply) → Answers loads gives requests replies s → IsRound loads gives s more others t
+      → Answers loads gives (requests ++ ended more) (replies ++ all_told others) t
 
 -- these bytes are served with those, and leave this
-pub record Serves (input output : List ℕ) (s : Stand) : Type 0 where
+pub record Serves (loads : Bool) (gives : ℤ → LoadAnswer → Type 0) (input output : List ℕ) (s : Stand) : Type 0 where
   pub requests : List Request
   pub replies : List Reply
   pub each : AllByRecursion IsRequest requests
   pub read : input ≡ requests_text requests
   pub written : output ≡ replies_text replies
-  pub answers : Answers requests replies s
+  pub answers : Answers loads gives requests replies s
 
 -- these bytes are served with those
-pub record IsServed (input output : List ℕ) : Type 0 where
+pub record IsServed (loads : Bool) (gives : ℤ → LoadAnswer → Type 0) (input output : List ℕ) : Type 0 where
   pub left : Stand
-  pub serves : Serves input output left
+  pub serves : Serves loads gives input output left
 
 -- ---- a stream that ends early
 
@@ -88,15 +89,15 @@ pub data Stops (requests : List Request) : List ℕ → ServeFault → Type 0 wh
   memory : Stops requests [] fault.NoMemory
 
 -- how a round ended early, and which bytes it took and gave
-pub data Fails (s : Stand) (taken given : List ℕ) : ServeFault → Type 0 where
+pub data Fails (loads : Bool) (gives : ℤ → LoadAnswer → Type 0) (s : Stand) (taken given : List ℕ) : ServeFault → Type 0 where
   unread : (requests : List Request) (extra : List ℕ) (f : ServeFault) → AreOpen requests → taken ≡ requests_text requests ++ extra → given ≡ []
-      → Stops requests extra f → Fails s taken given f
-  no_memory : (requests : List Request) → AreOpen requests → taken ≡ requests_text (ended requests) → given ≡ [] → Fails s taken given fault.NoMemory
+      → Stops requests extra f → Fails loads gives s taken given f
+  no_memory : (requests : List Request) → AreOpen requests → taken ≡ requests_text (ended requests) → given ≡ [] → Fails loads gives s taken given fault.NoMemory
   writer : (requests : List Request) (replies : List Reply) (t : Stand) (missing : List ℕ) → AreOpen requests → taken ≡ requests_text (ended requests)
-      → IsRound s requests replies t → replies_text (all_told replies) ≡ given ++ missing → Fails s taken given fault.Write
+      → IsRound loads gives s requests replies t → replies_text (all_told replies) ≡ given ++ missing → Fails loads gives s taken given fault.Write
 
 -- whole rounds were served, and one ended early
-pub record IsCutShort (input output : List ℕ) (f : ServeFault) : Type 0 where
+pub record IsCutShort (loads : Bool) (gives : ℤ → LoadAnswer → Type 0) (input output : List ℕ) (f : ServeFault) : Type 0 where
   pub front : List ℕ
   pub back : List ℕ
   pub input_is : input ≡ front ++ back
@@ -104,10 +105,10 @@ pub record IsCutShort (input output : List ℕ) (f : ServeFault) : Type 0 where
   pub part : List ℕ
   pub output_is : output ≡ told ++ part
   pub left : Stand
-  pub serves : Serves front told left
-  pub fails : Fails left back part f
+  pub serves : Serves loads gives front told left
+  pub fails : Fails loads gives left back part f
 
 -- a stream that isn't served to its end: with counts that can't be, nothing is read or written
-abbrev pub EndsEarly : List ℕ → List ℕ → ServeFault → Type 0
-EndsEarly input output fault.BadCount = (input ≡ []) × (output ≡ [])
-EndsEarly input output f = IsCutShort input output f
+abbrev pub EndsEarly : Bool → (ℤ → LoadAnswer → Type 0) → List ℕ → List ℕ → ServeFault → Type 0
+EndsEarly loads gives input output fault.BadCount = (input ≡ []) × (output ≡ [])
+EndsEarly loads gives input output f = IsCutShort loads gives input output f

@@ -14,6 +14,7 @@ use crate::plan::Ask;
 use crate::settings::Settings;
 use cache::Gate;
 use invokeall::Job;
+use jtypes::Loader;
 use registry::{ClassId, Registry};
 use std::alloc::{AllocError, Global};
 use std::sync::Wait;
@@ -106,22 +107,23 @@ fn calls_for<'a>(
 }
 
 /// Runs the jobs in turn, on this thread.
-fn run_alone(
+fn run_alone<L: Loader>(
     alloc: Global,
     registry: &Registry,
     tables: Tables,
     jobs: &[Job<'_>],
+    loader: &L,
 ) -> Result<RoundLeft, Tables>
     requires jobs { length jobs.now ≤ 4096 }
     requires callable { All (IsCallable registry.now) jobs.now }
-    ensures done { IfOk result (λ left. IsDone (entry_among tables) (calls_of jobs.now) left.replies.items (entry_among left.tables)) }
+    ensures done { IfOk result (λ left. IsDone L.ASKS (L.gives loader.now) (entry_among tables) (calls_of jobs.now) left.replies.items (entry_among left.tables)) }
     ensures stripes { IfOk result (λ left. length left.tables ≡ length tables) }
     ensures kept { IfErr result (λ e. e ≡ tables) }
 {
     let Ok(calls) = calls_for(alloc, registry, jobs) else {
         return Err(tables);
     };
-    match run_in_turns(alloc, tables, calls.as_slice()) {
+    match run_in_turns(alloc, tables, calls.as_slice(), loader) {
         Ok(turns::TurnsLeft { tables, replies }) => Ok(RoundLeft { tables, replies }),
         Err(tables) => Err(tables),
     }
@@ -129,7 +131,7 @@ fn run_alone(
 
 /// Runs the jobs on these entries, by as many of the workers as they are worth, or in turn where there are none. Where there is no memory for it, the
 /// entries are as before.
-pub fn run_jobs<T: Threads + Wait + Sync, G: Gate + Sync>(
+pub fn run_jobs<T: Threads + Wait + Sync, G: Gate + Sync, L: Loader + Sync>(
     rt: &T,
     alloc: Global,
     registry: &Registry,
@@ -137,19 +139,20 @@ pub fn run_jobs<T: Threads + Wait + Sync, G: Gate + Sync>(
     settings: Settings,
     jobs: &[Job<'_>],
     gate: &G,
+    loader: &L,
 ) -> Result<RoundLeft, Tables>
     requires jobs { length jobs.now ≤ 4096 }
     requires callable { All (IsCallable registry.now) jobs.now }
     requires workers { settings.workers ≤ 16 }
-    ensures done { IfOk result (λ left. IsDone (entry_among tables) (calls_of jobs.now) left.replies.items (entry_among left.tables)) }
+    ensures done { IfOk result (λ left. IsDone L.ASKS (L.gives loader.now) (entry_among tables) (calls_of jobs.now) left.replies.items (entry_among left.tables)) }
     ensures stripes { IfOk result (λ left. length left.tables ≡ length tables) }
     ensures kept { IfErr result (λ e. e ≡ tables) }
 {
     if settings.workers == 0 {
-        return run_alone(alloc, registry, tables, jobs);
+        return run_alone(alloc, registry, tables, jobs, loader);
     }
     let workers = worth(registry, jobs, settings.workers, settings.share);
-    match run_by_workers(rt, alloc, registry, tables, workers, jobs, gate) {
+    match run_by_workers(rt, alloc, registry, tables, workers, jobs, gate, loader) {
         Ok(workers::CrewLeft { tables, replies }) => Ok(RoundLeft { tables, replies }),
         Err(tables) => Err(tables),
     }

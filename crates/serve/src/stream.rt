@@ -11,6 +11,7 @@ use crate::fault::ServeFault;
 use crate::settings::Settings;
 use crate::turn::one_round;
 use cache::Gate;
+use jtypes::Loader;
 use registry::Registry;
 use std::alloc::Global;
 use std::io::{Read, Write};
@@ -24,17 +25,18 @@ const MOST_WORKERS: usize = 16;
 
 /// Serves the requests of the reader, round by round, to its end. The writer is flushed behind each round. Where a fault ends the
 /// stream early, the replies to the rounds before stand.
-pub fn serve<T: Threads + Wait + Sync, R: Read, W: Write, G: Gate + Sync>(
+pub fn serve<T: Threads + Wait + Sync, R: Read, W: Write, G: Gate + Sync, L: Loader + Sync>(
     rt: &T,
     alloc: Global,
     reader: &mut Counted<R>,
     writer: &mut Counted<W>,
     settings: Settings,
     gate: &G,
+    loader: &L,
 ) -> Result<(), ServeFault>
-    ensures served { OnOk result (TookAndGave (R.remaining reader.old.inner) (R.remaining reader.new.inner) (W.contents writer.old.inner) (W.contents writer.new.inner) IsServed) }
+    ensures served { OnOk result (TookAndGave (R.remaining reader.old.inner) (R.remaining reader.new.inner) (W.contents writer.old.inner) (W.contents writer.new.inner) (IsServed L.ASKS (L.gives loader.now))) }
     ensures whole { OnOk result (IsAtEnd (R.remaining reader.new.inner)) }
-    ensures cut { IfErr result (λ fault. TookAndGave (R.remaining reader.old.inner) (R.remaining reader.new.inner) (W.contents writer.old.inner) (W.contents writer.new.inner) (λ taken given. EndsEarly taken given fault)) }
+    ensures cut { IfErr result (λ fault. TookAndGave (R.remaining reader.old.inner) (R.remaining reader.new.inner) (W.contents writer.old.inner) (W.contents writer.new.inner) (λ taken given. EndsEarly L.ASKS (L.gives loader.now) taken given fault)) }
     ensures truncated { result ≡ Err ServeFault.Truncated → IsAtEnd (R.remaining reader.new.inner) }
     ensures reads { ReadsAreCounted result reader.old reader.new }
     ensures writes { WritesAreCounted result writer.old writer.new }
@@ -53,11 +55,13 @@ pub fn serve<T: Threads + Wait + Sync, R: Read, W: Write, G: Gate + Sync>(
     let Ok(registry) = Registry::new(alloc) else {
         return Err(ServeFault::NoMemory);
     };
-    stream(rt, alloc, &registry, tables, settings, reader, writer, gate)
+    stream(
+        rt, alloc, &registry, tables, settings, reader, writer, gate, loader,
+    )
 }
 
 /// Serves the requests, on a cache that has no entries.
-fn stream<T: Threads + Wait + Sync, R: Read, W: Write, G: Gate + Sync>(
+fn stream<T: Threads + Wait + Sync, R: Read, W: Write, G: Gate + Sync, L: Loader + Sync>(
     rt: &T,
     alloc: Global,
     registry: &Registry,
@@ -66,12 +70,13 @@ fn stream<T: Threads + Wait + Sync, R: Read, W: Write, G: Gate + Sync>(
     reader: &mut Counted<R>,
     writer: &mut Counted<W>,
     gate: &G,
+    loader: &L,
 ) -> Result<(), ServeFault>
     requires empty { (k : ℤ) → entry_among tables k ≡ None }
     requires workers { settings.workers ≤ 16 }
-    ensures served { OnOk result (TookAndGave (R.remaining reader.old.inner) (R.remaining reader.new.inner) (W.contents writer.old.inner) (W.contents writer.new.inner) IsServed) }
+    ensures served { OnOk result (TookAndGave (R.remaining reader.old.inner) (R.remaining reader.new.inner) (W.contents writer.old.inner) (W.contents writer.new.inner) (IsServed L.ASKS (L.gives loader.now))) }
     ensures whole { OnOk result (IsAtEnd (R.remaining reader.new.inner)) }
-    ensures cut { IfErr result (λ fault. TookAndGave (R.remaining reader.old.inner) (R.remaining reader.new.inner) (W.contents writer.old.inner) (W.contents writer.new.inner) (λ taken given. IsCutShort taken given fault)) }
+    ensures cut { IfErr result (λ fault. TookAndGave (R.remaining reader.old.inner) (R.remaining reader.new.inner) (W.contents writer.old.inner) (W.contents writer.new.inner) (λ taken given. IsCutShort L.ASKS (L.gives loader.now) taken given fault)) }
     ensures truncated { result ≡ Err ServeFault.Truncated → IsAtEnd (R.remaining reader.new.inner) }
     ensures reads { ReadsAreCounted result reader.old reader.new }
     ensures writes { WritesAreCounted result writer.old writer.new }
@@ -80,7 +85,7 @@ fn stream<T: Threads + Wait + Sync, R: Read, W: Write, G: Gate + Sync>(
     let mut tables = tables;
     for _ in rt.forever() {
         match one_round(
-            rt, alloc, registry, &mut ids, tables, settings, reader, writer, gate,
+            rt, alloc, registry, &mut ids, tables, settings, reader, writer, gate, loader,
         ) {
             Ok(Some(left)) => tables = left,
             Ok(None) => return Ok(()),

@@ -16,6 +16,7 @@ use crate::reading::read_round;
 use crate::settings::Settings;
 use crate::telling::text_of;
 use cache::Gate;
+use jtypes::Loader;
 use registry::{ClassId, Registry};
 use std::alloc::{AllocError, Global};
 use std::io::{Read, Write};
@@ -37,7 +38,7 @@ fn write_all<W: Write>(writer: &mut Counted<W>, bytes: &[u8]) -> Result<(), Writ
 }
 
 /// Runs a round, and gives the entries that it leaves with the text of its replies.
-fn run_round<T: Threads + Wait + Sync, G: Gate + Sync>(
+fn run_round<T: Threads + Wait + Sync, G: Gate + Sync, L: Loader + Sync>(
     rt: &T,
     alloc: Global,
     registry: &Registry,
@@ -46,15 +47,16 @@ fn run_round<T: Threads + Wait + Sync, G: Gate + Sync>(
     settings: Settings,
     plan: Plan,
     gate: &G,
+    loader: &L,
 ) -> Result<(Tables, Vec<u8>), AllocError>
     requires called { HasCalls (classes_of ids.now) plan }
     requires known { AreOf registry.now ids.now }
     requires workers { settings.workers ≤ 16 }
-    ensures { IfOk result (λ run. (calls : List Call) → AreCalls (classes_of ids.now) plan.asks.items calls → IsRun (entry_among tables) calls (works_of plan) (entry_among run.0) run.1.items) }
+    ensures { IfOk result (λ run. (calls : List Call) → AreCalls (classes_of ids.now) plan.asks.items calls → IsRun L.ASKS (L.gives loader.now) (entry_among tables) calls (works_of plan) (entry_among run.0) run.1.items) }
 {
     let Plan { works, asks } = plan;
     let jobs = jobs_of(alloc, ids, asks.as_slice())?;
-    let Ok(left) = run_jobs(rt, alloc, registry, tables, settings, jobs.as_slice(), gate) else {
+    let Ok(left) = run_jobs(rt, alloc, registry, tables, settings, jobs.as_slice(), gate, loader) else {
         return Err(AllocError);
     };
     let RoundLeft { tables, replies } = left;
@@ -63,7 +65,7 @@ fn run_round<T: Threads + Wait + Sync, G: Gate + Sync>(
 }
 
 /// Reads a round, runs it and writes its replies. It gives the entries that the round left; at the end of the input there is none.
-pub fn one_round<T: Threads + Wait + Sync, R: Read, W: Write, G: Gate + Sync>(
+pub fn one_round<T: Threads + Wait + Sync, R: Read, W: Write, G: Gate + Sync, L: Loader + Sync>(
     rt: &T,
     alloc: Global,
     registry: &Registry,
@@ -73,11 +75,12 @@ pub fn one_round<T: Threads + Wait + Sync, R: Read, W: Write, G: Gate + Sync>(
     reader: &mut Counted<R>,
     writer: &mut Counted<W>,
     gate: &G,
+    loader: &L,
 ) -> Result<Option<Tables>, ServeFault>
     requires known { AreOf registry.now ids.old.items }
     requires workers { settings.workers ≤ 16 }
-    ensures ok { IfOk result (λ left. RoundServed (R.remaining reader.old.inner) (R.remaining reader.new.inner) (W.contents writer.old.inner) (W.contents writer.new.inner) (stand (classes_of ids.old.items) (entry_among tables)) (classes_of ids.new.items) left) }
-    ensures err { IfErr result (λ e. RoundFailed (R.remaining reader.old.inner) (R.remaining reader.new.inner) (W.contents writer.old.inner) (W.contents writer.new.inner) (stand (classes_of ids.old.items) (entry_among tables)) e) }
+    ensures ok { IfOk result (λ left. RoundServed L.ASKS (L.gives loader.now) (R.remaining reader.old.inner) (R.remaining reader.new.inner) (W.contents writer.old.inner) (W.contents writer.new.inner) (stand (classes_of ids.old.items) (entry_among tables)) (classes_of ids.new.items) left) }
+    ensures err { IfErr result (λ e. RoundFailed L.ASKS (L.gives loader.now) (R.remaining reader.old.inner) (R.remaining reader.new.inner) (W.contents writer.old.inner) (W.contents writer.new.inner) (stand (classes_of ids.old.items) (entry_among tables)) e) }
     ensures end { result ≡ Err ServeFault.Truncated → IsAtEnd (R.remaining reader.new.inner) }
     ensures reads { ReadsAreCounted result reader.old reader.new }
     ensures writes { WritesAreCounted result writer.old writer.new }
@@ -97,6 +100,7 @@ pub fn one_round<T: Threads + Wait + Sync, R: Read, W: Write, G: Gate + Sync>(
         settings,
         plan,
         gate,
+        loader,
     ) else {
         return Err(ServeFault::NoMemory);
     };

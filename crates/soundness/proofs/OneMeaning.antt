@@ -31,11 +31,11 @@ loaded_ends c t f load.Failed e = let k : Keeps (informed load.Failed t) (Some (
 loaded_ends c t f load.None e = ends_keeps (informed load.None t) f (step c (informed load.None t)) (step_keeps c (informed load.None t)) e
 loaded_ends c t f (load.Value v) e = ends_keeps (informed (load.Value v) t) f (step c (informed (load.Value v) t)) (step_keeps c (informed (load.Value v) t)) e
 
-goes_after : (c : Class) (t u : State) (b : LoadAnswer) (y : Bool) → (if y then after_load c t b else step c t) ≡ Some (Goes u) → u.now.asked ≡ (if y then Some b else t.now.asked)
+pub goes_after : (c : Class) (t u : State) (b : LoadAnswer) (y : Bool) → (if y then after_load c t b else step c t) ≡ Some (Goes u) → u.now.asked ≡ (if y then Some b else t.now.asked)
 goes_after c t u b true e = loaded_goes c t u b e
 goes_after c t u b false e = goes_keeps t u (step c t) (step_keeps c t) e
 
-ends_after : (c : Class) (t : State) (f : Final) (b : LoadAnswer) (y : Bool) → (if y then after_load c t b else step c t) ≡ Some (Ends f) → f.asked ≡ (if y then Some b else t.now.asked)
+pub ends_after : (c : Class) (t : State) (f : Final) (b : LoadAnswer) (y : Bool) → (if y then after_load c t b else step c t) ≡ Some (Ends f) → f.asked ≡ (if y then Some b else t.now.asked)
 ends_after c t f b true e = loaded_ends c t f b e
 ends_after c t f b false e = ends_keeps t f (step c t) (step_keeps c t) e
 

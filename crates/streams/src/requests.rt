@@ -3,6 +3,7 @@
 mod meetings;
 
 use cache::{Gate, NoGate};
+use jtypes::NoLoader;
 use rowclasses as rows;
 use serve::{ServeFault, Settings, serve};
 use std::alloc::{AllocError, Global};
@@ -43,7 +44,7 @@ fn serve_beside<T: Threads + Wait + Sync, G: Gate + Sync>(
 ) -> Ended {
     let mut reader = Counted::new(input);
     let mut writer = Counted::new(Vec::new(alloc));
-    let fault = match serve(rt, alloc, &mut reader, &mut writer, settings, gate) {
+    let fault = match serve(rt, alloc, &mut reader, &mut writer, settings, gate, &NoLoader) {
         Ok(()) => None,
         Err(fault) => Some(fault),
     };
@@ -165,7 +166,7 @@ fn dropped<T: Threads + Wait + Sync>(
         rest: &ROUND_END[..end],
     });
     let mut writer = Counted::new(Vec::new(alloc));
-    let result = serve(rt, alloc, &mut reader, &mut writer, SETTINGS, &NoGate);
+    let result = serve(rt, alloc, &mut reader, &mut writer, SETTINGS, &NoGate, &NoLoader);
     (result, reader.failures(), writer.into_inner().len())
 }
 
@@ -194,7 +195,7 @@ fn sunk<T: Threads + Wait + Sync>(
         most,
         fails,
     });
-    let result = serve(rt, alloc, &mut reader, &mut writer, SETTINGS, &NoGate);
+    let result = serve(rt, alloc, &mut reader, &mut writer, SETTINGS, &NoGate, &NoLoader);
     let (failures, idle) = (writer.failures(), writer.idle());
     let is_beginning = writer.into_inner().bytes.as_slice() == &[0, 0, 0, 1, 9][..most];
     (result, failures, idle, is_beginning)

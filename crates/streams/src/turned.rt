@@ -1,6 +1,6 @@
 //! Rounds on one thread.
 
-use jtypes::{Arg, Args, Outcome};
+use jtypes::{Arg, Args, NoLoader, Outcome};
 use rowclasses as rows;
 use std::alloc::Global;
 use std::test::Fail;
@@ -23,7 +23,7 @@ fn round(alloc: Global, stripes: usize, calls: &[Call<'_>]) -> Option<TurnsLeft>
         return None;
     }
     match Tables::new(alloc, stripes) {
-        Ok(tables) => match run_in_turns(alloc, tables, calls) {
+        Ok(tables) => match run_in_turns(alloc, tables, calls, &NoLoader) {
             Ok(left) => Some(left),
             Err(_) => None,
         },
@@ -130,7 +130,7 @@ fn calls_on_two_stripes_take_turns(rt: HostRuntime) -> Result<(), Fail> {
 /// How many replies, which entry of key 2 and how many stripes a round without calls leaves behind a put.
 fn without_calls(alloc: Global) -> Option<(usize, Option<i64>, usize)> {
     match round(alloc, 3, &[Call::Put { key: 2, value: 9 }]) {
-        Some(first) => match run_in_turns(alloc, first.tables, &[]) {
+        Some(first) => match run_in_turns(alloc, first.tables, &[], &NoLoader) {
             Ok(left) => Some((
                 left.replies.len(),
                 left.tables.entry(2),

@@ -31,45 +31,45 @@ pub data Steps (w : World) (i : ℕ) : World → Type 0 where
   nothing : Steps w i w
   goes : (r : Running) (q : Progress) → slice_get w.running i ≡ Some (Some r) → Steps w i (with_running w i (Some (with_progress r q)))
 
-pub step_moves : (w : World) (i : ℕ) → Steps w i (apply w (Step i))
-step_moves w i = by (slice_get w.running i) refl
+pub step_moves : (a : LoadAnswer) (w : World) (i : ℕ) → Steps w i (apply a w (Step i))
+step_moves a w i = by (slice_get w.running i) refl
   where
-    turn : (r : Running) (q : Progress) → slice_get w.running i ≡ Some (Some r) → Steps w i (stepped w i r q)
+    turn : (r : Running) (q : Progress) → slice_get w.running i ≡ Some (Some r) → Steps w i (stepped a w i r q)
     turn r (Working c s) e = goes r _ e
     turn r (Settled reply after asked) e = nothing
 
-    by : (o : Option (Option Running)) → slice_get w.running i ≡ o → Steps w i (after_step w i o)
+    by : (o : Option (Option Running)) → slice_get w.running i ≡ o → Steps w i (after_step a w i o)
     by None e = nothing
     by (Some None) e = nothing
     by (Some (Some r)) e = turn r r.progress e
 
 -- ---- a finish
 
-pub record Finishes (w : World) (i : ℕ) (r : Running) : Type 0 where
+pub record Finishes (a : LoadAnswer) (w : World) (i : ℕ) (r : Running) : Type 0 where
   pub reply : Reply
   pub after : Entry
   pub asked : Option LoadAnswer
-  pub is : apply w (Finish i) ≡ with_record w i (record_of_call r reply after asked)
+  pub is : apply a w (Finish i) ≡ with_record w i (record_of_call r reply after asked)
 
-pub finish_moves : (w : World) (i : ℕ) (r : Running) → slice_get w.running i ≡ Some (Some r) → is_possible w (Finish i) ≡ true → Finishes w i r
-finish_moves w i r e t = by r.progress refl (sym (ap is_final e) ∙ t)
+pub finish_moves : (a : LoadAnswer) (w : World) (i : ℕ) (r : Running) → slice_get w.running i ≡ Some (Some r) → is_possible w (Finish i) ≡ true → Finishes a w i r
+finish_moves a w i r e t = by r.progress refl (sym (ap is_final e) ∙ t)
   where
-    by : (q : Progress) → r.progress ≡ q → not (is_working r.progress) ≡ true → Finishes w i r
+    by : (q : Progress) → r.progress ≡ q → not (is_working r.progress) ≡ true → Finishes a w i r
     by (Working c s) is u = absurd (true≢false (sym u ∙ ap (λ q. not (is_working q)) is))
     by (Settled reply after asked) is u = record { reply = reply; after = after; asked = asked; is = ap (after_finish w i) e ∙ ap (finished w i r) is }
 
 -- ---- a start
 
-pub record Starts (w : World) (call : Call) : Type 0 where
+pub record Starts (a : LoadAnswer) (w : World) (call : Call) : Type 0 where
   pub progress : Progress
-  pub is : apply w (Start 0 call) ≡ with_running w (stripe_in w call) (Some (running_call 0 (starts_of w 0) call progress))
+  pub is : apply a w (Start 0 call) ≡ with_running w (stripe_in w call) (Some (running_call 0 (starts_of w 0) call progress))
 
-pub start_moves : (w : World) (call : Call) → slice_get w.running (stripe_in w call) ≡ Some None → IsSome (progress_of (entries_now w (key_of call)) call) → Starts w call
-start_moves w call idle some = by (progress_of (entries_now w (key_of call)) call) refl some
+pub start_moves : (a : LoadAnswer) (w : World) (call : Call) → slice_get w.running (stripe_in w call) ≡ Some None → IsSome (progress_of w.loads a (entries_now w (key_of call)) call) → Starts a w call
+start_moves a w call idle some = by (progress_of w.loads a (entries_now w (key_of call)) call) refl some
   where
-    by : (o : Option Progress) → progress_of (entries_now w (key_of call)) call ≡ o → IsSome o → Starts w call
+    by : (o : Option Progress) → progress_of w.loads a (entries_now w (key_of call)) call ≡ o → IsSome o → Starts a w call
     by None e s = absurd (true≢false (sym s))
-    by (Some q) e s = record { progress = q; is = ap (after_start w 0 call) idle ∙ ap (after_begin w 0 call) e }
+    by (Some q) e s = record { progress = q; is = ap (after_start a w 0 call) idle ∙ ap (after_begin w 0 call) e }
 
 -- ---- what may be refused
 
@@ -80,5 +80,5 @@ both false b e = absurd (true≢false (sym e))
 pub full_of : (w : World) (caller : ℕ) (call : Call) → IsTrue (is_start_on_full w (Start caller call)) → length (history_of w (stripe_in w call)) ≡ w.journal
 full_of w caller call e = eqb-true (length (history_of w (stripe_in w call))) w.journal (both (is_possible w (Start caller call)) (length (history_of w (stripe_in w call)) == w.journal) e).1
 
-pub absent_of : (w : World) (caller : ℕ) (call : Call) → IsTrue (is_start_on_absent w (Start caller call)) → may_make false call ≡ true
-absent_of w caller call e = (both (may_make false call) _ (both (is_possible w (Start caller call)) _ e).1).0
+pub absent_of : (w : World) (caller : ℕ) (call : Call) → IsTrue (is_start_on_absent w (Start caller call)) → may_make w.loads call ≡ true
+absent_of w caller call e = (both (may_make w.loads call) _ (both (is_possible w (Start caller call)) _ e).1).0

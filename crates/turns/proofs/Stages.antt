@@ -78,10 +78,10 @@ empty_of (Some k) e = absurd (true≢false e)
 
 -- ---- the beginning
 
-pub going_opened : (calls : List Call) (opening : List Stored) (journal : ℕ) (numbers : List (Option ℕ)) (replies : List (Option Reply)) → length calls ≤ journal
+pub going_opened : (loads : Bool) (calls : List Call) (opening : List Stored) (journal : ℕ) (numbers : List (Option ℕ)) (replies : List (Option Reply)) → length calls ≤ journal
     → numbers ≡ replicate (length opening) None → replies ≡ replicate (length calls) None
-    → IsGoing (record { calls = calls; begun = 0; world = opened opening journal; numbers = numbers; replies = replies })
-going_opened calls opening journal numbers replies few none blank =
+    → IsGoing (record { calls = calls; begun = 0; world = opened loads opening journal; numbers = numbers; replies = replies })
+going_opened loads calls opening journal numbers replies few none blank =
     record {
       replies = ap length blank ∙ length-replicate (length calls) None;
       numbers = ap length none ∙ length-replicate (length opening) None;
@@ -93,7 +93,7 @@ going_opened calls opening journal numbers replies few none blank =
       refused = λ k call lt. absurd (omega (arith, lt));
     }
   where
-    by : (i : ℕ) (n : Option ℕ) (o : Option Running) → n ≡ None → o ≡ None → IsRight (record { calls = calls; begun = 0; world = opened opening journal; numbers = numbers; replies = replies }) i n o
+    by : (i : ℕ) (n : Option ℕ) (o : Option Running) → n ≡ None → o ≡ None → IsRight (record { calls = calls; begun = 0; world = opened loads opening journal; numbers = numbers; replies = replies }) i n o
     by i None None e f = tt
     by i None (Some r) e f = no_some (sym f)
     by i (Some k) o e f = no_some (sym e)
@@ -256,7 +256,7 @@ module _ (s : Stage) (h : IsGoing s) (call : Call) (next : slice_get s.calls s.b
   this_call : {a b : Call} → Some a ≡ Some b → a ≡ b
   this_call e = cc e
 
-  pub going_passed : may_make false call ≡ true → IsGoing passed
+  pub going_passed : may_make s.world.loads call ≡ true → IsGoing passed
   going_passed may =
       record {
         replies = h.replies;
@@ -276,7 +276,7 @@ module _ (s : Stage) (h : IsGoing s) (call : Call) (next : slice_get s.calls s.b
       there j (Some m) (Some p) x = earlier_numbered j m p x
 
       by : (k : ℕ) (c : Call) → k < s.begun + 1 → slice_get s.calls k ≡ Some c → slice_get s.replies k ≡ Some None → (b : Bool) → (k == s.begun) ≡ b → RunsOrRefused passed k c
-      by k c lt e none true t = inr (subst (λ (x : Call). may_make false x ≡ true) (this_call (sym next ∙ ap (slice_get s.calls) (sym (eqb-true k s.begun t)) ∙ e)) may)
+      by k c lt e none true t = inr (subst (λ (x : Call). may_make s.world.loads x ≡ true) (this_call (sym next ∙ ap (slice_get s.calls) (sym (eqb-true k s.begun t)) ∙ e)) may)
       by k c lt e none false t = h.refused k c (later k lt (λ q. true≢false (sym (eq-eqb k s.begun q) ∙ t))) e none
 
   -- it runs
@@ -355,7 +355,7 @@ none_runs s h idle i r e =
     absurd (omega (arith, none, is, more))
 
 -- each call has begun, and the ones without a reply were refused
-pub all_refused : (s : Stage) → IsGoing s → AreIdleBefore (length s.world.opening) s → s.begun ≡ length s.calls → AreRefused s.calls s.replies
+pub all_refused : (s : Stage) → IsGoing s → AreIdleBefore (length s.world.opening) s → s.begun ≡ length s.calls → AreRefused s.world.loads s.calls s.replies
 all_refused s h idle all k call e none =
     let inside = slice_get_within s.calls k call e in
     elim (h.refused k call (omega (arith, inside, all)) e none) [

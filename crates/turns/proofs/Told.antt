@@ -39,7 +39,7 @@ pub not_ignored : (w : World) (call : Call) (a : Applied) → IsTold w (Start 0 
 not_ignored w call a t idle e = true≢false (sym (ap is_idle idle) ∙ t.ignored.0 e)
 
 -- a refused call may make an entry, where the history isn't full
-pub may_make_entry : (w : World) (call : Call) (a : Applied) (r : BeginRefusal) → IsTold w (Start 0 call) a → a ≡ Refused r → (length (history_of w (stripe_in w call)) ≡ w.journal → ⊥) → may_make false call ≡ true
+pub may_make_entry : (w : World) (call : Call) (a : Applied) (r : BeginRefusal) → IsTold w (Start 0 call) a → a ≡ Refused r → (length (history_of w (stripe_in w call)) ≡ w.journal → ⊥) → may_make w.loads call ≡ true
 may_make_entry w call a JournalFull t e n = absurd (n (full_of w 0 call (t.full.0 e)))
 may_make_entry w call a NoMemory t e n = absent_of w 0 call (t.memory e)
 

@@ -1,5 +1,5 @@
 -- A round of calls on its way.
-use Rattle.std.specs.Prelude.{◌≡◌, ℕ, ◌<◌, ◌≤◌, ◌⊎◌, true, false, List, length, map, replicate, Option, Some, None, slice_get, IsPermutation}
+use Rattle.std.specs.Prelude.{◌≡◌, ℕ, ◌<◌, ◌≤◌, ◌⊎◌, Bool, true, List, length, map, replicate, Option, Some, None, slice_get, IsPermutation}
 use Rattle.stripe.specs.declared.call.Reply.{Reply}
 use Rattle.stripe.specs.History.{Call, key_of, stripe_of}
 use Rattle.stripe.specs.Kept.{may_make}
@@ -18,8 +18,8 @@ pub record Stage : Type 0 where
   pub numbers : List (Option ℕ)
   pub replies : List (Option Reply)
 
-abbrev pub stage : Course → Stage
-stage c = record { calls = map call_of c.calls.now; begun = c.begun; world = c.world; numbers = c.numbers.items; replies = c.replies.items }
+abbrev pub stage : {L : Type 0} → Course L → Stage
+stage c = record { calls = map call_of c.calls.now; begun = c.begun; world = c.world.world; numbers = c.numbers.items; replies = c.replies.items }
 
 -- the call with this number runs on this stripe, which is its key's, and has no reply yet
 pub record IsNumbered (s : Stage) (i k : ℕ) (r : Running) : Type 0 where
@@ -37,7 +37,7 @@ IsRight s i (Some k) (Some r) = IsNumbered s i k r
 
 -- the call with this number runs, or it may make an entry, and was refused
 abbrev pub RunsOrRefused : Stage → ℕ → Call → Type 0
-RunsOrRefused s k call = ((i : ℕ) × (slice_get s.numbers i ≡ Some (Some k))) ⊎ (may_make false call ≡ true)
+RunsOrRefused s k call = ((i : ℕ) × (slice_get s.numbers i ≡ Some (Some k))) ⊎ (may_make s.world.loads call ≡ true)
 
 -- the finished calls are those that have a reply; those that have begun without one run or were refused, and the others have none
 pub record IsGoing (s : Stage) : Type 0 where
@@ -71,5 +71,5 @@ pub record IsOver (s : Stage) : Type 0 where
   pub idle : AreIdleBefore (length s.world.opening) s
 
 -- a call without a reply may make an entry
-abbrev pub AreRefused : List Call → List (Option Reply) → Type 0
-AreRefused calls replies = (k : ℕ) (call : Call) → slice_get calls k ≡ Some call → slice_get replies k ≡ Some None → may_make false call ≡ true
+abbrev pub AreRefused : Bool → List Call → List (Option Reply) → Type 0
+AreRefused loads calls replies = (k : ℕ) (call : Call) → slice_get calls k ≡ Some call → slice_get replies k ≡ Some None → may_make loads call ≡ true

@@ -1,5 +1,6 @@
 //! A round on its way.
 
+use jtypes::Loader;
 use stripe::{Call, Reply, stripe_of};
 use world::{Applied, Event, World};
 
@@ -12,18 +13,18 @@ pub struct CourseRoom {
 
 /// A round on its way.
 #[derive(Drop)]
-pub struct Course<'c, 'a> {
+pub struct Course<'c, 'a, L: Loader> {
     calls: &'c [Call<'a>],
     /// How many calls have begun, or were refused.
     begun: usize,
-    world: World<'a>,
+    world: World<'a, L>,
     /// For each stripe the number of the call that runs on it, if one does.
     numbers: Vec<Option<usize>>,
     /// For each call its reply, once it is finished.
     replies: Vec<Option<Reply>>,
 }
 
-impl<'c, 'a> Course<'c, 'a> {
+impl<'c, 'a, L: Loader> Course<'c, 'a, L> {
     ghost use Rattle.std.specs.Prelude.{◌≡◌, ℕ, ◌+◌, ◌-◌, ◌<◌, ◌≤◌, length, map, Some, None, slice_get};
     ghost use Rattle.stripe.specs.History.{key_of, stripe_of};
     ghost use Rattle.stripe.specs.Seen.{call_of};
@@ -33,12 +34,13 @@ impl<'c, 'a> Course<'c, 'a> {
     ghost use Rattle.turns.specs.Course.{stage, IsGoing, IsRoom, IsAsBefore, AreIdleBefore, IsOver};
 
     /// No call has begun.
-    pub fn new(calls: &'c [Call<'a>], world: World<'a>, room: CourseRoom) -> Course<'c, 'a>
-        requires room { IsRoom (length calls.now) (length world.opening) room }
-        requires journal { length calls.now ≤ world.journal }
-        requires opened { world ≡ opened world.opening world.journal }
+    pub fn new(calls: &'c [Call<'a>], world: World<'a, L>, room: CourseRoom) -> Course<'c, 'a, L>
+        requires room { IsRoom (length calls.now) (length world.world.opening) room }
+        requires journal { length calls.now ≤ world.world.journal }
+        requires opened { world.world ≡ opened world.world.loads world.world.opening world.world.journal }
         ensures going { IsGoing (stage result) }
-        ensures opening { result.world.opening ≡ world.entry.opening }
+        ensures opening { result.world.world.opening ≡ world.entry.world.opening }
+        ensures loader { result.world.loader ≡ world.entry.loader }
         ensures calls { (stage result).calls ≡ map call_of calls.now }
         ensures begun { result.begun ≡ 0 }
     {
@@ -54,11 +56,12 @@ impl<'c, 'a> Course<'c, 'a> {
     /// One turn of the call that runs on a stripe, if one does: an instruction, or its finish if it is final.
     fn turn_on(&mut self, stripe: usize)
         requires going { IsGoing (stage self.old) }
-        requires stripe { stripe < length self.old.world.opening }
+        requires stripe { stripe < length self.old.world.world.opening }
         ensures going { IsGoing (stage self.new) }
         ensures same { IsAsBefore (stage self.old) (stage self.new) }
-        ensures nearer { turns_left self.new.world stripe ≤ turns_left self.old.world stripe - 1 }
-        ensures others { (i : ℕ) → ¬ (i ≡ stripe) → turns_left self.new.world i ≡ turns_left self.old.world i }
+        ensures nearer { turns_left self.new.world.world stripe ≤ turns_left self.old.world.world stripe - 1 }
+        ensures others { (i : ℕ) → ¬ (i ≡ stripe) → turns_left self.new.world.world i ≡ turns_left self.old.world.world i }
+        ensures loader { self.new.world.loader ≡ self.old.world.loader }
     {
         let Some(number) = self.numbers[stripe] else {
             return;
@@ -82,7 +85,8 @@ impl<'c, 'a> Course<'c, 'a> {
         requires { IsGoing (stage self.old) }
         ensures going { IsGoing (stage self.new) }
         ensures same { IsAsBefore (stage self.old) (stage self.new) }
-        ensures nearer { (i : ℕ) → i < length self.old.world.opening → turns_left self.new.world i ≤ turns_left self.old.world i - 1 }
+        ensures nearer { (i : ℕ) → i < length self.old.world.world.opening → turns_left self.new.world.world i ≤ turns_left self.old.world.world i - 1 }
+        ensures loader { self.new.world.loader ≡ self.old.world.loader }
     {
         for stripe in 0..self.numbers.len() {
             self.turn_on(stripe);
@@ -92,11 +96,12 @@ impl<'c, 'a> Course<'c, 'a> {
     /// Takes turns till no call runs on a stripe.
     fn wait_for(&mut self, stripe: usize)
         requires going { IsGoing (stage self.old) }
-        requires stripe { stripe < length self.old.world.opening }
+        requires stripe { stripe < length self.old.world.world.opening }
         ensures going { IsGoing (stage self.new) }
         ensures same { IsAsBefore (stage self.old) (stage self.new) }
-        ensures idle { turns_left self.new.world stripe ≡ 0 }
-        ensures nearer { (i : ℕ) → i < length self.old.world.opening → turns_left self.new.world i ≤ turns_left self.old.world i }
+        ensures idle { turns_left self.new.world.world stripe ≡ 0 }
+        ensures nearer { (i : ℕ) → i < length self.old.world.world.opening → turns_left self.new.world.world i ≤ turns_left self.old.world.world i }
+        ensures loader { self.new.world.loader ≡ self.old.world.loader }
     {
         'turns: while self.numbers[stripe].is_some() {
             self.turn();
@@ -107,13 +112,14 @@ impl<'c, 'a> Course<'c, 'a> {
     fn start(&mut self, call: Call<'a>, stripe: usize)
         requires going { IsGoing (stage self.old) }
         requires next { slice_get (stage self.old).calls self.old.begun ≡ Some (call_of call) }
-        requires stripe { stripe ≡ stripe_of (length self.old.world.opening) (key_of (call_of call)) }
-        requires inside { stripe < length self.old.world.opening }
-        requires idle { turns_left self.old.world stripe ≡ 0 }
+        requires stripe { stripe ≡ stripe_of (length self.old.world.world.opening) (key_of (call_of call)) }
+        requires inside { stripe < length self.old.world.world.opening }
+        requires idle { turns_left self.old.world.world stripe ≡ 0 }
         ensures going { IsGoing (stage self.new) }
         ensures begun { self.new.begun ≡ self.old.begun + 1 }
         ensures calls { (stage self.new).calls ≡ (stage self.old).calls }
-        ensures opening { self.new.world.opening ≡ self.old.world.opening }
+        ensures opening { self.new.world.world.opening ≡ self.old.world.world.opening }
+        ensures loader { self.new.world.loader ≡ self.old.world.loader }
     {
         let number = self.begun;
         self.begun = number + 1;
@@ -128,11 +134,12 @@ impl<'c, 'a> Course<'c, 'a> {
     fn begin(&mut self)
         requires going { IsGoing (stage self.old) }
         requires more { self.old.begun < length self.old.calls.now }
-        requires stripes { IsCount (length self.old.world.opening) }
+        requires stripes { IsCount (length self.old.world.world.opening) }
         ensures going { IsGoing (stage self.new) }
         ensures begun { self.new.begun ≡ self.old.begun + 1 }
         ensures calls { (stage self.new).calls ≡ (stage self.old).calls }
-        ensures opening { self.new.world.opening ≡ self.old.world.opening }
+        ensures opening { self.new.world.world.opening ≡ self.old.world.world.opening }
+        ensures loader { self.new.world.loader ≡ self.old.world.loader }
     {
         let call = self.calls[self.begun];
         let stripe = stripe_of(self.numbers.len(), call.key());
@@ -144,11 +151,12 @@ impl<'c, 'a> Course<'c, 'a> {
     fn begin_all(&mut self)
         requires going { IsGoing (stage self.old) }
         requires none { self.old.begun ≡ 0 }
-        requires stripes { IsCount (length self.old.world.opening) }
+        requires stripes { IsCount (length self.old.world.world.opening) }
         ensures going { IsGoing (stage self.new) }
         ensures begun { self.new.begun ≡ length (stage self.old).calls }
         ensures calls { (stage self.new).calls ≡ (stage self.old).calls }
-        ensures opening { self.new.world.opening ≡ self.old.world.opening }
+        ensures opening { self.new.world.world.opening ≡ self.old.world.world.opening }
+        ensures loader { self.new.world.loader ≡ self.old.world.loader }
     {
         'calls: while self.begun < self.calls.len() {
             self.begin();
@@ -160,7 +168,8 @@ impl<'c, 'a> Course<'c, 'a> {
         requires { IsGoing (stage self.old) }
         ensures going { IsGoing (stage self.new) }
         ensures same { IsAsBefore (stage self.old) (stage self.new) }
-        ensures idle { AreIdleBefore (length self.new.world.opening) (stage self.new) }
+        ensures idle { AreIdleBefore (length self.new.world.world.opening) (stage self.new) }
+        ensures loader { self.new.world.loader ≡ self.old.world.loader }
     {
         for stripe in 0..self.numbers.len() {
             self.wait_for(stripe);
@@ -171,18 +180,19 @@ impl<'c, 'a> Course<'c, 'a> {
     pub fn run(&mut self)
         requires going { IsGoing (stage self.old) }
         requires none { self.old.begun ≡ 0 }
-        requires stripes { IsCount (length self.old.world.opening) }
+        requires stripes { IsCount (length self.old.world.world.opening) }
         ensures going { IsGoing (stage self.new) }
         ensures over { IsOver (stage self.new) }
         ensures calls { (stage self.new).calls ≡ (stage self.old).calls }
-        ensures opening { self.new.world.opening ≡ self.old.world.opening }
+        ensures opening { self.new.world.world.opening ≡ self.old.world.world.opening }
+        ensures loader { self.new.world.loader ≡ self.old.world.loader }
     {
         self.begin_all();
         self.wait_for_all();
     }
 
     /// The world, in which no call runs, and the replies.
-    pub fn end(self) -> (World<'a>, Vec<Option<Reply>>)
+    pub fn end(self) -> (World<'a, L>, Vec<Option<Reply>>)
         ensures world { result.0 ≡ self.entry.world }
         ensures replies { result.1.items ≡ self.entry.replies.items }
     {

@@ -1,7 +1,8 @@
 -- A round on a cache that was opened for it is done.
-use Rattle.std.proofs.Common.{◌≡◌, ℕ, suc, List, [], ◌∷◌, ◌++◌, length, map, refl, sym, ap, ◌∙◌, subst, IsPermutation}
+use Rattle.std.proofs.Common.{◌≡◌, ℕ, ℤ, Bool, suc, List, [], ◌∷◌, ◌++◌, length, map, refl, sym, ap, ◌∙◌, subst, IsPermutation}
 use mathlib.Core.Option.{some}
 use lib.ListN.{get_elem?}
+use Rattle.jtypes.specs.declared.loader.LoadAnswer.{LoadAnswer}
 use Rattle.stripe.specs.History.{Call, Record}
 use Rattle.stripe.specs.Stored.{Stored, entry_among}
 use Rattle.cache.specs.Receipts.{Receipt}
@@ -21,7 +22,7 @@ as_many : (answers : List Answer) → length (map reply_of answers) ≡ length a
 as_many [] = refl
 as_many (a ∷ rest) = ap suc (as_many rest)
 
-module _ (d : Opened) (n : ℕ) (old new : List Sitting) (calls : List Call) (answers : List Answer) (fresh : AreFresh d.table n old) (round : IsRound d calls old new answers) where
+module _ {L : Type 0} (loads : Bool) (gives : ℤ → LoadAnswer → Type 0) (d : Opened L) (n : ℕ) (old new : List Sitting) (calls : List Call) (answers : List Answer) (fresh : AreFresh d.table n old) (round : IsRound d calls old new answers) where
   none_yet : (c : ℕ) (s : Sitting) → get_elem? old c ≡ some s → s.receipts ≡ []
   none_yet c s e = ap (λ (x : Sitting). x.receipts) (fresh.each c s e)
 
@@ -31,14 +32,14 @@ module _ (d : Opened) (n : ℕ) (old new : List Sitting) (calls : List Call) (an
       let told : calls_at old ≡ [] = ap calls_told (no_receipts old none_yet) in
       subst (λ l. IsPermutation (l ++ answered calls (map reply_of answers)) (calls_at new)) told round.receipts
 
-  module _ (tables : List Stored) (histories : List (List Record)) (settled : Settles d new tables histories) where
+  module _ (tables : List Stored) (histories : List (List Record)) (settled : Settles loads gives d new tables histories) where
     -- and their records are a history
-    pub history_left : IsHistoryOf (entry_among d.tables) (calls_at new) (entry_among tables) (all_records histories)
+    pub history_left : IsHistoryOf loads gives (entry_among d.tables) (calls_at new) (entry_among tables) (all_records histories)
     history_left =
         let filed : AllAreFiled (length d.tables) old = λ c s e. subst (AreFiled (length d.tables)) (sym (none_yet c s e)) (none_is_filed (length d.tables)) in
-        caches_hand_out_histories d new tables histories settled (round.filed filed)
+        caches_hand_out_histories L loads gives d new tables histories settled (round.filed filed)
 
     -- so the round is done
-    pub round_done : IsDone (entry_among d.tables) calls (map reply_of answers) (entry_among tables)
+    pub round_done : IsDone loads gives (entry_among d.tables) calls (map reply_of answers) (entry_among tables)
     round_done =
-        rounds_are_done (entry_among d.tables) (calls_at new) (entry_among tables) (all_records histories) history_left calls (map reply_of answers) (as_many answers ∙ round.count) once_told
+        rounds_are_done loads gives (entry_among d.tables) (calls_at new) (entry_among tables) (all_records histories) history_left calls (map reply_of answers) (as_many answers ∙ round.count) once_told

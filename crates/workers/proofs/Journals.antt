@@ -1,10 +1,11 @@
 -- A round has no more jobs than a history has room for records, so none is refused for a full history.
-use Rattle.std.proofs.Common.{◌≡◌, ◌≢◌, ℕ, zero, suc, ◌<◌, ◌≤◌, List, [], ◌∷◌, length, map, get_or, Bool, true, false, Ok, Err, refl, sym, ap, ◌∙◌, arith, length-append, IsPermutation}
+use Rattle.std.proofs.Common.{◌≡◌, ◌≢◌, ℕ, ℤ, zero, suc, ◌<◌, ◌≤◌, List, [], ◌∷◌, length, map, get_or, Bool, true, false, Ok, Err, refl, sym, ap, ◌∙◌, arith, length-append, IsPermutation}
 use Rattle.std.specs.Prelude.{slice_index_or}
 use Rattle.std.specs.List.{All}
 use Rattle.std.proofs.lemmas.List.Sorted.{length_permutation}
 use mathlib.Core.Option.{some, some-injective, some-ne-none}
 use lib.ListN.{get_elem?}
+use Rattle.jtypes.specs.declared.loader.LoadAnswer.{LoadAnswer}
 use Rattle.stripe.specs.History.{Call, Record}
 use Rattle.stripe.specs.Stored.{Stored}
 use Rattle.cache.specs.declared.refusal.InvokeRefusal.{InvokeRefusal}
@@ -53,10 +54,10 @@ full_there [] i s e = absurd (some-ne-none s (sym e))
 full_there (x ∷ xs) zero s e = ap (λ (z : Sitting). z.full) (some-injective x s e)
 full_there (x ∷ xs) (suc i) s e = full_there xs i s e
 
-never_full : (d : Opened) (new : List Sitting) (calls : List Call) (answers : List Answer) (tables : List Stored) (hs : List (List Record)) → length calls ≤ d.journal
-    → length answers ≡ length calls → Settles d new tables hs → IsPermutation (answered calls (map reply_of answers)) (calls_at new) → IsPermutation (calls_at new) (calls_in (all_records hs))
+never_full : {L : Type 0} (loads : Bool) (gives : ℤ → LoadAnswer → Type 0) (d : Opened L) (new : List Sitting) (calls : List Call) (answers : List Answer) (tables : List Stored) (hs : List (List Record)) → length calls ≤ d.journal
+    → length answers ≡ length calls → Settles loads gives d new tables hs → IsPermutation (answered calls (map reply_of answers)) (calls_at new) → IsPermutation (calls_at new) (calls_in (all_records hs))
     → ShowsAtSeats d calls new answers → (k : ℕ) → get_elem? answers k ≢ some (Err JournalFull)
-never_full d new calls answers tables hs few count s once more shows k at =
+never_full loads gives d new calls answers tables hs few count s once more shows k at =
     let c = call_there calls answers k (Err JournalFull) count at in
     let f = shows k c.0 at c.1 in
     let j : ℕ = stripe_in d c.0 in
@@ -74,8 +75,8 @@ answer_at [] i e below = absurd (omega arith)
 answer_at (x ∷ xs) zero e below = refl
 answer_at (x ∷ xs) (suc i) e below = answer_at xs i e (omega arith)
 
-pub all_have_places : (d : Opened) (n : ℕ) (old new : List Sitting) (calls : List Call) (answers : List Answer) (tables : List Stored) (hs : List (List Record)) → length calls ≤ d.journal
-    → AreFresh d.table n old → IsRound d calls old new answers → Settles d new tables hs → All HasPlace answers
-all_have_places d n old new calls answers tables hs few fresh round s = λ i e below full.
-    let history = history_left d n old new calls answers fresh round tables hs s in
-    never_full d new calls answers tables hs few round.count s (once_told d n old new calls answers fresh round) history.once round.full i (answer_at answers i e below ∙ ap some full)
+pub all_have_places : {L : Type 0} (loads : Bool) (gives : ℤ → LoadAnswer → Type 0) (d : Opened L) (n : ℕ) (old new : List Sitting) (calls : List Call) (answers : List Answer) (tables : List Stored) (hs : List (List Record)) → length calls ≤ d.journal
+    → AreFresh d.table n old → IsRound d calls old new answers → Settles loads gives d new tables hs → All HasPlace answers
+all_have_places loads gives d n old new calls answers tables hs few fresh round s = λ i e below full.
+    let history = history_left loads gives d n old new calls answers fresh round tables hs s in
+    never_full loads gives d new calls answers tables hs few round.count s (once_told loads gives d n old new calls answers fresh round) history.once round.full i (answer_at answers i e below ∙ ap some full)

@@ -14,6 +14,7 @@ ghost use Rattle.workers.specs.Rooms.{HasPlace, IsRoom};
 use crate::room::{CrewRoom, room_for};
 use cache::{Cache, Closed, Gate, InvokeRefusal, Seat};
 use invokeall::{Job, JobReply, run_in};
+use jtypes::Loader;
 use registry::Registry;
 use std::alloc::Global;
 use std::sync::Wait;
@@ -48,7 +49,7 @@ fn needed(jobs: usize, most: usize) -> usize
 /// Runs the jobs by so many workers, or one for each job where there are fewer jobs. Each works on a thread of its own; the caller's is among them.
 ///
 /// All memory of the round itself is taken before the first job runs. Where that fails, no job was run, and the tables come back as they were.
-pub fn run_by_workers<R: Threads + Wait + Sync, G: Gate + Sync>(
+pub fn run_by_workers<R: Threads + Wait + Sync, G: Gate + Sync, L: Loader + Sync>(
     rt: &R,
     alloc: Global,
     registry: &Registry,
@@ -56,11 +57,12 @@ pub fn run_by_workers<R: Threads + Wait + Sync, G: Gate + Sync>(
     workers: usize,
     jobs: &[Job<'_>],
     gate: &G,
+    loader: &L,
 ) -> Result<CrewLeft, Tables>
     requires workers { IsSeatCount workers }
     requires jobs { IsJobCount (length jobs.now) }
     requires callable { All (IsCallable registry.now) jobs.now }
-    ensures done { IfOk result (λ left. IsDone (entry_among tables) (calls_of jobs.now) left.replies.items (entry_among left.tables)) }
+    ensures done { IfOk result (λ left. IsDone L.ASKS (L.gives loader.now) (entry_among tables) (calls_of jobs.now) left.replies.items (entry_among left.tables)) }
     ensures stripes { IfOk result (λ left. length left.tables ≡ length tables) }
     ensures kept { IfErr result (λ e. e ≡ tables) }
 {
@@ -69,16 +71,16 @@ pub fn run_by_workers<R: Threads + Wait + Sync, G: Gate + Sync>(
     let Ok(room) = room_for(alloc, jobs.len(), seats) else {
         return Err(tables);
     };
-    match Cache::open(alloc, registry, tables, records, seats) {
+    match Cache::open(alloc, registry, tables, records, seats, loader) {
         Ok((cache, seats)) => Ok(run_on(rt, cache, seats, jobs, room, gate)),
         Err((_, tables)) => Err(tables),
     }
 }
 
 /// Runs the jobs on a cache without a call yet, and closes it.
-fn run_on<'a, R: Threads + Wait + Sync, G: Gate + Sync>(
+fn run_on<'a, R: Threads + Wait + Sync, G: Gate + Sync, L: Loader + Sync>(
     rt: &R,
-    cache: Cache<'a>,
+    cache: Cache<'a, '_, L>,
     mut seats: Vec<Seat<'a>>,
     jobs: &[Job<'_>],
     room: CrewRoom<'a>,
@@ -89,7 +91,7 @@ fn run_on<'a, R: Threads + Wait + Sync, G: Gate + Sync>(
     requires seats { AreFresh cache.table cache.seats seats.items }
     requires callable { All (IsCallable cache.registry) jobs.now }
     requires room { IsRoom (length jobs.now) cache.seats room }
-    ensures done { IsDone (entry_among cache.entry.tables) (calls_of jobs.now) result.replies.items (entry_among result.tables) }
+    ensures done { IsDone L.ASKS (L.gives cache.entry.loader) (entry_among cache.entry.tables) (calls_of jobs.now) result.replies.items (entry_among result.tables) }
     ensures stripes { length result.tables ≡ length cache.entry.tables }
 {
     let CrewRoom {

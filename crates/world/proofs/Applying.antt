@@ -1,18 +1,20 @@
 -- What an event does, by what becomes of the seat.
-use Rattle.std.proofs.Common.{◌≡◌, ◌↔◌, ℕ, Bool, true, false, not, ◌&&◌, cond, ◌==◌, IsTrue, length, map, Option, Some, None, is_some, IsSome, slice_get, slice_set, refl, sym, ap, ◌∙◌, true≢false}
+use Rattle.std.proofs.Common.{◌≡◌, ◌↔◌, ℕ, ℤ, Bool, true, false, not, ◌&&◌, cond, ◌==◌, IsTrue, length, map, Option, Some, None, is_some, IsSome, slice_get, slice_set, refl, sym, ap, subst, ◌∙◌, true≢false}
 use Rattle.std.proofs.lemmas.Bool.{eq-eqb, eqb-true}
 use Rattle.std.specs.FinMap as map
 use Rattle.std.specs.Option.{option_flatten}
 use Rattle.jtypes.specs.Entry.{Entry}
 use Rattle.stripe.specs.declared.refusal.BeginRefusal.{BeginRefusal}
 use Rattle.stripe.specs.declared.refusal.BeginRefusal.TheVariants.{JournalFull, NoMemory}
-use Rattle.stripe.specs.History.{Call, Record, key_of, stripe_of}
+use Rattle.jtypes.specs.declared.loader.LoadAnswer.{LoadAnswer}
+use Rattle.jtypes.specs.declared.loader.LoadAnswer.TheVariants as load
+use Rattle.stripe.specs.History.{Call, Invoke, Get, Put, Remove, Contains, Record, key_of, stripe_of}
 use Rattle.stripe.specs.Kept.{IsOf, entry_of, may_make, is_absent}
 use Rattle.world.specs.declared.event.Applied.{Applied}
 use Rattle.world.specs.declared.event.Applied.TheVariants.{Done, Ignored, Refused}
 use Rattle.world.specs.World as definition
-use Rattle.world.specs.World.{World, Running, Progress, Working, Settled, Start, Step, Finish, entries_now, history_of, stripe_in, starts_of, running_call, with_running, with_record, with_progress, record_of_call, progress_of, after_start, after_begin, after_step, stepped, after_finish, finished, apply}
-use Rattle.world.specs.Seated.{Seated, IsBegun, IsEnded, further, turned}
+use Rattle.world.specs.World.{World, Running, Progress, Working, Settled, Start, Step, Finish, entries_now, history_of, stripe_in, starts_of, running_call, with_running, with_record, with_progress, record_of_call, progress_of, after_start, after_begin, after_step, stepped, after_finish, finished, apply, asked_by_get, asked_at_start, asked_in, asked_on, MayAnswer, Happens}
+use Rattle.world.specs.Seated.{Seated, Starts, Turns, IsEnded, further, turned}
 use Rattle.world.specs.Refused.{works, is_final, is_idle, is_working, is_possible, is_start_on_full, is_start_on_absent, IsApplied}
 use Rattle.world.specs.Inside.{Parts, running_on, world_of, IsAt, IsSteady}
 use Rattle.world.proofs.Places.{map_get, set_same}
@@ -54,41 +56,61 @@ module _ (p : Parts) (h : IsSteady p) (i : ℕ) (x : Seated) (there : slice_get 
   entry_is : entry_of x.stripe (key_of call) ≡ entries_now (world_of p) (key_of call)
   entry_is = start_at.left (key_of call) of_stripe
 
-  pub start_done : (number : ℕ) (y : Seated) → x.running ≡ None → IsBegun x (record { caller = caller; number = number; call = call; loads = false }) y → number ≡ starts_of (world_of p) caller
-      → with_running (world_of p) i y.running ≡ apply (world_of p) (Start caller call)
-  start_done number y none is same =
+  -- the event asks whom the get asks
+  asked_is : x.running ≡ None → asked_in (world_of p) (Start caller call) ≡ asked_by_get p.loads (entry_of x.stripe (key_of call)) call
+  asked_is none = ap (asked_at_start (world_of p) call) (found ∙ ap Some none) ∙ ap (λ e. asked_by_get p.loads e call) (sym entry_is)
+
+  pub start_done : (gives : ℤ → LoadAnswer → Type 0) (number : ℕ) (y : Seated) → x.running ≡ None → Starts gives x (record { caller = caller; number = number; call = call; loads = p.loads }) y → number ≡ starts_of (world_of p) caller
+      → Happens gives (world_of p) (Start caller call) (with_running (world_of p) i y.running)
+  start_done gives number y none (a, may, is, given) same =
       let idle : slice_get (world_of p).running (stripe_in (world_of p) call) ≡ Some None = found ∙ ap Some none in
-      let goes : progress_of (entries_now (world_of p) (key_of call)) call ≡ Some is.progress = ap (λ e. progress_of e call) (sym entry_is) ∙ is.is in
+      let goes : progress_of p.loads a (entries_now (world_of p) (key_of call)) call ≡ Some is.progress = ap (λ e. progress_of p.loads a e call) (sym entry_is) ∙ is.is in
       let at : with_running (world_of p) i y.running ≡ with_running (world_of p) (stripe_in (world_of p) call) (Some (running_call caller (starts_of (world_of p) caller) call is.progress)) =
       ap (with_running (world_of p) i) (is.running ∙ ap (λ n. Some (running_call caller n call is.progress)) same)
       ∙ ap (λ j. with_running (world_of p) j (Some (running_call caller (starts_of (world_of p) caller) call is.progress))) place in
-      at ∙ sym (ap (after_start (world_of p) caller call) idle ∙ ap (after_begin (world_of p) caller call) goes)
+      (a, subst (MayAnswer gives a) (sym (asked_is none)) may, at ∙ sym (ap (after_start a (world_of p) caller call) idle ∙ ap (after_begin (world_of p) caller call) goes))
 
-  pub start_forward : (number : ℕ) (y : Seated) → IsBegun x (record { caller = caller; number = number; call = call; loads = false }) y → IsSome (progress_of (entries_now (world_of p) (key_of call)) call)
-  start_forward number y is = ap is_some (ap (λ e. progress_of e call) (sym entry_is) ∙ is.is)
+  some_progress : (a b : LoadAnswer) (before : Entry) (c : Call) → IsSome (progress_of p.loads a before c) → IsSome (progress_of p.loads b before c)
+  some_progress a b before (Invoke c k args) h = h
+  some_progress a b before (Get k) h = refl
+  some_progress a b before (Put k v) h = refl
+  some_progress a b before (Remove k) h = refl
+  some_progress a b before (Contains k) h = refl
 
-  start_ignored : IsSome x.running → apply (world_of p) (Start caller call) ≡ world_of p
-  start_ignored s = ap (after_start (world_of p) caller call) found ∙ by x.running s
+  pub start_forward : (gives : ℤ → LoadAnswer → Type 0) (number : ℕ) (y : Seated) → Starts gives x (record { caller = caller; number = number; call = call; loads = p.loads }) y
+      → (b : LoadAnswer) → IsSome (progress_of p.loads b (entries_now (world_of p) (key_of call)) call)
+  start_forward gives number y (a, may, is, given) b = some_progress a b (entries_now (world_of p) (key_of call)) call (ap is_some (ap (λ e. progress_of p.loads a e call) (sym entry_is) ∙ is.is))
+
+  start_ignored : (gives : ℤ → LoadAnswer → Type 0) (new : World) → IsSome x.running → new ≡ world_of p → Happens gives (world_of p) (Start caller call) new
+  start_ignored gives new s is = (
+    load.None,
+    subst (MayAnswer gives load.None) (sym (ap (asked_at_start (world_of p) call) found ∙ asks x.running call s)) tt,
+    is ∙ sym (ap (after_start load.None (world_of p) caller call) found ∙ by x.running s),
+  )
     where
-      by : (o : Option Running) → IsSome o → after_start (world_of p) caller call (Some o) ≡ world_of p
+      by : (o : Option Running) → IsSome o → after_start load.None (world_of p) caller call (Some o) ≡ world_of p
       by None e = absurd (true≢false (sym e))
       by (Some r) e = refl
+
+      asks : (o : Option Running) (c : Call) → IsSome o → asked_at_start (world_of p) c (Some o) ≡ None
+      asks None c e = absurd (true≢false (sym e))
+      asks (Some r) c e = refl
 
   records_are : length x.stripe.records ≡ length (history_of (world_of p) (stripe_in (world_of p) call))
   records_are = ap length (start_at.records ∙ ap (history_of (world_of p)) place)
 
-  absent : IsTrue (is_absent false x.stripe.stored call) → (may_make false call && not (is_some (entries_now (world_of p) (key_of call)))) ≡ true
-  absent e = ap (λ o. may_make false call && not (is_some o)) (sym entry_is) ∙ by (may_make false call) (map.get x.stripe.stored (key_of call)) e
+  absent : IsTrue (is_absent p.loads x.stripe.stored call) → (may_make p.loads call && not (is_some (entries_now (world_of p) (key_of call)))) ≡ true
+  absent e = ap (λ o. may_make p.loads call && not (is_some o)) (sym entry_is) ∙ by (may_make p.loads call) (map.get x.stripe.stored (key_of call)) e
     where
       by : (b : Bool) (o : Option Entry) → (b && not (is_some o)) ≡ true → (b && not (is_some (option_flatten o))) ≡ true
       by true None e = e
       by true (Some v) e = absurd (true≢false (sym e))
       by false o e = absurd (true≢false (sym e))
 
-  pub applied_start : (a : Applied) (new : World) → ((a ≡ Ignored) ↔ IsSome x.running) → ((a ≡ Refused JournalFull) ↔ ((x.running ≡ None) × (length x.stripe.records ≡ x.stripe.journal)))
-      → (a ≡ Refused NoMemory → IsTrue (is_absent false x.stripe.stored call)) → (¬ (a ≡ Done) → new ≡ world_of p) → (a ≡ Done → new ≡ apply (world_of p) (Start caller call))
-      → IsApplied (world_of p) (Start caller call) a new
-  applied_start a new ignored full memory same done =
+  pub applied_start : (gives : ℤ → LoadAnswer → Type 0) (a : Applied) (new : World) → ((a ≡ Ignored) ↔ IsSome x.running) → ((a ≡ Refused JournalFull) ↔ ((x.running ≡ None) × (length x.stripe.records ≡ x.stripe.journal)))
+      → (a ≡ Refused NoMemory → IsTrue (is_absent p.loads x.stripe.stored call)) → (¬ (a ≡ Done) → new ≡ world_of p) → (a ≡ Done → Happens gives (world_of p) (Start caller call) new)
+      → IsApplied gives (world_of p) (Start caller call) a new
+  applied_start gives a new ignored full memory same done =
       record {
         world = world a refl;
         same = same;
@@ -97,9 +119,9 @@ module _ (p : Parts) (h : IsSteady p) (i : ℕ) (x : Seated) (there : slice_get 
         memory = λ e. on_absent e;
       }
     where
-      world : (b : Applied) → a ≡ b → ((r : BeginRefusal) → ¬ (a ≡ Refused r)) → new ≡ apply (world_of p) (Start caller call)
+      world : (b : Applied) → a ≡ b → ((r : BeginRefusal) → ¬ (a ≡ Refused r)) → Happens gives (world_of p) (Start caller call) new
       world Done e n = done e
-      world Ignored e n = same (λ q. not_done (sym q ∙ e)) ∙ sym (start_ignored (ignored.0 e))
+      world Ignored e n = start_ignored gives new (ignored.0 e) (same (λ q. not_done (sym q ∙ e)))
         where
           not_done : Done ≡ Ignored → ⊥
           not_done q = absurd (cc)
@@ -117,38 +139,41 @@ module _ (p : Parts) (h : IsSteady p) (i : ℕ) (x : Seated) (there : slice_get 
       on_absent : a ≡ Refused NoMemory → IsTrue (is_start_on_absent (world_of p) (Start caller call))
       on_absent e =
           let none : x.running ≡ None = not_some x.running (λ s. not_refused (sym (ignored.1 s) ∙ e)) in
-          ap (λ o. is_idle o && (may_make false call && not (is_some (entries_now (world_of p) (key_of call))))) (found ∙ ap Some none) ∙ absent (memory e)
+          ap (λ o. is_idle o && (may_make p.loads call && not (is_some (entries_now (world_of p) (key_of call))))) (found ∙ ap Some none) ∙ absent (memory e)
         where
           not_refused : Ignored ≡ Refused NoMemory → ⊥
           not_refused q = absurd (cc)
 
 -- ---- a step
 
-step_settled : (w : World) (i : ℕ) (r : Running) (q : Progress) → slice_get w.running i ≡ Some (Some r) → r.progress ≡ q → with_running w i (Some (with_progress r (further q))) ≡ stepped w i r q
-step_settled w i r (Working c s) e is = refl
-step_settled w i r (Settled reply after asked) e is =
+step_settled : (w : World) (i : ℕ) (r : Running) (a : LoadAnswer) (q : Progress) → slice_get w.running i ≡ Some (Some r) → r.progress ≡ q → with_running w i (Some (with_progress r (further a q))) ≡ stepped a w i r q
+step_settled w i r a (Working c s) e is = refl
+step_settled w i r a (Settled reply after asked) e is =
     ap (λ rs. record w { running = rs }) (ap (λ q. slice_set w.running i (Some (with_progress r q))) (sym is) ∙ set_same w.running i (Some r) e)
 
-step_is : (w : World) (i : ℕ) (o : Option Running) → slice_get w.running i ≡ Some o → with_running w i (turned o) ≡ after_step w i (Some o)
-step_is w i None e = ap (λ rs. record w { running = rs }) (set_same w.running i None e)
-step_is w i (Some r) e = step_settled w i r r.progress e refl
+step_is : (w : World) (i : ℕ) (a : LoadAnswer) (o : Option Running) → slice_get w.running i ≡ Some o → with_running w i (turned a o) ≡ after_step a w i (Some o)
+step_is w i a None e = ap (λ rs. record w { running = rs }) (set_same w.running i None e)
+step_is w i a (Some r) e = step_settled w i r a r.progress e refl
 
-step_kept : (w : World) (i : ℕ) (o : Option Running) → slice_get w.running i ≡ Some o → works (Some o) ≡ false → after_step w i (Some o) ≡ w
-step_kept w i None e b = refl
-step_kept w i (Some r) e b = by r.progress b
+step_kept : (w : World) (i : ℕ) (a : LoadAnswer) (o : Option Running) → slice_get w.running i ≡ Some o → works (Some o) ≡ false → after_step a w i (Some o) ≡ w
+step_kept w i a None e b = refl
+step_kept w i a (Some r) e b = by r.progress b
   where
-    by : (q : Progress) → is_working q ≡ false → stepped w i r q ≡ w
+    by : (q : Progress) → is_working q ≡ false → stepped a w i r q ≡ w
     by (Working c s) t = absurd (true≢false t)
     by (Settled reply after asked) t = refl
 
-pub applied_step : (w : World) (i : ℕ) (o : Option Running) (a : Applied) (new : World) → slice_get w.running i ≡ Some o → a ≡ cond (works (Some o)) Done Ignored → new ≡ with_running w i (turned o)
-    → IsApplied w (Step i) a new
-applied_step w i o a new e answer is = by (works (Some o)) refl
+pub applied_step : (gives : ℤ → LoadAnswer → Type 0) (w : World) (i : ℕ) (o n : Option Running) (a : Applied) (new : World) → slice_get w.running i ≡ Some o → a ≡ cond (works (Some o)) Done Ignored → Turns gives o n → new ≡ with_running w i n
+    → IsApplied gives w (Step i) a new
+applied_step gives w i o n a new e answer (x, may, turns) set = by (works (Some o)) refl
   where
-    goes : new ≡ apply w (Step i)
-    goes = is ∙ step_is w i o e ∙ sym (ap (after_step w i) e)
+    is : new ≡ with_running w i (turned x o)
+    is = set ∙ ap (with_running w i) turns
 
-    by : (b : Bool) → works (Some o) ≡ b → IsApplied w (Step i) a new
+    goes : Happens gives w (Step i) new
+    goes = (x, subst (MayAnswer gives x) (sym (ap asked_on e)) may, is ∙ step_is w i x o e ∙ sym (ap (after_step x w i) e))
+
+    by : (b : Bool) → works (Some o) ≡ b → IsApplied gives w (Step i) a new
     by true t =
         let done : a ≡ Done = answer ∙ ap (λ b. cond b Done Ignored) t in
         record {
@@ -171,7 +196,7 @@ applied_step w i o a new e answer is = by (works (Some o)) refl
         let ignored : a ≡ Ignored = answer ∙ ap (λ b. cond b Done Ignored) t in
         record {
           world = λ n. goes;
-          same = λ n. is ∙ step_is w i o e ∙ step_kept w i o e t;
+          same = λ n. is ∙ step_is w i x o e ∙ step_kept w i x o e t;
           ignored = (λ q. ap works e ∙ t, λ q. ignored);
           full = (λ q. absurd (other_full (sym ignored ∙ q)), λ q. absurd (true≢false (sym q)));
           memory = λ q. absurd (other_memory (sym ignored ∙ q));
@@ -185,14 +210,14 @@ applied_step w i o a new e answer is = by (works (Some o)) refl
 
 -- ---- a finish
 
-pub applied_finish : (w : World) (i : ℕ) (x y : Seated) (r : Record) → slice_get w.running i ≡ Some x.running → IsEnded x r y → (with_record w i r ≡ apply w (Finish i)) × (is_possible w (Finish i) ≡ true)
+pub applied_finish : (w : World) (i : ℕ) (x y : Seated) (r : Record) → slice_get w.running i ≡ Some x.running → IsEnded x r y → (with_record w i r ≡ apply load.None w (Finish i)) × (is_possible w (Finish i) ≡ true)
 applied_finish w i x y r e is =
     let at : slice_get w.running i ≡ Some (Some is.running) = e ∙ ap Some is.runs in (
       ap (with_record w i) is.told ∙ sym (ap (after_finish w i) at ∙ ap (finished w i is.running) is.settled),
       ap is_final at ∙ ap (λ q. not (is_working q)) is.settled,
     )
 
-pub kept_finish : (w : World) (i : ℕ) (o : Option Running) → slice_get w.running i ≡ Some o → is_final (Some o) ≡ false → (apply w (Finish i) ≡ w) × (is_possible w (Finish i) ≡ false)
+pub kept_finish : (w : World) (i : ℕ) (o : Option Running) → slice_get w.running i ≡ Some o → is_final (Some o) ≡ false → (apply load.None w (Finish i) ≡ w) × (is_possible w (Finish i) ≡ false)
 kept_finish w i o e b = (ap (after_finish w i) e ∙ by o b, ap is_final e ∙ b)
   where
     inner : (r : Running) (q : Progress) → not (is_working q) ≡ false → finished w i r q ≡ w
@@ -205,8 +230,8 @@ kept_finish w i o e b = (ap (after_finish w i) e ∙ by o b, ap is_final e ∙ b
 
 -- ---- records of what became of an event
 
-pub was_done : (w : World) (e : definition.Event) (new : World) → new ≡ apply w e → is_possible w e ≡ true → is_start_on_full w e ≡ false → IsApplied w e Done new
-was_done w e new is possible full =
+pub was_done : (gives : ℤ → LoadAnswer → Type 0) (w : World) (e : definition.Event) (new : World) → Happens gives w e new → is_possible w e ≡ true → is_start_on_full w e ≡ false → IsApplied gives w e Done new
+was_done gives w e new is possible full =
     record {
       world = λ n. is;
       same = λ n. absurd (n refl);
@@ -224,10 +249,10 @@ was_done w e new is possible full =
     other_memory : Done ≡ Refused NoMemory → ⊥
     other_memory q = absurd (cc)
 
-pub was_ignored : (w : World) (e : definition.Event) (new : World) → new ≡ w → apply w e ≡ w → is_possible w e ≡ false → is_start_on_full w e ≡ false → IsApplied w e Ignored new
-was_ignored w e new is kept possible full =
+pub was_ignored : (gives : ℤ → LoadAnswer → Type 0) (w : World) (e : definition.Event) (new : World) → new ≡ w → Happens gives w e new → is_possible w e ≡ false → is_start_on_full w e ≡ false → IsApplied gives w e Ignored new
+was_ignored gives w e new is happens possible full =
     record {
-      world = λ n. is ∙ sym kept;
+      world = λ n. happens;
       same = λ n. is;
       ignored = (λ q. possible, λ q. refl);
       full = (λ q. absurd (other_full q), λ q. absurd (true≢false (sym q ∙ full)));

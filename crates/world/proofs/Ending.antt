@@ -3,7 +3,7 @@ use Rattle.std.proofs.Common.{arith, ◌≡◌, ℕ, ◌+◌, ◌*◌, ◌<◌, 
 use Rattle.std.proofs.lemmas.Bool.Decides.{Decides-int_eq}
 use Rattle.std.proofs.lemmas.List.{length-set, length-map, map-set}
 use Rattle.std.specs.Ordering.{int_eq}
-use Rattle.stripe.specs.History.{Record, Answers, key_of, stripe_of}
+use Rattle.stripe.specs.History.{Begun, Record, Answers, key_of, stripe_of}
 use Rattle.stripe.specs.Kept.{Kept, IsOf, entry_of}
 use Rattle.world.specs.World.{Running, is_by, opening_entries, entries_now, starts_of, with_record}
 use Rattle.world.specs.Seated.{Seated, IsEnded}
@@ -16,15 +16,18 @@ use Rattle.world.proofs.Steady.{inside, running_count}
 -- the parts with another seat at this place, and a record more
 abbrev pub with_end : Parts → ℕ → Seated → Record → ℕ → Parts
 with_end p i y r reserved =
-    record { opening = p.opening; journal = p.journal; seats = slice_set p.seats i y; finished = p.finished ++ r ∷ []; reserved = reserved; starts = p.starts; rest = p.rest }
+    record { loads = p.loads; opening = p.opening; journal = p.journal; seats = slice_set p.seats i y; finished = p.finished ++ r ∷ []; reserved = reserved; starts = p.starts; rest = p.rest }
 
 pub record_set : (p : Parts) (i : ℕ) (x y : Seated) (r : Record) (reserved : ℕ) → IsEnded x r y → world_of (with_end p i y r reserved) ≡ with_record (world_of p) i r
 record_set p i x y r reserved is =
-    ap (λ rs. record { opening = p.opening; journal = p.journal; running = rs; finished = p.finished ++ r ∷ [] }) (map-set running_on p.seats i y ∙ ap (slice_set (map running_on p.seats) i) is.idle)
+    ap (λ rs. record { loads = p.loads; opening = p.opening; journal = p.journal; running = rs; finished = p.finished ++ r ∷ [] }) (map-set running_on p.seats i y ∙ ap (slice_set (map running_on p.seats) i) is.idle)
 
 module _ (p : Parts) (h : IsSteady p) (i : ℕ) (x y : Seated) (there : slice_get p.seats i ≡ Some x) (r : Record) (is : IsEnded x r y) (reserved : ℕ) where
   old_at : IsAt (world_of p) i x
   old_at = h.seats i x there
+
+  its_answers : Answers p.loads (entry_of x.stripe (key_of r.call)) r.call r.reply r.after r.asked
+  its_answers = subst (λ l. Answers l (entry_of x.stripe (key_of r.call)) r.call r.reply r.after r.asked) (old_at.loads is.begun is.opened) is.answers
 
   key_at : stripe_of (length p.opening) (key_of r.call) ≡ i
   key_at = ap (λ n. stripe_of n (key_of r.call)) (sym old_at.stripes) ∙ is.of ∙ old_at.place
@@ -58,10 +61,14 @@ module _ (p : Parts) (h : IsSteady p) (i : ℕ) (x y : Seated) (there : slice_ge
         left = ended_left;
         room = λ s. absurd (true≢false (sym s ∙ ap is_some is.idle));
         of = λ q e. no_one (sym is.idle ∙ e);
+        loads = λ b e. no_call (sym (ap (λ (s : Kept). s.running) is.stripe) ∙ e);
       }
     where
       no_one : {X : Type 0} {q : Running} → None ≡ Some q → X
       no_one e = absurd (cc)
+
+      no_call : {X : Type 0} {b : Begun} → None ≡ Some b → X
+      no_call e = absurd (cc)
 
   other_at : (j : ℕ) (z : Seated) → ¬ (j ≡ i) → IsAt (world_of p) j z → IsAt (world_of (with_end p i y r reserved)) j z
   other_at j z other k =
@@ -74,6 +81,7 @@ module _ (p : Parts) (h : IsSteady p) (i : ℕ) (x y : Seated) (there : slice_ge
         left = λ q of. k.left q of ∙ sym (entry_elsewhere (opening_entries (world_of p) q) p.finished r q (λ same. other (at q of ∙ ap (stripe_of (length p.opening)) (sym same) ∙ key_at)));
         room = k.room;
         of = k.of;
+        loads = k.loads;
       }
     where
       at : (q : ℤ) → IsOf z.stripe q → j ≡ stripe_of (length p.opening) q
@@ -106,7 +114,7 @@ module _ (p : Parts) (h : IsSteady p) (i : ℕ) (x y : Seated) (there : slice_ge
         journal = h.journal;
         same = many ∙ h.same;
         seats = ended_seats;
-        legal = legal_more false (opening_entries (world_of p)) r p.finished h.legal (subst (λ e. Answers false e r.call r.reply r.after r.asked) (old_at.left (key_of r.call) is.of) is.answers);
+        legal = legal_more p.loads (opening_entries (world_of p)) r p.finished h.legal (subst (λ e. Answers p.loads e r.call r.reply r.after r.asked) (old_at.left (key_of r.call) is.of) its_answers);
         room = ended_room;
         reserved = subst (λ n. n * p.journal ≤ reserved) (sym many) (omega (arith, h.reserved, room));
         numbers = ended_numbers;

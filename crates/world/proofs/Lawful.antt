@@ -46,12 +46,12 @@ module _ (n i : ℕ) where
 
 -- ---- all of it
 
-pub is_lawful : (opening : List Stored) (finished : List Record) (now : Entries) → IsLegal false (entry_among opening) finished
-    → ((k : ℤ) → now k ≡ entries_after (entry_among opening) finished k) → IsLawful opening finished now
-is_lawful opening finished now legal left =
+pub is_lawful : (loads : Bool) (opening : List Stored) (finished : List Record) (now : Entries) → IsLegal loads (entry_among opening) finished
+    → ((k : ℤ) → now k ≡ entries_after (entry_among opening) finished k) → IsLawful loads opening finished now
+is_lawful loads opening finished now legal left =
     record {
       legal = legal;
-      by_stripe = λ i. legal_part (length opening) i false (entry_among opening) [] finished legal;
+      by_stripe = λ i. legal_part (length opening) i loads (entry_among opening) [] finished legal;
       left = left;
       left_by_stripe = λ k. left k ∙ sym (part_after (length opening) (stripe_of (length opening) k) (entry_among opening k) finished k refl);
     }

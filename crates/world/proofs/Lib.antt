@@ -2,9 +2,12 @@ pub mod Places
 pub mod Histories
 pub mod Lawful
 pub mod Calls
+pub mod Stepping
 pub mod Seats
+pub mod Starts
 pub mod Steady
 pub mod Ending
+pub mod Given
 pub mod Applying
 pub mod Runs
 pub mod Opening

@@ -1,12 +1,13 @@
 -- Worlds that open and close.
-use Rattle.std.proofs.Common.{arith, ◌≡◌, ℕ, zero, suc, ◌+◌, ◌-◌, ◌*◌, ◌≤◌, ℤ, List, [], ◌∷◌, ◌++◌, length, map, All, Option, Some, None, option_and_then, slice_get, slice_index, sum_by, count_by, refl, sym, ap, subst, ◌∙◌, true≢false, zero-add}
+use Rattle.std.proofs.Common.{Bool, arith, ◌≡◌, ℕ, zero, suc, ◌+◌, ◌-◌, ◌*◌, ◌≤◌, ℤ, List, [], ◌∷◌, ◌++◌, length, map, All, Option, Some, None, option_and_then, slice_get, slice_index, sum_by, count_by, refl, sym, ap, subst, ◌∙◌, true≢false, zero-add}
 use Rattle.std.proofs.lemmas.List.{length-map}
 use Rattle.std.specs.Prelude.{replicate}
+use Rattle.jtypes.specs.declared.loader.LoadAnswer.{LoadAnswer}
 use Rattle.stripe.specs.History.{stripe_of}
 use Rattle.stripe.specs.Stored.{Stored, entry_in, entry_among}
 use Rattle.stripe.specs.Kept.{Kept, fresh}
 use Rattle.stripe.specs.Tables.{IsCount, IsJournal, fresh_from, fresh_stripes, none_back}
-use Rattle.world.specs.World.{Running, is_by, entries_now}
+use Rattle.world.specs.World.{AnswersAreGiven, Running, is_by, entries_now}
 use Rattle.world.specs.Seated.{Seated, idle_seat, AreIdle}
 use Rattle.world.specs.Refused.{NoneRuns}
 use Rattle.world.specs.Room.{stored_on}
@@ -52,18 +53,18 @@ pub none_running : (n j q : ℕ) (ms : List Stored) → map running_on (map idle
 none_running n j q [] = refl
 none_running n j q (m ∷ ms) = ap (λ rs. None ∷ rs) (none_running n j (suc q) ms)
 
-abbrev pub opened_parts : List Stored → ℕ → ℕ → List ℕ → Parts
-opened_parts ms journal reserved starts =
-    record { opening = ms; journal = journal; seats = map idle_seat (fresh_stripes journal ms); finished = []; reserved = reserved; starts = starts; rest = none_back (length ms) }
+abbrev pub opened_parts : Bool → List Stored → ℕ → ℕ → List ℕ → Parts
+opened_parts loads ms journal reserved starts =
+    record { loads = loads; opening = ms; journal = journal; seats = map idle_seat (fresh_stripes journal ms); finished = []; reserved = reserved; starts = starts; rest = none_back (length ms) }
 
-module _ (ms : List Stored) (journal reserved : ℕ) (starts : List ℕ) where
+module _ (gives : ℤ → LoadAnswer → Type 0) (loads : Bool) (ms : List Stored) (journal reserved : ℕ) (starts : List ℕ) where
   count_seats : length (map idle_seat (fresh_stripes journal ms)) ≡ length ms
   count_seats = length-map (fresh_stripes journal ms) idle_seat ∙ fresh_length (length ms) journal 0 ms
 
-  opened_at : AreSeats (world_of (opened_parts ms journal reserved starts)) (map idle_seat (fresh_stripes journal ms))
+  opened_at : AreSeats (world_of (opened_parts loads ms journal reserved starts)) (map idle_seat (fresh_stripes journal ms))
   opened_at i x e =
       let f = fresh_at (length ms) journal 0 ms i x e in
-      subst (IsAt (world_of (opened_parts ms journal reserved starts)) i) f.2
+      subst (IsAt (world_of (opened_parts loads ms journal reserved starts)) i) f.2
       (record {
         stripes = refl;
         place = zero-add i;
@@ -73,12 +74,13 @@ module _ (ms : List Stored) (journal reserved : ℕ) (starts : List ℕ) where
         left = λ k of. sym (ap (option_and_then (λ m. entry_in m k)) (ap (slice_get ms) (of ∙ zero-add i) ∙ f.1));
         room = λ s. absurd (true≢false (sym s));
         of = λ r q. no_one q;
+        loads = λ b q. no_one q;
       })
     where
-      no_one : {X : Type 0} {q : Running} → None ≡ Some q → X
+      no_one : {X Y : Type 0} {q : Y} → None ≡ Some q → X
       no_one e = absurd (cc)
 
-  pub steady_opened : IsCount (length ms) → IsJournal journal → length ms * journal ≤ reserved → length starts ≡ 256 → ((caller : ℕ) → slice_index starts caller ≡ 0) → IsSteady (opened_parts ms journal reserved starts)
+  pub steady_opened : IsCount (length ms) → IsJournal journal → length ms * journal ≤ reserved → length starts ≡ 256 → ((caller : ℕ) → slice_index starts caller ≡ 0) → IsSteady (opened_parts loads ms journal reserved starts)
   steady_opened count of_journal room callers none =
       record {
         count = count;
@@ -92,6 +94,20 @@ module _ (ms : List Stored) (journal reserved : ℕ) (starts : List ℕ) where
         callers = callers;
         rest = refl;
       }
+
+  -- nobody was asked
+  pub given_opened : AnswersAreGiven gives (world_of (opened_parts loads ms journal reserved starts))
+  given_opened =
+      record {
+        finished = λ q d h. absurd (omega (arith, h));
+        running = λ i r e. none_there i r (get_map running_on (map idle_seat (fresh_stripes journal ms)) i (Some r) e);
+      }
+    where
+      no_one : {X Y : Type 0} {q : Y} → None ≡ Some q → X
+      no_one e = absurd (cc)
+
+      none_there : {X : Type 0} (i : ℕ) (r : Running) → ((z : Seated) × (slice_get (map idle_seat (fresh_stripes journal ms)) i ≡ Some z) × (z.running ≡ Some r)) → X
+      none_there i r (z, at, runs) = let f = fresh_at (length ms) journal 0 ms i z at in no_one (ap (λ (y : Seated). y.running) f.2 ∙ runs)
 
 -- ---- no call runs
 

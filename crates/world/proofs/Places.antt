@@ -1,10 +1,11 @@
 -- Lists, place by place.
-use Rattle.std.proofs.Common.{arith, ◌≡◌, ℕ, zero, suc, ◌+◌, ◌<◌, ◌≤◌, Bool, true, false, cond, ◌⊎◌, inl, inr, List, [], ◌∷◌, ◌++◌, length, Some, slice_get, slice_set, slice_index, replicate, map, filter, sum_by, ◌==◌, refl, sym, ap, ◌∙◌, zero-add, true≢false}
+use Rattle.std.proofs.Common.{arith, ◌≡◌, ℕ, zero, suc, ◌+◌, ◌<◌, ◌≤◌, Bool, true, false, cond, ◌⊎◌, inl, inr, List, [], ◌∷◌, ◌++◌, length, Some, slice_get, slice_set, slice_index, replicate, map, filter, sum_by, ◌==◌, refl, sym, ap, subst, ◌∙◌, zero-add, true≢false}
 use Rattle.std.proofs.lemmas.Bool.{eq-eqb, eqb-true}
 use Rattle.std.proofs.lemmas.List.Elements.{filter-append}
 use Rattle.std.proofs.lemmas.List.{append-nil}
 use Rattle.std.proofs.lemmas.List.Sums.{sum_by-set, sum_by-append}
 use Rattle.std.proofs.lemmas.Option.{slice_get_within, get_or_from_slice_get}
+use Rattle.world.specs.World.{World, ReadThrough}
 
 abbrev pub one_if : Bool → ℕ
 one_if b = cond b 1 0
@@ -101,3 +102,11 @@ pub zeros : (n i : ℕ) → slice_index (replicate n 0) i ≡ 0
 zeros zero i = refl
 zeros (suc n) zero = refl
 zeros (suc n) (suc i) = zeros n i
+
+-- ---- a world that reads through a loader
+
+pub seen : {X : Type 0} {a b : ReadThrough X} → a ≡ b → a.world ≡ b.world
+seen e = ap (λ w. w.world) e
+
+pub over : {X : Type 0} {a b : ReadThrough X} (P : X → World → Type 0) → a ≡ b → P a.loader a.world → P b.loader b.world
+over P e h = subst (λ w. P w.loader w.world) e h

@@ -1,19 +1,15 @@
 -- One event more.
-use Rattle.std.proofs.Common.{◌≡◌, ℕ, zero, suc, Bool, true, false, IsTrue, List, [], ◌∷◌, ◌++◌, map, take, Option, Some, None, slice_get, refl, ap, ◌∙◌}
+use Rattle.std.proofs.Common.{◌≡◌, ℕ, ℤ, zero, suc, Bool, true, false, IsTrue, List, [], ◌∷◌, ◌++◌, map, take, Option, Some, None, slice_get, refl, ap, ◌∙◌}
 use Rattle.stripe.specs.declared.refusal.BeginRefusal.{BeginRefusal}
 use Rattle.stripe.specs.declared.refusal.BeginRefusal.TheVariants.{JournalFull, NoMemory}
 use Rattle.world.specs.declared.event.Applied.TheVariants.{Refused}
+use Rattle.jtypes.specs.declared.loader.LoadAnswer.{LoadAnswer}
 use Rattle.stripe.specs.History.{key_of}
-use Rattle.world.specs.World.{World, Running, Progress, Working, Settled, Event, Start, Step, Finish, entries_now, stripe_in, progress_of, after_begin, after_start, stepped, after_step, finished, after_finish, apply, run}
-use Rattle.world.specs.Refused.{is_start_on_full, is_start_on_absent, HaveRoom, IsRefusable}
+use Rattle.world.specs.World.{World, Running, Progress, Working, Settled, Event, Start, Step, Finish, entries_now, stripe_in, progress_of, after_begin, after_start, stepped, after_step, finished, after_finish, apply, Happens, Runs, none, more}
+use Rattle.world.specs.Refused.{is_start_on_full, is_start_on_absent, RunsWithRoom, IsRefusable}
 
-pub run_more : (w : World) (es : List Event) (e : Event) → run w (es ++ e ∷ []) ≡ apply (run w es) e
-run_more w [] e = refl
-run_more w (x ∷ es) e = run_more (apply w x) es e
-
-pub room_more : (w : World) (es : List Event) (e : Event) → HaveRoom w es → is_start_on_full (run w es) e ≡ false → HaveRoom w (es ++ e ∷ [])
-room_more w [] e h f = (f, tt)
-room_more w (x ∷ es) e h f = (h.0, room_more (apply w x) es e h.1 f)
+pub room_more : {gives : ℤ → LoadAnswer → Type 0} {w v u : World} {es : List Event} (e : Event) → RunsWithRoom gives w es v → Happens gives v e u → is_start_on_full v e ≡ false → RunsWithRoom gives w (es ++ e ∷ []) u
+room_more e (runs, room) happens f = (more e runs happens, (room, f))
 
 pub take_one : {X Y : Type 0} (f : X → Y) (xs : List X) (i : ℕ) (x : X) → slice_get xs i ≡ Some x → map f (take (suc i) xs) ≡ map f (take i xs) ++ f x ∷ []
 take_one f [] i x e = absurd (cc)
@@ -30,28 +26,28 @@ not_true false n = refl
 
 -- ---- the opening tables stay
 
-opening_applied : (w : World) (e : Event) → (apply w e).opening ≡ w.opening
-opening_applied w (Start caller call) = started (slice_get w.running (stripe_in w call))
+opening_applied : (a : LoadAnswer) (w : World) (e : Event) → (apply a w e).opening ≡ w.opening
+opening_applied a w (Start caller call) = started (slice_get w.running (stripe_in w call))
   where
     begins : (o : Option Progress) → (after_begin w caller call o).opening ≡ w.opening
     begins None = refl
     begins (Some p) = refl
 
-    started : (o : Option (Option Running)) → (after_start w caller call o).opening ≡ w.opening
+    started : (o : Option (Option Running)) → (after_start a w caller call o).opening ≡ w.opening
     started None = refl
-    started (Some None) = begins (progress_of (entries_now w (key_of call)) call)
+    started (Some None) = begins (progress_of w.loads a (entries_now w (key_of call)) call)
     started (Some (Some r)) = refl
-opening_applied w (Step i) = turned (slice_get w.running i)
+opening_applied a w (Step i) = turned (slice_get w.running i)
   where
-    turn : (r : Running) (q : Progress) → (stepped w i r q).opening ≡ w.opening
+    turn : (r : Running) (q : Progress) → (stepped a w i r q).opening ≡ w.opening
     turn r (Working c s) = refl
     turn r (Settled reply after asked) = refl
 
-    turned : (o : Option (Option Running)) → (after_step w i o).opening ≡ w.opening
+    turned : (o : Option (Option Running)) → (after_step a w i o).opening ≡ w.opening
     turned None = refl
     turned (Some None) = refl
     turned (Some (Some r)) = turn r r.progress
-opening_applied w (Finish i) = ended (slice_get w.running i)
+opening_applied a w (Finish i) = ended (slice_get w.running i)
   where
     end : (r : Running) (q : Progress) → (finished w i r q).opening ≡ w.opening
     end r (Working c s) = refl
@@ -62,6 +58,6 @@ opening_applied w (Finish i) = ended (slice_get w.running i)
     ended (Some None) = refl
     ended (Some (Some r)) = end r r.progress
 
-pub opening_stays : (w : World) (es : List Event) → (run w es).opening ≡ w.opening
-opening_stays w [] = refl
-opening_stays w (e ∷ es) = opening_stays (apply w e) es ∙ opening_applied w e
+pub opening_stays : {gives : ℤ → LoadAnswer → Type 0} {w v : World} {es : List Event} → Runs gives w es v → v.opening ≡ w.opening
+opening_stays none = refl
+opening_stays (more {v} e runs (a, may, is)) = ap (λ (u : World). u.opening) is ∙ opening_applied a v e ∙ opening_stays runs

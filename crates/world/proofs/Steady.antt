@@ -4,11 +4,12 @@ use Rattle.std.proofs.Math.Nat.{mul-le-mul}
 use Rattle.std.proofs.lemmas.Bool.{eq-eqb, eqb-true}
 use Rattle.std.proofs.lemmas.List.Sums.{count_by-le-length}
 use Rattle.std.proofs.lemmas.List.{length-set, length-map, map-set, get_or-set_same, get_or-set_other}
+use Rattle.jtypes.specs.declared.loader.LoadAnswer.{LoadAnswer}
 use Rattle.stripe.specs.History.{Call, Begun, Record, key_of}
 use Rattle.stripe.specs.Kept.{Kept, IsOf, entry_of}
 use Rattle.world.specs.World.{World, Running, with_progress, is_by, starts_of, running_call, with_running}
 use Rattle.world.specs.Forward.{turns_on, turns_left}
-use Rattle.world.specs.Seated.{Seated, IsBegun, further, turned}
+use Rattle.world.specs.Seated.{Seated, HasLoader, IsBegun, further, turned}
 use Rattle.world.specs.Inside.{Parts, running_on, world_of, IsAt, AreSeats, room_of, IsSteady}
 use Rattle.std.proofs.lemmas.Option.{slice_get_within}
 use Rattle.world.proofs.Places.{one_if, get_set, get_set_cases, set_same, map_get, sum_set}
@@ -16,15 +17,15 @@ use Rattle.world.proofs.Places.{one_if, get_set, get_set_cases, set_same, map_ge
 -- the parts with another seat at this place, and other counts
 abbrev pub with_seat : Parts → ℕ → Seated → List ℕ → Parts
 with_seat p i y starts =
-    record { opening = p.opening; journal = p.journal; seats = slice_set p.seats i y; finished = p.finished; reserved = p.reserved; starts = starts; rest = p.rest }
+    record { loads = p.loads; opening = p.opening; journal = p.journal; seats = slice_set p.seats i y; finished = p.finished; reserved = p.reserved; starts = starts; rest = p.rest }
 
 -- the world's calls that run are no part of what is true of a seat
-at_running : (w : World) (rs : List (Option Running)) (i : ℕ) (x : Seated) → IsAt w i x → IsAt (record { opening = w.opening; journal = w.journal; running = rs; finished = w.finished }) i x
+at_running : (w : World) (rs : List (Option Running)) (i : ℕ) (x : Seated) → IsAt w i x → IsAt (record { loads = w.loads; opening = w.opening; journal = w.journal; running = rs; finished = w.finished }) i x
 at_running w rs i x h =
-    record { stripes = h.stripes; place = h.place; journal = h.journal; records = h.records; few = h.few; left = h.left; room = h.room; of = h.of }
+    record { stripes = h.stripes; place = h.place; journal = h.journal; records = h.records; few = h.few; left = h.left; room = h.room; of = h.of; loads = h.loads }
 
 pub running_set : (p : Parts) (i : ℕ) (y : Seated) (starts : List ℕ) → world_of (with_seat p i y starts) ≡ with_running (world_of p) i y.running
-running_set p i y starts = ap (λ rs. record { opening = p.opening; journal = p.journal; running = rs; finished = p.finished }) (map-set running_on p.seats i y)
+running_set p i y starts = ap (λ rs. record { loads = p.loads; opening = p.opening; journal = p.journal; running = rs; finished = p.finished }) (map-set running_on p.seats i y)
 
 -- the call on one stripe comes nearer to its end
 pub turned_nearer : (p : Parts) (i : ℕ) (x y : Seated) (starts : List ℕ) → slice_get p.seats i ≡ Some x → turns_on (Some y.running) < turns_on (Some x.running)
@@ -76,13 +77,13 @@ module _ (p : Parts) (h : IsSteady p) (i : ℕ) (x y : Seated) (there : slice_ge
 
 -- ---- a call starts
 
-module _ (p : Parts) (h : IsSteady p) (i : ℕ) (x y : Seated) (there : slice_get p.seats i ≡ Some x) (b : Begun) (is : IsBegun x b y) (none : x.running ≡ None) (few : ¬ (length x.stripe.records ≡ x.stripe.journal))
+module _ (p : Parts) (h : IsSteady p) (i : ℕ) (x y : Seated) (there : slice_get p.seats i ≡ Some x) (a : LoadAnswer) (b : Begun) (is : IsBegun a x b y) (none : x.running ≡ None) (few : ¬ (length x.stripe.records ≡ x.stripe.journal))
     (starts : List ℕ) (number : b.number ≡ slice_index p.starts b.caller) (below : b.caller < 256) (more : starts ≡ slice_set p.starts b.caller (b.number + 1)) where
   old_at : IsAt (world_of p) i x
   old_at = h.seats i x there
 
-  started_at : IsOf x.stripe (key_of b.call) → IsAt (world_of p) i y
-  started_at of =
+  started_at : IsOf x.stripe (key_of b.call) → b.loads ≡ p.loads → IsAt (world_of p) i y
+  started_at of with_loader =
       record {
         stripes = ap (λ (s : Kept). s.stripes) is.stripe ∙ old_at.stripes;
         place = ap (λ (s : Kept). s.place) is.stripe ∙ old_at.place;
@@ -92,8 +93,12 @@ module _ (p : Parts) (h : IsSteady p) (i : ℕ) (x y : Seated) (there : slice_ge
         left = λ k of_k. is.entries k ∙ old_at.left k (subst (λ (s : Kept). IsOf s k) is.stripe of_k);
         room = λ _. omega (arith, ap (λ (s : Kept). length s.records) is.stripe, old_at.few, few, old_at.journal);
         of = λ r e. subst (λ (s : Kept). IsOf s (key_of r.call)) (sym is.stripe) (subst (λ (c : Call). IsOf x.stripe (key_of c)) (same r (sym is.running ∙ e)) of);
+        loads = λ x e. subst (λ (y : Begun). y.loads ≡ p.loads) (this x (sym (ap (λ (s : Kept). s.running) is.stripe) ∙ e)) with_loader;
       }
     where
+      this : (x : Begun) → Some b ≡ Some x → b ≡ x
+      this x e = cc e
+
       same : (r : Running) → Some (running_call b.caller b.number b.call is.progress) ≡ Some r → b.call ≡ r.call
       same r e = let q : running_call b.caller b.number b.call is.progress ≡ r = cc e in ap (λ (r : Running). r.call) q
 
@@ -125,31 +130,31 @@ module _ (p : Parts) (h : IsSteady p) (i : ℕ) (x y : Seated) (there : slice_ge
           let at : slice_index (slice_set p.starts b.caller (b.number + 1)) caller ≡ slice_index p.starts caller = get_or-set_other p.starts b.caller caller (b.number + 1) 0 other in
           omega (arith, at, h.numbers caller lt, run, none)
 
-  pub steady_started : IsOf x.stripe (key_of b.call) → IsSteady (with_seat p i y starts)
-  steady_started of =
-      steady_seat p h i x y there starts (started_at of) started_room (ap length more ∙ length-set p.starts b.caller (b.number + 1) ∙ h.callers) started_numbers
+  pub steady_started : IsOf x.stripe (key_of b.call) → b.loads ≡ p.loads → IsSteady (with_seat p i y starts)
+  steady_started of with_loader =
+      steady_seat p h i x y there starts (started_at of with_loader) started_room (ap length more ∙ length-set p.starts b.caller (b.number + 1) ∙ h.callers) started_numbers
 
 -- ---- a call takes a step
 
-turned_room : (o : Option Running) → IsSome (turned o) → IsSome o
-turned_room None e = e
-turned_room (Some r) e = refl
+turned_room : (a : LoadAnswer) (o : Option Running) → IsSome (turned a o) → IsSome o
+turned_room a None e = e
+turned_room a (Some r) e = refl
 
-turned_caller : (caller : ℕ) (o : Option Running) → one_if (is_by caller (turned o)) ≡ one_if (is_by caller o)
-turned_caller caller None = refl
-turned_caller caller (Some r) = refl
+turned_caller : (a : LoadAnswer) (caller : ℕ) (o : Option Running) → one_if (is_by caller (turned a o)) ≡ one_if (is_by caller o)
+turned_caller a caller None = refl
+turned_caller a caller (Some r) = refl
 
-module _ (p : Parts) (h : IsSteady p) (i : ℕ) (x y : Seated) (there : slice_get p.seats i ≡ Some x) (stripe : y.stripe ≡ x.stripe) (running : y.running ≡ turned x.running) where
+module _ (p : Parts) (h : IsSteady p) (i : ℕ) (x y : Seated) (there : slice_get p.seats i ≡ Some x) (stripe : y.stripe ≡ x.stripe) (a : LoadAnswer) (running : y.running ≡ turned a x.running) where
   x_at : IsAt (world_of p) i x
   x_at = h.seats i x there
 
   turned_of : (r : Running) → y.running ≡ Some r → IsOf y.stripe (key_of r.call)
   turned_of r e = subst (λ (s : Kept). IsOf s (key_of r.call)) (sym stripe) (by x.running refl (sym running ∙ e))
     where
-      by : (o : Option Running) → x.running ≡ o → turned o ≡ Some r → IsOf x.stripe (key_of r.call)
+      by : (o : Option Running) → x.running ≡ o → turned a o ≡ Some r → IsOf x.stripe (key_of r.call)
       by None q e = absurd (cc)
       by (Some q) is e =
-          let same : with_progress q (further q.progress) ≡ r = cc e in
+          let same : with_progress q (further a q.progress) ≡ r = cc e in
           subst (λ (c : Call). IsOf x.stripe (key_of c)) (ap (λ (r : Running). r.call) same) (x_at.of q is)
 
   turned_at : IsAt (world_of p) i y
@@ -161,13 +166,14 @@ module _ (p : Parts) (h : IsSteady p) (i : ℕ) (x y : Seated) (there : slice_ge
         records = ap (λ (s : Kept). s.records) stripe ∙ x_at.records;
         few = subst (λ (s : Kept). length s.records ≤ p.journal) (sym stripe) x_at.few;
         left = λ k of. ap (λ (s : Kept). entry_of s k) stripe ∙ x_at.left k (subst (λ (s : Kept). IsOf s k) stripe of);
-        room = λ e. subst (λ (s : Kept). length s.records < p.journal) (sym stripe) (x_at.room (turned_room x.running (subst (λ o. IsSome o) running e)));
+        room = λ e. subst (λ (s : Kept). length s.records < p.journal) (sym stripe) (x_at.room (turned_room a x.running (subst (λ o. IsSome o) running e)));
         of = turned_of;
+        loads = subst (HasLoader p.loads) (sym stripe) x_at.loads;
       }
 
   turned_numbers : (caller : ℕ) → caller < 256 → slice_index p.starts caller ≡ starts_of (world_of (with_seat p i y p.starts)) caller
   turned_numbers caller lt =
-      let same : one_if (is_by caller y.running) ≡ one_if (is_by caller x.running) = ap (λ o. one_if (is_by caller o)) running ∙ turned_caller caller x.running in
+      let same : one_if (is_by caller y.running) ≡ one_if (is_by caller x.running) = ap (λ o. one_if (is_by caller o)) running ∙ turned_caller a caller x.running in
       omega (arith, running_count p h i x y there caller, same, h.numbers caller lt)
 
   pub steady_turned : IsSteady (with_seat p i y p.starts)
@@ -180,7 +186,7 @@ module _ (p : Parts) (h : IsSteady p) (i : ℕ) (x y : Seated) (there : slice_ge
   as_it_was = ap (slice_set p.seats i) same ∙ set_same p.seats i x there
 
   with_same : with_seat p i y p.starts ≡ p
-  with_same = λ k. record { opening = p.opening; journal = p.journal; seats = as_it_was k; finished = p.finished; reserved = p.reserved; starts = p.starts; rest = p.rest }
+  with_same = λ k. record { loads = p.loads; opening = p.opening; journal = p.journal; seats = as_it_was k; finished = p.finished; reserved = p.reserved; starts = p.starts; rest = p.rest }
 
   pub steady_same : IsSteady (with_seat p i y p.starts)
   steady_same = subst IsSteady (sym with_same) h

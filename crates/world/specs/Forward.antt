@@ -1,6 +1,7 @@
 -- How far a call is from its end.
 use Rattle.std.specs.Prelude.{ℕ, ◌+◌, ◌-◌, ◌<◌, Option, Some, IsSome, slice_get}
 use Rattle.bounds.specs.Paths.{step_limit}
+use Rattle.jtypes.specs.declared.loader.LoadAnswer.{LoadAnswer}
 use Rattle.stripe.specs.History.{key_of}
 use Rattle.world.specs.World.{World, Running, Progress, Working, Settled, Event, Start, Step, Finish, entries_now, progress_of}
 use Rattle.jtypes.specs.Profile.{Second}
@@ -20,6 +21,6 @@ turns_left w i = turns_on (slice_get w.running i)
 
 -- a call that is started has a first progress, and a step brings a call nearer to its end
 abbrev pub GoesForward : World → Event → World → Type 0
-GoesForward w (Start caller call) new = IsSome (progress_of (entries_now w (key_of call)) call)
+GoesForward w (Start caller call) new = (a : LoadAnswer) → IsSome (progress_of w.loads a (entries_now w (key_of call)) call)
 GoesForward w (Step i) new = turns_left new i < turns_left w i
 GoesForward w (Finish i) new = Unit {0}

@@ -1,35 +1,41 @@
 -- How far a call is, by what a seat holds of it.
-use Rattle.std.specs.Prelude.{◌≡◌, ℕ, zero, suc, Bool, true, false, Option, Some, None, option_map, option_and_then}
+use Rattle.std.specs.Prelude.{◌≡◌, ℕ, ℤ, List, Bool, true, false, Option, Some, None, option_map, option_and_then}
+use Rattle.jtypes.specs.declared.types.Arg.{Arg}
 use Rattle.jtypes.specs.Entry.{Entry, after_effect}
+use Rattle.jtypes.specs.Loading.{entry_loaded}
+use Rattle.jtypes.specs.declared.loader.LoadAnswer.{LoadAnswer}
+use Rattle.jtypes.specs.declared.loader.LoadAnswer.TheVariants as load
 use Rattle.typecheck.specs.Typing.{Class}
-use Rattle.verdict.specs.Machine.{Invocation, State, Final, Next, Goes, Ends, start, step}
-use Rattle.verdict.specs.Meaning.{Means}
+use Rattle.verdict.specs.Machine.{Invocation, State, start}
+use Rattle.soundness.proofs.Answered.{state_after}
 use Rattle.machine.specs.declared.machine.Machine.{Machine}
 use Rattle.machine.specs.declared.done.Done.{Done}
-use Rattle.machine.specs.declared.done.Going.{Going}
-use Rattle.machine.specs.declared.done.Going.TheVariants as going
-use Rattle.machine.specs.Running.{IsRunning, IsMeant, IsFinal}
-use Rattle.stripe.specs.declared.call.Reply.TheVariants.{Result}
-use Rattle.stripe.specs.History.{Call, Invoke, invocation}
+use Rattle.machine.specs.Running.{IsRunning, IsMeant}
+use Rattle.stripe.specs.declared.call.Reply.TheVariants.{Result, Value}
+use Rattle.stripe.specs.History.{Call, Invoke, Get, Put, Remove, Contains, invocation, told_by}
+use Rattle.stripe.specs.Kept.{IsAsked}
 use Rattle.world.specs.World.{Progress, Working, Settled, progress_of}
 
-abbrev pub goes_to : Option Next → Option State
-goes_to (Some (Goes t)) = Some t
-goes_to _ = None
+-- what the loader answers in a run: what it answered if it was asked, else anything
+abbrev pub known : Option LoadAnswer → LoadAnswer
+known (Some a) = a
+known None = load.None
 
--- the state after so many steps, if all of them go on
-unfoldable pub state_after : ℕ → Class → State → Option State
-state_after zero c s = Some s
-state_after (suc n) c s = option_and_then (λ t. goes_to (step c t)) (state_after n c s)
+-- the state of an invocation after so many steps, if all of them go on
+abbrev pub state_in : Class → Invocation → LoadAnswer → ℕ → Option State
+state_in c call a steps = option_and_then (state_after steps c a) (start c call)
 
-abbrev pub state_in : Class → Invocation → ℕ → Option State
-state_in c call steps = option_and_then (state_after steps c) (start c call)
+-- a get that found this entry
+abbrev pub got_by : Entry → Option LoadAnswer → Progress
+got_by before (Some a) = Settled (told_by a) (entry_loaded None a) (Some a)
+got_by before None = Settled (Value before) before None
 
--- a call that found this entry: an invocation that ended so, or that is in the state after so many steps, or another call
-abbrev pub progress_in : Entry → ℕ → Call → Option Done → Option Progress
-progress_in before steps (Invoke c k args) (Some d) = Some (Settled (Result d.outcome) (after_effect d.effect before) d.asked)
-progress_in before steps (Invoke c k args) None = option_map (λ s. Working c s) (state_in c (invocation false k args before) steps)
-progress_in before steps call _ = progress_of before call
+-- a call that found this entry: an invocation that ended so, or that is in the state after so many steps, a get with this answer of the loader, or another call
+abbrev pub progress_in : Bool → Entry → Machine → Call → Option Done → Option LoadAnswer → Option Progress
+progress_in loads before m (Invoke c k args) (Some d) asked = Some (Settled (Result d.outcome) (after_effect d.effect before) d.asked)
+progress_in loads before m (Invoke c k args) None asked = option_map (λ s. Working c s) (state_in c (invocation loads k args before) (known m.entry.now.asked) m.steps)
+progress_in loads before m (Get k) ended asked = Some (got_by before asked)
+progress_in loads before m call ended asked = progress_of loads load.None before call
 
 -- whether a call is final: it isn't an invocation, or that has ended
 abbrev pub is_ended : Call → Option Done → Bool
@@ -40,17 +46,14 @@ is_ended _ _ = true
 pub record IsUnderWay (c : Class) (call : Invocation) (m : Machine) : Type 0 where
   pub state : State
   pub call_is : state.call ≡ call
-  pub is : state_in c call m.steps ≡ Some state
+  pub is : state_in c call (known m.entry.now.asked) m.steps ≡ Some state
   pub running : IsRunning c state m
 
--- an invocation is under way, or ended as it means; another call has no end of an invocation
-abbrev pub IsGoing : Entry → Call → Option Done → Machine → Type 0
-IsGoing before (Invoke c k args) (Some d) m = IsMeant c (invocation false k args before) d
-IsGoing before (Invoke c k args) None m = IsUnderWay c (invocation false k args before) m
-IsGoing before _ (Some d) m = ⊥
-IsGoing before _ None m = Unit {0}
-
--- without a loader a step goes on to another state, or ends in what the call means
-abbrev pub Follows : Class → State → Going → Machine → Type 0
-Follows c s going.Going m = (t : State) × (step c s ≡ Some (Goes t)) × (t.call ≡ s.call) × IsRunning c t m
-Follows c s (going.Ended d) m = (f : Final) × (step c s ≡ Some (Ends f)) × Means c s.call f × IsFinal d s.call.before f
+-- an invocation has ended as it means, or is under way; a get has asked the loader where it had to; another call has neither an end nor an answer
+pub data IsGoing (loads : Bool) (before : Entry) (m : Machine) : Call → Option Done → Option LoadAnswer → Type 0 where
+  ended : (c : Class) (k : ℤ) (args : List Arg) (d : Done) → IsMeant c (invocation loads k args before) d → IsGoing loads before m (Invoke c k args) (Some d) None
+  working : (c : Class) (k : ℤ) (args : List Arg) → IsUnderWay c (invocation loads k args before) m → IsGoing loads before m (Invoke c k args) None None
+  getting : (k : ℤ) (asked : Option LoadAnswer) → IsAsked loads before asked → IsGoing loads before m (Get k) None asked
+  putting : (k v : ℤ) → IsGoing loads before m (Put k v) None None
+  removing : (k : ℤ) → IsGoing loads before m (Remove k) None None
+  containing : (k : ℤ) → IsGoing loads before m (Contains k) None None

@@ -1,16 +1,18 @@
 -- What is true of every world.
-use Rattle.std.specs.Prelude.{◌≡◌, false, ℕ, ◌+◌, ◌-◌, ◌*◌, ◌<◌, ◌≤◌, ℤ, List, length, map, vec_capacity, Option, Some, IsSome, slice_get, slice_index, sum_by}
+use Rattle.std.specs.Prelude.{◌≡◌, Bool, ℕ, ◌+◌, ◌-◌, ◌*◌, ◌<◌, ◌≤◌, ℤ, List, length, map, vec_capacity, Option, Some, IsSome, slice_get, slice_index, sum_by}
+use Rattle.jtypes.specs.declared.loader.LoadAnswer.{LoadAnswer}
 use Rattle.stripe.specs.History.{Record, key_of, IsLegal}
 use Rattle.stripe.specs.Seen.{record_of}
 use Rattle.stripe.specs.Stored.{Stored}
 use Rattle.stripe.specs.Kept.{IsOf, entry_of}
 use Rattle.stripe.specs.Tables.{Back, IsCount, IsJournal, none_back}
 use Rattle.world.specs.declared.world.World.TheInside.{Inside}
-use Rattle.world.specs.World.{World, Running, opening_entries, entries_now, history_of, starts_of}
-use Rattle.world.specs.Seated.{Seated}
+use Rattle.world.specs.World.{World, ReadThrough, AnswersAreGiven, Running, opening_entries, entries_now, history_of, starts_of}
+use Rattle.world.specs.Seated.{Seated, HasLoader}
 
--- the parts of a world; `reserved` is how many finished calls there is room for, and `starts` counts each caller's starts
+-- the parts of a world; `loads` is whether its loader is asked, `reserved` is how many finished calls there is room for, and `starts` counts each caller's starts
 pub record Parts : Type 0 where
+  pub loads : Bool
   pub opening : List Stored
   pub journal : ℕ
   pub seats : List Seated
@@ -19,8 +21,9 @@ pub record Parts : Type 0 where
   pub starts : List ℕ
   pub rest : Back
 
-abbrev pub parts : Inside → Parts
-parts s = record {
+abbrev pub parts : {L : Type 0} → Bool → Inside L → Parts
+parts loads s = record {
+  loads = loads;
   opening = s.opening.value;
   journal = s.journal;
   seats = s.seats.items;
@@ -34,10 +37,10 @@ abbrev pub running_on : Seated → Option Running
 running_on x = x.running
 
 abbrev pub world_of : Parts → World
-world_of p = record { opening = p.opening; journal = p.journal; running = map running_on p.seats; finished = p.finished }
+world_of p = record { loads = p.loads; opening = p.opening; journal = p.journal; running = map running_on p.seats; finished = p.finished }
 
-abbrev pub world : Inside → World
-world s = world_of (parts s)
+abbrev pub reading : {L : Type 0} → Bool → Inside L → ReadThrough L
+reading loads s = record { world = world_of (parts loads s); loader = s.loader.now }
 
 -- the seat at this place: its stripe's history is that stripe's part of the finished calls, and what it stores is what they leave; the call that runs has room for its record, and is of a key of the stripe
 pub record IsAt (w : World) (i : ℕ) (x : Seated) : Type 0 where
@@ -49,6 +52,7 @@ pub record IsAt (w : World) (i : ℕ) (x : Seated) : Type 0 where
   pub left : (k : ℤ) → IsOf x.stripe k → entry_of x.stripe k ≡ entries_now w k
   pub room : IsSome x.running → length x.stripe.records < w.journal
   pub of : (r : Running) → x.running ≡ Some r → IsOf x.stripe (key_of r.call)
+  pub loads : HasLoader w.loads x.stripe
 
 -- each stripe has its seat
 abbrev pub AreSeats : World → List Seated → Type 0
@@ -63,12 +67,14 @@ pub record IsSteady (p : Parts) : Type 0 where
   pub journal : IsJournal p.journal
   pub same : length p.seats ≡ length p.opening
   pub seats : AreSeats (world_of p) p.seats
-  pub legal : IsLegal false (opening_entries (world_of p)) p.finished
+  pub legal : IsLegal p.loads (opening_entries (world_of p)) p.finished
   pub room : length p.finished + sum_by room_of p.seats ≡ length p.seats * p.journal
   pub reserved : length p.seats * p.journal ≤ p.reserved
   pub numbers : (caller : ℕ) → caller < 256 → slice_index p.starts caller ≡ starts_of (world_of p) caller
   pub callers : length p.starts ≡ 256
   pub rest : p.rest ≡ none_back (length p.opening)
 
-abbrev pub IsSound : Inside → Type 0
-IsSound s = IsSteady (parts s)
+-- with a loader that gives such answers and is asked, or isn't
+pub record IsSound {L : Type 0} (gives : ℤ → LoadAnswer → Type 0) (loads : Bool) (s : Inside L) : Type 0 where
+  pub steady : IsSteady (parts loads s)
+  pub given : AnswersAreGiven gives (world_of (parts loads s))

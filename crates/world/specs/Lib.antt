@@ -1,10 +1,11 @@
-pub mod World
-pub mod Seen
-pub mod Refused
-pub mod Lawful
 pub mod Forward
-pub mod Seated
 pub mod Going
-pub mod Seating
 pub mod Inside
+pub mod Lawful
+pub mod Refused
 pub mod Room
+pub mod Seated
+pub mod Seating
+pub mod Seen
+pub mod Stepping
+pub mod World

@@ -4,9 +4,10 @@ use Rattle.world.specs.declared.event.Applied.{Applied}
 use Rattle.world.specs.declared.event.Applied.TheVariants.{Done, Ignored, Refused}
 use Rattle.stripe.specs.declared.refusal.BeginRefusal.{BeginRefusal}
 use Rattle.stripe.specs.declared.refusal.BeginRefusal.TheVariants.{JournalFull, NoMemory}
+use Rattle.jtypes.specs.declared.loader.LoadAnswer.{LoadAnswer}
 use Rattle.stripe.specs.History.{key_of}
 use Rattle.stripe.specs.Kept.{may_make}
-use Rattle.world.specs.World.{World, Running, Progress, Working, Settled, Event, Start, Step, Finish, entries_now, stripe_in, history_of, apply, run}
+use Rattle.world.specs.World.{World, Running, Progress, Working, Settled, Event, Start, Step, Finish, entries_now, stripe_in, history_of, Happens, Runs, none, more}
 
 abbrev pub is_working : Progress → Bool
 is_working (Working c s) = true
@@ -42,7 +43,7 @@ is_start_on_full w _ = false
 
 -- a possible start of a call that may make an entry, on a key without one
 abbrev pub is_start_on_absent : World → Event → Bool
-is_start_on_absent w (Start caller call) = is_possible w (Start caller call) && (may_make false call && not (is_some (entries_now w (key_of call))))
+is_start_on_absent w (Start caller call) = is_possible w (Start caller call) && (may_make w.loads call && not (is_some (entries_now w (key_of call))))
 is_start_on_absent w _ = false
 
 -- what a refused event is
@@ -50,29 +51,32 @@ abbrev pub IsRefusable : World → Event → BeginRefusal → Type 0
 IsRefusable w e JournalFull = IsTrue (is_start_on_full w e)
 IsRefusable w e NoMemory = IsTrue (is_start_on_absent w e)
 
--- no event stands on a full history
-abbrev pub HaveRoom : World → List Event → Type 0
-HaveRoom w [] = Unit {0}
-HaveRoom w (e ∷ events) = (is_start_on_full w e ≡ false) × HaveRoom (apply w e) events
+-- none of the events that led to the other world stood on a full history
+abbrev pub HadRoom : {gives : ℤ → LoadAnswer → Type 0} {w : World} {events : List Event} {v : World} → Runs gives w events v → Type 0
+HadRoom none = Unit {0}
+HadRoom (more {v} e runs happens) = HadRoom runs × (is_start_on_full v e ≡ false)
+
+-- these events lead from the one world to the other, and had room
+abbrev pub RunsWithRoom : (ℤ → LoadAnswer → Type 0) → World → List Event → World → Type 0
+RunsWithRoom gives w events v = (runs : Runs gives w events v) × HadRoom runs
 
 -- the events before this place were done or not possible, and the one at the place is refused
-pub record IsStopped (w : World) (events : List Event) (place : ℕ) (refusal : BeginRefusal) (new : World) : Type 0 where
+pub record IsStopped (gives : ℤ → LoadAnswer → Type 0) (w : World) (events : List Event) (place : ℕ) (refusal : BeginRefusal) (new : World) : Type 0 where
   pub event : Event
   pub there : slice_get events place ≡ Some event
-  pub before : new ≡ run w (take place events)
-  pub room : HaveRoom w (take place events)
+  pub before : RunsWithRoom gives w (take place events) new
   pub refused : IsRefusable new event refusal
 
 -- a call on this key runs
-pub record Runs (w : World) (k : ℤ) : Type 0 where
+pub record RunsOn (w : World) (k : ℤ) : Type 0 where
   pub stripe : ℕ
   pub running : Running
   pub there : slice_get w.running stripe ≡ Some (Some running)
   pub key : key_of running.call ≡ k
 
 -- what became of an event
-pub record IsApplied (w : World) (e : Event) (a : Applied) (new : World) : Type 0 where
-  pub world : ((r : BeginRefusal) → ¬ (a ≡ Refused r)) → new ≡ apply w e
+pub record IsApplied (gives : ℤ → LoadAnswer → Type 0) (w : World) (e : Event) (a : Applied) (new : World) : Type 0 where
+  pub world : ((r : BeginRefusal) → ¬ (a ≡ Refused r)) → Happens gives w e new
   pub same : ¬ (a ≡ Done) → new ≡ w
   pub ignored : (a ≡ Ignored) ↔ (is_possible w e ≡ false)
   pub full : (a ≡ Refused JournalFull) ↔ IsTrue (is_start_on_full w e)
@@ -80,7 +84,7 @@ pub record IsApplied (w : World) (e : Event) (a : Applied) (new : World) : Type 
 
 -- no key's entry changes while a call on it runs
 abbrev pub KeepsEntries : World → World → Type 0
-KeepsEntries old new = (k : ℤ) → Runs old k → Runs new k → entries_now new k ≡ entries_now old k
+KeepsEntries old new = (k : ℤ) → RunsOn old k → RunsOn new k → entries_now new k ≡ entries_now old k
 
 -- no call runs
 abbrev pub NoneRuns : World → Type 0

@@ -1,18 +1,20 @@
 -- A world: running calls, and the calls that are finished. One event is a start, one instruction, or a finish (JSR 107, Cache and EntryProcessor).
-use Rattle.std.specs.Prelude.{ℕ, ◌+◌, ◌==◌, Bool, false, List, [], ◌∷◌, ◌++◌, Option, Some, None, is_some, slice_get, slice_set, replicate, length, filter, count_by}
-use Rattle.jtypes.specs.Entry.{Entry}
+use Rattle.std.specs.Prelude.{◌≡◌, ℕ, ℤ, ◌+◌, ◌==◌, Bool, true, false, not, ◌&&◌, List, [], ◌∷◌, ◌++◌, Option, Some, None, is_some, slice_get, slice_set, replicate, length, filter, count_by}
 use Rattle.jtypes.specs.declared.loader.LoadAnswer.{LoadAnswer}
+use Rattle.jtypes.specs.Lists.{only_if}
+use Rattle.jtypes.specs.Loading.{IsGiven, entry_loaded}
+use Rattle.jtypes.specs.Entry.{Entry}
 use Rattle.typecheck.specs.Typing.{Class}
-use Rattle.verdict.specs.Machine.{State, Next, Goes, Ends, start, step}
+use Rattle.verdict.specs.Machine.{State, Next, Goes, Ends, start, asks, step_with}
 use Rattle.stripe.specs.declared.call.Reply.{Reply}
 use Rattle.stripe.specs.declared.call.Reply.TheVariants.{Result, Done, Value, Flag}
-use Rattle.stripe.specs.History.{Call, Invoke, Get, Put, Remove, Contains, Record, Entries, key_of, entries_after, invocation, stripe_of}
+use Rattle.stripe.specs.History.{Call, Invoke, Get, Put, Remove, Contains, Record, Entries, key_of, entries_after, invocation, told_by, stripe_of, AreGiven}
 use Rattle.stripe.specs.Stored.{Stored, entry_among}
 
--- how far a running call is: in a state of its class, or final, with its reply, the entry that it leaves, and what a loader answered if it was asked
+-- how far a running call is: in a state of its class, or final, with its reply, the entry that it leaves, and what the loader answered if it was asked
 pub data Progress : Type 0 where
   Working : Class → State → Progress
-  Settled : Reply → Entry → (asked : Option LoadAnswer) → Progress
+  Settled : Reply → Entry → Option LoadAnswer → Progress
 
 pub record Running : Type 0 where
   pub caller : ℕ
@@ -20,12 +22,19 @@ pub record Running : Type 0 where
   pub call : Call
   pub progress : Progress
 
--- the tables that it opened with, how many records each stripe's history may have, the running call of each stripe, and the finished calls in their order
+-- whether it has a loader that is asked, the tables that it opened with, how many records each stripe's history may have, the running call of each stripe, and
+-- the finished calls in their order
 pub record World : Type 0 where
+  pub loads : Bool
   pub opening : List Stored
   pub journal : ℕ
   pub running : List (Option Running)
   pub finished : List Record
+
+-- a world that reads through a loader (JSR 107, CacheLoader)
+pub record ReadThrough (X : Type 0) : Type 0 where
+  pub world : World
+  pub loader : X
 
 pub data Event : Type 0 where
   Start : (caller : ℕ) → Call → Event
@@ -33,8 +42,8 @@ pub data Event : Type 0 where
   Finish : (stripe : ℕ) → Event
 
 -- no call runs, and none is finished
-abbrev pub opened : List Stored → ℕ → World
-opened opening journal = record { opening = opening; journal = journal; running = replicate (length opening) None; finished = [] }
+abbrev pub opened : Bool → List Stored → ℕ → World
+opened loads opening journal = record { loads = loads; opening = opening; journal = journal; running = replicate (length opening) None; finished = [] }
 
 abbrev pub opening_entries : World → Entries
 opening_entries w = entry_among w.opening
@@ -66,13 +75,18 @@ abbrev pub begun : Class → Option State → Option Progress
 begun c None = None
 begun c (Some s) = Some (Working c s)
 
--- a call that isn't an invocation is final at its start; no loader is asked
-abbrev pub progress_of : Entry → Call → Option Progress
-progress_of before (Invoke c k args) = begun c (start c (invocation false k args before))
-progress_of before (Get k) = Some (Settled (Value before) before None)
-progress_of before (Put k v) = Some (Settled Done (Some v) None)
-progress_of before (Remove k) = Some (Settled (Flag (is_some before)) None None)
-progress_of before (Contains k) = Some (Settled (Flag (is_some before)) before None)
+-- a get of an absent key is told what the loader answers, if there is one
+abbrev pub got : Bool → LoadAnswer → Entry → Progress
+got true a None = Settled (told_by a) (entry_loaded None a) (Some a)
+got loads a before = Settled (Value before) before None
+
+-- a call that isn't an invocation is final at its start; the loader answers this if it is asked then
+abbrev pub progress_of : Bool → LoadAnswer → Entry → Call → Option Progress
+progress_of loads a before (Invoke c k args) = begun c (start c (invocation loads k args before))
+progress_of loads a before (Get k) = Some (got loads a before)
+progress_of loads a before (Put k v) = Some (Settled Done (Some v) None)
+progress_of loads a before (Remove k) = Some (Settled (Flag (is_some before)) None None)
+progress_of loads a before (Contains k) = Some (Settled (Flag (is_some before)) before None)
 
 -- ---- numbers
 
@@ -97,9 +111,9 @@ after_begin w caller call None = w
 after_begin w caller call (Some p) = with_running w (stripe_in w call) (Some (running_call caller (starts_of w caller) call p))
 
 -- a start is possible where no call runs on the key's stripe
-abbrev pub after_start : World → ℕ → Call → Option (Option Running) → World
-after_start w caller call (Some None) = after_begin w caller call (progress_of (entries_now w (key_of call)) call)
-after_start w caller call _ = w
+abbrev pub after_start : LoadAnswer → World → ℕ → Call → Option (Option Running) → World
+after_start a w caller call (Some None) = after_begin w caller call (progress_of w.loads a (entries_now w (key_of call)) call)
+after_start a w caller call _ = w
 
 abbrev pub progress_after : Class → State → Option Next → Progress
 progress_after c s None = Working c s
@@ -110,13 +124,13 @@ abbrev pub with_progress : Running → Progress → Running
 with_progress r p = running_call r.caller r.number r.call p
 
 -- a step is possible where a call runs that is not final
-abbrev pub stepped : World → ℕ → Running → Progress → World
-stepped w i r (Working c s) = with_running w i (Some (with_progress r (progress_after c s (step c s))))
-stepped w i r (Settled reply after asked) = w
+abbrev pub stepped : LoadAnswer → World → ℕ → Running → Progress → World
+stepped a w i r (Working c s) = with_running w i (Some (with_progress r (progress_after c s (step_with c a s))))
+stepped a w i r (Settled reply after asked) = w
 
-abbrev pub after_step : World → ℕ → Option (Option Running) → World
-after_step w i (Some (Some r)) = stepped w i r r.progress
-after_step w i _ = w
+abbrev pub after_step : LoadAnswer → World → ℕ → Option (Option Running) → World
+after_step a w i (Some (Some r)) = stepped a w i r r.progress
+after_step a w i _ = w
 
 abbrev pub record_of_call : Running → Reply → Entry → Option LoadAnswer → Record
 record_of_call r reply after asked = record { caller = r.caller; number = r.number; call = r.call; reply = reply; after = after; asked = asked }
@@ -134,13 +148,58 @@ abbrev pub after_finish : World → ℕ → Option (Option Running) → World
 after_finish w i (Some (Some r)) = finished w i r r.progress
 after_finish w i _ = w
 
--- the world after an event; one that is not possible changes nothing
-abbrev pub apply : World → Event → World
-apply w (Start caller call) = after_start w caller call (slice_get w.running (stripe_in w call))
-apply w (Step i) = after_step w i (slice_get w.running i)
-apply w (Finish i) = after_finish w i (slice_get w.running i)
+-- the world after an event, in which the loader answers this if it is asked; one that is not possible changes nothing
+abbrev pub apply : LoadAnswer → World → Event → World
+apply a w (Start caller call) = after_start a w caller call (slice_get w.running (stripe_in w call))
+apply a w (Step i) = after_step a w i (slice_get w.running i)
+apply a w (Finish i) = after_finish w i (slice_get w.running i)
 
--- the world after these events
-abbrev pub run : World → List Event → World
-run w [] = w
-run w (e ∷ events) = run (apply w e) events
+-- ---- whom the loader is asked for
+
+-- the key that a state asks for, if it asks
+abbrev pub asked_by : Progress → Option ℤ
+asked_by (Working c s) = only_if (asks c s) (Some s.call.key)
+asked_by (Settled reply after asked) = None
+
+abbrev pub asked_on : Option (Option Running) → Option ℤ
+asked_on (Some (Some r)) = asked_by r.progress
+asked_on _ = None
+
+-- a get asks where there is a loader and no entry
+abbrev pub asked_by_get : Bool → Entry → Call → Option ℤ
+asked_by_get loads before (Get k) = only_if (loads && not (is_some before)) (Some k)
+asked_by_get loads before call = None
+
+-- it does so at its start, if that is possible
+abbrev pub asked_at_start : World → Call → Option (Option Running) → Option ℤ
+asked_at_start w call (Some None) = asked_by_get w.loads (entries_now w (key_of call)) call
+asked_at_start w call o = None
+
+abbrev pub asked_in : World → Event → Option ℤ
+asked_in w (Start caller call) = asked_at_start w call (slice_get w.running (stripe_in w call))
+asked_in w (Step i) = asked_on (slice_get w.running i)
+asked_in w (Finish i) = None
+
+-- where an event asks for a key, this is an answer that the loader gives for it
+abbrev pub MayAnswer : (ℤ → LoadAnswer → Type 0) → LoadAnswer → Option ℤ → Type 0
+MayAnswer gives a None = Unit {0}
+MayAnswer gives a (Some k) = gives k a
+
+-- an event happens, and where it asks the loader that gives the answer
+abbrev pub Happens : (ℤ → LoadAnswer → Type 0) → World → Event → World → Type 0
+Happens gives w e new = (a : LoadAnswer) × MayAnswer gives a (asked_in w e) × (new ≡ apply a w e)
+
+-- these events lead from the one world to the other
+pub data Runs (gives : ℤ → LoadAnswer → Type 0) (w : World) : List Event → World → Type 0 where
+  none : Runs gives w [] w
+  more : {events : List Event} {v u : World} (e : Event) → Runs gives w events v → Happens gives v e u → Runs gives w (events ++ e ∷ []) u
+
+-- what the loader answered to a call that runs, if it was asked
+abbrev pub answer_to : Progress → Option LoadAnswer
+answer_to (Working c s) = s.now.asked
+answer_to (Settled reply after asked) = asked
+
+-- the loader gives each of its answers, to calls that are finished and to those that run
+pub record AnswersAreGiven (gives : ℤ → LoadAnswer → Type 0) (w : World) : Type 0 where
+  pub finished : AreGiven gives w.finished
+  pub running : (i : ℕ) (r : Running) → slice_get w.running i ≡ Some (Some r) → IsGiven gives (key_of r.call) (answer_to r.progress)

@@ -1,29 +1,33 @@
 //! A stripe with the call that runs on it.
 
-ghost use Rattle.std.specs.Prelude.{◌≡◌, ◌↔◌, ◌≤◌, IfSome, IfNone, IsSome, IsTrue, None, Some, map, length, suc, false, if◌then◌else◌};
+ghost use Rattle.std.specs.Prelude.{◌≡◌, ◌↔◌, ◌≤◌, IfSome, IfNone, IsSome, IsTrue, None, Some, map, length, suc, if◌then◌else◌};
 ghost use Rattle.jtypes.specs.Profile.{Second};
 ghost use Rattle.bounds.specs.Paths.{step_limit};
 ghost use Rattle.verdict.specs.Machine.{State};
+ghost use Rattle.machine.specs.declared.done.Done.{Done as DoneSeen};
+ghost use Rattle.machine.specs.Asking.{KeepsGiven};
 ghost use Rattle.machine.specs.Running.{IsRunningWith};
 ghost use Rattle.stripe.specs.Seen.{call_of};
-ghost use Rattle.world.specs.Going.{is_ended, Follows};
+ghost use Rattle.world.specs.Going.{is_ended};
 ghost use Rattle.world.specs.Seated.{AreIdle};
+ghost use Rattle.world.specs.Stepping.{IsCounted, StepsOn};
 
 use crate::event::Applied;
-use jtypes::NoLoader;
+use jtypes::{LoadAnswer, Loader};
 use machine::{Done, Going, Workspace};
 use mutentry::effect_leads_from_before_to_now;
 use soundness::starts_and_counts;
 use std::marker::Model;
-use stripe::{Call, Record, Stripe};
+use stripe::{Call, Record, Stripe, ask};
 use verify::{Verified, is_checked};
 
-/// A stripe, the workspace of its calls, and how the invocation that runs on it ended, if it has.
+/// A stripe, the workspace of its calls, how the invocation that runs on it ended, if it has, and what the loader answered to a `get`.
 #[derive(Drop)]
 pub struct Seat<'a> {
     stripe: Stripe<'a>,
     workspace: Workspace,
     done: Option<Done>,
+    asked: Option<LoadAnswer>,
 }
 
 impl<'a> Model for Seat<'a> {
@@ -56,17 +60,21 @@ fn is_ended(call: &Call<'_>, done: &Option<Done>) -> bool
 }
 
 /// One instruction of an invocation of the class.
-fn one_step(workspace: &mut Workspace, class: &Verified) -> Going
-    requires { (s : State) × IsRunningWith false class.now s workspace.old }
-    ensures follows { (s : State) → IsRunningWith false class.now s workspace.old → Follows class.now s result workspace.new }
-    ensures counts { (s : State) → IsRunningWith false class.now s workspace.old → result ≡ Going.Going → workspace.new.steps ≡ suc workspace.old.steps }
-    ensures few { (s : State) → IsRunningWith false class.now s workspace.old → result ≡ Going.Going → workspace.new.steps ≤ step_limit Second }
+fn one_step<L: Loader>(workspace: &mut Workspace, class: &Verified, loader: &L) -> Going
+    requires { (s : State) × IsRunningWith L.ASKS class.now s workspace.old }
+    ensures steps { (s : State) → IsRunningWith L.ASKS class.now s workspace.old → StepsOn (L.gives loader.now) class.now s result workspace.new }
+    ensures counts { (s : State) → IsRunningWith L.ASKS class.now s workspace.old → result ≡ Going.Going → workspace.new.steps ≡ suc workspace.old.steps }
+    ensures few { (s : State) → IsRunningWith L.ASKS class.now s workspace.old → result ≡ Going.Going → workspace.new.steps ≤ step_limit Second }
+    ensures counted { IsCounted class.now workspace.new }
+    ensures given { KeepsGiven (L.gives loader.now) workspace.old workspace.new }
+    ensures told { (d : DoneSeen) → result ≡ Going.Ended d → d.asked ≡ workspace.new.entry.now.asked }
+    ensures key { workspace.new.key ≡ workspace.old.key }
 {
     is_checked(class);
     starts_and_counts();
     let _bounds = class.bounds();
     let _linked = class.linked();
-    workspace.step(class, &NoLoader)
+    workspace.step(class, loader)
 }
 
 impl<'a> Seat<'a> {
@@ -76,7 +84,7 @@ impl<'a> Seat<'a> {
     ghost use Rattle.stripe.specs.Kept.{IsOf, entry_of, is_absent};
     ghost use Rattle.stripe.specs.Seen.{call_of, record_of};
     ghost use Rattle.world.specs.Refused.{works, is_final};
-    ghost use Rattle.world.specs.Seated.{IsBegun, IsEnded, turned};
+    ghost use Rattle.world.specs.Seated.{IsEnded, Starts, Turns, HasLoader, AnswerIsGiven};
     ghost use Rattle.world.specs.Forward.{turns_on};
 
     /// A stripe on which no call runs.
@@ -89,26 +97,40 @@ impl<'a> Seat<'a> {
             stripe,
             workspace,
             done: None,
+            asked: None,
         }
     }
 
-    /// Begins a call, if none runs.
-    pub fn start(&mut self, caller: u8, number: u32, call: Call<'a>) -> Applied
+    /// Begins a call, if none runs. A `get` of an absent key asks the loader, if there is one.
+    pub fn start<L: Loader>(
+        &mut self,
+        caller: u8,
+        number: u32,
+        call: Call<'a>,
+        loader: &L,
+    ) -> Applied
         requires { IsOf self.old.stripe (key_of (call_of call)) }
         ensures ignored { (result ≡ Applied.Ignored) ↔ IsSome self.old.running }
-        ensures done { result ≡ Applied.Done → IsBegun self.old (record { caller = caller; number = number; call = call_of call.entry; loads = false }) self.new }
+        ensures done { result ≡ Applied.Done → Starts (L.gives loader.now) self.old (record { caller = caller; number = number; call = call_of call.entry; loads = L.ASKS }) self.new }
         ensures same { ¬ (result ≡ Applied.Done) → self.new ≡ self.old }
         ensures full { (result ≡ Applied.Refused JournalFull) ↔ ((self.old.running ≡ None) × (length self.old.stripe.records ≡ self.old.stripe.journal)) }
-        ensures memory { result ≡ Applied.Refused NoMemory → IsTrue (is_absent false self.old.stripe.stored (call_of call.entry)) }
+        ensures memory { result ≡ Applied.Refused NoMemory → IsTrue (is_absent L.ASKS self.old.stripe.stored (call_of call.entry)) }
     {
         if self.stripe.open().is_some() {
             return Applied::Ignored;
         }
-        match self.stripe.begin(caller, number, call, &NoLoader) {
+        match self.stripe.begin(caller, number, call, loader) {
             Ok(before) => {
                 self.done = None;
-                if let Call::Invoke { class, key, args } = call {
-                    self.workspace.start(class, key, before, &args.args());
+                self.asked = None;
+                match call {
+                    Call::Invoke { class, key, args } => {
+                        self.workspace.start(class, key, before, &args.args());
+                    }
+                    Call::Get { key } => self.asked = ask(loader, key, before),
+                    Call::Put { .. } => {}
+                    Call::Remove { .. } => {}
+                    Call::Contains { .. } => {}
                 }
                 Applied::Done
             }
@@ -117,10 +139,12 @@ impl<'a> Seat<'a> {
     }
 
     /// One instruction of the call that runs, if it isn't final.
-    pub fn step(&mut self) -> Applied
+    pub fn step<L: Loader>(&mut self, loader: &L) -> Applied
+        requires { HasLoader L.ASKS self.old.stripe }
         ensures answer { result ≡ (if works (Some self.old.running) then Applied.Done else Applied.Ignored) }
         ensures stripe { self.new.stripe ≡ self.old.stripe }
-        ensures running { self.new.running ≡ turned self.old.running }
+        ensures turns { Turns (L.gives loader.now) self.old.running self.new.running }
+        ensures given { AnswerIsGiven (L.gives loader.now) self.old.running → AnswerIsGiven (L.gives loader.now) self.new.running }
         ensures nearer { result ≡ Applied.Done → turns_on (Some self.new.running) < turns_on (Some self.old.running) }
     {
         effect_leads_from_before_to_now();
@@ -133,7 +157,7 @@ impl<'a> Seat<'a> {
         let Call::Invoke { class, .. } = open.call else {
             unreachable!()
         };
-        match one_step(&mut self.workspace, class) {
+        match one_step(&mut self.workspace, class, loader) {
             Going::Going => {}
             Going::Ended(done) => self.done = Some(done),
         }
@@ -151,8 +175,9 @@ impl<'a> Seat<'a> {
         if !is_ended(&open.call, &self.done) {
             return None;
         }
-        let record = self.stripe.commit(self.done, None);
+        let record = self.stripe.commit(self.done, self.asked);
         self.done = None;
+        self.asked = None;
         Some(record)
     }
 

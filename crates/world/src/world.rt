@@ -5,6 +5,7 @@ ghost use Rattle.std.specs.Prelude.{◌≡◌, ◌↔◌, ℕ, ℤ, ◌<◌, ◌
 use crate::event::{Applied, Event};
 use crate::room::{give_back, room_for, seated};
 use crate::seat::{Seat, are_idle};
+use jtypes::Loader;
 use std::alloc::Global;
 use std::marker::Model;
 use std::snapshot::Snapshot;
@@ -21,45 +22,47 @@ fn no_starts() -> [u32; CALLERS]
     [0; CALLERS]
 }
 
-/// The stripes of a cache with the calls that run on them, one a stripe, and the calls that are finished.
+/// The stripes of a cache with the calls that run on them, one a stripe, and the calls that are finished. A `get` or a
+/// `getValue` of an absent key asks the loader, if there is one.
 #[derive(Drop)]
-pub struct World<'a> {
+pub struct World<'a, L: Loader> {
     seats: Vec<Seat<'a>>,
     finished: Vec<Record<'a>>,
     starts: [u32; CALLERS],
     journal: usize,
     rest: Rest<'a>,
     opening: Snapshot<Tables>,
+    loader: &'a L,
 }
 
-impl<'a> Model for World<'a> {
+impl<'a, L: Loader> Model for World<'a, L> {
     ghost use Rattle.std.specs.Coded.{codes};
     ghost use Rattle.stripe.specs.Stored.{stored_code};
     ghost use Rattle.world.specs.World as definition;
 
-    ghost Value = { definition.World };
+    ghost Value = { definition.ReadThrough L };
 
-    ghost coded = { Prim.hlevel (codes, stored_code) };
+    ghost coded = { Prim.hlevel (codes, stored_code, L.code) };
 
-    ghost use Rattle.world.specs.Inside.{IsSound, world};
+    ghost use Rattle.world.specs.Inside.{IsSound, reading};
 
-    ghost view = { world };
+    ghost view = { reading L.ASKS };
 
-    ghost invariant = { IsSound };
+    ghost invariant = { λ w. IsSound (L.gives w.loader.now) L.ASKS w };
 }
 
-impl<'a> World<'a> {
+impl<'a, L: Loader> World<'a, L> {
     ghost use Rattle.std.specs.Prelude.{◌≡◌, ◌↔◌, ℕ, ℤ, ◌<◌, ◌≤◌, length, map, take, false, IsTrue, Err, IfOk, IfErr, OnOk};
     ghost use Rattle.stripe.specs.declared.refusal.BeginRefusal.{BeginRefusal};
     ghost use Rattle.stripe.specs.declared.refusal.BeginRefusal.TheVariants.{JournalFull, NoMemory};
     ghost use Rattle.stripe.specs.declared.refusal.OpenRefusal.TheVariants.{BadCount};
-    ghost use Rattle.stripe.specs.History.{IsLegal};
+    ghost use Rattle.stripe.specs.History.{IsLegal, AreGiven};
     ghost use Rattle.stripe.specs.Seen.{call_of, record_of};
     ghost use Rattle.stripe.specs.Stored.{entry_among};
     ghost use Rattle.stripe.specs.Tables.{IsJournal};
-    ghost use Rattle.world.specs.World.{Start, Step, Finish, opened, opening_entries, entries_now, history_of, apply, run};
+    ghost use Rattle.world.specs.World.{Start, Step, Finish, opened, opening_entries, entries_now, history_of, Happens};
     ghost use Rattle.world.specs.Seen.{event_of};
-    ghost use Rattle.world.specs.Refused.{is_possible, is_start_on_full, is_start_on_absent, IsApplied, KeepsEntries, HaveRoom, IsStopped, NoneRuns};
+    ghost use Rattle.world.specs.Refused.{is_possible, is_start_on_full, is_start_on_absent, IsApplied, KeepsEntries, RunsWithRoom, IsStopped, NoneRuns};
     ghost use Rattle.world.specs.Forward.{GoesForward};
     ghost use Rattle.world.specs.Lawful.{IsLawful};
 
@@ -69,8 +72,10 @@ impl<'a> World<'a> {
         alloc: Global,
         tables: Tables,
         journal: usize,
-    ) -> Result<World<'a>, (OpenRefusal, Tables)>
-        ensures opened { IfOk result (λ w. w ≡ opened tables journal) }
+        loader: &'a L,
+    ) -> Result<World<'a, L>, (OpenRefusal, Tables)>
+        ensures opened { IfOk result (λ w. w.world ≡ opened L.ASKS tables journal) }
+        ensures loader { IfOk result (λ w. w.loader ≡ loader.now) }
         ensures count { IfErr result (λ e. (e.0 ≡ BadCount) ↔ (¬ IsJournal journal)) }
         ensures journal { OnOk result (IsJournal journal) }
         ensures given { IfErr result (λ e. e.1 ≡ tables) }
@@ -91,6 +96,7 @@ impl<'a> World<'a> {
             journal,
             rest,
             opening,
+            loader,
         })
     }
 
@@ -98,13 +104,10 @@ impl<'a> World<'a> {
     ///
     /// What is refused for want of room or memory is no event of the definitions: it changes nothing.
     pub fn apply(&mut self, event: Event<'a>) -> Applied
-        ensures world { ((r : BeginRefusal) → ¬ (result ≡ Applied.Refused r)) → self.new ≡ apply self.old (event_of event.entry) }
-        ensures same { ¬ (result ≡ Applied.Done) → self.new ≡ self.old }
-        ensures ignored { (result ≡ Applied.Ignored) ↔ (is_possible self.old (event_of event.entry) ≡ false) }
-        ensures full { (result ≡ Applied.Refused JournalFull) ↔ IsTrue (is_start_on_full self.old (event_of event.entry)) }
-        ensures memory { result ≡ Applied.Refused NoMemory → IsTrue (is_start_on_absent self.old (event_of event.entry)) }
-        ensures held { KeepsEntries self.old self.new }
-        ensures forward { result ≡ Applied.Done → GoesForward self.old (event_of event.entry) self.new }
+        ensures applied { IsApplied (L.gives self.old.loader) self.old.world (event_of event.entry) result self.new.world }
+        ensures held { KeepsEntries self.old.world self.new.world }
+        ensures forward { result ≡ Applied.Done → GoesForward self.old.world (event_of event.entry) self.new.world }
+        ensures loader { self.new.loader ≡ self.old.loader }
     {
         match event {
             Event::Start { caller, call } => self.start(caller, call),
@@ -115,14 +118,15 @@ impl<'a> World<'a> {
 
     /// Starts a call, if none runs on its stripe.
     fn start(&mut self, caller: u8, call: Call<'a>) -> Applied
-        ensures applied { IsApplied self.old (Start caller (call_of call.entry)) result self.new }
-        ensures held { KeepsEntries self.old self.new }
-        ensures forward { result ≡ Applied.Done → GoesForward self.old (Start caller (call_of call.entry)) self.new }
+        ensures applied { IsApplied (L.gives self.old.loader) self.old.world (Start caller (call_of call.entry)) result self.new.world }
+        ensures held { KeepsEntries self.old.world self.new.world }
+        ensures forward { result ≡ Applied.Done → GoesForward self.old.world (Start caller (call_of call.entry)) self.new.world }
+        ensures loader { self.new.loader ≡ self.old.loader }
     {
         let place = stripe_of(self.seats.len(), call.key());
         let number = self.starts[caller as usize];
         let seat = &mut self.seats[place];
-        let applied = seat.start(caller, number, call);
+        let applied = seat.start(caller, number, call, self.loader);
         if let Applied::Done = applied {
             self.starts[caller as usize] = number + 1;
         }
@@ -131,21 +135,23 @@ impl<'a> World<'a> {
 
     /// One instruction of the call that runs on a stripe.
     fn step(&mut self, stripe: usize) -> Applied
-        ensures applied { IsApplied self.old (Step stripe) result self.new }
-        ensures held { KeepsEntries self.old self.new }
-        ensures forward { result ≡ Applied.Done → GoesForward self.old (Step stripe) self.new }
+        ensures applied { IsApplied (L.gives self.old.loader) self.old.world (Step stripe) result self.new.world }
+        ensures held { KeepsEntries self.old.world self.new.world }
+        ensures forward { result ≡ Applied.Done → GoesForward self.old.world (Step stripe) self.new.world }
+        ensures loader { self.new.loader ≡ self.old.loader }
     {
         if stripe >= self.seats.len() {
             return Applied::Ignored;
         }
         let seat = &mut self.seats[stripe];
-        seat.step()
+        seat.step(self.loader)
     }
 
     /// Writes down the call that runs on a stripe, if it is final.
     fn finish(&mut self, stripe: usize) -> Applied
-        ensures applied { IsApplied self.old (Finish stripe) result self.new }
-        ensures held { KeepsEntries self.old self.new }
+        ensures applied { IsApplied (L.gives self.old.loader) self.old.world (Finish stripe) result self.new.world }
+        ensures held { KeepsEntries self.old.world self.new.world }
+        ensures loader { self.new.loader ≡ self.old.loader }
     {
         if stripe >= self.seats.len() {
             return Applied::Ignored;
@@ -160,11 +166,12 @@ impl<'a> World<'a> {
 
     /// What these events do, one after the other, up to the first that is refused; of that one its place, from 0.
     pub fn run(&mut self, events: &[Event<'a>]) -> Result<(), (usize, BeginRefusal)>
-        ensures ok { OnOk result (self.new ≡ run self.old (map event_of events.now)) }
-        ensures room { OnOk result (HaveRoom self.old (map event_of events.now)) }
-        ensures stopped { IfErr result (λ e. IsStopped self.old (map event_of events.now) e.0 e.1 self.new) }
-        ensures opening { self.new.opening ≡ self.old.opening }
-        ensures lawful { IsLawful self.new.opening self.new.finished (entries_now self.new) }
+        ensures ok { OnOk result (RunsWithRoom (L.gives self.old.loader) self.old.world (map event_of events.now) self.new.world) }
+        ensures stopped { IfErr result (λ e. IsStopped (L.gives self.old.loader) self.old.world (map event_of events.now) e.0 e.1 self.new.world) }
+        ensures opening { self.new.world.opening ≡ self.old.world.opening }
+        ensures lawful { IsLawful L.ASKS self.new.world.opening self.new.world.finished (entries_now self.new.world) }
+        ensures given { AreGiven (L.gives self.new.loader) self.new.world.finished }
+        ensures loader { self.new.loader ≡ self.old.loader }
     {
         for (place, event) in events.iter().enumerate() {
             if let Applied::Refused(refusal) = self.apply(*event) {
@@ -177,26 +184,28 @@ impl<'a> World<'a> {
     }
 
     /// The finished calls are a legal history from the opening entries, and so are those of each stripe: each answers on the entry
-    /// that those before it leave.
+    /// that those before it leave. What the loader answered to them, it gives.
     pub fn is_legal(&self)
-        ensures legal { IsLegal false (opening_entries self.now) self.now.finished }
-        ensures lawful { IsLawful self.now.opening self.now.finished (entries_now self.now) }
+        ensures legal { IsLegal L.ASKS (opening_entries self.now.world) self.now.world.finished }
+        ensures lawful { IsLawful L.ASKS self.now.world.opening self.now.world.finished (entries_now self.now.world) }
+        ensures given { AreGiven (L.gives self.now.loader) self.now.world.finished }
+        ensures loads { self.now.world.loads ≡ L.ASKS }
     {
         let _seats = &self.seats;
     }
 
     /// How many stripes there are.
     pub fn stripes(&self) -> usize
-        ensures { result ≡ length self.now.opening }
+        ensures { result ≡ length self.now.world.opening }
     {
         self.seats.len()
     }
 
     /// The finished calls of a stripe, in their order: its history.
     pub fn history(&self, stripe: usize) -> &[Record<'a>]
-        requires { stripe < length self.now.opening }
-        ensures history { map record_of result.now ≡ history_of self.now stripe }
-        ensures few { length result.now ≤ self.now.journal }
+        requires { stripe < length self.now.world.opening }
+        ensures history { map record_of result.now ≡ history_of self.now.world stripe }
+        ensures few { length result.now ≤ self.now.world.journal }
     {
         let seat = &self.seats[stripe];
         seat.history()
@@ -204,14 +213,14 @@ impl<'a> World<'a> {
 
     /// The finished calls, in their order.
     pub fn finished(&self) -> &[Record<'a>]
-        ensures { map record_of result.now ≡ self.now.finished }
+        ensures { map record_of result.now ≡ self.now.world.finished }
     {
         &self.finished
     }
 
     /// The entry of a key after the finished calls.
     pub fn entry(&self, key: i64) -> Option<i64>
-        ensures { result ≡ entries_now self.now key }
+        ensures { result ≡ entries_now self.now.world key }
     {
         let place = stripe_of(self.seats.len(), key);
         let seat = &self.seats[place];
@@ -220,19 +229,20 @@ impl<'a> World<'a> {
 
     /// Whether no call runs.
     pub fn is_idle(&self) -> bool
-        ensures { IsTrue result ↔ NoneRuns self.now }
+        ensures { IsTrue result ↔ NoneRuns self.now.world }
     {
         are_idle(&self.seats)
     }
 
     /// The entries, and the finished calls in their order. No call runs.
     pub fn close(self) -> (Tables, Vec<Record<'a>>)
-        requires { NoneRuns self }
-        ensures finished { map record_of result.1.items ≡ self.entry.finished }
-        ensures legal { IsLegal false (opening_entries self.entry) self.entry.finished }
-        ensures left { (k : ℤ) → entry_among result.0 k ≡ entries_now self.entry k }
-        ensures stripes { length result.0 ≡ length self.entry.opening }
-        ensures lawful { IsLawful self.entry.opening (map record_of result.1.items) (entry_among result.0) }
+        requires { NoneRuns self.world }
+        ensures finished { map record_of result.1.items ≡ self.entry.world.finished }
+        ensures legal { IsLegal L.ASKS (opening_entries self.entry.world) self.entry.world.finished }
+        ensures left { (k : ℤ) → entry_among result.0 k ≡ entries_now self.entry.world k }
+        ensures stripes { length result.0 ≡ length self.entry.world.opening }
+        ensures lawful { IsLawful L.ASKS self.entry.world.opening (map record_of result.1.items) (entry_among result.0) }
+        ensures given { AreGiven (L.gives self.entry.loader) self.entry.world.finished }
     {
         let World {
             seats,

@@ -30,7 +30,7 @@ ready t n seats fresh k d h =
     ap (λ (s : Sitting). s.table) (found seats k x.0 d x.1 ∙ fresh.each k x.0 x.1)
 
 -- the seats are in their places still
-served : (d : Opened) (old new : List Sitting) → AreFresh d.table d.seats old → length new ≡ length old
+served : {L : Type 0} (d : Opened L) (old new : List Sitting) → AreFresh d.table d.seats old → length new ≡ length old
     → ((i : ℕ) (s : Sitting) → i < length old → ((slice_index_or new i s).table ≡ (slice_index_or old i s).table) × ((slice_index_or new i s).caller ≡ (slice_index_or old i s).caller) × ((slice_index_or new i s).made ≡ (slice_index_or old i s).made))
     → AreSeats d new
 served d old new fresh same kept = record {

@@ -12,12 +12,12 @@ use Rattle.cache.proofs.Cuts.{may_cut}
 use Rattle.cache.proofs.ends.cut_all.Goals as goal
 
 pub split_seat-cut-requires : goal.split_seat-cut-requires
-split_seat-cut-requires c =
+split_seat-cut-requires g c =
     let i = c.loop-number.invariant in
-    (i.0 ∙ c.requires.board.0, search rules, subst (λ (m : Sat). Splits (Guarded c.args.board.now.key) c.loop-number.pass.id m.0 (cut_left m.0) (cut_right m.0)) (sym i.1) (may_cut c.args.board.now.key c.loop-number.pass.id c.loop-number.number (part 0 [] none_full) c.loop-number.auto.number))
+    (i.0 ∙ c.requires.board.0, search rules, subst (λ (m : Sat). Splits (Guarded g.L.Loader.ASKS (g.L.Loader.gives c.args.board.now.key.loader.value) c.args.board.now.key) c.loop-number.pass.id m.0 (cut_left m.0) (cut_right m.0)) (sym i.1) (may_cut g.L.Loader.ASKS (g.L.Loader.gives c.args.board.now.key.loader.value) c.args.board.now.key c.loop-number.pass.id c.loop-number.number (part 0 [] none_full) c.loop-number.auto.number))
 
 pub loop-number-preserved : goal.loop-number-preserved
-loop-number-preserved c =
+loop-number-preserved g c =
     let i = c.loop-number.invariant in
     let s = c.split_seat-cut.ensures in
     let y : Sitting = record { table = c.split_seat-cut.result.table_id; caller = c.loop-number.number; made = 0; receipts = receipts_of c.new.result.items; full = none_full } in

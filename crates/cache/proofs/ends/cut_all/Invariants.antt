@@ -6,6 +6,6 @@ use Rattle.cache.specs.Opened.{Sitting, fresh_seat}
 use Rattle.cache.proofs.ends.cut_all.Given as goal
 
 abbrev pub invariant-loop-number : goal.invariant-loop-number
-invariant-loop-number l =
+invariant-loop-number g l =
     (l.pass.table_id ≡ l.initial.pass.table_id) × (l.pass.me ≡ (seat_view l.number (part 0 [] none_full), [])) × (length l.list.items + 1 ≡ l.number) × (vec_capacity l.initial.list ≤ vec_capacity l.list)
     × ((c : ℕ) (s : Sitting) → get_elem? l.list.items c ≡ some s → s ≡ fresh_seat l.initial.pass.table_id l.seats (suc c))

@@ -15,15 +15,15 @@ abbrev Lists : Type 0
 Lists = Vec ReceiptKept Global
 
 pub join_seat-requires : goal.join_seat-requires
-join_seat-requires c =
+join_seat-requires g c =
     let i = c.loop-seat.invariant in
     let steps : into_iter_items c.loop-seat.seat-iterator ≡ c.in-Some.seat ∷ into_iter_items c.next.new.self = c.in-Some.ensures.steps.0 in
     let mine = c.seat.invariant.known in
     let there = c.requires.rest (length c.loop-seat.yielded) c.in-Some.seat (at_yielded c.loop-seat.yielded (into_iter_items c.loop-seat.seat-iterator) (into_iter_items c.next.new.self) c.in-Some.seat c.args.rest.items steps (i.0 ∙ c.into_iter-seat-iterator.ensures.into_iter_gives.0)) in
-    (i.1 ∙ ap (λ (s : Sitting). s.table) c.first.view_is ∙ c.requires.board.0, ap (λ (s : Sitting). s.table) c.seat.view_is ∙ there, ap (λ (m : Sat). m.1) mine, search rules, may_join c.args.board.now.key c.loop-seat.pass.id c.loop-seat.pass.me.0 c.seat.inside.pass.id c.seat.inside.pass.me.0 (ap (λ (m : Sat). m.0.held) i.2) (ap (λ (m : Sat). m.0.held) mine))
+    (i.1 ∙ ap (λ (s : Sitting). s.table) c.first.view_is ∙ c.requires.board.0, ap (λ (s : Sitting). s.table) c.seat.view_is ∙ there, ap (λ (m : Sat). m.1) mine, search rules, may_join g.L.Loader.ASKS (g.L.Loader.gives c.args.board.now.key.loader.value) c.args.board.now.key c.loop-seat.pass.id c.loop-seat.pass.me.0 c.seat.inside.pass.id c.seat.inside.pass.me.0 (ap (λ (m : Sat). m.0.held) i.2) (ap (λ (m : Sat). m.0.held) mine))
 
 pub loop-seat-preserved : goal.loop-seat-preserved
-loop-seat-preserved c =
+loop-seat-preserved g c =
     let i = c.loop-seat.invariant in
     let ys = c.loop-seat.yielded in
     let x = c.in-Some.seat in

@@ -4,7 +4,7 @@ use Rattle.cache.proofs.Starts.{fresh_all}
 use Rattle.cache.proofs.ends.seated.Goals as goal
 
 pub returns : goal.returns
-returns c =
+returns g c =
     let t = c.args.pass.table_id in
     let n : ℕ = c.args.seats in
     subst (λ (l : List Sitting). AreFresh t n l) (sym c.first_in.ensures)

@@ -7,7 +7,7 @@ use Rattle.cache.proofs.Backs.{next_back, more_back}
 use Rattle.cache.proofs.ends.unpack.Goals as goal
 
 pub add-requires-clause-next : goal.add-requires-clause-next
-add-requires-clause-next c =
+add-requires-clause-next g c =
     let i = c.loop-i.invariant in
     let closed = c.close_with-closed.result in
     let n : ℕ = c.loop-i.i in
@@ -16,7 +16,7 @@ add-requires-clause-next c =
     next_back c.args.table.shared.table_id.slots c.loop-i.closed.slots.items n c.take.result c.loop-i.rest value r i.4
 
 pub add-requires-clause-idle : goal.add-requires-clause-idle
-add-requires-clause-idle c =
+add-requires-clause-idle g c =
     let i = c.loop-i.invariant in
     let closed = c.close_with-closed.result in
     let n : ℕ = c.loop-i.i in
@@ -24,7 +24,7 @@ add-requires-clause-idle c =
     (c.requires.ready closed.words.items closed.slots.items c.close_with-closed.ensures.values.2 n c.take.result (ap (λ (l : List Kept). get_elem? l n) (sym i.2) ∙ value)).idle
 
 pub loop-i-preserved : goal.loop-i-preserved
-loop-i-preserved c =
+loop-i-preserved g c =
     let i = c.loop-i.invariant in
     let row = c.loop-i.closed.slots in
     let o = c.take.ensures.others in

@@ -5,16 +5,16 @@ use Rattle.cache.proofs.Moves.{may_take_as}
 use Rattle.cache.proofs.steps.try_take.Goals as goal
 
 pub swap-requires : goal.swap-requires
-swap-requires c =
+swap-requires g c =
     let idle = c.requires.idle in
     let board = c.requires.board in (
       c.requires.table,
       search rules,
-      may_take_as c.args.board.now.key c.args.board.now.table_id.slots c.args.pass.now.id c.args.index idle.made idle.part c.args.mark c.requires.some c.args.pass.now.me idle.is board.slots board.count board.journal (subst (λ (n : ℕ). c.args.index < n) board.words c.requires.index),
+      may_take_as g.L.Loader.ASKS (g.L.Loader.gives c.args.board.now.key.loader.value) c.args.board.now.key c.args.board.now.table_id.slots c.args.pass.now.id c.args.index idle.made idle.part c.args.mark c.requires.some c.args.pass.now.me idle.is board.slots board.count board.journal (subst (λ (n : ℕ). c.args.index < n) board.words c.requires.index),
     )
 
 pub returns-clause-taken : goal.returns-clause-taken
-returns-clause-taken c = λ free made p is.
+returns-clause-taken g c = λ free made p is.
     let t = c.swap.ensures.2.0 (eqb-true c.swap.result 0 free) in
     record {
       stripe = t.0;

@@ -25,7 +25,7 @@ run_all-requires-clause-ready g c =
 
 pub close-requires : goal.close-requires
 close-requires g c =
-    let d : Opened = c.args.cache.now in
+    let d : Opened _ = c.args.cache.now in
     let counter : Numbering = c.args.room.counter in
     let jobs : List Job = c.args.jobs.now in
     let vs : List Worker = c.hire.new.workers.items in
@@ -41,7 +41,7 @@ close-requires g c =
 
 pub filled-requires-clause-there : goal.filled-requires-clause-there
 filled-requires-clause-there g c =
-    let d : Opened = c.args.cache.now in
+    let d : Opened _ = c.args.cache.now in
     let counter : Numbering = c.args.room.counter in
     let jobs : List Job = c.args.jobs.now in
     let vs : List Worker = c.hire.new.workers.items in
@@ -64,7 +64,7 @@ filled-requires-clause-there g c =
 
 pub returns-clause-round : goal.returns-clause-round
 returns-clause-round g c =
-    let d : Opened = c.args.cache.now in
+    let d : Opened _ = c.args.cache.now in
     let counter : Numbering = c.args.room.counter in
     let jobs : List Job = c.args.jobs.now in
     let vs : List Worker = c.hire.new.workers.items in

@@ -1,7 +1,8 @@
-use Rattle.std.proofs.Common.{◌≡◌, ℕ, List, [], ◌++◌, Option, Some, refl, sym, ap, subst}
+use Rattle.std.proofs.Common.{◌≡◌, ℕ, ℤ, Bool, List, [], ◌++◌, Option, Some, refl, sym, ap, subst}
 use Rattle.std.proofs.lemmas.List.Elements.{All-nil}
 use Rattle.std.proofs.KnownBytes.{Appends-nil, Appends-trans, Consumes-nil, Consumes-trans}
 use Rattle.boxcar.specs.Table.{Where}
+use Rattle.jtypes.specs.declared.loader.LoadAnswer.{LoadAnswer}
 use Rattle.typecheck.specs.Typing.{Class}
 use Rattle.registry.specs.Ids.{IsOf}
 use Rattle.stripe.specs.Stored.{Stored, entry_among}
@@ -11,9 +12,9 @@ use Rattle.serve.proofs.Rounds.{serves_more, nothing_yet}
 use Rattle.serve.proofs.Devices.{stays_on}
 use Rattle.serve.proofs.stream.stream.Goals as goal
 
-one_more : (old new before after : Option (List ℕ)) (s : Stand) (classes : List Class) (o : Option (List Stored)) (tables : List Stored) → o ≡ Some tables → RoundServed old new before after s classes o
-    → IsAnswered old new before after s classes tables
-one_more old new before after s classes o tables e h = subst (λ (x : Option (List Stored)). RoundServed old new before after s classes x) e h
+one_more : (loads : Bool) (gives : ℤ → LoadAnswer → Type 0) (old new before after : Option (List ℕ)) (s : Stand) (classes : List Class) (o : Option (List Stored)) (tables : List Stored) → o ≡ Some tables → RoundServed loads gives old new before after s classes o
+    → IsAnswered loads gives old new before after s classes tables
+one_more loads gives old new before after s classes o tables e h = subst (λ (x : Option (List Stored)). RoundServed loads gives old new before after s classes x) e h
 
 pub loop-init : goal.loop-init
 loop-init g c = record {
@@ -24,7 +25,7 @@ loop-init g c = record {
   given = [];
   took = Consumes-nil _;
   gave = Appends-nil _;
-  serves = nothing_yet (classes_of c.new-ids.result.items) (entry_among c.args.tables) (ap classes_of c.new-ids.ensures.items) c.requires.empty;
+  serves = nothing_yet g.L.Loader.ASKS (g.L.Loader.gives c.args.loader.now) (classes_of c.new-ids.result.items) (entry_among c.args.tables) (ap classes_of c.new-ids.ensures.items) c.requires.empty;
 }
 
 pub loop-preserved : goal.loop-preserved
@@ -32,7 +33,7 @@ loop-preserved g c =
     let i = c.loop.invariant in
     let s : Stand = stand (classes_of c.loop.ids.items) (entry_among c.loop.tables) in
     let t : Stand = stand (classes_of c.one_round.new.ids.items) (entry_among c.in-Ok-Some.left) in
-    let o = one_more _ _ _ _ s (classes_of c.one_round.new.ids.items) c.in-Ok-Some.field-0 c.in-Ok-Some.left c.in-Ok-Some.field-0-is c.in-Ok-Some.ensures.ok in
+    let o = one_more g.L.Loader.ASKS (g.L.Loader.gives c.args.loader.now) _ _ _ _ s (classes_of c.one_round.new.ids.items) c.in-Ok-Some.field-0 c.in-Ok-Some.left c.in-Ok-Some.field-0-is c.in-Ok-Some.ensures.ok in
     record {
       known = c.one_round.ensures.known;
       read = stays_on c.args.reader.now c.loop.reader c.one_round.new.reader i.read c.in-Ok-Some.ensures.reads;
@@ -41,7 +42,7 @@ loop-preserved g c =
       given = i.given ++ replies_text (all_told o.replies);
       took = Consumes-trans _ _ _ i.taken (requests_text (ended o.requests)) i.took o.took;
       gave = Appends-trans _ _ _ i.given (replies_text (all_told o.replies)) i.gave o.gave;
-      serves = serves_more i.taken i.given s t o.requests o.replies i.serves o.are o.round;
+      serves = serves_more g.L.Loader.ASKS (g.L.Loader.gives c.args.loader.now) i.taken i.given s t o.requests o.replies i.serves o.are o.round;
     }
 
 pub returns-in-Err-clause-cut : goal.returns-in-Err-clause-cut

@@ -34,6 +34,6 @@ returns g c calls are =
     let same : calls_of c.as_slice-2.result.now ≡ calls = ap calls_of c.as_slice-2.ensures.value ∙ same_calls (calls_of c.in_ok-jobs.jobs.items) calls named in
     record {
       answers = c.in-Ok.left.replies.items;
-      done = subst (λ (l : List Call). IsDone (entry_among c.args.tables) l c.in-Ok.left.replies.items (entry_among c.in-Ok.left.tables)) same c.in-Ok.ensures.done;
+      done = subst (λ (l : List Call). IsDone g.L.Loader.ASKS (g.L.Loader.gives c.args.loader.now) (entry_among c.args.tables) l c.in-Ok.left.replies.items (entry_among c.in-Ok.left.tables)) same c.in-Ok.ensures.done;
       text_is = c.in_ok-text.ensures ∙ ap (λ (l : List (Option Answer)). replies_text (all_told (map (work_reply l) (works_of c.args.plan)))) c.as_slice-3.ensures.value;
     }

@@ -1,8 +1,11 @@
-use Rattle.std.proofs.Common.{refl, ap, sym, subst, ◌∙◌, ◌≡◌, ◌≤◌, ◌++◌, [], ◌∷◌, List, ℕ, ℤ, length, Err, None, true, false, set, arith, length-append, length-set}
+use Rattle.std.proofs.Common.{All, Option, refl, ap, sym, subst, ◌∙◌, ◌≡◌, ◌≤◌, ◌++◌, [], ◌∷◌, List, ℕ, ℤ, length, Err, None, true, false, set, arith, length-append, length-set}
 use Rattle.std.proofs.lemmas.Grind.{common_steps}
 use Rattle.std.proofs.lemmas.List.{length-map, map-append}
-use Rattle.stripe.specs.History.{Begun, Record, key_of, stripe_of}
-use Rattle.stripe.specs.Kept.{IsEnd, begun, committed}
+use Rattle.std.proofs.lemmas.List.Elements.{All-append}
+use Rattle.jtypes.specs.declared.loader.LoadAnswer.{LoadAnswer}
+use Rattle.jtypes.specs.Loading.{IsGiven}
+use Rattle.stripe.specs.History.{Call, Begun, Record, key_of, stripe_of}
+use Rattle.stripe.specs.Kept.{IsEnd, asked_by, begun, committed}
 use Rattle.stripe.specs.Seen.{call_of, record_of}
 use Rattle.jtypes.specs.Entry.{Entry}
 use Rattle.cache.specs.Receipts.{Receipt, receipt_of, receipts_of, receipt_behind}
@@ -10,6 +13,7 @@ use Rattle.cache.specs.declared.receipt.Receipt.{Receipt as ReceiptKept}
 use Rattle.cache.specs.Views.{Part, part, seat_view}
 use Rattle.cache.specs.Opened.{Opened, Sitting, with_receipt}
 use Rattle.cache.specs.Plays.{Sat}
+use Rattle.cache.proofs.Moves.{one_of}
 use Rattle.cache.proofs.cache.Cache.locked.Goals as goal
 
 pub overflow_cast-number : goal.overflow_cast-number
@@ -39,22 +43,31 @@ pub commit-place-requires-clause-held : goal.commit-place-requires-clause-held
 commit-place-requires-clause-held g c =
     let s = c.seat.inside in
     let t = c.take.ensures.taken s.made (part s.caller (receipts_of s.receipts.items) s.full) c.seat.invariant.known in
-    let b : Begun = record { caller = s.caller; number = c.len-number.result; call = call_of c.args.call; loads = false } in
+    let b : Begun = record { caller = s.caller; number = c.len-number.result; call = call_of c.args.call; loads = g.L.Loader.ASKS } in
     let u = c.in-Ok.ensures.ok t.stripe (ap (λ (m : Sat). m.1) t.is) in
-    let ends = c.requires.ends c.in-Ok.before c.end.result c.end.ensures in
-    (begun t.stripe b, u.is, record { begun = b; running = refl; ends = subst (λ (e : Entry). IsEnd false e (call_of c.args.call) c.end.result None) (u.found ∙ sym (u.same (key_of b.call))) ends })
+    let ended = c.end-done.result in
+    let ends = (c.requires.ends c.in-Ok.before ended c.end-done.ensures).0 in
+    (begun t.stripe b, u.is, record { begun = b; running = refl; ends = subst (λ (e : Entry). IsEnd g.L.Loader.ASKS e (call_of c.args.call) ended.0 ended.1) (u.found ∙ sym (u.same (key_of b.call))) ends })
 
 pub tell-requires-clause-held : goal.tell-requires-clause-held
 tell-requires-clause-held g c =
     let s = c.seat.inside in
     let p : Part = part s.caller (receipts_of s.receipts.items) s.full in
     let t = c.take.ensures.taken s.made p c.seat.invariant.known in
-    let b : Begun = record { caller = s.caller; number = c.len-number.result; call = call_of c.args.call; loads = false } in
+    let b : Begun = record { caller = s.caller; number = c.len-number.result; call = call_of c.args.call; loads = g.L.Loader.ASKS } in
     let u = c.in-Ok.ensures.ok t.stripe (ap (λ (m : Sat). m.1) t.is) in
     let r : Record = record_of c.commit-place.result.0 in
     let w = c.commit-place.ensures.committed (begun t.stripe b) b u.is refl in
     let view = c.commit-place.ensures.view ∙ c.begin.ensures.view ∙ ap (λ (m : Sat). m.0) t.is in
     let same : c.len-number.result ≡ length s.receipts.items = let e = ap (λ (l : List ReceiptKept). length l) c.reserve.ensures.items in grind (arith, common_steps) in
+    let ended = c.end-done.result in
+    let gives : ℤ → LoadAnswer → Type 0 = g.L.Loader.gives c.self.inside.table.shared.key.loader.value in
+    let loader = c.self.invariant.loader ∙ ap (λ (d : Opened _). d.loader) c.self.view_is in
+    let Given : Record → Type 0 = λ x. IsGiven gives (key_of x.call) x.asked in
+    let answer : IsGiven gives (key_of (call_of c.args.call)) (asked_by ended.0 ended.1) =
+    subst (λ l. IsGiven (g.L.Loader.gives l) (key_of (call_of c.args.call)) (asked_by ended.0 ended.1)) (sym loader) (c.requires.ends c.in-Ok.before ended c.end-done.ensures).1 in
+    let its : Given r = subst (λ (x : Call × Option LoadAnswer). IsGiven gives (key_of x.0) x.1) (λ i. (sym w.made.call i, sym w.asked i)) answer in
+    let one : All Given (r ∷ []) = one_of Given r its in
     record {
       made = s.made;
       part = p;
@@ -62,7 +75,7 @@ tell-requires-clause-held g c =
       stripe = committed (begun t.stripe b) r;
       one = r;
       is = λ k. (view k, w.is k);
-      later = record { stripes = refl; place = refl; journal = refl; idle = refl; kept = λ opening h. w.kept refl opening (u.kept opening h) };
+      later = record { stripes = refl; place = refl; journal = refl; idle = refl; kept = λ opening h. w.kept opening (u.kept opening h); given = λ h. All-append Given t.stripe.records (r ∷ []) h one };
       more = refl;
       few = let whole = u.room in let few = t.free.few in omega (arith, few, whole, length-append t.stripe.records (r ∷ []));
       caller = w.made.caller;
@@ -74,7 +87,7 @@ invariant_of-seat-in-Ok g c =
     let s = c.seat.inside in
     let p : Part = part s.caller (receipts_of s.receipts.items) s.full in
     let t = c.take.ensures.taken s.made p c.seat.invariant.known in
-    let b : Begun = record { caller = s.caller; number = c.len-number.result; call = call_of c.args.call; loads = false } in
+    let b : Begun = record { caller = s.caller; number = c.len-number.result; call = call_of c.args.call; loads = g.L.Loader.ASKS } in
     let u = c.in-Ok.ensures.ok t.stripe (ap (λ (m : Sat). m.1) t.is) in
     let r0 = c.commit-place.result.0 in
     let r : Record = record_of r0 in
@@ -92,7 +105,7 @@ returns-in-Ok-clause-ok g c =
     let s = c.seat.inside in
     let p : Part = part s.caller (receipts_of s.receipts.items) s.full in
     let t = c.take.ensures.taken s.made p c.seat.invariant.known in
-    let b : Begun = record { caller = s.caller; number = c.len-number.result; call = call_of c.args.call; loads = false } in
+    let b : Begun = record { caller = s.caller; number = c.len-number.result; call = call_of c.args.call; loads = g.L.Loader.ASKS } in
     let u = c.in-Ok.ensures.ok t.stripe (ap (λ (m : Sat). m.1) t.is) in
     let r0 = c.commit-place.result.0 in
     let r : Record = record_of r0 in
@@ -109,7 +122,7 @@ returns-in-Ok-clause-ok g c =
       receipt = one;
       call_is = w.made.call;
       reply_is = refl;
-      stripe_is = index ∙ ap (λ (n : ℕ). stripe_of n key) (c.self.invariant.stripes ∙ ap (λ (d : Opened). length d.tables) c.self.view_is);
+      stripe_is = index ∙ ap (λ (n : ℕ). stripe_of n key) (c.self.invariant.stripes ∙ ap (λ (d : Opened _). length d.tables) c.self.view_is);
       left = (λ k. record { table = table k; caller = s.caller; made = s.made; receipts = all k; full = s.full }) ∙ ap (λ (y : Sitting). with_receipt y one) c.seat.view_is;
     }
 

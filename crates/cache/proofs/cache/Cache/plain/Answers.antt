@@ -1,8 +1,12 @@
-use Rattle.std.proofs.Common.{None, false, sym, subst, Option}
+use Rattle.std.proofs.Common.{sym, subst, None, Option, ◌≡◌}
+use Rattle.jtypes.specs.declared.loader.LoadAnswer.{LoadAnswer}
 use Rattle.machine.specs.declared.done.Done.{Done}
-use Rattle.stripe.specs.Kept.{IsEnd}
 use Rattle.stripe.specs.Seen.{call_of}
+use Rattle.cache.specs.Steps.{EndsSo}
+use Rattle.cache.proofs.Moves.{plain_ends}
 use Rattle.cache.proofs.cache.Cache.plain.Goals as goal
 
 pub locked-answer-requires-clause-ends : goal.locked-answer-requires-clause-ends
-locked-answer-requires-clause-ends g c = λ before done h. subst (λ (d : Option Done). IsEnd false before (call_of c.args.call) d None) (sym h.1) (c.requires.plain before)
+locked-answer-requires-clause-ends g c = λ before ended h.
+    subst (λ (e : Option Done × Option LoadAnswer). EndsSo g.L.Loader.ASKS (g.L.Loader.gives c.args.self.now.loader) before (call_of c.args.call) e) (sym h.1)
+    (plain_ends g.L.Loader.ASKS (g.L.Loader.gives c.args.self.now.loader) before (call_of c.args.call) c.requires.plain)

@@ -3,12 +3,13 @@ use Rattle.turns.specs.Course.{stage, IsGoing}
 use Rattle.turns.proofs.course.Course.begin_all.Given as goal
 
 abbrev pub invariant-calls : goal.invariant-calls
-invariant-calls l = record {
+invariant-calls g l = record {
+  loader : l.self.world.loader ≡ l.initial.self.world.loader;
   going : IsGoing (stage l.self);
   calls : (stage l.self).calls ≡ (stage l.initial.self).calls;
-  opening : l.self.world.opening ≡ l.initial.self.world.opening;
+  opening : l.self.world.world.opening ≡ l.initial.self.world.world.opening;
   few : l.self.begun ≤ length l.self.calls.now;
 }
 
 abbrev pub decreases-calls : goal.decreases-calls
-decreases-calls l = length l.self.calls.now - l.self.begun
+decreases-calls g l = length l.self.calls.now - l.self.begun

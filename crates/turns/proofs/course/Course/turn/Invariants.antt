@@ -4,9 +4,10 @@ use Rattle.turns.specs.Course.{stage, IsGoing, IsAsBefore}
 use Rattle.turns.proofs.course.Course.turn.Given as goal
 
 abbrev pub invariant-loop-stripe : goal.invariant-loop-stripe
-invariant-loop-stripe l = record {
+invariant-loop-stripe g l = record {
+  loader : l.self.world.loader ≡ l.initial.self.world.loader;
   going : IsGoing (stage l.self);
   same : IsAsBefore (stage l.initial.self) (stage l.self);
-  turned : (i : ℕ) → i < l.stripe → turns_left l.self.world i ≤ turns_left l.initial.self.world i - 1;
-  waiting : (i : ℕ) → l.stripe ≤ i → turns_left l.self.world i ≡ turns_left l.initial.self.world i;
+  turned : (i : ℕ) → i < l.stripe → turns_left l.self.world.world i ≤ turns_left l.initial.self.world.world i - 1;
+  waiting : (i : ℕ) → l.stripe ≤ i → turns_left l.self.world.world i ≡ turns_left l.initial.self.world.world i;
 }

@@ -16,7 +16,7 @@ use Rattle.turns.proofs.Stages.{on_world, none_of, numbered, no_turns_left, goin
 use Rattle.turns.proofs.course.Course.turn_on.Goals as goal
 
 pub returns-in_default-clause-nearer : goal.returns-in_default-clause-nearer
-returns-in_default-clause-nearer c =
+returns-in_default-clause-nearer g c =
     let s = stage c.args.self.now in
     let there : slice_get s.numbers c.args.stripe ≡ Some c.index.result.now = number_at s.numbers (vec_len c.args.self.now.numbers) (length s.world.opening) c.args.stripe c.index.result.now c.args.self.now.numbers.ok.0 c.requires.going.numbers c.requires.stripe c.index.ensures in
     let none : turns_left s.world c.args.stripe ≡ 0 = no_turns_left s c.requires.going c.args.stripe (there ∙ ap Some (none_of c.index.result.now c.in_default.not-Some)) in
@@ -26,31 +26,31 @@ not_refused : (r : BeginRefusal) → ¬ (Done ≡ Refused r)
 not_refused r e = absurd (cc)
 
 pub returns-in-Done-clause-going : goal.returns-in-Done-clause-going
-returns-in-Done-clause-going c =
+returns-in-Done-clause-going g c =
     let s = stage c.args.self.now in
-    let is : c.apply.new.self ≡ apply s.world (Step c.args.stripe) = c.in-Done.ensures.world not_refused in
-    subst (λ (w : World). IsGoing (on_world s w)) (sym is) (going_stepped s c.requires.going c.args.stripe (apply s.world (Step c.args.stripe)) (step_moves s.world c.args.stripe))
+    let happens = c.in-Done.ensures.applied.world not_refused in
+    subst (λ (w : World). IsGoing (on_world s w)) (sym happens.2) (going_stepped s c.requires.going c.args.stripe _ (step_moves happens.0 s.world c.args.stripe))
 
 pub returns-in-Done-clause-others : goal.returns-in-Done-clause-others
-returns-in-Done-clause-others c i other =
+returns-in-Done-clause-others g c i other =
     let s = stage c.args.self.now in
-    let is : c.apply.new.self ≡ apply s.world (Step c.args.stripe) = c.in-Done.ensures.world not_refused in
-    subst (λ (w : World). turns_left w i ≡ turns_left s.world i) (sym is) (stepped_others s.world c.args.stripe (apply s.world (Step c.args.stripe)) (step_moves s.world c.args.stripe) i other)
+    let happens = c.in-Done.ensures.applied.world not_refused in
+    subst (λ (w : World). turns_left w i ≡ turns_left s.world i) (sym happens.2) (stepped_others s.world c.args.stripe _ (step_moves happens.0 s.world c.args.stripe) i other)
 
 pub unreachable-requires : goal.unreachable-requires
-unreachable-requires c =
+unreachable-requires g c =
     let s = stage c.args.self.now in
     let i = c.args.stripe in
     let there : slice_get s.numbers i ≡ Some (Some c.in-Some.number) = number_at s.numbers (vec_len c.args.self.now.numbers) (length s.world.opening) i c.index.result.now c.args.self.now.numbers.ok.0 c.requires.going.numbers c.requires.stripe c.index.ensures ∙ ap Some c.in-Some.is in
     let found = numbered s c.requires.going i c.in-Some.number there in
-    let same : c.apply.new.self ≡ s.world = c.apply.ensures.same c.in_default-apply.not-Done in
-    let stepped : IsTold s.world (Step i) c.apply.result = record { ignored = c.apply.ensures.ignored; full = c.apply.ensures.full; memory = c.apply.ensures.memory } in
+    let same : c.apply.new.self.world ≡ s.world = c.apply.ensures.applied.same c.in_default-apply.not-Done in
+    let stepped : IsTold s.world (Step i) c.apply.result = record { ignored = c.apply.ensures.applied.ignored; full = c.apply.ensures.applied.full; memory = c.apply.ensures.applied.memory } in
     let possible : is_possible s.world (Finish i) ≡ true = was_finished s.world i found.0 found.1 (not_stepped s.world i c.apply.result stepped c.in_default-apply.not-Done) in
-    let ended : IsTold c.apply.new.self (Finish i) c.apply-2.result = record { ignored = c.apply-2.ensures.ignored; full = c.apply-2.ensures.full; memory = c.apply-2.ensures.memory } in
-    c.in_default-apply-2.not-Done (is_finished c.apply.new.self i c.apply-2.result ended (subst (λ (w : World). is_possible w (Finish i) ≡ true) (sym same) possible))
+    let ended : IsTold c.apply.new.self.world (Finish i) c.apply-2.result = record { ignored = c.apply-2.ensures.applied.ignored; full = c.apply-2.ensures.applied.full; memory = c.apply-2.ensures.applied.memory } in
+    c.in_default-apply-2.not-Done (is_finished c.apply.new.self.world i c.apply-2.result ended (subst (λ (w : World). is_possible w (Finish i) ≡ true) (sym same) possible))
 
 pub index_mut-requires : goal.index_mut-requires
-index_mut-requires c =
+index_mut-requires g c =
     let s = stage c.args.self.now in
     let i = c.args.stripe in
     let there : slice_get s.numbers i ≡ Some (Some c.in-Some.number) = number_at s.numbers (vec_len c.args.self.now.numbers) (length s.world.opening) i c.index.result.now c.args.self.now.numbers.ok.0 c.requires.going.numbers c.requires.stripe c.index.ensures ∙ ap Some c.in-Some.is in
@@ -59,22 +59,23 @@ index_mut-requires c =
     omega (arith, inside, c.args.self.now.replies.ok.0)
 
 pub returns : goal.returns
-returns c =
+returns g c =
     let s = stage c.args.self.now in
     let i = c.args.stripe in
     let k = c.in-Some.number in
     let told = c.in-Some-last.record.now in
     let there : slice_get s.numbers i ≡ Some (Some k) = number_at s.numbers (vec_len c.args.self.now.numbers) (length s.world.opening) i c.index.result.now c.args.self.now.numbers.ok.0 c.requires.going.numbers c.requires.stripe c.index.ensures ∙ ap Some c.in-Some.is in
     let found = numbered s c.requires.going i k there in
-    let same : c.apply.new.self ≡ s.world = c.apply.ensures.same c.in_default-apply.not-Done in
-    let stepped : IsTold s.world (Step i) c.apply.result = record { ignored = c.apply.ensures.ignored; full = c.apply.ensures.full; memory = c.apply.ensures.memory } in
+    let same : c.apply.new.self.world ≡ s.world = c.apply.ensures.applied.same c.in_default-apply.not-Done in
+    let stepped : IsTold s.world (Step i) c.apply.result = record { ignored = c.apply.ensures.applied.ignored; full = c.apply.ensures.applied.full; memory = c.apply.ensures.applied.memory } in
     let possible : is_possible s.world (Finish i) ≡ true = was_finished s.world i found.0 found.1 (not_stepped s.world i c.apply.result stepped c.in_default-apply.not-Done) in
-    let end : Finishes s.world i found.0 = finish_moves s.world i found.0 found.1 possible in
+    let happens = c.in-Done-apply.ensures.applied.world not_refused in
+    let end : Finishes happens.0 s.world i found.0 = finish_moves happens.0 s.world i found.0 found.1 possible in
     let r : Record = record_of_call found.0 end.reply end.after end.asked in
-    let is : c.apply-2.new.self ≡ with_record s.world i r = c.in-Done-apply.ensures.world not_refused ∙ ap (λ (w : World). apply w (Finish i)) same ∙ end.is in
+    let is : c.apply-2.new.self.world ≡ with_record s.world i r = happens.2 ∙ ap (λ (w : World). apply happens.0 w (Finish i)) same ∙ end.is in
     let last : record_of told ≡ r = last_of record_of c.finished.result.now s.world.finished told r (c.finished.ensures ∙ ap (λ (w : World). w.finished) is) (sym c.in-Some-last.ensures.value) in
     let reply : told.reply ≡ end.reply = ap (λ (x : Record). x.reply) last in
-    let idle : turns_left c.apply-2.new.self i ≡ 0 = ap (λ (w : World). turns_left w i) is ∙ ended_idle s c.requires.going i k found.0 there found.1 end.reply end.after end.asked in
+    let idle : turns_left c.apply-2.new.self.world i ≡ 0 = ap (λ (w : World). turns_left w i) is ∙ ended_idle s c.requires.going i k found.0 there found.1 end.reply end.after end.asked in
     record {
       going =
           subst (λ (w : World). IsGoing (record { calls = s.calls; begun = s.begun; world = w; numbers = slice_set s.numbers i None; replies = slice_set s.replies k (Some told.reply) })) (sym is)
@@ -82,5 +83,6 @@ returns c =
           (going_ended s c.requires.going i k found.0 there found.1 end.reply end.after end.asked));
       same = record { calls = refl; begun = refl; opening = ap (λ (w : World). w.opening) is };
       nearer = omega (arith, idle);
+      loader = c.apply-2.ensures.loader ∙ c.apply.ensures.loader;
       others = λ j other. ap (λ (w : World). turns_left w j) is ∙ ended_others s c.requires.going i k found.0 there found.1 end.reply end.after end.asked j other;
     }

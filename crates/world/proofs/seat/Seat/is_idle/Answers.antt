@@ -8,4 +8,4 @@ pub returns : goal.returns
 returns c =
     let t = c.is_none.result in
     subst (λ (r : Option Running). (IsTrue t → r ≡ None) × (r ≡ None → IsTrue t)) (ap (λ (x : Seated). x.running) c.self.view_is)
-    (idle_open c.self.inside.stripe c.self.inside.workspace c.self.inside.done c.self.invariant t c.open.result c.is_none.ensures c.open.ensures.running)
+    (idle_open c.self.inside.stripe c.self.inside.workspace c.self.inside.done c.self.inside.asked c.self.invariant t c.open.result c.is_none.ensures c.open.ensures.running)
