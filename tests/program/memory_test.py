@@ -11,7 +11,7 @@ from running import Runs, Told, side_by_side, told
 
 SOURCE = os.path.join(os.path.dirname(os.path.abspath(__file__)), "../../bin/starve.c")
 GROWTHS = re.compile(rb"growths (\d+)\n")
-LACKING = [Told(2, b"refused 30 NoMemory\n", b""), Told(3, b"", b"error: no memory\n")]
+LACKING = [Told(2, b"refused 30 NoMemory\n", b""), Told(3, b"", b"error: no memory\n"), Told(3, b"", b"serve fault 5 NoMemory\n")]
 """What a command may tell of want of memory."""
 
 
@@ -41,6 +41,8 @@ class Lacking(Runs):
             (["run", "C", "7", "none"], PLUS, Told(4, NULL.encode(), b"")),
             (["check", "C"], changed(0, 1), Told(2, b"refused 3 BadMagic\n", b"")),
             (["check", "C"], changed(725, 1), Told(2, b"refused 2 Truncated\n", b"")),
+            (["serve", "--workers", "0", "--load", "C"], bytes(16 * 1000), Told(0, b"", b"")),
+            (["serve", "--workers", "0", "--load", "C"], bytes(17), Told(1, b"", b"error: bad load file\n")),
         ]:
             self.command_answers_or_lacks_memory(words, file, ample)
 

@@ -98,7 +98,12 @@ fn invokes<'a, R: Wait>(
 }
 
 /// Puts an entry on each key.
-fn puts<'a, R: Wait>(rt: &R, cache: &Cache<'a, 'static, NoLoader>, seat: &mut Seat<'a>, keys: &[i64])
+fn puts<'a, R: Wait>(
+    rt: &R,
+    cache: &Cache<'a, 'static, NoLoader>,
+    seat: &mut Seat<'a>,
+    keys: &[i64],
+)
     requires { seat.old.table ≡ cache.now.table }
     ensures table { seat.new.table ≡ seat.old.table }
     ensures caller { seat.new.caller ≡ seat.old.caller }

@@ -58,7 +58,9 @@ pub fn one<R: Threads + Wait + Clock + Sync>(
 {
     let begin = now(rt)?;
     let workers = worth(registry, jobs, seats, SHARE);
-    let Ok(left) = run_by_workers(rt, alloc, registry, tables, workers, jobs, &NoGate, &NoLoader) else {
+    let Ok(left) = run_by_workers(
+        rt, alloc, registry, tables, workers, jobs, &NoGate, &NoLoader,
+    ) else {
         return Err(Failure::NoMemory);
     };
     let time = now(rt)?.saturating_duration_since(begin);

@@ -1,8 +1,8 @@
 //! The rule of the stripes' locks, and what each step tells. No value of these types is made.
 
 use crate::known::{Known, Terms};
-use jtypes::Loader;
 use atomic_table::{Join, Play, Split, TableRule};
+use jtypes::Loader;
 use stripe::Stripe;
 
 /// A word for each stripe is 0 where the stripe is free, and another number where a seat holds it.

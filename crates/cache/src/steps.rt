@@ -33,7 +33,12 @@ const HELD: u64 = 1;
 const AWAITED: u64 = 2;
 
 /// Takes a stripe if it is free. Its word becomes the mark in any case.
-fn try_take<'a, L: Loader>(board: &Board<'a, L>, pass: &mut Place<'a>, index: usize, mark: u64) -> bool
+fn try_take<'a, L: Loader>(
+    board: &Board<'a, L>,
+    pass: &mut Place<'a>,
+    index: usize,
+    mark: u64,
+) -> bool
     requires table { pass.old.table_id ≡ board.now.table_id }
     requires board { IsBoard board.now.table_id board.now.key }
     requires index { index < board.now.table_id.words }
@@ -58,7 +63,12 @@ fn wake<L: Loader>(board: &Board<'_, L>, index: usize, word: u64)
 /// Takes a stripe. Who finds it taken sleeps until it is given back.
 ///
 /// Who has waited takes it as one that is awaited, since others may sleep still; so whoever sleeps is woken in the end.
-pub fn take<'a, L: Loader, R: Wait>(rt: &R, board: &Board<'a, L>, pass: &mut Place<'a>, index: usize)
+pub fn take<'a, L: Loader, R: Wait>(
+    rt: &R,
+    board: &Board<'a, L>,
+    pass: &mut Place<'a>,
+    index: usize,
+)
     requires table { pass.old.table_id ≡ board.now.table_id }
     requires board { IsBoard board.now.table_id board.now.key }
     requires index { index < board.now.table_id.words }
@@ -96,7 +106,8 @@ pub fn begin<'a, L: Loader>(
     ensures err { OnErr result (pass.new.me.1 ≡ pass.old.me.1) }
     ensures full { result ≡ Err JournalFull → (y : Kept) → pass.old.me.1 ≡ (index, y) ∷ [] → length y.records ≡ y.journal }
 {
-    pass.slot_mut(board, index).begin(caller, number, call, loader)
+    pass.slot_mut(board, index)
+        .begin(caller, number, call, loader)
 }
 
 /// Ends the call that was begun on it. Answers its record and the record's place.

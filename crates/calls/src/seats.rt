@@ -71,7 +71,13 @@ fn opened<'a>(
 }
 
 /// Makes a call that isn't an invocation.
-fn asked<'a, R: Wait>(rt: &R, cache: &Cache<'a, 'static, NoLoader>, seat: &mut Seat<'a>, key: i64, call: Plain) -> Told
+fn asked<'a, R: Wait>(
+    rt: &R,
+    cache: &Cache<'a, 'static, NoLoader>,
+    seat: &mut Seat<'a>,
+    key: i64,
+    call: Plain,
+) -> Told
     requires { seat.old.table ≡ cache.now.table }
     ensures table { seat.new.table ≡ seat.old.table }
     ensures caller { seat.new.caller ≡ seat.old.caller }
@@ -104,7 +110,11 @@ fn invoked<'a, R: Wait>(
 }
 
 /// Closes a cache that has one seat.
-fn closed<'a>(alloc: Global, cache: Cache<'a, 'static, NoLoader>, seat: Seat<'a>) -> Result<Closed<'a>, AllocError>
+fn closed<'a>(
+    alloc: Global,
+    cache: Cache<'a, 'static, NoLoader>,
+    seat: Seat<'a>,
+) -> Result<Closed<'a>, AllocError>
     requires count { cache.seats ≡ 1 }
     requires seat { IsSeat cache.table 1 0 seat }
 {
@@ -263,7 +273,10 @@ fn counts_outside_are_refused(rt: HostRuntime) -> Result<(), Fail> {
         );
     }
     for (stripes, journal, seats, &NoLoader) in [(1, 1, 1), (64, 16, 16), (1, 4096, 1)] {
-        assert_eq!(rt; refused(alloc, &registry, stripes, journal, seats, &NoLoader), None);
+        assert_eq!(rt;
+            refused(alloc, &registry, stripes, journal, seats, &NoLoader),
+            None
+        );
     }
     Ok(())
 }

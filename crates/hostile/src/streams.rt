@@ -54,7 +54,15 @@ fn a_cut_stream_answers_its_whole_rounds(rt: HostRuntime) -> Result<(), Fail> {
             let mut reader = Counted::new(&REQUESTS[..count]);
             let mut writer = Counted::new(Vec::new(rt.alloc()));
             let settings = settings(workers);
-            let result = serve(&rt, rt.alloc(), &mut reader, &mut writer, settings, &NoGate, &NoLoader);
+            let result = serve(
+                &rt,
+                rt.alloc(),
+                &mut reader,
+                &mut writer,
+                settings,
+                &NoGate,
+                &NoLoader,
+            );
             let is_whole = count == 0 || count == 26 || count == 44;
             let wanted = if is_whole {
                 Ok(())
@@ -101,7 +109,15 @@ fn a_reader_that_fails_ends_the_stream(rt: HostRuntime) -> Result<(), Fail> {
                 let mut reader = Counted::new(Failing { rest, most });
                 let mut writer = Counted::new(Vec::new(rt.alloc()));
                 let settings = settings(workers);
-                let result = serve(&rt, rt.alloc(), &mut reader, &mut writer, settings, &NoGate, &NoLoader);
+                let result = serve(
+                    &rt,
+                    rt.alloc(),
+                    &mut reader,
+                    &mut writer,
+                    settings,
+                    &NoGate,
+                    &NoLoader,
+                );
                 assert!(rt;
                     result == Err(ServeFault::Read),
                     "{count} bytes, {workers} workers"
@@ -157,7 +173,15 @@ fn served_to<T: Threads + Wait + Sync>(
     let mut reader = Counted::new(&REQUESTS[..]);
     let mut writer = Counted::new(sink);
     let settings = settings(workers);
-    let result = serve(rt, alloc, &mut reader, &mut writer, settings, &NoGate, &NoLoader);
+    let result = serve(
+        rt,
+        alloc,
+        &mut reader,
+        &mut writer,
+        settings,
+        &NoGate,
+        &NoLoader,
+    );
     let Sink { bytes, .. } = writer.into_inner();
     (result, bytes)
 }

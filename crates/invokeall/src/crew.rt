@@ -26,7 +26,8 @@ pub struct Day<'s, 'a, 'l, 'j, R, G, L: Loader> {
     pub gate: &'s G,
 }
 
-impl<'s, 'a, 'l, 'j, R: Wait, G: Gate, L: Loader> Shift<Worker<'a>> for Day<'s, 'a, 'l, 'j, R, G, L> {
+impl<'s, 'a, 'l, 'j, R: Wait, G: Gate, L: Loader> Shift<Worker<'a>>
+    for Day<'s, 'a, 'l, 'j, R, G, L> {
     ghost use Rattle.std.specs.Prelude.{◌≡◌, length};
     ghost use Rattle.std.specs.List.{All};
     ghost use Rattle.invokeall.specs.Jobs.{IsCallable};

@@ -30,11 +30,7 @@ impl<'a, R: std::rt::Files> RealFiles<'a, R> {
 }
 
 /// Reads to the end, or more than so many bytes.
-fn read_to_most<F: Read>(
-    alloc: Global,
-    file: &mut F,
-    most: usize,
-) -> Result<Vec<u8>, FileFault> {
+fn read_to_most<F: Read>(alloc: Global, file: &mut F, most: usize) -> Result<Vec<u8>, FileFault> {
     let mut bytes = Vec::new(alloc);
     let mut buffer = [0u8; 4096];
     for _ in 0..u64::MAX {

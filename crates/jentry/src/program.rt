@@ -97,7 +97,15 @@ fn serve_input<'a, T: Threads + Wait + Sync, I: Read, W: Write, L: Loader + Sync
     };
     let mut reader = Counted::new(buffered);
     let mut writer = Counted::new(output);
-    match serve(rt, alloc, &mut reader, &mut writer, settings, &NoGate, loader) {
+    match serve(
+        rt,
+        alloc,
+        &mut reader,
+        &mut writer,
+        settings,
+        &NoGate,
+        loader,
+    ) {
         Ok(()) => Ok(OK),
         Err(fault) => Err(Failure::Fault(fault.number(), fault.name())),
     }

@@ -124,7 +124,16 @@ fn script_is_served<T: Threads + Wait + Sync>(
         stripes: 4,
         share: 0,
     };
-    let fault = serve(rt, alloc, &mut reader, &mut writer, settings, &NoGate, &NoLoader).err();
+    let fault = serve(
+        rt,
+        alloc,
+        &mut reader,
+        &mut writer,
+        settings,
+        &NoGate,
+        &NoLoader,
+    )
+    .err();
     let output = writer.into_inner();
     Ok(are_right(output.as_slice(), fault).unwrap_or(false))
 }

@@ -37,7 +37,9 @@ fn round<R: Threads + Wait + Sync>(
     if workers == 0 || workers > 16 || jobs.len() > 4096 {
         return None;
     }
-    match run_by_workers(rt, alloc, registry, tables, workers, jobs, &NoGate, &NoLoader) {
+    match run_by_workers(
+        rt, alloc, registry, tables, workers, jobs, &NoGate, &NoLoader,
+    ) {
         Ok(left) => Some(left),
         Err(_) => None,
     }

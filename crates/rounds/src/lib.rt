@@ -5,3 +5,5 @@
 mod crews;
 #[cfg(test)]
 mod jobs;
+#[cfg(test)]
+mod loaded;

@@ -56,7 +56,16 @@ fn run_round<T: Threads + Wait + Sync, G: Gate + Sync, L: Loader + Sync>(
 {
     let Plan { works, asks } = plan;
     let jobs = jobs_of(alloc, ids, asks.as_slice())?;
-    let Ok(left) = run_jobs(rt, alloc, registry, tables, settings, jobs.as_slice(), gate, loader) else {
+    let Ok(left) = run_jobs(
+        rt,
+        alloc,
+        registry,
+        tables,
+        settings,
+        jobs.as_slice(),
+        gate,
+        loader,
+    ) else {
         return Err(AllocError);
     };
     let RoundLeft { tables, replies } = left;

@@ -44,7 +44,15 @@ fn serve_beside<T: Threads + Wait + Sync, G: Gate + Sync>(
 ) -> Ended {
     let mut reader = Counted::new(input);
     let mut writer = Counted::new(Vec::new(alloc));
-    let fault = match serve(rt, alloc, &mut reader, &mut writer, settings, gate, &NoLoader) {
+    let fault = match serve(
+        rt,
+        alloc,
+        &mut reader,
+        &mut writer,
+        settings,
+        gate,
+        &NoLoader,
+    ) {
         Ok(()) => None,
         Err(fault) => Some(fault),
     };
@@ -166,7 +174,15 @@ fn dropped<T: Threads + Wait + Sync>(
         rest: &ROUND_END[..end],
     });
     let mut writer = Counted::new(Vec::new(alloc));
-    let result = serve(rt, alloc, &mut reader, &mut writer, SETTINGS, &NoGate, &NoLoader);
+    let result = serve(
+        rt,
+        alloc,
+        &mut reader,
+        &mut writer,
+        SETTINGS,
+        &NoGate,
+        &NoLoader,
+    );
     (result, reader.failures(), writer.into_inner().len())
 }
 
@@ -195,7 +211,15 @@ fn sunk<T: Threads + Wait + Sync>(
         most,
         fails,
     });
-    let result = serve(rt, alloc, &mut reader, &mut writer, SETTINGS, &NoGate, &NoLoader);
+    let result = serve(
+        rt,
+        alloc,
+        &mut reader,
+        &mut writer,
+        SETTINGS,
+        &NoGate,
+        &NoLoader,
+    );
     let (failures, idle) = (writer.failures(), writer.idle());
     let is_beginning = writer.into_inner().bytes.as_slice() == &[0, 0, 0, 1, 9][..most];
     (result, failures, idle, is_beginning)

@@ -53,7 +53,7 @@ module _ (gives : ℤ → LoadAnswer → Type 0) (old new : Kept) (b : Begun) (i
       subst (λ x. MayAnswer gives (known asked) (asked_by_get b.loads found x)) (sym call_is) (may_answer gives b.loads found k asked told given),
       get_is,
       subst (AnswerIsGiven gives) (sym get_seen)
-      (subst (λ x. IsGiven gives (key_of x) (answer_to (got_by found asked))) (sym call_is) (subst (IsGiven gives k) (sym (got_answer found asked)) given)),
+          (subst (λ x. IsGiven gives (key_of x) (answer_to (got_by found asked))) (sym call_is) (subst (IsGiven gives k) (sym (got_answer found asked)) given)),
     )
 
   -- ---- another one
@@ -95,8 +95,7 @@ module _ (gives : ℤ → LoadAnswer → Type 0) (old new : Kept) (b : Begun) (i
   pub other_starts : IsPlain b.call → Starts gives (record { stripe = old; running = running }) b (record { stripe = new; running = running_in new m None None new.running })
   other_starts p =
       let before = entry_of old (key_of b.call) in
-      let q = some_progress before b.call p in
-      (
+      let q = some_progress before b.call p in (
         load.None,
         may_plain before b.call p,
         other_begun old new b is same m None load.None q.0 running q.1 q.2,

@@ -38,7 +38,7 @@ struct Row {
     done: Done,
 }
 
-static ROWS: [Row; 6] = [
+static ROWS: [Row; 7] = [
     Row {
         class: "Plus",
         key: 7,
@@ -72,6 +72,18 @@ static ROWS: [Row; 6] = [
             effect: Effect::Keep,
             asked: Some(LoadAnswer::Failed),
             steps: 2,
+            words: 0,
+        },
+    },
+    Row {
+        class: "Unbox",
+        key: 7,
+        args: &[],
+        done: Done {
+            outcome: Outcome::Returned(Arg::Long(41)),
+            effect: Effect::Put(41),
+            asked: Some(LoadAnswer::Value(41)),
+            steps: 6,
             words: 0,
         },
     },

@@ -8,5 +8,5 @@ abbrev pub invariant-loop-place : goal.invariant-loop-place
 invariant-loop-place g l =
     record {
       runs : RunsWithRoom (g.L.Loader.gives l.initial.self.loader) l.initial.self.world (map event_of (take l.place l.events)) l.self.world;
-      loader : l.self.loader ≡ l.initial.self.loader
+      loader : l.self.loader ≡ l.initial.self.loader;
     }
