@@ -259,7 +259,7 @@ fn are_receipts(closed: &Closed<'_>) -> bool {
 fn counts_outside_are_refused(rt: HostRuntime) -> Result<(), Fail> {
     let alloc = rt.alloc();
     let registry = Registry::new(alloc)?;
-    for (stripes, journal, seats, &NoLoader) in [
+    for (stripes, journal, seats) in [
         (0, 1, 1),
         (65, 1, 1),
         (1, 0, 1),
@@ -268,15 +268,12 @@ fn counts_outside_are_refused(rt: HostRuntime) -> Result<(), Fail> {
         (1, 1, 17),
     ] {
         assert_eq!(rt;
-            refused(alloc, &registry, stripes, journal, seats, &NoLoader),
+            refused(alloc, &registry, stripes, journal, seats),
             Some(OpenRefusal::BadCount)
         );
     }
-    for (stripes, journal, seats, &NoLoader) in [(1, 1, 1), (64, 16, 16), (1, 4096, 1)] {
-        assert_eq!(rt;
-            refused(alloc, &registry, stripes, journal, seats, &NoLoader),
-            None
-        );
+    for (stripes, journal, seats) in [(1, 1, 1), (64, 16, 16), (1, 4096, 1)] {
+        assert_eq!(rt; refused(alloc, &registry, stripes, journal, seats), None);
     }
     Ok(())
 }
