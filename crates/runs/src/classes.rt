@@ -15,6 +15,7 @@ use verify::{Verified, verify};
 fn bytes_of(alloc: Global, name: &str) -> Result<Vec<u8>, AllocError> {
     match name {
         "Plus" => rows::plus(alloc),
+        "Unbox" => rows::unbox(alloc),
         "Counter" => rows::counter(alloc),
         _ => Ok(rows::class_named(alloc, name)?.unwrap_or(Vec::new(alloc))),
     }
