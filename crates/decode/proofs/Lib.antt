@@ -5,3 +5,6 @@ pub mod Targets
 pub mod Consecutive
 pub mod Unrefused
 pub mod Profiles
+pub mod Keys
+pub mod RisingKeys
+pub mod Wide

@@ -8,7 +8,7 @@ use Rattle.jtypes.specs.declared.refusal.Refusal.{Refusal}
 use Rattle.jtypes.specs.declared.refusal.Refusal.TheVariants.{OutsideProfile, UnknownOpcode}
 use Rattle.jtypes.specs.Layout.{chosen, stopped, IsLaidOut, Stands}
 use Rattle.constpool.specs.Lookup.{Slot}
-use Rattle.jtypes.specs.Profile.{Profile, First, Second}
+use Rattle.jtypes.specs.Profile.{First, Second}
 use Rattle.decode.specs.declared.instruction.Form.{Form}
 use Rattle.decode.specs.declared.instruction.Instruction.{Instruction}
 use Rattle.decode.specs.declared.instruction.Placed.{Placed}

@@ -21,5 +21,6 @@ pub mod Called
 pub mod Returning
 pub mod Receiving
 pub mod Methods
+pub mod Switched
 pub mod Replying
 pub mod Arity

@@ -2,6 +2,7 @@ pub mod Holds
 pub mod Operated
 pub mod Plain
 pub mod Within
+pub mod Switched
 pub mod Acts
 pub mod Ended
 pub mod Entering

@@ -14,6 +14,7 @@ mod library;
 mod machine;
 mod plain;
 mod returns;
+mod switches;
 mod turn;
 mod workspace;
 

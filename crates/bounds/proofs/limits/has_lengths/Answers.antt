@@ -9,7 +9,7 @@ use Rattle.bounds.proofs.limits.has_lengths.Goals as goal
 pub returns-then-not-has_length-clause-lacks : goal.returns-then-not-has_length-clause-lacks
 returns-then-not-has_length-clause-lacks c = λ f rise.
     let list = c.as_slice-p-items in
-    one_lacks c.args.method.now list.result.now c.loop-p.p-index _ list.ensures.value list.ensures.rising c.loop-p-test.true (λ d. get_or_default list.result.now c.loop-p.p-index _ d c.loop-p-test.true) (sym (c.has_length.ensures rise) ∙ c.if-not-has_length.true)
+    one_lacks c.args.method.now list.result.now c.loop-p.p-index c.p-item.result list.ensures.value list.ensures.rising c.loop-p-test.true (λ d. c.p-item.is ∙ get_or_default list.result.now c.loop-p.p-index c.p-item.result d c.loop-p-test.true) (sym (c.has_length.ensures rise) ∙ c.if-not-has_length.true)
 
 pub returns-clause-has : goal.returns-clause-has
 returns-clause-has c = λ t rise.
