@@ -24,3 +24,13 @@ pub mod Methods
 pub mod Switched
 pub mod Replying
 pub mod Arity
+pub mod Passing
+pub mod Absorbing
+pub mod Keeping
+pub mod Putting
+pub mod Numbers
+pub mod Operating
+pub mod Placing
+pub mod Deciding
+pub mod Landing
+pub mod Leaping

@@ -12,3 +12,6 @@ pub mod Commons
 pub mod Running
 pub mod Elements
 pub mod Replies
+pub mod Spread
+pub mod Putting
+pub mod Flights
