@@ -6,3 +6,8 @@ pub mod Pushing
 pub mod Switched
 pub mod Linked
 pub mod Widths
+pub mod Extending
+pub mod Shaping
+pub mod Owning
+pub mod Standing
+pub mod Staying
