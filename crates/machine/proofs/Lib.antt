@@ -34,3 +34,4 @@ pub mod Placing
 pub mod Deciding
 pub mod Landing
 pub mod Leaping
+pub mod Leaps

@@ -16,6 +16,7 @@ mod leap;
 mod leapt;
 mod library;
 mod machine;
+mod operands;
 mod over_slots;
 mod plain;
 mod returns;
