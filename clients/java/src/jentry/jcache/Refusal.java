@@ -45,8 +45,6 @@ enum Refusal {
         Map.entry(143, "double isn't known: reckon in long, with a fixed point"),
         Map.entry(165, "compare boxes by longValue()"),
         Map.entry(166, "compare boxes by longValue()"),
-        Map.entry(170, "write if and else if in place of a switch"),
-        Map.entry(171, "write if and else if in place of a switch"),
         Map.entry(178, "static fields that are no constants can't be used: use arguments, locals, the entry's value"),
         Map.entry(179, "static fields that are no constants can't be used: use arguments, locals, the entry's value"),
         Map.entry(180, "fields can't be used, since the object isn't sent: use arguments, locals, the entry's value"),
