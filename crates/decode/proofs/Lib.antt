@@ -5,3 +5,4 @@ pub mod Targets
 pub mod Consecutive
 pub mod Unrefused
 pub mod Profiles
+pub mod Faults

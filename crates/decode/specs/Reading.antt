@@ -1,23 +1,14 @@
 -- What the functions that read a code answer.
-use Rattle.std.specs.Prelude.{◌≡◌, ◌≢◌, ◌<◌, ◌^◌, ℕ, List, [], ◌∷◌, Option, Some, None, Result, Ok, Err}
-use Rattle.std.specs.Global.{Vec}
+use Rattle.std.specs.Prelude.{◌≡◌, ◌<◌, ◌^◌, ℕ, List, [], ◌∷◌, Option, Some, None}
 use Rattle.jtypes.specs.declared.refusal.Refusal.{Refusal}
-use Rattle.jtypes.specs.declared.refusal.Refusal.TheVariants.{BadTarget, BackwardBranch, NoMemory}
-use Rattle.constpool.specs.Lookup.{Slot}
+use Rattle.jtypes.specs.declared.refusal.Refusal.TheVariants.{BadTarget, BackwardBranch}
 use Rattle.decode.specs.declared.instruction.Placed.{Placed}
-use Rattle.jtypes.specs.Profile.{Second}
-use Rattle.decode.specs.Code.{IsSequence, StopsWith}
 use Rattle.decode.specs.Places.{HasBadTarget, HasBackwardTarget}
 
 -- the first instruction stands at a place, and each other one where the one before it ends; all of it fits into memory
 abbrev pub RisesFrom : ℕ → List Placed → Type 0
 RisesFrom place [] = Unit {0}
 RisesFrom place (p ∷ ps) = (p.place ≡ place) × (p.place < p.next) × (p.next < 2 ^ 64) × RisesFrom p.next ps
-
--- what the reading of a sequence answers
-abbrev pub Reads : List Slot → List ℕ → Result (Vec Placed) Refusal → Type 0
-Reads pool bytes (Ok placed) = IsSequence Second pool 0 bytes placed.items × ((r : Refusal) → StopsWith Second pool bytes r → ⊥)
-Reads pool bytes (Err r) = r ≢ NoMemory → StopsWith Second pool bytes r
 
 -- what the look at one target answers
 abbrev pub IsTargetRefusal : List Placed → Placed → Option Refusal → Type 0

@@ -4,8 +4,10 @@ ghost use Rattle.std.specs.Prelude.{◌≡◌, ◌≢◌, ◌==◌, ◌↔◌, l
 ghost use Rattle.std.specs.Option.{option_copied};
 ghost use Rattle.jtypes.specs.declared.refusal.Refusal.{Refusal};
 ghost use Rattle.decode.specs.Places.{at_place, before_place, BranchStands};
+ghost use Rattle.decode.specs.Faults.{BranchStandsAt};
 ghost use Rattle.decode.specs.Reading.{RisesFrom, IsTargetRefusal};
 
+use crate::fault::Fault;
 use crate::instruction::Placed;
 use jtypes::Refusal;
 use std::marker::Model;
@@ -105,14 +107,17 @@ impl Code {
         }
     }
 
-    /// The first refusal of a target.
-    pub(crate) fn target_refusal(&self) -> Option<Refusal>
-        ensures some { IfSome result (λ r. (r ≢ Refusal.NoMemory) × BranchStands self.now r) }
+    /// The first refusal of a target, with the place of its branch.
+    pub(crate) fn target_fault(&self) -> Option<Fault>
+        ensures some { IfSome result (λ f. (f.refusal ≢ Refusal.NoMemory) × BranchStandsAt self.now f.place f.refusal) }
         ensures none { IfNone result ((r : Refusal) → BranchStands self.now r → ⊥) }
     {
         for p in self.as_slice() {
             if let Some(refusal) = self.refusal_of(p) {
-                return Some(refusal);
+                return Some(Fault {
+                    refusal,
+                    place: p.place,
+                });
             }
         }
         None

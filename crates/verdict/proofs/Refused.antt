@@ -80,7 +80,7 @@ types_refused bytes pool p n codes items r file shape are_found (inl e) = inl e
 types_refused bytes pool p n codes items r file shape are_found (inr s) = inr (by_types pool p file (record { none_stands = shape.none_stands }) (record { none_stands = instructions_stand pool p n codes shape items are_found }) s)
 
 -- a frame is declared at each of the places
-frame_among : (ds : List (ℕ × Frame)) (q i d : ℕ) → i < length (map (λ (d : ℕ × Frame). d.0) ds) → get_or (map (λ (d : ℕ × Frame). d.0) ds) i d ≡ q → IsSome (frame_in ds q)
+pub frame_among : (ds : List (ℕ × Frame)) (q i d : ℕ) → i < length (map (λ (d : ℕ × Frame). d.0) ds) → get_or (map (λ (d : ℕ × Frame). d.0) ds) i d ≡ q → IsSome (frame_in ds q)
 frame_among [] q i d l e = absurd (omega (arith, l))
 frame_among (x ∷ ds) q zero d l e = ap (λ b. is_some (cond b (Some x.1) (frame_in ds q))) (eq-eqb x.0 q e)
 frame_among (x ∷ ds) q (suc i) d l e = go (x.0 == q) (frame_among ds q i d (omega (arith, l)) e)
@@ -90,7 +90,7 @@ frame_among (x ∷ ds) q (suc i) d l e = go (x.0 == q) (frame_among ds q i d (om
     go false h = h
 
 -- where a call stands there is an instruction
-called_stands : (calls : List Called) (code : List Placed) → ((i : ℕ) (d : Called) → i < length calls → IsSome (at_place code (get_or calls i d).place)) → (place : ℕ) → IsSome (callee_in calls place) → IsSome (at_place code place)
+pub called_stands : (calls : List Called) (code : List Placed) → ((i : ℕ) (d : Called) → i < length calls → IsSome (at_place code (get_or calls i d).place)) → (place : ℕ) → IsSome (callee_in calls place) → IsSome (at_place code place)
 called_stands [] code h place s = cc
 called_stands (x ∷ calls) code h place s = go (x.place == place) refl s (called_stands calls code (λ i d l. h (suc i) d (omega (arith, l))) place)
   where
@@ -98,11 +98,11 @@ called_stands (x ∷ calls) code h place s = go (x.place == place) refl s (calle
     go true is f later = subst (λ (q : ℕ). IsSome (at_place code q)) (eqb-true x.place place is) (h 0 x (omega arith))
     go false is f later = later f
 
-own_is_some : (o : Option Callee) (k : ℕ) → own_of o ≡ Some k → IsSome o
+pub own_is_some : (o : Option Callee) (k : ℕ) → own_of o ≡ Some k → IsSome o
 own_is_some None k e = cc
 own_is_some (Some x) k e = refl
 
-some_of : {A : Type 0} (o : Option A) → IsSome o → (x : A) × (o ≡ Some x)
+pub some_of : {A : Type 0} (o : Option A) → IsSome o → (x : A) × (o ≡ Some x)
 some_of None e = cc
 some_of (Some x) e = (x, refl)
 
