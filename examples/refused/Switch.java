@@ -4,7 +4,7 @@ import javax.cache.processor.MutableEntry;
 /** A switch. */
 public class Switch implements EntryProcessor<Long, Long, Object> {
     public Object process(MutableEntry<Long, Long> entry, Object... arguments) {
-        switch ((Integer) arguments[0]) {
+        switch ((Integer) arguments[0]) { // refused
             case 0:
                 return 10;
             case 1:

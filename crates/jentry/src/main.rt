@@ -1,6 +1,7 @@
 //! The program.
 #![tactic(auto)]
 
+mod explain;
 mod files;
 mod line;
 mod output;

@@ -1,5 +1,6 @@
 //! One command.
 
+use crate::explain::explain_answer;
 use crate::files::Files;
 use crate::line::{Request, parse};
 use crate::output::{Answer, Failure, OK, accepted, ran, refused};
@@ -110,6 +111,7 @@ fn perform<'a, T: Threads + Wait + Sync, I: Read, W: Write>(
     };
     match &request {
         Request::Check { file } => write_answer(output, &check_answer(alloc, files, file)?),
+        Request::Explain { file } => write_answer(output, &explain_answer(alloc, files, file)?),
         Request::Run {
             file,
             key,
