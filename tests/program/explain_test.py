@@ -3,10 +3,10 @@ import glob
 import os
 import random
 import re
+import resource
 import shutil
 import subprocess
 import tempfile
-import time
 import unittest
 
 import row_classes as rows
@@ -47,6 +47,12 @@ def compiled(source, *options):
         words = ["javac", "-nowarn", *options, "-implicit:none", "-sourcepath", os.path.join(TOP, "examples", "api"), "-d", folder, source]
         subprocess.run(words, check=True, stdout=subprocess.DEVNULL, stderr=subprocess.DEVNULL)
         return bytes_of(os.path.join(folder, os.path.basename(source)[: -len(".java")] + ".class"))
+
+
+def spent():
+    """The processor time of all programs that were run, in seconds."""
+    used = resource.getrusage(resource.RUSAGE_CHILDREN)
+    return used.ru_utime + used.ru_stime
 
 
 def many_methods():
@@ -170,6 +176,6 @@ class Explain(Runs):
     def test_a_class_of_64_kb_takes_half_a_second_at_most(self):
         file = many_methods()
         self.assertGreater(len(file), 60_000)
-        start = time.monotonic()
+        before = spent()
         self.assertEqual(self.explained(file).status, 0)
-        self.assertLess(time.monotonic() - start, 0.5)
+        self.assertLess(spent() - before, 0.5)
