@@ -27,8 +27,10 @@ PUBLIC, STATIC = 0x0001, 0x0008
 
 ACONST_NULL, ICONST_0, LCONST_0, LDC_W = b"\x01", b"\x03", b"\x09", 0x13
 ISTORE_0, LSTORE_0, ASTORE_0, ISTORE = b"\x3b", b"\x3f", b"\x4b", 0x36
-POP, DUP, DUP2, NOP = b"\x57", b"\x59", b"\x5c", b"\x00"
+ILOAD_0, IINC_0, IADD = b"\x1a", b"\x84\x00\x01", b"\x60"
+POP, DUP, DUP2, SWAP, NOP = b"\x57", b"\x59", b"\x5c", b"\x5f", b"\x00"
 IFEQ, GOTO, ARETURN, RETURN = 0x99, 0xA7, b"\xb0", b"\xb1"
+TABLESWITCH, LOOKUPSWITCH = 0xAA, 0xAB
 INVOKESTATIC, INVOKEINTERFACE, NEWARRAY_INT, CHECKCAST = 0xB8, 0xB9, b"\xbc\x0a", 0xC0
 
 # Verification types (JVMS 4.7.4).
@@ -91,13 +93,34 @@ class Body:
     def with_index(self, opcode, index):
         return self.put(bytes([opcode]), u2(index))
 
+    def leap(self, label, origin, form):
+        """An offset from a place to a label further on."""
+        self.open.setdefault(label, []).append((len(self.code), origin, form))
+        return self.put(bytes(struct.calcsize(form)))
+
     def branch(self, opcode, label):
-        self.open.setdefault(label, []).append(len(self.code))
-        return self.put(bytes([opcode]), b"\0\0")
+        origin = len(self.code)
+        return self.put(bytes([opcode])).leap(label, origin, ">h")
 
     def mark(self, label):
-        for place in self.open.pop(label, []):
-            struct.pack_into(">h", self.code, place + 1, len(self.code) - place)
+        for place, origin, form in self.open.pop(label, []):
+            struct.pack_into(form, self.code, place, len(self.code) - origin)
+        return self
+
+    def table_switch(self, default, labels):
+        """A tableswitch of keys from 0 on."""
+        origin = len(self.code)
+        self.put(bytes([TABLESWITCH]), bytes(3 - origin % 4)).leap(default, origin, ">i").put(u4(0), u4(len(labels) - 1))
+        for label in labels:
+            self.leap(label, origin, ">i")
+        return self
+
+    def lookup_switch(self, default, labels):
+        """A lookupswitch of even keys."""
+        origin = len(self.code)
+        self.put(bytes([LOOKUPSWITCH]), bytes(3 - origin % 4)).leap(default, origin, ">i").put(u4(len(labels)))
+        for number, label in enumerate(labels):
+            self.put(u4(2 * number)).leap(label, origin, ">i")
         return self
 
     def _frame(self, entry_of):
@@ -468,6 +491,31 @@ def deep_stacks_to_two_places(n):
     return deep_stacks(14_000, 2, n)
 
 
+@costly("{n} operands, put one by one")
+def operands_one_by_one(n):
+    return ClassFile().hidden(n, 0, Body().put(ICONST_0 * n, RETURN))
+
+
+@costly("{n} swaps, over 30,000 operands")
+def swaps_over_deep_stack(n):
+    return ClassFile().hidden(30_000, 0, Body().put(ICONST_0 * 30_000, SWAP * n, RETURN))
+
+
+@costly("{n} additions, over 20,000 operands")
+def additions_over_deep_stack(n):
+    return ClassFile().hidden(20_001, 0, Body().put(ICONST_0 * 20_000, (DUP + IADD) * n, RETURN))
+
+
+@costly("{n} stores, over 20,000 operands")
+def stores_over_deep_stack(n):
+    return ClassFile().hidden(20_001, 1, Body().put(ICONST_0 * 20_000, (ICONST_0 + ISTORE_0) * n, RETURN))
+
+
+@costly("{n} times a load of a local and an addition to it")
+def loads_and_increments(n):
+    return ClassFile().hidden(n, 1, Body().put(ICONST_0 + ISTORE_0, (ILOAD_0 + IINC_0) * n, RETURN))
+
+
 # Frames.
 
 
@@ -687,6 +735,70 @@ def stores_between_branches(n):
 def stores_between_branches_over_ints(n):
     body = stores_and_branches(behind_return([TOP] + [INT] * 19_999), n)
     return ClassFile().hidden(1, 20_000, body)
+
+
+# Switches.
+
+
+@costly("a tableswitch of {n} keys to one place")
+def table_to_one_place(n):
+    body = Body().put(ICONST_0).table_switch(0, [0] * n).mark(0).same()
+    return ClassFile().hidden(1, 0, body.put(RETURN))
+
+
+@costly("a tableswitch of {n} keys to as many places")
+def table_to_many_places(n):
+    body = Body().put(ICONST_0).table_switch(0, range(n))
+    for number in range(n):
+        body.mark(number).same().put(NOP)
+    return ClassFile().hidden(1, 0, body.put(RETURN))
+
+
+@costly("a tableswitch of {n} keys to two places in turn, over 20,000 locals")
+def table_over_many_locals(n):
+    body = behind_return([INT] * 20_000).put(ICONST_0).table_switch(0, [number % 2 for number in range(n)])
+    return ClassFile().hidden(1, 20_000, body.mark(0).same().put(RETURN).mark(1).same().put(RETURN))
+
+
+def table_over_operands(operands, places, keys):
+    """A tableswitch over so many operands to these places in turn, each with a full frame."""
+    body = Body().put(ICONST_0, ICONST_0, DUP2 * (operands // 2 - 1), DUP)
+    body.table_switch(0, [number % places for number in range(keys)])
+    for place in range(places):
+        body.mark(place).full([], [INT] * operands).put(RETURN)
+    return ClassFile().hidden(operands + 1, 0, body)
+
+
+@costly("a tableswitch of {n} keys to one place, over 20,000 operands")
+def table_over_operands_to_one_place(n):
+    return table_over_operands(20_000, 1, n)
+
+
+@costly("a tableswitch of {n} keys to two places in turn, over 12,800 operands")
+def table_over_operands_to_two_places(n):
+    return table_over_operands(12_800, 2, n)
+
+
+@costly("{n} tableswitches of one key to one place")
+def many_tables(n):
+    body = Body()
+    for number in range(n):
+        body.put(ICONST_0).table_switch(number, ["end"]).mark(number).same()
+    return ClassFile().hidden(1, 0, body.put(NOP).mark("end").same().put(RETURN))
+
+
+@costly("a lookupswitch of {n} keys to one place, over 65,535 locals")
+def lookup_of_many_keys(n):
+    body = Body().put(ICONST_0).lookup_switch(0, [0] * n).mark(0).same()
+    return ClassFile().hidden(1, 65_535, body.put(RETURN))
+
+
+@costly("{n} lookupswitches without a key")
+def many_empty_lookups(n):
+    body = Body()
+    for number in range(n):
+        body.put(ICONST_0).lookup_switch(number, []).mark(number).same()
+    return ClassFile().hidden(1, 0, body.put(RETURN))
 
 
 # Own calls.

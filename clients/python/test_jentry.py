@@ -25,12 +25,17 @@ EXAMPLES = os.path.join(HERE, "../../examples")
 HAS_PROCESSORS = os.path.exists(os.path.join(HERE, "../processors/GetAndPut.class"))
 LEAST, MOST = -2**63, 2**63 - 1
 INTERRUPTED = """
-import sys
+import signal, sys, threading
 sys.path.insert(0, sys.argv[1])
 import jentry
+signal.signal(signal.SIGINT, signal.default_int_handler)  # a shell's background command has it ignored
 with jentry.Cache.start(*sys.argv[2:]) as cache:
-    try:
+    def tell():
+        while cache._waiting or not cache._is_led:
+            threading.Event().wait(0.01)
         print("begins", flush=True)
+    threading.Thread(target=tell).start()
+    try:
         cache.get(1)
     except KeyboardInterrupt:
         try:

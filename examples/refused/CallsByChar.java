@@ -5,6 +5,6 @@ import javax.cache.processor.MutableEntry;
 public class CallsByChar implements EntryProcessor<Long, Long, Object> {
     public Object process(MutableEntry<Long, Long> entry, Object... arguments) {
         CharSequence text = null;
-        return (int) text.charAt(0);
+        return (int) text.charAt(0); // refused
     }
 }

@@ -8,6 +8,6 @@ public class DeclaredComparable implements EntryProcessor<Long, Long, Object> {
         if (entry.exists()) {
             entry.remove();
         }
-        return value;
+        return value; // refused
     }
 }

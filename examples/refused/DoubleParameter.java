@@ -8,6 +8,6 @@ public class DoubleParameter implements EntryProcessor<Long, Long, Object> {
     }
 
     static double half(double x) {
-        return x / 2;
+        return x / 2; // refused
     }
 }

@@ -6,7 +6,7 @@ public class InstanceField implements EntryProcessor<Long, Long, Object> {
     private long sum;
 
     public Object process(MutableEntry<Long, Long> entry, Object... arguments) {
-        sum += entry.getValue();
+        sum += entry.getValue(); // refused
         return sum;
     }
 }

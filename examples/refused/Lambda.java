@@ -6,7 +6,7 @@ import java.util.function.LongSupplier;
 /** A lambda is made by invokedynamic. */
 public class Lambda implements EntryProcessor<Long, Long, Object> {
     public Object process(MutableEntry<Long, Long> entry, Object... arguments) {
-        LongSupplier five = () -> 5;
+        LongSupplier five = () -> 5; // refused
         return five.getAsLong();
     }
 }

@@ -5,7 +5,7 @@ import javax.cache.processor.MutableEntry;
 public class Loop implements EntryProcessor<Long, Long, Object> {
     public Object process(MutableEntry<Long, Long> entry, Object... arguments) {
         long sum = 0;
-        for (int i = 0; i < arguments.length; i++) {
+        for (int i = 0; i < arguments.length; i++) { // refused
             sum += (Long) arguments[i];
         }
         return sum;

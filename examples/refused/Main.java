@@ -8,5 +8,5 @@ public class Main implements EntryProcessor<Long, Long, Object> {
     }
 
     public static void main(String[] arguments) {
-    }
+    } // refused
 }

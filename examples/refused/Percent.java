@@ -4,6 +4,6 @@ import javax.cache.processor.MutableEntry;
 /** Arithmetic of double. */
 public class Percent implements EntryProcessor<Long, Long, Object> {
     public Object process(MutableEntry<Long, Long> entry, Object... arguments) {
-        return (long) (entry.getValue() * 1.19);
+        return (long) (entry.getValue() * 1.19); // refused
     }
 }

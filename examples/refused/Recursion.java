@@ -8,6 +8,6 @@ public class Recursion implements EntryProcessor<Long, Long, Object> {
     }
 
     private static long factorial(long n) {
-        return n < 2 ? 1 : n * factorial(n - 1);
+        return n < 2 ? 1 : n * factorial(n - 1); // refused
     }
 }

@@ -6,6 +6,6 @@ public class StaticCounter implements EntryProcessor<Long, Long, Object> {
     private static long calls;
 
     public Object process(MutableEntry<Long, Long> entry, Object... arguments) {
-        return ++calls;
+        return ++calls; // refused
     }
 }

@@ -9,6 +9,6 @@ public class TextOfItself implements EntryProcessor<Long, Long, Object> {
 
     @Override
     public String toString() {
-        return null;
+        return null; // refused
     }
 }

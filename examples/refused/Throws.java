@@ -7,7 +7,7 @@ import javax.cache.processor.EntryProcessorException;
 public class Throws implements EntryProcessor<Long, Long, Object> {
     public Object process(MutableEntry<Long, Long> entry, Object... arguments) {
         if (!entry.exists()) {
-            throw new EntryProcessorException();
+            throw new EntryProcessorException(); // refused
         }
         return entry.getValue();
     }

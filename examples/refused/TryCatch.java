@@ -6,7 +6,7 @@ public class TryCatch implements EntryProcessor<Long, Long, Object> {
     public Object process(MutableEntry<Long, Long> entry, Object... arguments) {
         try {
             return entry.getValue() / (Long) arguments[0];
-        } catch (ArithmeticException e) {
+        } catch (ArithmeticException e) { // refused
             return null;
         }
     }

@@ -5,7 +5,7 @@ import javax.cache.processor.MutableEntry;
 public class VariableLength implements EntryProcessor<Long, Long, Object> {
     public Object process(MutableEntry<Long, Long> entry, Object... arguments) {
         int length = 4;
-        long[] row = new long[length];
+        long[] row = new long[length]; // refused
         return row.length;
     }
 }

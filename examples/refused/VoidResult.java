@@ -4,7 +4,7 @@ import javax.cache.processor.MutableEntry;
 /** The result is declared Void. */
 public class VoidResult implements EntryProcessor<Long, Long, Void> {
     public Void process(MutableEntry<Long, Long> entry, Object... arguments) {
-        entry.remove();
+        entry.remove(); // refused
         return null;
     }
 }

@@ -6,7 +6,7 @@ public class WithParameter implements EntryProcessor<Long, Long, Object> {
     private final long amount;
 
     public WithParameter(long amount) {
-        this.amount = amount;
+        this.amount = amount; // refused
     }
 
     public Object process(MutableEntry<Long, Long> entry, Object... arguments) {

@@ -27,6 +27,13 @@ CHECKED = [
     ("Split", 2, "refused 22 TypeMismatch at 2\n"),
     ("CallArr", 0, "accepted steps=9 words=65536 slots=9 depth=2\n"),
     ("CallTwice", 2, "refused 28 WordLimit\n"),
+    ("Table", 0, "accepted steps=9 words=0 slots=5 depth=1\n"),
+    ("TableLong", 0, "accepted steps=10 words=0 slots=5 depth=1\n"),
+    ("Look", 0, "accepted steps=9 words=0 slots=5 depth=1\n"),
+    ("LookLong", 0, "accepted steps=11 words=0 slots=5 depth=1\n"),
+    ("Far", 0, "accepted steps=5 words=0 slots=260 depth=1\n"),
+    ("Inc", 0, "accepted steps=7 words=0 slots=6 depth=1\n"),
+    ("Jump", 0, "accepted steps=3 words=0 slots=4 depth=1\n"),
 ]
 """What `check` tells of a class, with its status."""
 
@@ -57,6 +64,21 @@ RAN = [
     ("Unbox", "none", 4, "threw 3 NullPointerException\nvalue none\nsteps 4 words 0\n"),
     ("Unbox", "5", 0, "result 5\nvalue 5\nsteps 6 words 0\n"),
     ("GiveEntry", "41", 4, "threw 4 ClassCastException\nvalue 41\nsteps 2 words 0\n"),
+    ("Table", "1", 0, "result 1\nvalue 1\nsteps 9 words 0\n"),
+    ("Table", "2", 0, "result null\nvalue 2\nsteps 8 words 0\n"),
+    ("Table", "3", 0, "result 0\nvalue 3\nsteps 9 words 0\n"),
+    ("Table", "0", 0, "result 0\nvalue 0\nsteps 9 words 0\n"),
+    ("Table", "4294967297", 0, "result 1\nvalue 4294967297\nsteps 9 words 0\n"),
+    ("Table", "2147483648", 0, "result 0\nvalue 2147483648\nsteps 9 words 0\n"),
+    ("TableLong", "3", 0, "result 0\nvalue 3\nsteps 10 words 0\n"),
+    ("Look", "4294967291", 0, "result 1\nvalue 4294967291\nsteps 9 words 0\n"),
+    ("Look", "9", 0, "result null\nvalue 9\nsteps 8 words 0\n"),
+    ("Look", "5", 0, "result 0\nvalue 5\nsteps 9 words 0\n"),
+    ("Look", "10", 0, "result 0\nvalue 10\nsteps 9 words 0\n"),
+    ("LookLong", "9", 0, "result null\nvalue 9\nsteps 11 words 0\n"),
+    ("Far", "none", 0, "result 1\nvalue none\nsteps 5 words 0\n"),
+    ("Inc", "none", 0, "result -301\nvalue none\nsteps 7 words 0\n"),
+    ("Jump", "none", 0, "result null\nvalue none\nsteps 3 words 0\n"),
 ]
 """What a run of a class on key 7 tells, of these words behind the key, with its status."""
 
@@ -69,12 +91,30 @@ class Classes(Runs):
     variable = "JENTRY_PROGRAM"
 
     def test_verdicts_are_told(self):
-        self.assertEqual(len(CHECKED), 24)
+        self.assertEqual(len(CHECKED), 31)
         self.hold(check_tells(rows.named(name), status, output) for name, status, output in CHECKED)
 
     def test_runs_are_told(self):
-        self.assertEqual(len(RAN), 26)
+        self.assertEqual(len(RAN), 41)
         self.hold(Row(["run", "C", "7", *words.split()], status, output, file=rows.named(name)) for name, words, status, output in RAN)
+
+    def test_switches_and_wide_forms_are_judged(self):
+        def other(name, old, new):
+            method = rows.CLASSES[name][0]
+            return rows.class_of(method._replace(code=method.code.replace(bytes.fromhex(old), bytes.fromhex(new), 1)))
+
+        self.hold(check_tells(data, 2 if told.startswith("refused") else 0, told + "\n") for data, told in [
+            (other("Table", "aa0000", "aaffff"), "accepted steps=9 words=0 slots=5 depth=1"),
+            (other("Table", "0000000100000002", "0000000300000002"), "refused 18 BadOperand"),
+            (other("Table", "0000001e", "00000000"), "refused 20 BackwardBranch"),
+            (other("Table", "0000001c0a", "000000190a"), "refused 19 BadTarget"),
+            (other("Table", "0000001c0a", "0000001d0a"), "refused 21 BadStackMap"),
+            (other("Look", "fffffffb0000001b00000009", "000000090000001bfffffffb"), "refused 18 BadOperand"),
+            (other("Look", "00000009", "fffffffb"), "refused 18 BadOperand"),
+            (other("Look", "00000002", "ffffffff"), "refused 18 BadOperand"),
+            (rows.class_of(rows.CLASSES["Far"][0]._replace(max_locals=257)), "refused 22 TypeMismatch at 1"),
+            (other("Jump", "c800000005", "c800000000"), "refused 20 BackwardBranch"),
+        ])
 
     def test_frames_are_judged(self):
         self.hold(check_tells(rows.class_of(rows.process(4, 5, rows.RATIO, frames)), 2, output) for frames, output in [

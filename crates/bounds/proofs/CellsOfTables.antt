@@ -1,12 +1,12 @@
 -- The cells of a method are a table's costs, cut off.
-use Rattle.std.proofs.Common.{◌≡◌, ◌≢◌, ℕ, zero, suc, ◌+◌, ◌-◌, ◌<◌, ◌≤◌, Bool, true, false, cond, eqb, List, [], ◌∷◌, length, drop, Option, Some, None, refl, sym, ap, ◌∙◌, subst, arith}
+use Rattle.std.proofs.Common.{◌≡◌, ◌≢◌, ℕ, zero, suc, ◌+◌, ◌-◌, ◌<◌, ◌≤◌, Bool, true, false, cond, eqb, List, [], ◌∷◌, length, drop, Option, Some, None, refl, sym, ap, ◌∙◌, subst, arith, inl, inr}
 use Rattle.std.specs.Prelude.{slice_get, slice_set, ℤ, IsSome, is_some, ◌&&◌}
 use Rattle.std.proofs.lemmas.Bool.{eqb-true, eqb-false, eq-eqb, ne_eqb}
 use Rattle.std.proofs.lemmas.List.{length-set, length-replicate, get_or-set_same, get_or-set_other}
 use Rattle.decode.specs.declared.instruction.Instruction.{Instruction}
 use Rattle.decode.specs.declared.instruction.Instruction.TheVariants as instruction
 use Rattle.decode.specs.declared.instruction.Placed.{Placed}
-use Rattle.decode.specs.Places.{at_place, target_of, falls_through, pushed_before}
+use Rattle.decode.specs.Places.{at_place, targets_in, IsTarget, falls_through, pushed_before}
 use Rattle.decode.specs.Reading.{RisesFrom}
 use Rattle.frames.specs.declared.frame.Environment.{Environment}
 use Rattle.typecheck.specs.Typing.{Method, Class, instruction_at, call_of, own_of, own_number}
@@ -14,8 +14,8 @@ use Rattle.typecheck.specs.Calls.{AreRising, callee_in}
 use Rattle.typecheck.specs.declared.typed.Called.{Called}
 use Rattle.typecheck.specs.declared.typed.Typed.{Typed}
 use Rattle.bounds.specs.Paths.{Cost, StandsAt, own_slots, words_at, last_cost, after_one, after_call, length_of}
-use Rattle.bounds.specs.Table.{Costs, greater, place_of, cost_through, cost_by, IsTable, LeadsOn}
-use Rattle.bounds.specs.Cells.{Cell, cut, capped, no_path, either, one_before, call_before, slots_of, last_cell, words_by, cell_at, cell_at_target, known_at, known_of, after_callee, cell_by, cells_of, size_by}
+use Rattle.bounds.specs.Table.{Costs, greater, place_of, cost_among, cost_through, cost_by, IsTable, LeadsOn}
+use Rattle.bounds.specs.Cells.{Cell, cut, capped, no_path, either, one_before, call_before, slots_of, last_cell, words_by, cell_at, cell_at_target, cell_among, known_at, known_of, after_callee, cell_by, cells_of, size_by}
 use Rattle.bounds.specs.Rows.{IsRowOf, AreKnown, IsCostOf, is_known, are_known}
 use Rattle.bounds.proofs.Greatest.{some_is}
 
@@ -35,6 +35,18 @@ one_is w v x k e h =
     let s : x.steps ≡ cut k.steps = ap (λ (y : Cell). y.steps) h in
     let u : x.words ≡ cut k.words = ap (λ (y : Cell). y.words) h in
     same_cell (one_before w x) (capped (after_one v k)) (omega (arith, s)) (omega (arith, e, u)) (ap (λ (y : Cell). y.slots) h) (ap (λ (y : Cell). y.depth) h)
+
+either_is : (x y : Cell) (k l : Cost) → x ≡ capped k → y ≡ capped l → either x y ≡ capped (greater k l)
+either_is x y k l e h =
+    let s : x.steps ≡ cut k.steps = ap (λ (z : Cell). z.steps) e in
+    let w : x.words ≡ cut k.words = ap (λ (z : Cell). z.words) e in
+    let u : x.slots ≡ cut k.slots = ap (λ (z : Cell). z.slots) e in
+    let d : x.depth ≡ cut k.depth = ap (λ (z : Cell). z.depth) e in
+    let s' : y.steps ≡ cut l.steps = ap (λ (z : Cell). z.steps) h in
+    let w' : y.words ≡ cut l.words = ap (λ (z : Cell). z.words) h in
+    let u' : y.slots ≡ cut l.slots = ap (λ (z : Cell). z.slots) h in
+    let d' : y.depth ≡ cut l.depth = ap (λ (z : Cell). z.depth) h in
+    same_cell (either x y) (capped (greater k l)) (omega (arith, s, s')) (omega (arith, w, w')) (omega (arith, u, u')) (omega (arith, d, d'))
 
 branch_is : (x y : Cell) (k l : Cost) → x ≡ capped k → y ≡ capped l → one_before 0 (either y x) ≡ capped (greater (after_one 0 k) (after_one 0 l))
 branch_is x y k l e h =
@@ -94,6 +106,7 @@ module _ (c : Class) (t : Costs) (row : Typed) (m : Method) (own : own_slots m �
   words_are place (instruction.NewArray k) = ap (λ (l : List Placed). cut (suc (length_of (pushed_before l place)))) (sym code)
   words_are place (instruction.Goto z) = refl
   words_are place (instruction.Branch a z) = refl
+  words_are place (instruction.Switch z s) = refl
   words_are place (instruction.Return k) = refl
   words_are place instruction.ReturnVoid = refl
   words_are place instruction.Nop = refl
@@ -115,15 +128,24 @@ module _ (c : Class) (t : Costs) (row : Typed) (m : Method) (own : own_slots m �
   plain_is : (p : Placed) (i : Instruction) (cells : List Cell) → p.instruction ≡ i → cell_at cells p.next ≡ capped (t row.number p.next) → one_before (words_by row p.place i) (cell_at cells p.next) ≡ capped (after_one (words_at m p.place p.instruction) (t row.number p.next))
   plain_is p i cells e h = one_is (words_by row p.place i) (words_at m p.place p.instruction) (cell_at cells p.next) (t row.number p.next) (words_are p.place i ∙ ap (λ (x : Instruction). cut (words_at m p.place x)) (sym e)) h
 
+  -- where a switch leads
+  among_is : (cells : List Cell) (zs : List ℤ) (x : Cell) (k : Cost) → x ≡ capped k → ((n : ℕ) (z : ℤ) → slice_get zs n ≡ Some z → cell_at_target cells z ≡ capped (t row.number (place_of z))) → cell_among cells zs x ≡ capped (cost_among t row.number zs k)
+  among_is cells [] x k e each = e
+  among_is cells (z ∷ zs) x k e each =
+      either_is (cell_at_target cells z) (cell_among cells zs x) (t row.number (place_of z)) (cost_among t row.number zs k) (each 0 z refl) (among_is cells zs x k e (λ n y f. each (suc n) y f))
+
   row_is : (p : Placed) (i : Instruction) (cells : List Cell) → p.instruction ≡ i
       → (falls_through i ≡ true → cell_at cells p.next ≡ capped (t row.number p.next))
-      → ((z : ℤ) → target_of i ≡ Some z → cell_at_target cells z ≡ capped (t row.number (place_of z)))
+      → ((z : ℤ) → IsTarget i z → cell_at_target cells z ≡ capped (t row.number (place_of z)))
       → call_of c.view i ≡ own_of (callee_in row.calls.items p.place) → is_known known (own_of (callee_in row.calls.items p.place)) ≡ true
       → cell_by row p cells known i ≡ capped (cost_by c t m row.number p.place p i)
   row_is p (instruction.Return k) cells e next target call is = return_is row m own
   row_is p instruction.ReturnVoid cells e next target call is = return_is row m own
-  row_is p (instruction.Goto z) cells e next target call is = one_is 0 0 (cell_at_target cells z) (t row.number (place_of z)) refl (target z refl)
-  row_is p (instruction.Branch a z) cells e next target call is = branch_is (cell_at cells p.next) (cell_at_target cells z) (t row.number p.next) (t row.number (place_of z)) (next refl) (target z refl)
+  row_is p (instruction.Goto z) cells e next target call is = one_is 0 0 (cell_at_target cells z) (t row.number (place_of z)) refl (target z (inl refl))
+  row_is p (instruction.Branch a z) cells e next target call is = branch_is (cell_at cells p.next) (cell_at_target cells z) (t row.number p.next) (t row.number (place_of z)) (next refl) (target z (inl refl))
+  row_is p (instruction.Switch z s) cells e next target call is =
+      one_is 0 0 (cell_among cells (targets_in s) (cell_at_target cells z)) (cost_among t row.number (targets_in s) (t row.number (place_of z))) refl
+      (among_is cells (targets_in s) (cell_at_target cells z) (t row.number (place_of z)) (target z (inl refl)) (λ n y f. target y (inr (n, f))))
   row_is p (instruction.Invoke k x) cells e next target call is =
       callee_is p (cell_at cells p.next) (own_of (callee_in row.calls.items p.place)) is (ap (λ (y : Instruction). words_at m p.place y) e) (next refl)
       ∙ ap (λ (o : Option ℕ). capped (cost_through t m row.number p.place p o)) (sym call)

@@ -4,10 +4,10 @@ use Rattle.std.specs.Prelude.{slice_get, ℤ}
 use Rattle.std.proofs.lemmas.Bool.{cases_lt}
 use Rattle.std.proofs.lemmas.Option.{slice_get_within}
 use Rattle.decode.specs.declared.instruction.Placed.{Placed}
-use Rattle.decode.specs.Places.{target_of, falls_through}
+use Rattle.decode.specs.Places.{cases_of, IsTarget, falls_through}
 use Rattle.typecheck.specs.Typing.{Method, Class, instruction_at, call_of}
 use Rattle.bounds.specs.Paths.{Cost, StandsAt, words_at, after_one, after_call}
-use Rattle.bounds.specs.Table.{Costs, greater, place_of, cost_through, cost_by, IsTable, LeadsOn, EachHasTable}
+use Rattle.bounds.specs.Table.{Costs, greater, place_of, cost_among, cost_through, cost_by, IsTable, LeadsOn, EachHasTable}
 use Rattle.bounds.proofs.Greatest.{through, Leads, returns, goes, branches, follows, leads, top_of, below_top, some_is}
 
 -- ---- rows by the costs of what follows
@@ -30,8 +30,12 @@ filled c (suc n) j q = row_of c (filled c n) j q (slice_get c.methods j)
 row_is : (c : Class) (t : Costs) (j q : ℕ) (m : Method) (p : Placed) → StandsAt c j q m p → row_of c t j q (slice_get c.methods j) ≡ cost_by c t m j q p p.instruction
 row_is c t j q m p s = ap (row_of c t j q) s.method ∙ ap (row_in c t m j q) s.instruction
 
+same_among : (t u : Costs) (j : ℕ) (zs : List ℤ) (a b : Cost) → ((n : ℕ) (z : ℤ) → slice_get zs n ≡ Some z → t j (place_of z) ≡ u j (place_of z)) → a ≡ b → cost_among t j zs a ≡ cost_among u j zs b
+same_among t u j [] a b each e = e
+same_among t u j (z ∷ zs) a b each e = ap (λ x. greater x (cost_among t j zs a)) (each 0 z refl) ∙ ap (greater (u j (place_of z))) (same_among t u j zs a b (λ n y f. each (suc n) y f) e)
+
 -- a row is the same where what follows costs the same
-same_row : (c : Class) (t u : Costs) (j q : ℕ) (m : Method) (p : Placed) → (falls_through p.instruction ≡ true → t j p.next ≡ u j p.next) → ((z : ℤ) → target_of p.instruction ≡ Some z → t j (place_of z) ≡ u j (place_of z)) → ((k : ℕ) → call_of c.view p.instruction ≡ Some k → t k 0 ≡ u k 0) → cost_by c t m j q p p.instruction ≡ cost_by c u m j q p p.instruction
+same_row : (c : Class) (t u : Costs) (j q : ℕ) (m : Method) (p : Placed) → (falls_through p.instruction ≡ true → t j p.next ≡ u j p.next) → ((z : ℤ) → IsTarget p.instruction z → t j (place_of z) ≡ u j (place_of z)) → ((k : ℕ) → call_of c.view p.instruction ≡ Some k → t k 0 ≡ u k 0) → cost_by c t m j q p p.instruction ≡ cost_by c u m j q p p.instruction
 same_row c t u j q m p next target call = go (leads c m j q p p.instruction)
   where
     by_call : falls_through p.instruction ≡ true → (o : Option ℕ) → call_of c.view p.instruction ≡ o → cost_through t m j q p o ≡ cost_through u m j q p o
@@ -40,8 +44,8 @@ same_row c t u j q m p next target call = go (leads c m j q p p.instruction)
 
     go : Leads c m j q p p.instruction → cost_by c t m j q p p.instruction ≡ cost_by c u m j q p p.instruction
     go (returns a b d f g) = g t ∙ sym (g u)
-    go (goes z a b d f g) = g t ∙ ap (after_one 0) (target z d) ∙ sym (g u)
-    go (branches z a b d f w g) = g t ∙ ap (λ x. greater (after_one 0 x) (after_one 0 (t j (place_of z)))) (next b) ∙ ap (λ x. greater (after_one 0 (u j p.next)) (after_one 0 x)) (target z d) ∙ sym (g u)
+    go (goes z a b d f g) = g t ∙ ap (after_one 0) (same_among t u j (cases_of p.instruction) (t j (place_of z)) (u j (place_of z)) (λ n y f. target y (inr (n, f))) (target z (inl d))) ∙ sym (g u)
+    go (branches z a b d n f w g) = g t ∙ ap (λ x. greater (after_one 0 x) (after_one 0 (t j (place_of z)))) (next b) ∙ ap (λ x. greater (after_one 0 (u j p.next)) (after_one 0 x)) (target z (inl d)) ∙ sym (g u)
     go (follows a b d) = through c t m j q p p.instruction b d ∙ by_call b (call_of c.view p.instruction) refl ∙ sym (through c u m j q p p.instruction b d)
 
 -- ---- numbers

@@ -5,10 +5,11 @@ use Rattle.std.proofs.lemmas.Bool.{eqb-true, cases_lt}
 use Rattle.decode.specs.declared.instruction.Instruction.{Instruction}
 use Rattle.decode.specs.declared.instruction.Instruction.TheVariants as instruction
 use Rattle.decode.specs.declared.instruction.Placed.{Placed}
-use Rattle.decode.specs.Places.{at_place, target_of, falls_through, is_return}
+use Rattle.decode.specs.Places.{at_place, target_of, cases_of, IsTarget, falls_through, is_return}
+use Rattle.decode.proofs.Targets.{no_target}
 use Rattle.typecheck.specs.Typing.{Method, Class, instruction_at, call_of}
 use Rattle.bounds.specs.Paths.{Cost, Path, StandsAt, IsWithin, SomePathTakes, words_at, last_cost, after_one, after_call, ends, jumps, falls, calls}
-use Rattle.bounds.specs.Table.{Costs, bounds_of, greater, place_of, cost_through, cost_by, IsTable, LeadsOn, TablesAreBounds}
+use Rattle.bounds.specs.Table.{Costs, bounds_of, greater, place_of, cost_among, cost_through, cost_by, IsTable, LeadsOn, TablesAreBounds}
 
 -- ---- no path exceeds
 
@@ -57,6 +58,7 @@ same_within k = record { steps = omega arith; words = omega arith; slots = omega
 pub through : (c : Class) (t : Costs) (m : Method) (j q : ℕ) (p : Placed) (i : Instruction) → falls_through i ≡ true → target_of i ≡ None → cost_by c t m j q p i ≡ cost_through t m j q p (call_of c.view i)
 through c t m j q p (instruction.Goto z) e n = cc
 through c t m j q p (instruction.Branch a z) e n = cc
+through c t m j q p (instruction.Switch z s) e n = cc
 through c t m j q p (instruction.Return k) e n = cc
 through c t m j q p instruction.ReturnVoid e n = cc
 through c t m j q p instruction.Nop e n = refl
@@ -75,16 +77,21 @@ through c t m j q p instruction.ArrayLength e n = refl
 through c t m j q p (instruction.CheckCast x) e n = refl
 through c t m j q p (instruction.InstanceOf x) e n = refl
 
+-- an instruction with one target
+no_case : (i : Instruction) (n : ℕ) (z : ℤ) → cases_of i ≡ [] → slice_get (cases_of i) n ≡ Some z → ⊥
+no_case i n z e f = let none : None ≡ Some z = ap (λ (l : List ℤ). slice_get l n) (sym e) ∙ f in cc none
+
 -- what an instruction is, by where it leads
 pub data Leads (c : Class) (m : Method) (j q : ℕ) (p : Placed) (i : Instruction) : Type 0 where
   returns : is_return i ≡ true → falls_through i ≡ false → target_of i ≡ None → call_of c.view i ≡ None → ((t : Costs) → cost_by c t m j q p i ≡ last_cost m) → Leads c m j q p i
-  goes : (z : ℤ) → is_return i ≡ false → falls_through i ≡ false → target_of i ≡ Some z → call_of c.view i ≡ None → ((t : Costs) → cost_by c t m j q p i ≡ after_one 0 (t j (place_of z))) → Leads c m j q p i
-  branches : (z : ℤ) → is_return i ≡ false → falls_through i ≡ true → target_of i ≡ Some z → call_of c.view i ≡ None → words_at m q i ≡ 0 → ((t : Costs) → cost_by c t m j q p i ≡ greater (after_one 0 (t j p.next)) (after_one 0 (t j (place_of z)))) → Leads c m j q p i
+  goes : (z : ℤ) → is_return i ≡ false → falls_through i ≡ false → target_of i ≡ Some z → call_of c.view i ≡ None → ((t : Costs) → cost_by c t m j q p i ≡ after_one 0 (cost_among t j (cases_of i) (t j (place_of z)))) → Leads c m j q p i
+  branches : (z : ℤ) → is_return i ≡ false → falls_through i ≡ true → target_of i ≡ Some z → cases_of i ≡ [] → call_of c.view i ≡ None → words_at m q i ≡ 0 → ((t : Costs) → cost_by c t m j q p i ≡ greater (after_one 0 (t j p.next)) (after_one 0 (t j (place_of z)))) → Leads c m j q p i
   follows : is_return i ≡ false → falls_through i ≡ true → target_of i ≡ None → Leads c m j q p i
 
 pub leads : (c : Class) (m : Method) (j q : ℕ) (p : Placed) (i : Instruction) → Leads c m j q p i
 leads c m j q p (instruction.Goto z) = goes z refl refl refl refl (λ t. refl)
-leads c m j q p (instruction.Branch a z) = branches z refl refl refl refl refl (λ t. refl)
+leads c m j q p (instruction.Switch z s) = goes z refl refl refl refl (λ t. refl)
+leads c m j q p (instruction.Branch a z) = branches z refl refl refl refl refl refl (λ t. refl)
 leads c m j q p (instruction.Return k) = returns refl refl refl refl (λ t. refl)
 leads c m j q p instruction.ReturnVoid = returns refl refl refl refl (λ t. refl)
 leads c m j q p instruction.Nop = follows refl refl refl
@@ -107,6 +114,18 @@ module _ (c : Class) (set : ℕ → Bool) (on : LeadsOn c set) (t : Costs) (tabl
   within_of : (k a b : Cost) → a ≡ b → IsBelow k b → IsBelow k a
   within_of k a b e h = subst (IsBelow k) (sym e) h
 
+  -- the greatest of the places where a switch leads isn't below any
+  below_default : (j : ℕ) (zs : List ℤ) (k b : Cost) → IsBelow k b → IsBelow k (cost_among t j zs b)
+  below_default j [] k b h = h
+  below_default j (z ∷ zs) k b h = right_within k (t j (place_of z)) (cost_among t j zs b) (below_default j zs k b h)
+
+  below_case : (j : ℕ) (zs : List ℤ) (n : ℕ) (z : ℤ) (k b : Cost) → slice_get zs n ≡ Some z → IsBelow k (t j (place_of z)) → IsBelow k (cost_among t j zs b)
+  below_case j [] n z k b e h = cc e
+  below_case j (y ∷ zs) zero z k b e h =
+      let same : y ≡ z = cc e in
+      left_within k (t j (place_of y)) (cost_among t j zs b) (subst (λ x. IsBelow k (t j (place_of x))) (sym same) h)
+  below_case j (y ∷ zs) (suc n) z k b e h = right_within k (t j (place_of y)) (cost_among t j zs b) (below_case j zs n z k b e h)
+
   -- the ways on from an instruction take at most what its row says
   return_row : (m : Method) (j q : ℕ) (p : Placed) (i : Instruction) → is_return i ≡ true → IsBelow (last_cost m) (cost_by c t m j q p i)
   return_row m j q p i e = go (leads c m j q p i)
@@ -114,23 +133,25 @@ module _ (c : Class) (set : ℕ → Bool) (on : LeadsOn c set) (t : Costs) (tabl
       go : Leads c m j q p i → IsBelow (last_cost m) (cost_by c t m j q p i)
       go (returns a b d f g) = within_of _ _ _ (g t) (same_within (last_cost m))
       go (goes z a b d f g) = cc (a, e)
-      go (branches z a b d f w g) = cc (a, e)
+      go (branches z a b d n f w g) = cc (a, e)
       go (follows a b d) = cc (a, e)
 
-  at_target : (j r : ℕ) (z : ℤ) (k : Cost) (i : Instruction) → target_of i ≡ Some z → target_of i ≡ Some (pos r) → IsBelow k (t j r) → IsBelow (after_one 0 k) (after_one 0 (t j (place_of z)))
+  at_target : (j r : ℕ) (z : ℤ) (k : Cost) (i : Instruction) → target_of i ≡ Some z → target_of i ≡ Some (pos r) → IsBelow k (t j r) → IsBelow k (t j (place_of z))
   at_target j r z k i a e h =
       let both : Some z ≡ Some (pos r) = sym a ∙ e in
       let same : z ≡ pos r = cc both in
-      subst (λ x. IsBelow (after_one 0 k) (after_one 0 (t j (place_of x)))) (sym same) (one_within 0 k (t j r) h)
+      subst (λ x. IsBelow k (t j (place_of x))) (sym same) h
 
-  jump_row : (m : Method) (j q r : ℕ) (p : Placed) (i : Instruction) (k : Cost) → target_of i ≡ Some (pos r) → IsBelow k (t j r) → IsBelow (after_one 0 k) (cost_by c t m j q p i)
-  jump_row m j q r p i k e h = go (leads c m j q p i)
+  jump_row : (m : Method) (j q r : ℕ) (p : Placed) (i : Instruction) (k : Cost) → IsTarget i (pos r) → IsBelow k (t j r) → IsBelow (after_one 0 k) (cost_by c t m j q p i)
+  jump_row m j q r p i k to h = go (leads c m j q p i) to
     where
-      go : Leads c m j q p i → IsBelow (after_one 0 k) (cost_by c t m j q p i)
-      go (returns a b d f g) = cc (d, e)
-      go (goes z a b d f g) = within_of _ _ _ (g t) (at_target j r z k i d e h)
-      go (branches z a b d f w g) = within_of _ _ _ (g t) (right_within _ _ _ (at_target j r z k i d e h))
-      go (follows a b d) = cc (d, e)
+      go : Leads c m j q p i → IsTarget i (pos r) → IsBelow (after_one 0 k) (cost_by c t m j q p i)
+      go (returns a b d f g) e = absurd (no_target i (pos r) d e)
+      go (goes z a b d f g) (inl e) = within_of _ _ _ (g t) (one_within 0 k _ (below_default j (cases_of i) k (t j (place_of z)) (at_target j r z k i d e h)))
+      go (goes z a b d f g) (inr (x, e)) = within_of _ _ _ (g t) (one_within 0 k _ (below_case j (cases_of i) x (pos r) k (t j (place_of z)) e h))
+      go (branches z a b d n f w g) (inl e) = within_of _ _ _ (g t) (right_within _ _ _ (one_within 0 k (t j (place_of z)) (at_target j r z k i d e h)))
+      go (branches z a b d n f w g) (inr (x, e)) = absurd (no_case i x (pos r) n e)
+      go (follows a b d) e = absurd (no_target i (pos r) d e)
 
   fall_row : (m : Method) (j q : ℕ) (p : Placed) (k : Cost) → falls_through p.instruction ≡ true → call_of c.view p.instruction ≡ None → IsBelow k (t j p.next) → IsBelow (after_one (words_at m q p.instruction) k) (cost_by c t m j q p p.instruction)
   fall_row m j q p k e f h = go (leads c m j q p p.instruction)
@@ -138,7 +159,7 @@ module _ (c : Class) (set : ℕ → Bool) (on : LeadsOn c set) (t : Costs) (tabl
       go : Leads c m j q p p.instruction → IsBelow (after_one (words_at m q p.instruction) k) (cost_by c t m j q p p.instruction)
       go (returns a b d n g) = cc (b, e)
       go (goes z a b d n g) = cc (b, e)
-      go (branches z a b d n w g) = within_of _ _ _ (g t) (left_within _ _ _ (subst (λ x. IsBelow (after_one x k) (after_one 0 (t j p.next))) (sym w) (one_within 0 k (t j p.next) h)))
+      go (branches z a b d x n w g) = within_of _ _ _ (g t) (left_within _ _ _ (subst (λ x. IsBelow (after_one x k) (after_one 0 (t j p.next))) (sym w) (one_within 0 k (t j p.next) h)))
       go (follows a b d) = within_of _ _ _ (through c t m j q p p.instruction b d ∙ ap (cost_through t m j q p) f) (one_within (words_at m q p.instruction) k (t j p.next) h)
 
   call_row : (m : Method) (j q n : ℕ) (p : Placed) (e k : Cost) → call_of c.view p.instruction ≡ Some n → IsBelow e (t n 0) → IsBelow k (t j p.next) → IsBelow (after_call m e k) (cost_by c t m j q p p.instruction)
@@ -147,7 +168,7 @@ module _ (c : Class) (set : ℕ → Bool) (on : LeadsOn c set) (t : Costs) (tabl
       go : Leads c m j q p p.instruction → IsBelow (after_call m e k) (cost_by c t m j q p p.instruction)
       go (returns a b d x y) = cc (x, f)
       go (goes z a b d x y) = cc (x, f)
-      go (branches z a b d x w y) = cc (x, f)
+      go (branches z a b d n x w y) = cc (x, f)
       go (follows a b d) = within_of _ _ _ (through c t m j q p p.instruction b d ∙ ap (cost_through t m j q p) f) (call_within m e k (t n 0) (t j p.next) h g)
 
   pub none_exceeds : (j q : ℕ) (k : Cost) → set j ≡ true → Path c j q k → IsBelow k (t j q)
@@ -207,17 +228,38 @@ module _ (part : Cost → ℕ) (measure : IsMeasure part) (c : Class) (set : ℕ
   abbrev AttainsRow : ℕ → ℕ → Cost → Type 0
   AttainsRow j q row = (k : Cost) × Path c j q k × (part k ≡ part row)
 
+  -- the greatest of the places where a switch leads is one of them
+  abbrev IsOneOf : ℕ → List ℤ → Cost → Type 0
+  IsOneOf j zs b = (part (cost_among t j zs b) ≡ part b) ⊎ ((n : ℕ) × (z : ℤ) × (slice_get zs n ≡ Some z) × (part (cost_among t j zs b) ≡ part (t j (place_of z))))
+
+  one_of : (j : ℕ) (zs : List ℤ) (b : Cost) → IsOneOf j zs b
+  one_of j [] b = inl refl
+  one_of j (z ∷ zs) b = go (measure.most (t j (place_of z)) (cost_among t j zs b)) (one_of j zs b)
+    where
+      go : (part (cost_among t j (z ∷ zs) b) ≡ part (t j (place_of z))) ⊎ (part (cost_among t j (z ∷ zs) b) ≡ part (cost_among t j zs b)) → IsOneOf j zs b → IsOneOf j (z ∷ zs) b
+      go (inl e) rest = inr (0, z, refl, e)
+      go (inr e) (inl f) = inl (e ∙ f)
+      go (inr e) (inr (n, y, at, f)) = inr (suc n, y, at, e ∙ f)
+
   -- where what follows is attained, an instruction's row is
-  attains_at : (j q : ℕ) (m : Method) (p : Placed) → StandsAt c j q m p → (falls_through p.instruction ≡ true → Attains j p.next) → ((z : ℤ) → target_of p.instruction ≡ Some z → (r : ℕ) × (z ≡ pos r) × Attains j r) → ((k : ℕ) → call_of c.view p.instruction ≡ Some k → Attains k 0) → AttainsRow j q (cost_by c t m j q p p.instruction)
+  attains_at : (j q : ℕ) (m : Method) (p : Placed) → StandsAt c j q m p → (falls_through p.instruction ≡ true → Attains j p.next) → ((z : ℤ) → IsTarget p.instruction z → (r : ℕ) × (z ≡ pos r) × Attains j r) → ((k : ℕ) → call_of c.view p.instruction ≡ Some k → Attains k 0) → AttainsRow j q (cost_by c t m j q p p.instruction)
   attains_at j q m p s next target call = go (leads c m j q p p.instruction)
     where
       row : Cost
       row = cost_by c t m j q p p.instruction
 
-      to_target : (z : ℤ) → target_of p.instruction ≡ Some z → AttainsRow j q (after_one 0 (t j (place_of z)))
+      to_target : (z : ℤ) → IsTarget p.instruction z → AttainsRow j q (after_one 0 (t j (place_of z)))
       to_target z e =
           let r = target z e in
-          (after_one 0 r.2.0, jumps m p r.0 s (e ∙ ap Some r.1) r.2.1, subst (λ x. part (after_one 0 r.2.0) ≡ part (after_one 0 (t j (place_of x)))) (sym r.1) (measure.one 0 r.2.0 (t j r.0) r.2.2))
+          (after_one 0 r.2.0, jumps m p r.0 s (subst (λ (x : ℤ). IsTarget p.instruction x) r.1 e) r.2.1, subst (λ x. part (after_one 0 r.2.0) ≡ part (after_one 0 (t j (place_of x)))) (sym r.1) (measure.one 0 r.2.0 (t j r.0) r.2.2))
+
+      to_one : (z : ℤ) → target_of p.instruction ≡ Some z → IsOneOf j (cases_of p.instruction) (t j (place_of z)) → AttainsRow j q (after_one 0 (cost_among t j (cases_of p.instruction) (t j (place_of z))))
+      to_one z d (inl e) =
+          let r = to_target z (inl d) in
+          (r.0, r.1, r.2 ∙ measure.one 0 (t j (place_of z)) (cost_among t j (cases_of p.instruction) (t j (place_of z))) (sym e))
+      to_one z d (inr (n, y, at, e)) =
+          let r = to_target y (inr (n, at)) in
+          (r.0, r.1, r.2 ∙ measure.one 0 (t j (place_of y)) (cost_among t j (cases_of p.instruction) (t j (place_of z))) (sym e))
 
       by_call : falls_through p.instruction ≡ true → target_of p.instruction ≡ None → (o : Option ℕ) → call_of c.view p.instruction ≡ o → AttainsRow j q (cost_through t m j q p o)
       by_call e n None f = let r = next e in (after_one (words_at m q p.instruction) r.0, falls m p s e f r.1, measure.one (words_at m q p.instruction) r.0 (t j p.next) r.2)
@@ -230,15 +272,15 @@ module _ (part : Cost → ℕ) (measure : IsMeasure part) (c : Class) (set : ℕ
       either z b d f w (inl e) =
           let r = next b in
           (after_one (words_at m q p.instruction) r.0, falls m p s b f r.1, ap (λ x. part (after_one x r.0)) w ∙ measure.one 0 r.0 (t j p.next) r.2 ∙ sym e)
-      either z b d f w (inr e) = let r = to_target z d in (r.0, r.1, r.2 ∙ sym e)
+      either z b d f w (inr e) = let r = to_target z (inl d) in (r.0, r.1, r.2 ∙ sym e)
 
       of : (other : Cost) → cost_by c t m j q p p.instruction ≡ other → AttainsRow j q other → AttainsRow j q (cost_by c t m j q p p.instruction)
       of other e r = (r.0, r.1, r.2 ∙ ap part (sym e))
 
       go : Leads c m j q p p.instruction → AttainsRow j q (cost_by c t m j q p p.instruction)
       go (returns a b d f g) = of _ (g t) (last_cost m, ends m p s a, refl)
-      go (goes z a b d f g) = of _ (g t) (to_target z d)
-      go (branches z a b d f w g) = of _ (g t) (either z b d f w (measure.most (after_one 0 (t j p.next)) (after_one 0 (t j (place_of z)))))
+      go (goes z a b d f g) = of _ (g t) (to_one z d (one_of j (cases_of p.instruction) (t j (place_of z))))
+      go (branches z a b d n f w g) = of _ (g t) (either z b d f w (measure.most (after_one 0 (t j p.next)) (after_one 0 (t j (place_of z)))))
       go (follows a b d) = of _ (through c t m j q p p.instruction b d) (by_call b d (call_of c.view p.instruction) refl)
 
   -- within a method, whose callees are attained

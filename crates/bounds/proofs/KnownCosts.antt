@@ -1,6 +1,7 @@
 -- What is known of the methods' costs, and the answer for the class.
 use Rattle.std.proofs.Common.{◌≡◌, ◌≢◌, ℕ, zero, suc, ◌<◌, Bool, true, false, eqb, List, length, get_or, Option, Some, None, refl, sym, ap, ◌∙◌, subst, arith, ◌⊎◌, inl, inr}
-use Rattle.std.specs.Prelude.{slice_set, replicate, IsSome, Result, Ok, Err}
+use Rattle.std.specs.Prelude.{slice_set, replicate, IsSome, Result, Ok, Err, IfOk}
+use Rattle.std.specs.Global.{Vec}
 use Rattle.std.proofs.lemmas.Bool.{eqb-true, eqb-false}
 use Rattle.std.proofs.lemmas.List.{get_or-set_same, get_or-set_other}
 use Rattle.jtypes.specs.declared.refusal.Refusal.{Refusal}
@@ -14,7 +15,8 @@ use Rattle.bounds.specs.Limits.{Exceeds, Judges}
 use Rattle.bounds.specs.Paths.{Cost, Bounds, AreBounds, SomePathTakes, SomePathExceeds, step_limit, word_limit, slot_limit, depth_limit}
 use Rattle.bounds.specs.Table.{Costs, IsTable, LeadsOn, bounds_of}
 use Rattle.bounds.specs.Cells.{Cell, cut, capped, known_at}
-use Rattle.bounds.specs.Rows.{IsRowOf, AreRowsOf, AreKnown, IsCostOf, StaysKnown, bounds_in, IsAnswerOf, IsAnswerFor, are_known}
+use Rattle.bounds.specs.Rows.{IsRowOf, AreRowsOf, AreKnown, AreAllKnown, IsCostOf, StaysKnown, bounds_in, IsAnswerOf, IsAnswerFor, are_known}
+use Rattle.bounds.specs.Told.{AreCostsOf}
 use Rattle.bounds.proofs.Greatest.{tables_are_bounds}
 use Rattle.bounds.proofs.FilledTables.{each_has_table}
 use Rattle.jtypes.specs.Profile.{Second}
@@ -119,3 +121,27 @@ length_refusal = other_refusal LengthNotConstant (λ e. cc) (λ e. cc) (λ e. cc
 
 pub process_refusal : (c : Class) → IsAnswerFor c (Err NoProcess)
 process_refusal = other_refusal NoProcess (λ e. cc) (λ e. cc) (λ e. cc)
+
+-- ---- what is told of each method
+
+known_is : {A : Type 0} (o : Option A) → IsSome o → (x : A) × (o ≡ Some x)
+known_is None s = cc
+known_is (Some x) s = (x, refl)
+
+pub told : (rows : List Typed) (known : List (Option Cell)) → ((c : Class) (set : ℕ → Bool) (t : Costs) → LeadsOn c set → IsTable c set t → AreRowsOf c set rows → AreKnown t known) → AreAllKnown rows known
+    → (c : Class) (set : ℕ → Bool) → LeadsOn c set → AreRowsOf c set rows → AreCostsOf c rows known
+told rows known right all c set on are i d l =
+    let filled = each_has_table c set on in
+    let t = filled.0 in
+    let row = get_or rows i d in
+    let is : IsRowOf c row = are.each i d l in
+    let inside : IsSome (instruction_at is.method.0 0) = subst (λ (code : List Placed). IsSome (at_place code 0)) (sym is.method.3) is.starts in
+    let bounds : AreBounds c row.number (bounds_of (t row.number 0)) = tables_are_bounds c set t row.number is.method.0 on filled.1 (are.within i d l) is.method.1 inside in
+    let found = known_is (known_at known row.number) (all i d l) in
+    let same : found.0 ≡ capped (t row.number 0) = (right c set t on filled.1 are).each row.number found.0 found.1 in
+    (t row.number 0, bounds, found.1 ∙ ap (λ (x : Cell). Some x) same)
+
+pub told_ok : (rows : List Typed) (r : Result (Vec (Option Cell)) Refusal) → IfOk r (λ known. (c : Class) (set : ℕ → Bool) (t : Costs) → LeadsOn c set → IsTable c set t → AreRowsOf c set rows → AreKnown t known.items) → IfOk r (λ known. AreAllKnown rows known.items)
+    → IfOk r (λ known. (c : Class) (set : ℕ → Bool) → LeadsOn c set → AreRowsOf c set rows → AreCostsOf c rows known.items)
+told_ok rows (Ok known) right all = told rows known.items right all
+told_ok rows (Err e) right all = tt

@@ -16,7 +16,8 @@ use Rattle.typecheck.specs.Mismatch.{HasLength, IsLength}
 use Rattle.typecheck.specs.DeclaredPlaces.{ArePlacesRising}
 use Rattle.typecheck.specs.declared.typed.Typed.{Typed}
 use Rattle.typecheck.proofs.LackingFrames.{rising_is_consecutive, element_stands, standing_is}
-use Rattle.bounds.specs.Lengths.{HasLengths, LacksLengthIn, is_length, is_among, has_length}
+use Rattle.bounds.specs.Lengths.{HasLengths, OneLacksLength, is_length, is_among, has_length}
+use Rattle.bounds.specs.Told.{LacksLengthAt, OneLacksLengthAt}
 
 -- ---- the search among places
 
@@ -114,14 +115,18 @@ all_have row each q p k e is =
     let new : has_length row p (NewArray k) ≡ true = subst (λ (i : Instruction). has_length row p i ≡ true) is one in
     subst (λ (n : ℕ). HasLength row.code n × (Contains row.declared.items n → ⊥)) (stands_at row.code q p e) (new_has row p k new)
 
-kind_of : (row : Typed) (p : Placed) (i : Instruction) → p.instruction ≡ i → at_place row.code p.place ≡ Some p → has_length row p i ≡ false → LacksLengthIn row
-kind_of row p (NewArray k) is at e = (p.place, p, k, at, is, new_lacks row p k e)
+kind_of : (row : Typed) (p : Placed) (i : Instruction) → p.instruction ≡ i → at_place row.code p.place ≡ Some p → has_length row p i ≡ false → LacksLengthAt row p.place
+kind_of row p (NewArray k) is at e = (p, k, at, is, new_lacks row p k e)
 kind_of row p i is at e = cc
 
-pub one_lacks : (row : Typed) (items : List Placed) (k : ℕ) (p : Placed) → items ≡ row.code → RisesFrom 0 row.code → k < length items → ((d : Placed) → p ≡ get_or items k d) → has_length row p p.instruction ≡ false → LacksLengthIn row
+pub one_lacks : (row : Typed) (items : List Placed) (k : ℕ) (p : Placed) → items ≡ row.code → RisesFrom 0 row.code → k < length items → ((d : Placed) → p ≡ get_or items k d) → has_length row p p.instruction ≡ false → LacksLengthAt row p.place
 one_lacks row items k p same rises l is e =
     let inside : k < length row.code = subst (λ (xs : List Placed). k < length xs) same l in
     let element : p ≡ get_or row.code k p = is p ∙ ap (λ (xs : List Placed). get_or xs k p) same in
     let stands = element_stands 0 row.code (rising_is_consecutive 0 row.code rises) k p inside in
     let here : at_place row.code p.place ≡ Some p = subst (λ (x : Placed). at_place row.code x.place ≡ Some x) (sym element) stands.1 in
     kind_of row p p.instruction refl here e
+
+-- what is lacking at a place is lacking
+pub lacks_somewhere : (rows : List Typed) (number place : ℕ) → OneLacksLengthAt rows number place → OneLacksLength rows
+lacks_somewhere rows number place (i, row, l, is, of, lacks) = (i, row, l, is, λ rise. let h = lacks rise in (place, h.0, h.1, h.2, h.3, h.4))

@@ -1,3 +1,4 @@
+pub mod Cases
 pub mod Greatest
 pub mod FilledTables
 pub mod CellsFilled

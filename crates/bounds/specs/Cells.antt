@@ -2,9 +2,9 @@
 use Rattle.std.specs.Prelude.{ℕ, suc, ◌+◌, min, max, List, [], ◌∷◌, replicate, get_or, slice_set, Option, Some, None, ℤ, pos, negsuc}
 use Rattle.jtypes.specs.Values.{words_of}
 use Rattle.decode.specs.declared.instruction.Instruction.{Instruction}
-use Rattle.decode.specs.declared.instruction.Instruction.TheVariants.{NewArray, Branch, Goto, Return, ReturnVoid, Invoke}
+use Rattle.decode.specs.declared.instruction.Instruction.TheVariants.{NewArray, Branch, Goto, Switch, Return, ReturnVoid, Invoke}
 use Rattle.decode.specs.declared.instruction.Placed.{Placed}
-use Rattle.decode.specs.Places.{pushed_before}
+use Rattle.decode.specs.Places.{pushed_before, targets_in}
 use Rattle.typecheck.specs.Typing.{own_of}
 use Rattle.typecheck.specs.Calls.{callee_in}
 use Rattle.typecheck.specs.declared.typed.Typed.{Typed}
@@ -83,12 +83,18 @@ abbrev pub after_callee : Typed → Cell → Option Cell → Cell
 after_callee m next None = one_before 0 next
 after_callee m next (Some callee) = call_before (slots_of m) callee next
 
+-- the greatest of these targets' cells and another
+abbrev pub cell_among : List Cell → List ℤ → Cell → Cell
+cell_among cells [] k = k
+cell_among cells (z ∷ targets) k = either (cell_at_target cells z) (cell_among cells targets k)
+
 -- from one instruction on, by the cells behind it
 abbrev pub cell_by : Typed → Placed → List Cell → List (Option Cell) → Instruction → Cell
 cell_by m p cells known (Return k) = last_cell m
 cell_by m p cells known ReturnVoid = last_cell m
 cell_by m p cells known (Goto target) = one_before 0 (cell_at_target cells target)
 cell_by m p cells known (Branch test target) = one_before 0 (either (cell_at_target cells target) (cell_at cells p.next))
+cell_by m p cells known (Switch default cases) = one_before 0 (cell_among cells (targets_in cases) (cell_at_target cells default))
 cell_by m p cells known (Invoke kind i) = after_callee m (cell_at cells p.next) (callee_cell m p.place known)
 cell_by m p cells known i = one_before (words_by m p.place i) (cell_at cells p.next)
 

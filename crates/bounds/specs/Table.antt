@@ -1,9 +1,9 @@
 -- The greatest costs of all paths, by a table of each place's.
-use Rattle.std.specs.Prelude.{◌≡◌, ℕ, Bool, ◌<◌, max, true, Option, Some, None, IsSome, slice_get, ℤ, pos, negsuc}
+use Rattle.std.specs.Prelude.{◌≡◌, ℕ, Bool, List, [], ◌∷◌, ◌<◌, max, true, Option, Some, None, IsSome, slice_get, ℤ, pos, negsuc}
 use Rattle.decode.specs.declared.instruction.Instruction.{Instruction}
-use Rattle.decode.specs.declared.instruction.Instruction.TheVariants.{Branch, Goto, Return, ReturnVoid}
+use Rattle.decode.specs.declared.instruction.Instruction.TheVariants.{Branch, Goto, Switch, Return, ReturnVoid}
 use Rattle.decode.specs.declared.instruction.Placed.{Placed}
-use Rattle.decode.specs.Places.{target_of, falls_through}
+use Rattle.decode.specs.Places.{IsTarget, targets_in, falls_through}
 use Rattle.typecheck.specs.Typing.{Method, Class, instruction_at, call_of}
 use Rattle.bounds.specs.Recursion.{IsOrdered}
 use Rattle.bounds.specs.Paths.{Cost, Bounds, StandsAt, last_cost, after_one, after_call, words_at, AreBounds}
@@ -20,6 +20,11 @@ abbrev pub place_of : ℤ → ℕ
 place_of (pos q) = q
 place_of (negsuc n) = 0
 
+-- the greatest of these places' costs and another
+abbrev pub cost_among : Costs → ℕ → List ℤ → Cost → Cost
+cost_among t j [] k = k
+cost_among t j (z ∷ targets) k = greater (t j (place_of z)) (cost_among t j targets k)
+
 -- of an instruction that falls through, by what it calls of the class's own
 abbrev pub cost_through : Costs → Method → (j place : ℕ) → Placed → Option ℕ → Cost
 cost_through t m j place p None = after_one (words_at m place p.instruction) (t j p.next)
@@ -31,6 +36,7 @@ cost_by c t m j place p (Return k) = last_cost m
 cost_by c t m j place p ReturnVoid = last_cost m
 cost_by c t m j place p (Goto target) = after_one 0 (t j (place_of target))
 cost_by c t m j place p (Branch test target) = greater (after_one 0 (t j p.next)) (after_one 0 (t j (place_of target)))
+cost_by c t m j place p (Switch default cases) = after_one 0 (cost_among t j (targets_in cases) (t j (place_of default)))
 cost_by c t m j place p i = cost_through t m j place p (call_of c.view i)
 
 -- one equation for each instruction of the methods of this set
@@ -40,7 +46,7 @@ IsTable c set t = (j place : ℕ) (m : Method) (p : Placed) → set j ≡ true �
 -- In the methods of this set each instruction leads on: to the next one, to its target, to the start of the method of the set that it calls; and ranks fall at calls.
 pub record LeadsOn (c : Class) (set : ℕ → Bool) : Type 0 where
   pub next : (j q : ℕ) (m : Method) (p : Placed) → set j ≡ true → StandsAt c j q m p → falls_through p.instruction ≡ true → (q < p.next) × IsSome (instruction_at m p.next)
-  pub target : (j q : ℕ) (m : Method) (p : Placed) (target : ℤ) → set j ≡ true → StandsAt c j q m p → target_of p.instruction ≡ Some target → (r : ℕ) × (target ≡ pos r) × (q < r) × IsSome (instruction_at m r)
+  pub target : (j q : ℕ) (m : Method) (p : Placed) (target : ℤ) → set j ≡ true → StandsAt c j q m p → IsTarget p.instruction target → (r : ℕ) × (target ≡ pos r) × (q < r) × IsSome (instruction_at m r)
   pub callee : (j q k : ℕ) (m : Method) (p : Placed) → set j ≡ true → StandsAt c j q m p → call_of c.view p.instruction ≡ Some k → (set k ≡ true) × ((n : Method) × (slice_get c.methods k ≡ Some n) × IsSome (instruction_at n 0))
   pub ranks : (rank : ℕ → ℕ) × IsOrdered c rank
 

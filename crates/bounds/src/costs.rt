@@ -1,11 +1,11 @@
 //! What the paths of one method take at most.
 
 ghost use Rattle.std.specs.Prelude.{◌≡◌, ◌+◌, min, max, ◌-◌, length, slice_get, slice_set, IfOk};
-ghost use Rattle.decode.specs.Places.{pushed_before};
+ghost use Rattle.decode.specs.Places.{cases_of, pushed_before};
 ghost use Rattle.typecheck.specs.Typing.{own_number};
 ghost use Rattle.typecheck.specs.Calls.{AreRising};
 ghost use Rattle.typecheck.specs.DeclaredPlaces.{ArePlacesRising};
-ghost use Rattle.bounds.specs.Cells.{either, one_before, call_before, slots_of, words_by, cell_at, cell_at_target, known_at, callee_cell, cell_by, size_by};
+ghost use Rattle.bounds.specs.Cells.{either, one_before, call_before, slots_of, words_by, cell_at, cell_at_target, cell_among, known_at, callee_cell, cell_by, size_by};
 ghost use Rattle.bounds.specs.Lengths.{has_length, is_among, is_length};
 ghost use Rattle.bounds.specs.Rows.{is_known, are_known, IsCostOf};
 
@@ -141,6 +141,19 @@ fn cost_at_target(costs: &[Cost], target: i128) -> Cost
     }
 }
 
+/// The greatest of the costs of the places where the keys of a switch lead, and another.
+fn cost_of_cases(p: &Placed, costs: &[Cost], default: Cost) -> Cost
+    ensures { result ≡ cell_among costs.now (cases_of p.now.instruction) default }
+{
+    let mut greatest = default;
+    let mut left = p.instruction.case_count();
+    while left > 0 {
+        left -= 1;
+        greatest = cost_at_target(costs, p.instruction.case_target(left)).or(greatest);
+    }
+    greatest
+}
+
 /// The cost of the method with a number, if it is known.
 pub fn known_at(known: &[Option<Cost>], number: usize) -> Option<Cost>
     ensures { result ≡ known_at known.now number }
@@ -179,6 +192,9 @@ fn cost_of(method: &Typed, p: &Placed, costs: &[Cost], known: &[Option<Cost>]) -
         },
         Instruction::Goto(target) => cost_at_target(costs, target).after_one(0),
         Instruction::Branch(_, target) => { cost_at_target(costs, target).or(next).after_one(0) }
+        Instruction::Switch(default, _) => {
+            cost_of_cases(p, costs, cost_at_target(costs, default)).after_one(0)
+        }
         Instruction::Invoke(_, _) => match callee_cost(method, p.place, known) {
             Some(callee) => next.after_call(slots, callee),
             None => next.after_one(0),

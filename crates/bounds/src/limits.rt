@@ -3,15 +3,16 @@
 ghost use Rattle.std.specs.Prelude.{◌≡◌, ◌≢◌, ℕ, ◌<◌, ◌-◌, ◌^◌, Bool, false, length, get_or, Err, IsTrue, IsFalse, IfOk, IfErr};
 ghost use Rattle.jtypes.specs.declared.refusal.Refusal.{Refusal};
 ghost use Rattle.typecheck.specs.Typing.{Class, IsProcessOf};
-ghost use Rattle.typecheck.specs.DeclaredPlaces.{ArePlacesRising};
 ghost use Rattle.typecheck.specs.declared.typed.Typed.{Typed};
-ghost use Rattle.bounds.specs.Lengths.{HasLengths, LacksLengthIn, HaveLengths, OneLacksLength};
+ghost use Rattle.bounds.specs.Lengths.{HaveLengths, OneLacksLength};
+ghost use Rattle.bounds.specs.Told.{AreCostsOf};
 ghost use Rattle.bounds.specs.Limits.{IsLimit, IsOfBounds, IsWithinLimits, Judges};
 ghost use Rattle.bounds.specs.Table.{Costs, IsTable, LeadsOn};
 ghost use Rattle.bounds.specs.Rows.{AreRowsOf, AreKnown, AreBelow, AreGrounded, AreAllKnown, AreNotRecursive, StaysKnown, StaysGrounded, Learns, LearnsUpTo, OneIsUnknown, IsCircleIn, IsAnswerFor};
 ghost use Rattle.jtypes.specs.Profile.{Second};
 
-use crate::costs::{Cost, greatest, has_length, is_ready, known_at};
+use crate::costs::{Cost, greatest, is_ready, known_at};
+use crate::lengths::all_have_lengths;
 use jtypes::Refusal;
 use std::alloc::Global;
 use typecheck::Typed;
@@ -37,32 +38,6 @@ pub const WORD_LIMIT: u32 = 65_536;
 pub const SLOT_LIMIT: u32 = 8_192;
 /// The most nested activations.
 pub const DEPTH_LIMIT: u32 = 64;
-
-/// Whether each newarray of a method has a constant length.
-fn has_lengths(method: &Typed) -> bool
-    ensures has { IsTrue result → ArePlacesRising method.now.declared.items → HasLengths method.now }
-    ensures lacks { IsFalse result → ArePlacesRising method.now.declared.items → LacksLengthIn method.now }
-{
-    for p in method.code.as_slice() {
-        if !has_length(method, p) {
-            return false;
-        }
-    }
-    true
-}
-
-/// Whether each newarray of the methods has a constant length.
-fn all_have_lengths(methods: &[Typed]) -> bool
-    ensures have { IsTrue result → HaveLengths methods.now }
-    ensures lack { IsFalse result → OneLacksLength methods.now }
-{
-    for method in methods {
-        if !has_lengths(method) {
-            return false;
-        }
-    }
-    true
-}
 
 /// One method whose callees are known becomes known. Answers whether it wasn't known before.
 fn learn_one(alloc: Global, method: &Typed, known: &mut [Option<Cost>]) -> Result<bool, Refusal>
@@ -190,4 +165,15 @@ pub fn bound(alloc: Global, methods: &[Typed]) -> Result<Bounds, Refusal>
         }
     }
     Err(Refusal::NoProcess)
+}
+
+/// The costs of the methods of a class but its constructor, by their numbers, whatever the limits; `Recursive` where own calls
+/// make a circle.
+pub fn costs_by_number(alloc: Global, methods: &[Typed]) -> Result<Vec<Option<Cost>>, Refusal>
+    // Where these are the rows of a class's methods: of each what its paths take at most, with what passes 32 bits cut off.
+    ensures costs { IfOk result (λ known. (c : Class) (set : ℕ → Bool) → LeadsOn c set → AreRowsOf c set methods.now → AreCostsOf c methods.now known.items) }
+    ensures all { IfOk result (λ known. AreAllKnown methods.now known.items) }
+    ensures err { IfErr result (λ r. r ≢ Refusal.NoMemory → (r ≡ Refusal.Recursive) × IsCircleIn methods.now) }
+{
+    costs_of(alloc, methods)
 }

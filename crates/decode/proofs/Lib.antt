@@ -5,3 +5,7 @@ pub mod Targets
 pub mod Consecutive
 pub mod Unrefused
 pub mod Profiles
+pub mod Keys
+pub mod RisingKeys
+pub mod Wide
+pub mod Faults

@@ -8,7 +8,7 @@ use Rattle.jtypes.specs.declared.refusal.Refusal.{Refusal}
 use Rattle.jtypes.specs.declared.refusal.Refusal.TheVariants.{OutsideProfile, UnknownOpcode}
 use Rattle.jtypes.specs.Layout.{chosen, stopped, IsLaidOut, Stands}
 use Rattle.constpool.specs.Lookup.{Slot}
-use Rattle.jtypes.specs.Profile.{Profile, First, Second}
+use Rattle.jtypes.specs.Profile.{First, Second}
 use Rattle.decode.specs.declared.instruction.Form.{Form}
 use Rattle.decode.specs.declared.instruction.Instruction.{Instruction}
 use Rattle.decode.specs.declared.instruction.Placed.{Placed}
@@ -24,15 +24,17 @@ Agrees opcode = (form_at First opcode ≡ form_at Second opcode) ⊎ ((form_at F
 
 agree : (opcode : ℕ) → Agrees opcode
 unfolding form_at Agrees
-agree opcode = go (eqb 0xC4 opcode) refl (eqb 0xC8 opcode) refl
+agree opcode = go (eqb 0xAA opcode) refl (eqb 0xAB opcode) refl (eqb 0xC4 opcode) refl (eqb 0xC8 opcode) refl
   where
     outside : (n : ℕ) → (form_in table n ≡ None) × (ltb n 0xCA ≡ true) → eqb n opcode ≡ true → Agrees opcode
     outside n h e = inr (subst (λ (o : ℕ). (form_in table o ≡ None) × (ltb o 0xCA ≡ true)) (eqb-true n opcode e) h)
 
-    go : (a : Bool) → eqb 0xC4 opcode ≡ a → (b : Bool) → eqb 0xC8 opcode ≡ b → Agrees opcode
-    go true e b f = outside 0xC4 (refl, refl) e
-    go false e true f = outside 0xC8 (refl, refl) f
-    go false e false f = inl (rw (e, f) refl)
+    go : (a : Bool) → eqb 0xAA opcode ≡ a → (b : Bool) → eqb 0xAB opcode ≡ b → (c : Bool) → eqb 0xC4 opcode ≡ c → (d : Bool) → eqb 0xC8 opcode ≡ d → Agrees opcode
+    go true e b f c g d h = outside 0xAA (refl, refl) e
+    go false e true f c g d h = outside 0xAB (refl, refl) f
+    go false e false f true g d h = outside 0xC4 (refl, refl) g
+    go false e false f false g true h = outside 0xC8 (refl, refl) h
+    go false e false f false g false h = inl (rw (e, f, g, h) refl)
 
 -- ---- one instruction
 

@@ -10,8 +10,12 @@ use Rattle.std.specs.List.{AllWithin}
 use Rattle.jtypes.specs.declared.refusal.Refusal.{Refusal}
 use Rattle.jtypes.specs.declared.refusal.Refusal.TheVariants.{BadTarget, BackwardBranch}
 use Rattle.decode.specs.declared.instruction.Placed.{Placed}
-use Rattle.decode.specs.Places.{at_place, BranchStands}
-use Rattle.decode.specs.Reading.{RisesFrom, IsTargetRefusal}
+use Rattle.std.specs.Prelude.{slice_get}
+use Rattle.std.proofs.Common.{inl, inr}
+use Rattle.decode.specs.declared.instruction.Instruction.{Instruction}
+use Rattle.decode.specs.declared.instruction.Instruction.TheVariants as instruction
+use Rattle.decode.specs.Places.{at_place, target_of, cases_of, IsTarget, BranchStands}
+use Rattle.decode.specs.Reading.{RisesFrom, IsRefusalAt, IsCasesRefusal, IsTargetRefusal}
 use Rattle.decode.proofs.Search.{below_places}
 
 -- where no target is refused, none stands
@@ -74,3 +78,38 @@ start_fits_place code target fits h s =
     let (n, e, less) = start_fits code target h s in
     let same = to_z-of_z w128 target fits in
     rw same (rw (← e) (search (rules, less)))
+
+-- ---- the targets of one instruction
+
+pub refuses : (code : List Placed) (p : Placed) (z : ℤ) (r : Refusal) → IsTarget p.instruction z → IsRefusalAt code p.place z (Some r) → IsTargetRefusal code p (Some r)
+refuses code p z BadTarget t h = (z, t, h)
+refuses code p z BackwardBranch t h = (z, t, h)
+refuses code p z _ t h = h
+
+pub case_refuses : (code : List Placed) (p : Placed) (r : Refusal) → IsCasesRefusal code p (Some r) → IsTargetRefusal code p (Some r)
+case_refuses code p r (k, z, e, h) = refuses code p z r (inr (k, e)) h
+
+-- a switch has a target beside its keys'
+has_target : (i : Instruction) → target_of i ≡ None → (k : ℕ) (z : ℤ) → slice_get (cases_of i) k ≡ Some z → ⊥
+has_target (instruction.Switch default cases) e k z h = cc e
+has_target _ e k z h = cc h
+
+-- so an instruction without this one leads nowhere
+pub no_target : (i : Instruction) (z : ℤ) → target_of i ≡ None → IsTarget i z → ⊥
+no_target i z e (inl f) = cc (f, e)
+no_target i z e (inr (k, f)) = has_target i e k z f
+
+pub no_target_refuses : (code : List Placed) (p : Placed) → target_of p.instruction ≡ None → IsTargetRefusal code p None
+no_target_refuses code p e = (λ b. no_target p.instruction b.0 e b.1, λ b. no_target p.instruction b.0 e b.1)
+
+pub no_case_refuses : (code : List Placed) (p : Placed) (target : ℤ) → target_of p.instruction ≡ Some target → IsRefusalAt code p.place target None → IsCasesRefusal code p None → IsTargetRefusal code p None
+no_case_refuses code p target e h cases = (λ b. (each b.0 b.1).0 b.2, λ b. (each b.0 b.1).1 b.2)
+  where
+    each : (z : ℤ) → IsTarget p.instruction z → IsRefusalAt code p.place z None
+    each z (inl f) = let same : target ≡ z = cc (e, f) in subst (λ (y : ℤ). IsRefusalAt code p.place y None) same h
+    each z (inr (k, f)) = cases k z f
+
+pub case_there : (xs : List ℤ) (i : ℕ) → i < length xs → (z : ℤ) × (slice_get xs i ≡ Some z)
+case_there [] i l = absurd (omega arith)
+case_there (x ∷ xs) zero l = (x, refl)
+case_there (x ∷ xs) (suc i) l = case_there xs i (omega arith)

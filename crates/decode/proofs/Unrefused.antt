@@ -1,14 +1,14 @@
 -- Refusals that no reading of instructions gives.
-use Rattle.std.proofs.Common.{◌≡◌, ℕ, true, false, List, Option, Some, None, ◌⊎◌, inl, inr}
+use Rattle.std.specs.Int.{int_gap}
+use Rattle.std.proofs.Common.{zero, suc, pos, Bool, if◌then◌else◌, ◌≡◌, ℕ, true, false, List, Option, Some, None, inl, inr}
 use Rattle.jtypes.specs.declared.refusal.Refusal.{Refusal}
-use Rattle.jtypes.specs.declared.refusal.Refusal.TheVariants.{UnknownMember, TrailingBytes}
-use Rattle.jtypes.specs.Layout.{Layout, known, part_or, followed, judged, stopped, chosen, ended, operand, Stands}
-use Rattle.constpool.specs.declared.constant.Constant.{Constant}
+use Rattle.jtypes.specs.declared.refusal.Refusal.TheVariants.{UnknownMember, OutsideProfile, BadOperand, TrailingBytes}
+use Rattle.jtypes.specs.Layout.{Layout, known, part_or, followed, judged, stopped, chosen, ended, operand, many, Stands}
 use Rattle.constpool.specs.declared.constant.Constant.TheVariants as constant
 use Rattle.constpool.specs.Lookup.{Slot, constant_at}
 use Rattle.decode.specs.declared.instruction.Form.{Form}
 use Rattle.decode.specs.declared.instruction.Form.TheVariants as form
-use Rattle.decode.specs.Code.{one, by_form, operands, signed_byte, signed_short, signed_word, widened, int_constant, long_constant, array_of_code}
+use Rattle.decode.specs.Code.{one, by_form, operands, signed_byte, signed_short, signed_word, far_target, switch_case, keys_between, is_wide_elsewhere, refused_wide, widened, int_constant, long_constant, array_of_code}
 use Rattle.decode.specs.Places.{CodeStands}
 use Rattle.decode.specs.Table.{form_at}
 use Rattle.jtypes.specs.Profile.{Profile, Second}
@@ -52,13 +52,37 @@ long_never opcode None = λ e. cc e
 long_never opcode (Some (constant.Long value)) = tt
 long_never opcode (Some c) = λ e. cc e
 
+word_never : IsNever UnknownMember signed_word
+unfolding signed_word
+word_never = (number_never 4, λ x. tt)
+
+far_never : (at : ℕ) → IsNever UnknownMember (far_target at)
+unfolding far_target
+far_never at = (word_never, λ x. tt)
+
+case_never : (at : ℕ) → IsNever UnknownMember (switch_case at)
+unfolding switch_case
+case_never at = (word_never, λ k. (far_never at, λ t. tt))
+
+many_never : {A : Type 0} (n : ℕ) (l : Layout A) → IsNever UnknownMember l → IsNever UnknownMember (many n l)
+unfolding many
+many_never zero l h = tt
+many_never (suc n) l h = (h, λ x. (many_never n l h, λ xs. tt))
+
+refused_never : (opcode : ℕ) → UnknownMember ≡ refused_wide opcode → ⊥
+refused_never opcode = go (is_wide_elsewhere opcode)
+  where
+    go : (b : Bool) → UnknownMember ≡ (if b then OutsideProfile opcode else BadOperand) → ⊥
+    go true e = cc e
+    go false e = cc e
+
 wide_never : (opcode : ℕ) (f : Option Form) → IsNever UnknownMember (widened opcode f)
 unfolding widened signed_short
 wide_never opcode (Some (form.Load kind)) = (number_never 2, λ x. tt)
 wide_never opcode (Some (form.Store kind)) = (number_never 2, λ x. tt)
 wide_never opcode (Some form.Increment) = (number_never 2, λ n. ((number_never 2, λ x. tt), λ x. tt))
-wide_never opcode (Some f) = ((λ e. cc e), λ e. cc e)
-wide_never opcode None = ((λ e. cc e), λ e. cc e)
+wide_never opcode (Some f) = refused_never opcode
+wide_never opcode None = refused_never opcode
 
 operands_never : (pool : List Slot) (at opcode : ℕ) (f : Form) → IsNever UnknownMember (operands pool at opcode f)
 unfolding operands signed_byte signed_short signed_word array_of_code
@@ -74,7 +98,11 @@ operands_never pool at opcode form.Increment = (number_never 1, λ n. ((number_n
 operands_never pool at opcode (form.Branch test) = ((number_never 2, λ x. tt), λ x. tt)
 operands_never pool at opcode form.Goto = ((number_never 2, λ x. tt), λ x. tt)
 operands_never pool at opcode form.Wide = (number_never 1, λ o. wide_never o (form_at Second o))
-operands_never pool at opcode form.GotoWide = ((number_never 4, λ x. tt), λ x. tt)
+operands_never pool at opcode form.TableSwitch =
+    ((λ e. cc e), λ s. (far_never at, λ d. (word_never, λ low. (word_never, λ high. ((tt, λ e. cc e), λ u. (many_never (keys_between low high) (far_target at) (far_never at), λ ts. tt))))))
+operands_never pool at opcode form.LookupSwitch =
+    ((λ e. cc e), λ s. (far_never at, λ d. (word_never, λ n. ((tt, λ e. cc e), λ u. (many_never (int_gap (pos 0) n) (switch_case at) (case_never at), λ cs. ((tt, λ e. cc e), λ v. tt))))))
+operands_never pool at opcode form.GotoWide = (far_never at, λ x. tt)
 operands_never pool at opcode (form.Invoke kind) = (number_never 2, λ i. ((tt, λ e. cc e), λ x. tt))
 operands_never pool at opcode form.InvokeInterface = (number_never 2, λ i. (number_never 1, λ n. (number_never 1, λ z. ((tt, λ e. cc e), λ x. tt))))
 operands_never pool at opcode form.NewArray = (number_never 1, λ code. (tt, (tt, ((λ e. cc e), λ e. cc e))))

@@ -1,11 +1,13 @@
 //! A code: instructions by their places.
 
-ghost use Rattle.std.specs.Prelude.{◌≡◌, ◌≢◌, ◌==◌, ◌↔◌, length, IsTrue, IfSome, IfNone, Any, pos};
+ghost use Rattle.std.specs.Prelude.{ℤ, Some, ◌<◌, slice_get, ◌≡◌, ◌≢◌, ◌==◌, ◌↔◌, length, IsTrue, IfSome, IfNone, Any, pos};
 ghost use Rattle.std.specs.Option.{option_copied};
 ghost use Rattle.jtypes.specs.declared.refusal.Refusal.{Refusal};
-ghost use Rattle.decode.specs.Places.{at_place, before_place, BranchStands};
-ghost use Rattle.decode.specs.Reading.{RisesFrom, IsTargetRefusal};
+ghost use Rattle.decode.specs.Places.{cases_of, at_place, before_place, BranchStands};
+ghost use Rattle.decode.specs.Faults.{BranchStandsAt};
+ghost use Rattle.decode.specs.Reading.{RisesFrom, HaveRisingKeys, IsRefusalAt, IsCasesRefusal, IsTargetRefusal};
 
+use crate::fault::Fault;
 use crate::instruction::Placed;
 use jtypes::Refusal;
 use std::marker::Model;
@@ -19,27 +21,30 @@ pub struct Code {
 impl Model for Code {
     ghost use Rattle.std.specs.Prelude.{List};
     ghost use Rattle.decode.specs.declared.instruction.Placed.{Placed};
-    ghost use Rattle.decode.specs.Reading.{RisesFrom};
+    ghost use Rattle.decode.specs.Reading.{RisesFrom, HaveRisingKeys};
 
     ghost Value = { List Placed };
 
     ghost view = { λ c. c.placed.items };
 
-    ghost invariant = { λ c. RisesFrom 0 c.placed.items };
+    ghost invariant = { λ c. RisesFrom 0 c.placed.items × HaveRisingKeys c.placed.items };
 }
 
 impl Code {
     pub(crate) fn new(placed: Vec<Placed>) -> Code
-        requires { RisesFrom 0 placed.items }
+        requires rising { RisesFrom 0 placed.items }
+        requires keys { HaveRisingKeys placed.items }
         ensures { result ≡ placed.items }
     {
         Code { placed }
     }
 
-    /// The instructions in order: the first stands at 0, and each other one where the one before it ends.
+    /// The instructions in order: the first stands at 0, and each other one where the one before it ends. The keys of each
+    /// `lookupswitch` rise.
     pub fn as_slice(&self) -> &[Placed]
         ensures value { result.now ≡ self.now }
         ensures rising { RisesFrom 0 self.now }
+        ensures keys { HaveRisingKeys self.now }
     {
         self.placed.as_slice()
     }
@@ -90,13 +95,12 @@ impl Code {
         }
     }
 
-    /// The refusal of one instruction's target.
-    fn refusal_of(&self, p: &Placed) -> Option<Refusal>
+    /// The refusal of one target of the instruction at a place.
+    fn refusal_at(&self, place: usize, target: i128) -> Option<Refusal>
         requires { RisesFrom 0 self.now }
-        ensures { IsTargetRefusal self.now p.now result }
+        ensures { IsRefusalAt self.now place target result }
     {
-        let target = p.instruction.target()?;
-        if target <= p.place as i128 {
+        if target <= place as i128 {
             Some(Refusal::BackwardBranch)
         } else if !self.has_start(target) {
             Some(Refusal::BadTarget)
@@ -105,14 +109,53 @@ impl Code {
         }
     }
 
-    /// The first refusal of a target.
-    pub(crate) fn target_refusal(&self) -> Option<Refusal>
-        ensures some { IfSome result (λ r. (r ≢ Refusal.NoMemory) × BranchStands self.now r) }
+    /// The refusal of one of the further targets of a switch.
+    fn refusal_of_case(&self, p: &Placed, i: usize) -> Option<Refusal>
+        requires rising { RisesFrom 0 self.now }
+        requires there { i < length (cases_of p.now.instruction) }
+        ensures { (target : ℤ) → slice_get (cases_of p.now.instruction) i ≡ Some target → IsRefusalAt self.now p.now.place target result }
+    {
+        self.refusal_at(p.place, p.instruction.case_target(i))
+    }
+
+    /// The refusal of the further targets of a switch.
+    fn refusal_of_cases(&self, p: &Placed) -> Option<Refusal>
+        requires { RisesFrom 0 self.now }
+        ensures { IsCasesRefusal self.now p.now result }
+    {
+        for i in 0..p.instruction.case_count() {
+            if let Some(refusal) = self.refusal_of_case(p, i) {
+                return Some(refusal);
+            }
+        }
+        None
+    }
+
+    /// The refusal of one instruction's targets.
+    fn refusal_of(&self, p: &Placed) -> Option<Refusal>
+        requires { RisesFrom 0 self.now }
+        ensures { IsTargetRefusal self.now p.now result }
+    {
+        match p.instruction.target() {
+            Some(target) => match self.refusal_at(p.place, target) {
+                Some(refusal) => Some(refusal),
+                None => self.refusal_of_cases(p),
+            },
+            None => None,
+        }
+    }
+
+    /// The first refusal of a target, with the place of its branch.
+    pub(crate) fn target_fault(&self) -> Option<Fault>
+        ensures some { IfSome result (λ f. (f.refusal ≢ Refusal.NoMemory) × BranchStandsAt self.now f.place f.refusal) }
         ensures none { IfNone result ((r : Refusal) → BranchStands self.now r → ⊥) }
     {
         for p in self.as_slice() {
             if let Some(refusal) = self.refusal_of(p) {
-                return Some(refusal);
+                return Some(Fault {
+                    refusal,
+                    place: p.place,
+                });
             }
         }
         None

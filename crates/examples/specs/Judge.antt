@@ -20,7 +20,7 @@ use Rattle.decode.specs.declared.instruction.Instruction.{Instruction}
 use Rattle.decode.specs.declared.instruction.Instruction.TheVariants.{NewArray}
 use Rattle.decode.specs.declared.instruction.Placed.{Placed}
 use Rattle.decode.specs.Code.{one}
-use Rattle.decode.specs.Places.{at_place, target_of, falls_through, pushed_before}
+use Rattle.decode.specs.Places.{at_place, target_of, cases_of, falls_through, pushed_before}
 use Rattle.frames.specs.Signatures.{method_signature, is_static, is_public, is_native, is_abstract}
 use Rattle.frames.specs.declared.frame.Environment.{Environment}
 use Rattle.frames.specs.Frames.{Frame, first_frame, frame_in}
@@ -154,11 +154,15 @@ abbrev pub is_bad_target : List Placed → ℤ → Bool
 is_bad_target code (pos q) = is_none (at_place code q)
 is_bad_target code (negsuc n) = true
 
+-- where an instruction may lead, beside the next one
+abbrev pub targets_of : Instruction → List ℤ
+targets_of i = list_from (target_of i) (λ t. t ∷ []) ++ cases_of i
+
 abbrev pub code_refusals : ClassView → Result (List Placed) Refusal → List ℕ
 code_refusals v (Err r) = number r ∷ []
 code_refusals v (Ok code) =
-    flag 19 (any (λ p. holds (is_bad_target code) (target_of p.instruction)) code)
-    ++ flag 20 (any (λ p. holds (λ t. int_le t (pos p.place)) (target_of p.instruction)) code)
+    flag 19 (any (λ p. any (is_bad_target code) (targets_of p.instruction)) code)
+    ++ flag 20 (any (λ p. any (λ t. int_le t (pos p.place)) (targets_of p.instruction)) code)
     ++ flag 24 (any (λ p. not (is_known v p.instruction)) code)
 
 abbrev pub method_code : List Slot → Member → Option CodeParts
@@ -183,7 +187,7 @@ frames_declared v e code (content ∷ []) =
 frames_declared v e code _ = None
 
 abbrev pub lacks_target : Method → Placed → Bool
-lacks_target m p = holds (λ t. lacks m t) (target_of p.instruction)
+lacks_target m p = any (λ t. lacks m t) (targets_of p.instruction)
   where
     lacks : Method → ℤ → Bool
     lacks m (pos q) = is_none (frame_in m.declared q)
@@ -210,7 +214,7 @@ place_in (negsuc n) = None
 
 abbrev pub flows : Method → Placed → Frame → Bool
 flows m p g =
-    frame_fits g (target_of p.instruction >>= place_in >>= frame_in m.declared)
+    list_all (λ t. frame_fits g (place_in t >>= frame_in m.declared)) (targets_of p.instruction)
     && (not (falls_through p.instruction) || frame_fits g (frame_in m.declared p.next))
 
 abbrev pub declared_or : Option Frame → Option Frame → Option Frame
@@ -288,14 +292,14 @@ cost (suc most) c j place = slice_get c.methods j >>= λ m. at_place m.code plac
     onward m p go None = option_map (after_one (words_at m place p.instruction)) (go j p.next)
     onward m p go (Some k) = go k 0 >>= λ e. option_map (after_call m e) (go j p.next)
 
-    aside : (ℕ → ℕ → Option Cost) → Option ℤ → Option Cost
-    aside go (Some (pos q)) = option_map (after_one 0) (go j q)
-    aside go _ = None
+    aside : (ℕ → ℕ → Option Cost) → List ℤ → Option Cost
+    aside go [] = None
+    aside go (t ∷ ts) = greater (place_in t >>= λ q. option_map (after_one 0) (go j q)) (aside go ts)
 
     through : Method → Placed → (ℕ → ℕ → Option Cost) → Option Cost
     through m p go =
-        if falls_through p.instruction then greater (aside go (target_of p.instruction)) (onward m p go (call_of c.view p.instruction))
-        else (if is_some (target_of p.instruction) then aside go (target_of p.instruction) else Some (last_cost m))
+        if falls_through p.instruction then greater (aside go (targets_of p.instruction)) (onward m p go (call_of c.view p.instruction))
+        else (if is_some (target_of p.instruction) then aside go (targets_of p.instruction) else Some (last_cost m))
 
 abbrev pub limit_refusals : Cost → List ℕ
 limit_refusals k =

@@ -21,5 +21,17 @@ pub mod Called
 pub mod Returning
 pub mod Receiving
 pub mod Methods
+pub mod Switched
 pub mod Replying
 pub mod Arity
+pub mod Passing
+pub mod Absorbing
+pub mod Keeping
+pub mod Putting
+pub mod Numbers
+pub mod Operating
+pub mod Placing
+pub mod Deciding
+pub mod Items
+pub mod Landing
+pub mod Leaping

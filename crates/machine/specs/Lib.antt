@@ -2,6 +2,7 @@ pub mod Holds
 pub mod Operated
 pub mod Plain
 pub mod Within
+pub mod Switched
 pub mod Acts
 pub mod Ended
 pub mod Entering
@@ -11,3 +12,6 @@ pub mod Commons
 pub mod Running
 pub mod Elements
 pub mod Replies
+pub mod Spread
+pub mod Putting
+pub mod Flights

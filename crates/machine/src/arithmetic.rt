@@ -18,7 +18,7 @@ use jtypes::{Binary, Conversion, Division, Shift};
 use slots::{Slots, Window};
 
 /// All results are made and one is taken: that is faster than a jump that is hard to foretell.
-fn int_of(operation: Binary, a: i32, b: i32) -> i32
+pub fn int_of(operation: Binary, a: i32, b: i32) -> i32
     ensures { result ≡ binary w32 operation a b }
 {
     let results = [
@@ -33,7 +33,7 @@ fn int_of(operation: Binary, a: i32, b: i32) -> i32
 }
 
 /// All results are made and one is taken, as in `int_of`.
-fn long_of(operation: Binary, a: i64, b: i64) -> i64
+pub fn long_of(operation: Binary, a: i64, b: i64) -> i64
     ensures { result ≡ binary w64 operation a b }
 {
     let results = [
@@ -48,7 +48,7 @@ fn long_of(operation: Binary, a: i64, b: i64) -> i64
 }
 
 /// Shifts an int by the low 5 bits of a count.
-fn int_shifted(direction: Shift, a: i32, count: i32) -> i32
+pub fn int_shifted(direction: Shift, a: i32, count: i32) -> i32
     ensures { result ≡ shift w32 direction a (int_count count) }
 {
     let bits = count.cast_unsigned() % 32;
@@ -60,7 +60,7 @@ fn int_shifted(direction: Shift, a: i32, count: i32) -> i32
 }
 
 /// Shifts a long by the low 6 bits of a count.
-fn long_shifted(direction: Shift, a: i64, count: i32) -> i64
+pub fn long_shifted(direction: Shift, a: i64, count: i32) -> i64
     ensures { result ≡ shift w64 direction a (long_count count) }
 {
     let bits = count.cast_unsigned() % 64;
@@ -72,27 +72,27 @@ fn long_shifted(direction: Shift, a: i64, count: i32) -> i64
 }
 
 /// The low 32 bits of a long.
-fn low_int(a: i64) -> i32
+pub fn low_int(a: i64) -> i32
     ensures { result ≡ low_int a }
 {
     ((a.cast_unsigned() % (1 << 32)) as u32).cast_signed()
 }
 
-fn byte_of(a: i32) -> i32
+pub fn byte_of(a: i32) -> i32
     ensures { result ≡ cast_signed w8 (cast_unsigned w32 a % 2 ^ 8) }
 {
     let low = (a.cast_unsigned() % (1 << 8)) as u8;
     i32::from(low.cast_signed())
 }
 
-fn char_of(a: i32) -> i32
+pub fn char_of(a: i32) -> i32
     ensures { result ≡ pos (cast_unsigned w32 a % 2 ^ 16) }
 {
     let low = (a.cast_unsigned() % (1 << 16)) as u16;
     i32::from(low)
 }
 
-fn short_of(a: i32) -> i32
+pub fn short_of(a: i32) -> i32
     ensures { result ≡ cast_signed w16 (cast_unsigned w32 a % 2 ^ 16) }
 {
     let low = (a.cast_unsigned() % (1 << 16)) as u16;
@@ -100,7 +100,7 @@ fn short_of(a: i32) -> i32
 }
 
 /// The order of two longs (JVMS §6.5, `lcmp`).
-fn order(a: i64, b: i64) -> i32
+pub fn order(a: i64, b: i64) -> i32
     ensures { result ≡ order a b }
 {
     if a < b {

@@ -20,7 +20,7 @@ use Rattle.classfile.specs.View.{ClassView, MethodView, class_name_at, view_of, 
 use Rattle.classfile.specs.declared.class_file.Member.{Member}
 use Rattle.classfile.specs.declared.class_file.CodeParts.{CodeParts}
 use Rattle.decode.specs.declared.instruction.Placed.{Placed}
-use Rattle.decode.specs.Places.{at_place, target_of, HasBackwardTarget, pushed_before}
+use Rattle.decode.specs.Places.{at_place, IsTarget, HasBackwardTarget, pushed_before}
 use Rattle.decode.specs.declared.instruction.Instruction.TheVariants.{NewArray}
 use Rattle.frames.specs.Signatures.{is_static, class_type, field_type, field_types, result_type, is_boolean, signature_of, as_method, method_signature}
 use Rattle.frames.specs.declared.signatures.Signature.{Signature}
@@ -198,7 +198,7 @@ in_file bytes c of j w m member =
       other = false_from_ne_true (is_constructor of.pool x.0) (λ e. member.other (sym (ap (λ (y : MethodView). y.name) same) ∙ same_is (text_at of.pool x.0.name) init_name e));
     }
 
-pub accepted_forward : (bytes : List ℕ) (c : Class) → IsAccepted Second bytes → (of : IsClassOf Second bytes c) (j : ℕ) (w : MethodView) (m : Method) → IsMember c j w m → (q r : ℕ) (p : Placed) → instruction_at m q ≡ Some p → target_of p.instruction ≡ Some (pos r) → q < r
+pub accepted_forward : (bytes : List ℕ) (c : Class) → IsAccepted Second bytes → (of : IsClassOf Second bytes c) (j : ℕ) (w : MethodView) (m : Method) → IsMember c j w m → (q r : ℕ) (p : Placed) → instruction_at m q ≡ Some p → IsTarget p.instruction (pos r) → q < r
 accepted_forward bytes c ok of j w m member q r p e to = go (cases_lt q r)
   where
     file : InFile bytes c of m

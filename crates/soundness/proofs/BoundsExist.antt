@@ -8,7 +8,7 @@ use Rattle.jtypes.specs.Lists.{same_bytes}
 use Rattle.constpool.specs.Names.{init_name, process_name, process_descriptor}
 use Rattle.classfile.specs.View.{ClassView, MethodView, view_of}
 use Rattle.decode.specs.declared.instruction.Placed.{Placed}
-use Rattle.decode.specs.Places.{target_of, falls_through}
+use Rattle.decode.specs.Places.{IsTarget, falls_through}
 use Rattle.typecheck.specs.Typing.{Method, Class, instruction_at, process_from, number_of_process, IsProcessOf, call_of}
 use Rattle.bounds.specs.Paths.{StandsAt}
 use Rattle.bounds.specs.Table.{bounds_of}
@@ -55,7 +55,7 @@ checked_leads_on c ok = record { next = next; target = target; callee = callee; 
         let o = typed.1.outcome q p f.0 s.instruction f.1 in
         ((onward m.code 0 q p formed.consecutive s.instruction).1, inside_is m p.next (enters_inside c m typed.0 p.next o.0 typed.1 (o.2.falls falls)))
 
-    target : (j q : ℕ) (m : Method) (p : Placed) (z : ℤ) → members c j ≡ true → StandsAt c j q m p → target_of p.instruction ≡ Some z → (r : ℕ) × (z ≡ pos r) × (q < r) × IsSome (instruction_at m r)
+    target : (j q : ℕ) (m : Method) (p : Placed) (z : ℤ) → members c j ≡ true → StandsAt c j q m p → IsTarget p.instruction z → (r : ℕ) × (z ≡ pos r) × (q < r) × IsSome (instruction_at m r)
     target j q m p z e s to =
         let member = member_of c j m e s.method in
         let typed = ok.typed j member.0 m member.1 in
@@ -63,7 +63,7 @@ checked_leads_on c ok = record { next = next; target = target; callee = callee; 
         let f = has_frame m.code typed.0 q p typed.1.each_has_one s.instruction in
         let o = typed.1.outcome q p f.0 s.instruction f.1 in
         let d = o.2.branches z to in
-        let there : target_of p.instruction ≡ Some (pos d.0) = to ∙ ap Some d.2 in
+        let there : IsTarget p.instruction (pos d.0) = subst (λ (x : ℤ). IsTarget p.instruction x) d.2 to in
         (d.0, d.2, formed.forward q d.0 p s.instruction there, inside_is m d.0 (enters_inside c m typed.0 d.0 o.0 typed.1 (enters_target m typed.0 d.0 o.0 d.1 d.3 d.4)))
 
     callee : (j q k : ℕ) (m : Method) (p : Placed) → members c j ≡ true → StandsAt c j q m p → call_of c.view p.instruction ≡ Some k → (members c k ≡ true) × ((n : Method) × (slice_get c.methods k ≡ Some n) × IsSome (instruction_at n 0))

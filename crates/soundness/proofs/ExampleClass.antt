@@ -6,7 +6,7 @@ use Rattle.jtypes.specs.declared.types.JType.{JType}
 use Rattle.jtypes.specs.declared.types.JType.TheVariants as type
 use Rattle.constpool.specs.Descriptor.{sig_of, read_params, read_type}
 use Rattle.decode.specs.declared.instruction.Instruction.TheVariants.{NewArray}
-use Rattle.decode.specs.Places.{target_of}
+use Rattle.decode.proofs.Targets.{no_target}
 use Rattle.frames.specs.Frames.{Frame}
 use Rattle.frames.specs.Signatures.{class_type, field_type, field_types, result_type, signature_of, method_signature}
 use Rattle.typecheck.specs.Typing.{IsTyping, IsProcessOf}
@@ -15,7 +15,7 @@ use Rattle.verdict.specs.Checked.{IsFormed, IsChecked}
 use Rattle.verdict.specs.Sound.{IsSafe}
 use Rattle.soundness.specs.Example.{load_entry, give, process, signature, method, example, limits}
 use Rattle.soundness.proofs.SafeRuns.{type_soundness}
-use Rattle.soundness.proofs.StraightCode.{each_at, EachOutcome, outcome_at, from_last, from_before, typed_methods, only_member, only_instance}
+use Rattle.soundness.proofs.StraightCode.{each_at, EachOutcome, outcome_at, from_last, from_before, typed_methods, only_member, only_instance, IsStraight, nowhere}
 
 -- ---- its types
 
@@ -30,8 +30,8 @@ frames = frame [] ∷ loaded ∷ []
 
 outcomes : EachOutcome example.view method frames method.code frames
 outcomes = (
-  (loaded, refl, record { branches = λ t h. absurd cc; falls = λ h. refl; after = λ h k. absurd cc }),
-  ((loaded, refl, record { branches = λ t h. absurd cc; falls = λ h. absurd cc; after = λ h k. absurd cc }), tt),
+  (loaded, refl, record { branches = λ t h. absurd (nowhere t h); falls = λ h. refl; after = λ h k. absurd cc }),
+  ((loaded, refl, record { branches = λ t h. absurd (nowhere t h); falls = λ h. absurd cc; after = λ h k. absurd cc }), tt),
 )
 
 typing : IsTyping example.view method frames
@@ -51,7 +51,7 @@ formed = record {
   result = ((λ h. cc h), tt);
   room = omega arith;
   declared = λ p d h. absurd cc;
-  forward = λ q r p h k. absurd (each_at (λ p. target_of p.instruction ≡ Some (pos r) → ⊥) method.code ((λ e. cc e), ((λ e. cc e), tt)) q p h k);
+  forward = λ q r p h k. absurd (no_target p.instruction (pos r) (each_at IsStraight method.code (refl, (refl, tt)) q p h) k);
   consecutive = (refl, omega arith, (refl, omega arith, tt));
   lengths = λ q p k h e. absurd (each_at (λ p. p.instruction ≡ NewArray k → ⊥) method.code ((λ e. cc e), ((λ e. cc e), tt)) q p h e);
 }

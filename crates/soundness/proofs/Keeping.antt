@@ -1,12 +1,10 @@
 -- An instruction keeps the call, and what the loader answered if it was asked.
-use Rattle.std.specs.Prelude.{◌≡◌, ℕ, suc, ◌+◌, ℤ, pos, negsuc, nat_le, ◌&&◌, Bool, true, false, List, [], ◌∷◌, ◌++◌, length, reverse, Option, Some, None, option_and_then, option_map, slice_get, slice_set, take, drop, is_some, if◌then◌else◌, refl}
-use Rattle.std.proofs.Common.{sym, ap, ◌∙◌, subst}
+use Rattle.std.specs.Prelude.{◌≡◌, ℕ, suc, ◌+◌, ℤ, pos, negsuc, nat_le, ◌&&◌, Bool, true, false, List, [], ◌∷◌, ◌++◌, length, reverse, Option, Some, None, option_and_then, option_map, slice_get, slice_set, is_some, if◌then◌else◌, refl}
 use Rattle.jtypes.specs.declared.types.RefType.{RefType}
 use Rattle.jtypes.specs.declared.types.RefValue.TheVariants as reference
 use Rattle.jtypes.specs.declared.types.Value.{Value}
 use Rattle.jtypes.specs.declared.types.Value.TheVariants.{Int, Long, Ref}
 use Rattle.jtypes.specs.declared.types.JType.{JType}
-use Rattle.jtypes.specs.declared.types.JavaFault.{JavaFault}
 use Rattle.jtypes.specs.declared.types.Arg.{Arg}
 use Rattle.jtypes.specs.declared.operations.Kind.{Kind}
 use Rattle.jtypes.specs.declared.operations.ArrayKind.{ArrayKind}
@@ -26,14 +24,16 @@ use Rattle.jtypes.specs.Arithmetic.{Answer, Leaves, Throws, Lacks, operate, test
 use Rattle.jtypes.specs.Library.{Reply, Gives, Faults, Misses, library, flag}
 use Rattle.decode.specs.declared.instruction.Instruction.{Instruction}
 use Rattle.decode.specs.declared.instruction.Instruction.TheVariants as instruction
+use Rattle.decode.specs.declared.instruction.Cases.{Cases}
 use Rattle.decode.specs.declared.instruction.Placed.{Placed}
+use Rattle.decode.specs.Places.{chosen}
 use Rattle.frames.specs.declared.frame.Environment.{Environment}
 use Rattle.frames.specs.declared.signatures.Signature.{Signature}
 use Rattle.frames.specs.declared.members.Callee.{Callee}
 use Rattle.frames.specs.declared.members.Reached.{Reached}
 use Rattle.frames.specs.declared.members.Reached.TheVariants.{Own, Library}
 use Rattle.typecheck.specs.Typing.{Method, Class, instruction_at}
-use Rattle.verdict.specs.Machine.{Activation, State, Next, Goes, Ends, throws, goes_on, next_with, with_operands, with_place, jump_with, has_local, load, store, store_value, increment, value_of_pushed, after_answer, after_test, make_array, same_kind, element_value, number_of, with_element, push_item, load_from, load_item, store_to, store_number, store_item, load_reference, push_length, measure, may_cast, cast, ask, split, activation_of, is_on_null, enter, after_reply, reach, invoke, end_with, narrowed, return_to, return_value, return_void, act, act_at, step, step_top}
+use Rattle.verdict.specs.Machine.{Activation, State, Next, Goes, Ends, throws, goes_on, next_with, with_operands, with_place, jump_with, has_local, load, store, store_value, increment, value_of_pushed, after_answer, after_test, switch, make_array, same_kind, element_value, number_of, with_element, push_item, load_from, load_item, store_to, store_number, store_item, load_reference, push_length, measure, may_cast, cast, ask, split, activation_of, is_on_null, enter, after_reply, reach, invoke, end_with, narrowed, return_to, return_value, return_void, act, act_at, step, step_top}
 
 abbrev pub Keeps : State → Option Next → Type 0
 Keeps s None = Unit {0}
@@ -97,6 +97,12 @@ module _ (c : Class) (s : State) where
   tests a below target None = tt
   tests a below target (Some (true, rest)) = jumps a below target rest
   tests a below target (Some (false, rest)) = next s a below rest refl refl
+
+  switches : (a : Activation) (below : List Activation) (default : ℤ) (cases : Cases) (vs : List Value) → Keeps s (switch c s a below default cases vs)
+  switches a below default cases (Int n ∷ rest) = jumps a below (chosen default cases n) rest
+  switches a below default cases (Long n ∷ rest) = tt
+  switches a below default cases (Ref v ∷ rest) = tt
+  switches a below default cases [] = tt
 
   makes : (a : Activation) (below : List Activation) (k : ArrayKind) (vs : List Value) → Keeps s (make_array c s a below k vs)
   makes a below k (Int (pos n) ∷ rest) =
@@ -268,6 +274,7 @@ module _ (c : Class) (s : State) where
   acts e a below (instruction.Rearrange r) = bound s (next_with c s a below) (rearranged is_long_value r a.operands) (λ vs. next s a below vs refl refl)
   acts e a below (instruction.Branch test target) = tests a below target (tested test a.operands)
   acts e a below (instruction.Goto target) = jumps a below target a.operands
+  acts e a below (instruction.Switch default cases) = switches a below default cases a.operands
   acts e a below (instruction.Return k) = returns_value below k e.signature e.signature.result a.operands
   acts e a below instruction.ReturnVoid = returns_void below e.signature.result
   acts e a below (instruction.Invoke kind i) = invokes a below kind (callee_at c.view kind i)

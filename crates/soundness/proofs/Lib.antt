@@ -2,6 +2,7 @@ pub mod Locals
 pub mod Callees
 pub mod GoodStates
 pub mod PathsExist
+pub mod Switched
 pub mod Steps
 pub mod SafeRuns
 pub mod AcceptedClasses

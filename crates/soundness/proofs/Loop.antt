@@ -1,10 +1,10 @@
 -- A branch to itself never ends, and has no path that bounds it.
-use Rattle.std.proofs.Common.{◌≡◌, ℕ, suc, ◌==◌, Bool, true, false, cond, List, [], ◌∷◌, Some, None, refl, sym, ap, ◌∙◌, subst, arith}
-use Rattle.std.specs.Prelude.{pos}
+use Rattle.std.proofs.Common.{◌≡◌, ℕ, suc, ◌==◌, Bool, true, false, cond, List, [], ◌∷◌, Some, None, refl, sym, ap, ◌∙◌, subst, arith, inl, inr}
+use Rattle.std.specs.Prelude.{ℤ, pos}
 use Rattle.classfile.specs.View.{ClassView}
 use Rattle.decode.specs.declared.instruction.Instruction.TheVariants as instruction
 use Rattle.decode.specs.declared.instruction.Placed.{Placed}
-use Rattle.decode.specs.Places.{is_return, AreConsecutive}
+use Rattle.decode.specs.Places.{IsTarget, is_return, AreConsecutive}
 use Rattle.frames.specs.Frames.{Frame}
 use Rattle.typecheck.specs.Typing.{Method, Class, IsTyping, IsFlow, instruction_at}
 use Rattle.bounds.specs.Paths.{Bounds, Cost, Path, ends, jumps, falls, calls}
@@ -35,9 +35,13 @@ class = only_method view method
 abbrev frames : List Frame
 frames = frame [] ∷ []
 
+to_start : (t : ℤ) → IsTarget again.instruction t → t ≡ pos 0
+to_start t (inl e) = cc e
+to_start t (inr (k, e)) = cc e
+
 flow : IsFlow method frames again (frame [])
 flow = record {
-  branches = λ t h. (0, frame [], cc h, refl, fits_frame [] [] tt);
+  branches = λ t h. (0, frame [], to_start t h, refl, fits_frame [] [] tt);
   falls = λ h. absurd cc;
   after = λ h k. absurd cc;
 }

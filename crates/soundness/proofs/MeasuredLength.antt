@@ -1,5 +1,5 @@
 -- A new array whose length is no constant takes more words than its path says.
-use Rattle.std.proofs.Common.{false, ◌≡◌, ℕ, suc, List, [], ◌∷◌, length, Some, None, refl, sym, subst, arith}
+use Rattle.std.proofs.Common.{false, ◌≡◌, ℕ, suc, List, [], ◌∷◌, length, None, refl, sym, subst, arith}
 use Rattle.std.specs.Prelude.{pos, replicate}
 use Rattle.std.proofs.lemmas.List.{length-replicate}
 use Rattle.jtypes.specs.declared.types.RefType.TheVariants as ref
@@ -10,7 +10,8 @@ use Rattle.jtypes.specs.declared.operations.ArrayKind.TheVariants as array
 use Rattle.classfile.specs.View.{ClassView}
 use Rattle.decode.specs.declared.instruction.Instruction.TheVariants as instruction
 use Rattle.decode.specs.declared.instruction.Placed.{Placed}
-use Rattle.decode.specs.Places.{target_of, AreConsecutive}
+use Rattle.decode.specs.Places.{AreConsecutive}
+use Rattle.decode.proofs.Targets.{no_target}
 use Rattle.frames.specs.Frames.{Frame}
 use Rattle.typecheck.specs.Typing.{Method, Class, IsTyping}
 use Rattle.bounds.specs.Paths.{Bounds, Cost, Path, IsWithin, last_cost, after_one}
@@ -20,7 +21,7 @@ use Rattle.verdict.specs.Sound.{IsSafe}
 use Rattle.soundness.specs.Example.{process, signature}
 use Rattle.soundness.specs.Premises.{SoundnessOver}
 use Rattle.soundness.specs.OtherPremises.{SomeIsNeverSafe, IsCheckedButForLengths, HasPlainSignature, HasRoom, DeclaresNoTop, GoesForward}
-use Rattle.soundness.proofs.StraightCode.{placed, gone_to, each_at, EachOutcome, outcome_at, only_method, from_last, from_before, typed_methods, only_member, only_instance}
+use Rattle.soundness.proofs.StraightCode.{placed, gone_to, each_at, EachOutcome, outcome_at, only_method, from_last, from_before, typed_methods, only_member, only_instance, IsStraight, nowhere}
 use Rattle.soundness.proofs.SmallClasses.{view_with, method_with, signed, frame, plain_params, plain_result}
 
 abbrev arguments : Placed
@@ -49,12 +50,12 @@ frames = frame [] ∷ frame (type.Ref ref.ObjectArray ∷ []) ∷ frame (type.In
 
 outcomes : EachOutcome view method frames method.code frames
 outcomes = (
-  (frame (type.Ref ref.ObjectArray ∷ []), refl, record { branches = λ t h. absurd cc; falls = λ h. refl; after = λ h k. absurd cc }),
+  (frame (type.Ref ref.ObjectArray ∷ []), refl, record { branches = λ t h. absurd (nowhere t h); falls = λ h. refl; after = λ h k. absurd cc }),
   (
-    (frame (type.Int ∷ []), refl, record { branches = λ t h. absurd cc; falls = λ h. refl; after = λ h k. absurd cc }),
+    (frame (type.Int ∷ []), refl, record { branches = λ t h. absurd (nowhere t h); falls = λ h. refl; after = λ h k. absurd cc }),
     (
-      (frame (type.Ref ref.IntArray ∷ []), refl, record { branches = λ t h. absurd cc; falls = λ h. refl; after = λ h k. absurd cc }),
-      ((frame (type.Ref ref.IntArray ∷ []), refl, record { branches = λ t h. absurd cc; falls = λ h. absurd cc; after = λ h k. absurd cc }), tt),
+      (frame (type.Ref ref.IntArray ∷ []), refl, record { branches = λ t h. absurd (nowhere t h); falls = λ h. refl; after = λ h k. absurd cc }),
+      ((frame (type.Ref ref.IntArray ∷ []), refl, record { branches = λ t h. absurd (nowhere t h); falls = λ h. absurd cc; after = λ h k. absurd cc }), tt),
     ),
   ),
 )
@@ -73,7 +74,7 @@ formed = (
   (plain_params, plain_result),
   omega arith,
   (λ p d h. absurd cc),
-  (λ q r p h k. absurd (each_at (λ p. target_of p.instruction ≡ Some (pos r) → ⊥) method.code ((λ e. cc e), ((λ e. cc e), ((λ e. cc e), ((λ e. cc e), tt)))) q p h k)),
+  (λ q r p h k. absurd (no_target p.instruction (pos r) (each_at IsStraight method.code (refl, (refl, (refl, (refl, tt)))) q p h) k)),
   (refl, omega arith, (refl, omega arith, (refl, omega arith, (refl, omega arith, tt)))),
 )
 

@@ -13,7 +13,8 @@ use Rattle.constpool.specs.Descriptor.{sig_of, read_params, read_type}
 use Rattle.classfile.specs.View.{ClassView, MethodView}
 use Rattle.decode.specs.declared.instruction.Instruction.TheVariants as instruction
 use Rattle.decode.specs.declared.instruction.Placed.{Placed}
-use Rattle.decode.specs.Places.{target_of, is_return}
+use Rattle.decode.specs.Places.{IsTarget, is_return}
+use Rattle.decode.proofs.Targets.{no_target}
 use Rattle.frames.specs.Frames.{Frame}
 use Rattle.frames.specs.declared.members.Reached.TheVariants.{Own}
 use Rattle.frames.specs.Signatures.{class_type, field_type, field_types, result_type, signature_of, method_signature, is_static}
@@ -29,7 +30,7 @@ use Rattle.verdict.specs.Sound.{IsSafe}
 use Rattle.soundness.specs.Example.{process, signature}
 use Rattle.soundness.specs.Premises.{SoundnessOver}
 use Rattle.soundness.specs.OtherPremises.{IsSigned, SomeIsNeverSafe, IsCheckedButForCount}
-use Rattle.soundness.proofs.StraightCode.{placed, plain_call, each_at, one_at, EachOutcome, outcome_at}
+use Rattle.soundness.proofs.StraightCode.{placed, plain_call, each_at, one_at, EachOutcome, outcome_at, IsStraight, nowhere}
 use Rattle.soundness.proofs.SmallClasses.{method_with, frame, plain_params, plain_result, nothing}
 
 -- `help` of the class stands at index 1
@@ -79,10 +80,10 @@ returned = ap (called method.environment (frame [])) reached
 
 outcomes : EachOutcome view method frames method.code frames
 outcomes = (
-  (frame [], returned, record { branches = λ t h. absurd cc; falls = λ h. refl; after = λ h k. absurd cc }),
+  (frame [], returned, record { branches = λ t h. absurd (nowhere t h); falls = λ h. refl; after = λ h k. absurd cc }),
   (
-    (frame (type.Null ∷ []), refl, record { branches = λ t h. absurd cc; falls = λ h. refl; after = λ h k. absurd cc }),
-    ((frame (type.Null ∷ []), refl, record { branches = λ t h. absurd cc; falls = λ h. absurd cc; after = λ h k. absurd cc }), tt),
+    (frame (type.Null ∷ []), refl, record { branches = λ t h. absurd (nowhere t h); falls = λ h. refl; after = λ h k. absurd cc }),
+    ((frame (type.Null ∷ []), refl, record { branches = λ t h. absurd (nowhere t h); falls = λ h. absurd cc; after = λ h k. absurd cc }), tt),
   ),
 )
 
@@ -101,7 +102,7 @@ formed = record {
   result = plain_result;
   room = omega arith;
   declared = λ p d h. absurd cc;
-  forward = λ q r p h k. absurd (each_at (λ p. target_of p.instruction ≡ Some (pos r) → ⊥) method.code ((λ e. cc e), ((λ e. cc e), ((λ e. cc e), tt))) q p h k);
+  forward = λ q r p h k. absurd (no_target p.instruction (pos r) (each_at IsStraight method.code (refl, (refl, (refl, tt))) q p h) k);
   consecutive = (refl, omega arith, (refl, omega arith, (refl, omega arith, tt)));
   lengths = λ q p k h e. absurd (each_at (λ p. p.instruction ≡ instruction.NewArray k → ⊥) method.code ((λ e. cc e), ((λ e. cc e), ((λ e. cc e), tt))) q p h e);
 }
@@ -158,8 +159,7 @@ no_path j place k e (ends m p s r) =
     cc no
 no_path j place k e (jumps m p q s to rest) =
     let same = starts j m p (subst (λ n. StandsAt class j n m p) e s) in
-    let no : target_of call.instruction ≡ Some (pos q) = subst (λ (x : Placed). target_of x.instruction ≡ Some (pos q)) (sym same) to in
-    cc no
+    no_target call.instruction (pos q) refl (subst (λ (x : Placed). IsTarget x.instruction (pos q)) (sym same) to)
 no_path j place k e (falls m p s on none rest) =
     let same = starts j m p (subst (λ n. StandsAt class j n m p) e s) in
     let no : call_of view call.instruction ≡ None = subst (λ (x : Placed). call_of view x.instruction ≡ None) (sym same) none in

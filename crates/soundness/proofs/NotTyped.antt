@@ -1,11 +1,11 @@
 -- A method that isn't well typed gets stuck: it returns an operand that isn't there.
-use Rattle.std.proofs.Common.{◌≡◌, [], ◌∷◌, Some, refl, sym, subst, arith}
+use Rattle.std.proofs.Common.{◌≡◌, [], ◌∷◌, refl, sym, subst, arith}
 use Rattle.std.specs.Prelude.{pos}
 use Rattle.jtypes.specs.declared.operations.Kind.TheVariants as kind
 use Rattle.classfile.specs.View.{ClassView}
 use Rattle.decode.specs.declared.instruction.Instruction.TheVariants as instruction
 use Rattle.decode.specs.declared.instruction.Placed.{Placed}
-use Rattle.decode.specs.Places.{target_of}
+use Rattle.decode.proofs.Targets.{no_target}
 use Rattle.typecheck.specs.Typing.{Method, Class}
 use Rattle.bounds.specs.Paths.{Bounds, Cost, Path, IsWithin, last_cost}
 use Rattle.verdict.specs.Checked.{IsFormed}
@@ -15,7 +15,7 @@ use Rattle.verdict.specs.Sound.{IsSafe}
 use Rattle.soundness.specs.Example.{process, signature}
 use Rattle.soundness.specs.Premises.{SoundnessOver}
 use Rattle.soundness.specs.OtherPremises.{SomeIsNeverSafe, IsCheckedButForTypes}
-use Rattle.soundness.proofs.StraightCode.{placed, plain_call, each_at, only_method, without_calls, from_last, only_member, only_instance}
+use Rattle.soundness.proofs.StraightCode.{placed, plain_call, each_at, only_method, without_calls, from_last, only_member, only_instance, IsStraight}
 use Rattle.soundness.proofs.SmallClasses.{view_with, method_with, only_signed, plain_params, plain_result}
 
 abbrev answer : Placed
@@ -36,7 +36,7 @@ formed = record {
   result = plain_result;
   room = omega arith;
   declared = λ p d h. absurd cc;
-  forward = λ q r p h k. absurd (each_at (λ p. target_of p.instruction ≡ Some (pos r) → ⊥) method.code ((λ e. cc e), tt) q p h k);
+  forward = λ q r p h k. absurd (no_target p.instruction (pos r) (each_at IsStraight method.code (refl, tt) q p h) k);
   consecutive = (refl, omega arith, tt);
   lengths = λ q p k h e. absurd (each_at (λ p. p.instruction ≡ instruction.NewArray k → ⊥) method.code ((λ e. cc e), tt) q p h e);
 }

@@ -1,5 +1,5 @@
 -- A call has one meaning at most for what the loader answered, if it was asked.
-use Rattle.std.specs.Prelude.{◌≡◌, ℕ, ◌⊎◌, option_map, slice_get, Bool, true, false, not, ◌&&◌, Option, Some, None, if◌then◌else◌, refl}
+use Rattle.std.specs.Prelude.{◌≡◌, ℕ, ◌⊎◌, option_map, slice_get, Bool, true, false, ◌&&◌, Option, Some, None, if◌then◌else◌, refl}
 use Rattle.std.proofs.Common.{inl, inr, sym, ap, ◌∙◌, subst}
 use Rattle.jtypes.specs.declared.loader.LoadAnswer.{LoadAnswer}
 use Rattle.jtypes.specs.declared.loader.LoadAnswer.TheVariants as load

@@ -1,12 +1,12 @@
 -- A signature that isn't the descriptor's gets `process` stuck: it returns nothing.
-use Rattle.std.proofs.Common.{◌≡◌, List, [], ◌∷◌, Some, None, false, refl, sym, subst, arith}
+use Rattle.std.proofs.Common.{◌≡◌, List, [], ◌∷◌, None, false, refl, sym, subst, arith}
 use Rattle.std.specs.Prelude.{pos}
 use Rattle.jtypes.specs.declared.types.RefType.TheVariants as ref
 use Rattle.jtypes.specs.declared.types.JType.TheVariants as type
 use Rattle.classfile.specs.View.{ClassView}
 use Rattle.decode.specs.declared.instruction.Instruction.TheVariants as instruction
 use Rattle.decode.specs.declared.instruction.Placed.{Placed}
-use Rattle.decode.specs.Places.{target_of}
+use Rattle.decode.proofs.Targets.{no_target}
 use Rattle.frames.specs.Frames.{Frame}
 use Rattle.frames.specs.declared.signatures.Signature.{Signature}
 use Rattle.typecheck.specs.Typing.{Method, Class, IsTyping, IsWellTyped}
@@ -19,7 +19,7 @@ use Rattle.soundness.specs.Example.{process}
 use Rattle.soundness.specs.Premises.{SoundnessOver}
 use Rattle.soundness.specs.OtherPremises.{SomeIsNeverSafe, IsCheckedButForSignatures, SignedIsPlain}
 use Rattle.soundness.proofs.AcceptedClasses.{signed_has_no_top}
-use Rattle.soundness.proofs.StraightCode.{placed, plain_call, each_at, EachOutcome, outcome_at, only_method, without_calls, from_last, only_member, only_instance}
+use Rattle.soundness.proofs.StraightCode.{placed, plain_call, each_at, EachOutcome, outcome_at, only_method, without_calls, from_last, only_member, only_instance, IsStraight, nowhere}
 use Rattle.soundness.proofs.SmallClasses.{view_with, method_with, frame, plain_params}
 
 abbrev over : Placed
@@ -42,7 +42,7 @@ abbrev frames : List Frame
 frames = frame [] ∷ []
 
 outcomes : EachOutcome view method frames method.code frames
-outcomes = ((frame [], refl, record { branches = λ t h. absurd cc; falls = λ h. absurd cc; after = λ h k. absurd cc }), tt)
+outcomes = ((frame [], refl, record { branches = λ t h. absurd (nowhere t h); falls = λ h. absurd cc; after = λ h k. absurd cc }), tt)
 
 typing : IsTyping view method frames
 typing = record {
@@ -59,7 +59,7 @@ formed = record {
   result = tt;
   room = omega arith;
   declared = λ p d h. absurd cc;
-  forward = λ q r p h k. absurd (each_at (λ p. target_of p.instruction ≡ Some (pos r) → ⊥) method.code ((λ e. cc e), tt) q p h k);
+  forward = λ q r p h k. absurd (no_target p.instruction (pos r) (each_at IsStraight method.code (refl, tt) q p h) k);
   consecutive = (refl, omega arith, tt);
   lengths = λ q p k h e. absurd (each_at (λ p. p.instruction ≡ instruction.NewArray k → ⊥) method.code ((λ e. cc e), tt) q p h e);
 }

@@ -15,7 +15,8 @@ use Rattle.constpool.specs.Names.{process_name, process_descriptor}
 use Rattle.classfile.specs.View.{ClassView}
 use Rattle.decode.specs.declared.instruction.Instruction.TheVariants as instruction
 use Rattle.decode.specs.declared.instruction.Placed.{Placed}
-use Rattle.decode.specs.Places.{target_of, falls_through, is_return}
+use Rattle.decode.specs.Places.{falls_through, is_return}
+use Rattle.decode.proofs.Targets.{no_target}
 use Rattle.frames.specs.Frames.{Frame}
 use Rattle.frames.specs.declared.members.Reached.TheVariants.{Own}
 use Rattle.frames.specs.Signatures.{class_type, field_type, field_types, result_type, signature_of, method_signature}
@@ -30,7 +31,7 @@ use Rattle.verdict.specs.Sound.{IsSafe}
 use Rattle.soundness.specs.Example.{process, signature}
 use Rattle.soundness.specs.Premises.{SoundnessOver}
 use Rattle.soundness.specs.OtherPremises.{SomeIsNeverSafe, IsCheckedButForRanks}
-use Rattle.soundness.proofs.StraightCode.{placed, plain_call, each_at, at_its_place, one_at, EachOutcome, outcome_at, only_method, only_member, only_instance}
+use Rattle.soundness.proofs.StraightCode.{placed, plain_call, each_at, at_its_place, one_at, EachOutcome, outcome_at, only_method, only_member, only_instance, IsStraight, nowhere}
 use Rattle.soundness.proofs.SmallClasses.{view_with, method_with, only_signed, frame, plain_params, plain_result, nothing}
 
 -- `process` of the class stands at index 1
@@ -90,14 +91,14 @@ returned = ap (called method.environment with_arguments) reached
 
 outcomes : EachOutcome view method frames method.code frames
 outcomes = (
-  (with_self, refl, record { branches = λ t h. absurd cc; falls = λ h. refl; after = λ h k. absurd cc }),
+  (with_self, refl, record { branches = λ t h. absurd (nowhere t h); falls = λ h. refl; after = λ h k. absurd cc }),
   (
-    (with_entry, refl, record { branches = λ t h. absurd cc; falls = λ h. refl; after = λ h k. absurd cc }),
+    (with_entry, refl, record { branches = λ t h. absurd (nowhere t h); falls = λ h. refl; after = λ h k. absurd cc }),
     (
-      (with_arguments, refl, record { branches = λ t h. absurd cc; falls = λ h. refl; after = λ h k. absurd cc }),
+      (with_arguments, refl, record { branches = λ t h. absurd (nowhere t h); falls = λ h. refl; after = λ h k. absurd cc }),
       (
-        (with_result, returned, record { branches = λ t h. absurd cc; falls = λ h. refl; after = λ h k. absurd cc }),
-        ((with_result, refl, record { branches = λ t h. absurd cc; falls = λ h. absurd cc; after = λ h k. absurd cc }), tt),
+        (with_result, returned, record { branches = λ t h. absurd (nowhere t h); falls = λ h. refl; after = λ h k. absurd cc }),
+        ((with_result, refl, record { branches = λ t h. absurd (nowhere t h); falls = λ h. absurd cc; after = λ h k. absurd cc }), tt),
       ),
     ),
   ),
@@ -118,7 +119,7 @@ formed = record {
   result = plain_result;
   room = omega arith;
   declared = λ p d h. absurd cc;
-  forward = λ q r p h k. absurd (each_at (λ p. target_of p.instruction ≡ Some (pos r) → ⊥) method.code ((λ e. cc e), ((λ e. cc e), ((λ e. cc e), ((λ e. cc e), ((λ e. cc e), tt))))) q p h k);
+  forward = λ q r p h k. absurd (no_target p.instruction (pos r) (each_at IsStraight method.code (refl, (refl, (refl, (refl, (refl, tt))))) q p h) k);
   consecutive = (refl, omega arith, (refl, omega arith, (refl, omega arith, (refl, omega arith, (refl, omega arith, tt)))));
   lengths = λ q p k h e. absurd (each_at (λ p. p.instruction ≡ instruction.NewArray k → ⊥) method.code ((λ e. cc e), ((λ e. cc e), ((λ e. cc e), ((λ e. cc e), ((λ e. cc e), tt))))) q p h e);
 }
@@ -133,7 +134,7 @@ no_path j place k (ends m p s r) l =
     let last : p.place ≡ 6 = each_at (λ p. is_return p.instruction ≡ true → p.place ≡ 6) method.code ((λ e. absurd cc), ((λ e. absurd cc), ((λ e. absurd cc), ((λ e. absurd cc), ((λ e. refl), tt))))) place p (found_at j place m p s) r in
     omega (arith, at, last, l)
 no_path j place k (jumps {k = rest} m p q s to path) l =
-    each_at (λ p. target_of p.instruction ≡ Some (pos q) → ⊥) method.code ((λ e. cc e), ((λ e. cc e), ((λ e. cc e), ((λ e. cc e), ((λ e. cc e), tt))))) place p (found_at j place m p s) to
+    no_target p.instruction (pos q) (each_at IsStraight method.code (refl, (refl, (refl, (refl, (refl, tt))))) place p (found_at j place m p s)) to
 no_path j place k (falls {k = rest} m p s on none path) l =
     let before : p.next < 6 = each_at (λ p. falls_through p.instruction ≡ true → call_of view p.instruction ≡ None → p.next < 6) method.code ((λ e n. omega arith), ((λ e n. omega arith), ((λ e n. omega arith), ((λ e n. absurd (cc (n, own_call))), ((λ e n. absurd cc), tt))))) place p (found_at j place m p s) on none in
     no_path j p.next rest path before

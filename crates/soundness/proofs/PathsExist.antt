@@ -1,5 +1,5 @@
 -- From each place there is a path, and a path takes at least its own activation.
-use Rattle.std.proofs.Common.{◌≡◌, ℕ, zero, suc, ◌+◌, ◌<◌, ◌≤◌, max, Bool, true, false, List, [], ◌∷◌, Option, Some, None, refl, ap, ◌∙◌, subst, arith, ◌⊎◌, inl, inr}
+use Rattle.std.proofs.Common.{◌≡◌, ℕ, zero, suc, ◌+◌, ◌<◌, ◌≤◌, max, Bool, true, false, List, [], ◌∷◌, Option, Some, None, refl, ap, subst, arith, ◌⊎◌, inl, inr}
 use Rattle.std.specs.Prelude.{slice_get, ℤ, pos, ◌==◌, cond}
 use Rattle.std.proofs.lemmas.Bool.{eqb-true}
 use Rattle.jtypes.specs.declared.types.JType.{JType}
@@ -8,7 +8,7 @@ use Rattle.classfile.specs.View.{MethodView}
 use Rattle.decode.specs.declared.instruction.Instruction.{Instruction}
 use Rattle.decode.specs.declared.instruction.Instruction.TheVariants as instruction
 use Rattle.decode.specs.declared.instruction.Placed.{Placed}
-use Rattle.decode.specs.Places.{at_place, target_of, falls_through, is_return}
+use Rattle.decode.specs.Places.{at_place, IsTarget, falls_through, is_return}
 use Rattle.frames.specs.declared.members.Callee.{Callee}
 use Rattle.frames.specs.declared.members.Reached.{Reached}
 use Rattle.frames.specs.declared.members.Reached.TheVariants.{Library, Own}
@@ -36,8 +36,9 @@ below_top (x ∷ code) q p e = go (below_top code q p) (x.place == q) refl e
     go later true is f = let here : x.place ≡ q = eqb-true x.place q is in omega (arith, here)
     go later false is f = let r = later f in omega (arith, r)
 
-ends_or_jumps : (i : Instruction) → falls_through i ≡ false → (is_return i ≡ true) ⊎ ((target : ℤ) × (target_of i ≡ Some target))
-ends_or_jumps (instruction.Goto target) h = inr (target, refl)
+ends_or_jumps : (i : Instruction) → falls_through i ≡ false → (is_return i ≡ true) ⊎ ((target : ℤ) × IsTarget i target)
+ends_or_jumps (instruction.Goto target) h = inr (target, inl refl)
+ends_or_jumps (instruction.Switch default cases) h = inr (default, inl refl)
 ends_or_jumps (instruction.Return k) h = inl refl
 ends_or_jumps instruction.ReturnVoid h = inl refl
 ends_or_jumps _ h = cc
@@ -59,7 +60,7 @@ abbrev HasPath : Class → ℕ → ℕ → Type 0
 HasPath c j q = (k : Cost) × Path c j q k
 
 -- an instruction's successors have paths, so it has one
-path_at : (c : Class) (j q : ℕ) (m : Method) (p : Placed) → StandsAt c j q m p → (falls_through p.instruction ≡ true → HasPath c j p.next) → ((target : ℤ) → target_of p.instruction ≡ Some target → (r : ℕ) × (target ≡ pos r) × HasPath c j r) → ((k : ℕ) → call_of c.view p.instruction ≡ Some k → HasPath c k 0) → HasPath c j q
+path_at : (c : Class) (j q : ℕ) (m : Method) (p : Placed) → StandsAt c j q m p → (falls_through p.instruction ≡ true → HasPath c j p.next) → ((target : ℤ) → IsTarget p.instruction target → (r : ℕ) × (target ≡ pos r) × HasPath c j r) → ((k : ℕ) → call_of c.view p.instruction ≡ Some k → HasPath c k 0) → HasPath c j q
 path_at c j q m p stands next target call = go (falls_through p.instruction) refl
   where
     through : falls_through p.instruction ≡ true → (o : Option ℕ) → call_of c.view p.instruction ≡ o → HasPath c j q
@@ -69,9 +70,9 @@ path_at c j q m p stands next target call = go (falls_through p.instruction) ref
         let f = call k h in
         (after_call m f.0 r.0, calls m p k stands h f.1 r.1)
 
-    stop : (is_return p.instruction ≡ true) ⊎ ((t : ℤ) × (target_of p.instruction ≡ Some t)) → HasPath c j q
+    stop : (is_return p.instruction ≡ true) ⊎ ((t : ℤ) × IsTarget p.instruction t) → HasPath c j q
     stop (inl e) = (last_cost m, ends m p stands e)
-    stop (inr t) = let r = target t.0 t.1 in (after_one 0 r.2.0, jumps m p r.0 stands (t.1 ∙ ap (λ x. Some x) r.1) r.2.1)
+    stop (inr t) = let r = target t.0 t.1 in (after_one 0 r.2.0, jumps m p r.0 stands (subst (λ (z : ℤ). IsTarget p.instruction z) r.1 t.1) r.2.1)
 
     go : (b : Bool) → falls_through p.instruction ≡ b → HasPath c j q
     go true e = through e (call_of c.view p.instruction) refl
@@ -91,7 +92,7 @@ module _ (c : Class) (ok : IsCheckedButForRoom c) where
       let o = typing.outcome q p f.0 inside.1 f.1 in
       path_at c j q m p (record { method = member.method; instruction = inside.1 })
       (λ e. let far = (onward m.code 0 q p formed.consecutive inside.1).1 in paths_in j w m member callees left p.next (omega (arith, far)) (enters_inside c m frames p.next o.0 typing (o.2.falls e)))
-      (λ t e. let d = o.2.branches t e in let to : target_of p.instruction ≡ Some (pos d.0) = e ∙ ap (λ x. Some x) d.2 in let later : q < d.0 = formed.forward q d.0 p inside.1 to in (d.0, d.2, paths_in j w m member callees left d.0 (omega (arith, later)) (enters_inside c m frames d.0 o.0 typing (enters_target m frames d.0 o.0 d.1 d.3 d.4))))
+      (λ t e. let d = o.2.branches t e in let to : IsTarget p.instruction (pos d.0) = subst (λ (z : ℤ). IsTarget p.instruction z) d.2 e in let later : q < d.0 = formed.forward q d.0 p inside.1 to in (d.0, d.2, paths_in j w m member callees left d.0 (omega (arith, later)) (enters_inside c m frames d.0 o.0 typing (enters_target m frames d.0 o.0 d.1 d.3 d.4))))
       (λ k e. callees q k p inside.1 e)
 
   -- the first place of a method is one of an instruction

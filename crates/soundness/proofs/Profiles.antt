@@ -1,9 +1,9 @@
 -- A class that the first profile accepts is the same class in the second one, which accepts it.
-use Rattle.std.proofs.Common.{suc, ◌≡◌, ℕ, ◌+◌, ◌*◌, ◌<◌, ◌≤◌, Bool, true, false, List, [], ◌∷◌, Some, length, refl, sym, ap, ◌∙◌, subst, arith, ◌⊎◌, inl, inr}
-use Rattle.std.specs.Prelude.{slice_get, Any, IsFalse, ◌↔◌}
+use Rattle.std.proofs.Common.{suc, ◌≡◌, ℕ, ◌<◌, ◌≤◌, Bool, true, false, List, [], ◌∷◌, Some, refl, sym, ap, subst, arith, ◌⊎◌, inl, inr}
+use Rattle.std.specs.Prelude.{slice_get, IsFalse}
 use Rattle.std.proofs.lemmas.Bool.{cases_lt}
 use Rattle.std.specs.List.{AllZip}
-use Rattle.jtypes.specs.Profile.{Profile, First, Second}
+use Rattle.jtypes.specs.Profile.{First, Second}
 use Rattle.jtypes.specs.declared.refusal.Refusal.{Refusal}
 use Rattle.jtypes.specs.declared.refusal.Refusal.TheVariants.{UnknownMember, ConstructorForm, Recursive, StepLimit, WordLimit, FrameLimit}
 use Rattle.constpool.specs.Lookup.{Slot}
@@ -20,11 +20,10 @@ use Rattle.decode.proofs.Unrefused.{members_unread}
 use Rattle.frames.specs.declared.frame.Environment.{Environment}
 use Rattle.typecheck.specs.Typing.{Method, Class, IsProcessOf}
 use Rattle.bounds.specs.Recursion.{IsRecursive}
-use Rattle.bounds.specs.Paths.{Cost, Path, Bounds, AreBounds, SomePathExceeds, step_limit}
-use Rattle.verdict.specs.Machine.{Invocation, Final}
+use Rattle.bounds.specs.Paths.{AreBounds, SomePathExceeds, step_limit}
 use Rattle.verdict.specs.Meaning.{Means}
-use Rattle.verdict.specs.Shape.{HasCode, HasConstructor, ShapeStands, is_constructor}
-use Rattle.verdict.specs.Verdict.{IsClassFile, HasShape, InstructionStands, InstructionsStand, HasInstructions, IsBody, BodyStands, TypesStand, HasTypes, IsMethodOf, IsClassOfFile, BoundStands, ClassStands, IsRefused, by_layout, by_shape, by_instructions, by_types, by_class, IsAccepted, IsClassOf}
+use Rattle.verdict.specs.Shape.{HasCode, HasConstructor, is_constructor}
+use Rattle.verdict.specs.Verdict.{IsClassFile, HasShape, InstructionStands, InstructionsStand, HasInstructions, IsBody, BodyStands, TypesStand, HasTypes, IsMethodOf, IsClassOfFile, ClassStands, by_layout, by_shape, by_instructions, by_types, by_class, IsAccepted}
 use Rattle.verdict.proofs.ConstructorCode.{constructor_sequence}
 use Rattle.verdict.proofs.Methods.{any_at, any_from}
 use Rattle.verdict.proofs.OnlyOne.{the_only}

@@ -12,7 +12,7 @@ use Rattle.constpool.specs.Descriptor.{sig_of, read_params, read_type}
 use Rattle.classfile.specs.View.{ClassView}
 use Rattle.decode.specs.declared.instruction.Instruction.TheVariants as instruction
 use Rattle.decode.specs.declared.instruction.Placed.{Placed}
-use Rattle.decode.specs.Places.{target_of}
+use Rattle.decode.proofs.Targets.{no_target}
 use Rattle.frames.specs.Frames.{Frame}
 use Rattle.frames.specs.Signatures.{class_type, field_type, field_types, result_type, signature_of, method_signature}
 use Rattle.typecheck.specs.Typing.{Method, Class, IsTyping, instruction_at}
@@ -22,7 +22,7 @@ use Rattle.jtypes.specs.declared.loader.LoadAnswer.TheVariants as load
 use Rattle.verdict.specs.Machine.{State, step, start_of, here, onward}
 use Rattle.verdict.specs.Sound.{IsSafe}
 use Rattle.soundness.specs.Premises.{SoundnessOver, IsCheckedButForPlaces, IsFormedButForPlaces}
-use Rattle.soundness.proofs.StraightCode.{placed, process_with, plain_call, gone_to, each_at, EachOutcome, outcome_at, at_its_place, only_method, from_last, from_before, typed_methods, only_member, only_instance}
+use Rattle.soundness.proofs.StraightCode.{placed, process_with, plain_call, gone_to, each_at, EachOutcome, outcome_at, at_its_place, only_method, from_last, from_before, typed_methods, only_member, only_instance, IsStraight, nowhere}
 
 -- no flow comes here
 abbrev astray : Placed
@@ -62,12 +62,12 @@ frames = frame [] ∷ frame [] ∷ frame (type.Int ∷ []) ∷ frame (type.Ref r
 
 outcomes : EachOutcome view method frames method.code frames
 outcomes = (
-  (frame (type.Int ∷ []), refl, record { branches = λ t h. absurd cc; falls = λ h. refl; after = λ h k. absurd cc }),
+  (frame (type.Int ∷ []), refl, record { branches = λ t h. absurd (nowhere t h); falls = λ h. refl; after = λ h k. absurd cc }),
   (
-    (frame (type.Int ∷ []), refl, record { branches = λ t h. absurd cc; falls = λ h. refl; after = λ h k. absurd cc }),
+    (frame (type.Int ∷ []), refl, record { branches = λ t h. absurd (nowhere t h); falls = λ h. refl; after = λ h k. absurd cc }),
     (
-      (frame (type.Ref ref.IntArray ∷ []), refl, record { branches = λ t h. absurd cc; falls = λ h. refl; after = λ h k. absurd cc }),
-      ((frame (type.Ref ref.IntArray ∷ []), refl, record { branches = λ t h. absurd cc; falls = λ h. absurd cc; after = λ h k. absurd cc }), tt),
+      (frame (type.Ref ref.IntArray ∷ []), refl, record { branches = λ t h. absurd (nowhere t h); falls = λ h. refl; after = λ h k. absurd cc }),
+      ((frame (type.Ref ref.IntArray ∷ []), refl, record { branches = λ t h. absurd (nowhere t h); falls = λ h. absurd cc; after = λ h k. absurd cc }), tt),
     ),
   ),
 )
@@ -91,7 +91,7 @@ formed = record {
   result = ((λ h. cc h), tt);
   room = omega arith;
   declared = λ p d h. absurd cc;
-  forward = λ q r p h k. absurd (each_at (λ p. target_of p.instruction ≡ Some (pos r) → ⊥) method.code ((λ e. cc e), ((λ e. cc e), ((λ e. cc e), ((λ e. cc e), tt)))) q p h k);
+  forward = λ q r p h k. absurd (no_target p.instruction (pos r) (each_at IsStraight method.code (refl, (refl, (refl, (refl, tt)))) q p h) k);
   lengths = λ q p k h e. (refl, lengths q p k h e);
 }
   where

@@ -14,7 +14,8 @@ use Rattle.classfile.specs.Code.{contents_named}
 use Rattle.classfile.specs.View.{ClassView, view_of}
 use Rattle.decode.specs.Code.{IsSequence, one, by_form, operands}
 use Rattle.decode.specs.Table.{form_at}
-use Rattle.decode.specs.Places.{at_place, target_of, falls_through, BranchStands, CodeStands}
+use Rattle.decode.specs.Places.{at_place, target_of, IsTarget, falls_through, BranchStands, CodeStands}
+use Rattle.decode.proofs.Targets.{no_target}
 use Rattle.decode.specs.declared.instruction.Instruction.TheVariants as instruction
 use Rattle.decode.specs.declared.instruction.Placed.{Placed}
 use Rattle.decode.proofs.Runs.{Run, run_goes_on, sequence_once}
@@ -36,7 +37,7 @@ use Rattle.verdict.specs.Verdict.{is_known, InstructionStands, InstructionsStand
 use Rattle.verdict.proofs.Methods.{any_at}
 use Rattle.soundness.specs.Example as example
 use Rattle.soundness.specs.Accepted.{small_bytes, small_pool, small_parts, constructor_member, process_member, constructor_code, constructor_method, small_class}
-use Rattle.soundness.proofs.StraightCode.{Each, each_at, at_its_place}
+use Rattle.soundness.proofs.StraightCode.{Each, each_at, at_its_place, IsStraight}
 use Rattle.frames.proofs.Declares.{declared_once}
 use Rattle.soundness.proofs.OneClass.{code_once, body_once, class_once}
 use Rattle.bounds.proofs.Ranks.{ranked_is_not_recursive}
@@ -115,14 +116,14 @@ process_plain : Each IsPlain example.method.code
 process_plain = ((refl, refl), ((refl, refl), tt))
 
 -- no branch, so none is bad
-branch_in : {P : Placed → Type 0} → ((p : Placed) → P p → (z : ℤ) × (target_of p.instruction ≡ Some z)) → Any P example.method.code → ⊥
+branch_in : {P : Placed → Type 0} → ((p : Placed) → P p → (z : ℤ) × IsTarget p.instruction z) → Any P example.method.code → ⊥
 branch_in {P = P} leads any =
     let it = any_at P example.method.code any in
     go it.0 it.1 it.2 (leads it.1 it.3)
   where
-    go : (n : ℕ) (p : Placed) → slice_get example.method.code n ≡ Some p → (z : ℤ) × (target_of p.instruction ≡ Some z) → ⊥
-    go zero p e h = let same : example.load_entry ≡ p = cc e in let none : target_of p.instruction ≡ None = subst (λ (x : Placed). target_of x.instruction ≡ None) same refl in cc (none, h.1)
-    go (suc zero) p e h = let same : example.give ≡ p = cc e in let none : target_of p.instruction ≡ None = subst (λ (x : Placed). target_of x.instruction ≡ None) same refl in cc (none, h.1)
+    go : (n : ℕ) (p : Placed) → slice_get example.method.code n ≡ Some p → (z : ℤ) × IsTarget p.instruction z → ⊥
+    go zero p e h = let same : example.load_entry ≡ p = cc e in let none : target_of p.instruction ≡ None = subst (λ (x : Placed). target_of x.instruction ≡ None) same refl in no_target p.instruction h.0 none h.1
+    go (suc zero) p e h = let same : example.give ≡ p = cc e in let none : target_of p.instruction ≡ None = subst (λ (x : Placed). target_of x.instruction ≡ None) same refl in no_target p.instruction h.0 none h.1
     go (suc (suc n)) p e h = cc e
 
 no_branch : (r : Refusal) → BranchStands example.method.code r → ⊥
@@ -188,7 +189,7 @@ process_body = record {
 }
 
 whole : LacksFrame example.method → ⊥
-whole (at_target q p z e to none) = cc (each_at (λ x. target_of x.instruction ≡ None) example.method.code (refl, (refl, tt)) q p e, to)
+whole (at_target q p z e to none) = no_target p.instruction z (each_at IsStraight example.method.code (refl, (refl, tt)) q p e) to
 whole (after_end q p e over some none) =
     let nothing : instruction_at example.method p.next ≡ None = each_at (λ x. falls_through x.instruction ≡ false → instruction_at example.method x.next ≡ None) example.method.code ((λ h. cc h), ((λ h. refl), tt)) q p e over in
     false≢true (sym (ap is_some nothing) ∙ some)
@@ -303,10 +304,10 @@ leads = record { next = next; target = target; callee = callee; ranks = ((λ j. 
         let on = each_at GoesOn example.method.code ((λ h. (omega arith, refl)), ((λ h. cc h), tt)) q p it.1 falls in
         (subst (λ k. k < p.next) it.2 on.0, subst (λ (x : Method). IsSome (instruction_at x p.next)) it.0 on.1)
 
-    target : (j q : ℕ) (m : Method) (p : Placed) (z : ℤ) → is_one j ≡ true → StandsAt small_class j q m p → target_of p.instruction ≡ Some z → (r : ℕ) × (z ≡ pos r) × (q < r) × IsSome (instruction_at m r)
+    target : (j q : ℕ) (m : Method) (p : Placed) (z : ℤ) → is_one j ≡ true → StandsAt small_class j q m p → IsTarget p.instruction z → (r : ℕ) × (z ≡ pos r) × (q < r) × IsSome (instruction_at m r)
     target j q m p z one s to =
         let it = stands j q m p one s in
-        cc (each_at (λ x. target_of x.instruction ≡ None) example.method.code (refl, (refl, tt)) q p it.1, to)
+        absurd (no_target p.instruction z (each_at IsStraight example.method.code (refl, (refl, tt)) q p it.1) to)
 
     callee : (j q k : ℕ) (m : Method) (p : Placed) → is_one j ≡ true → StandsAt small_class j q m p → call_of view p.instruction ≡ Some k → (is_one k ≡ true) × ((n : Method) × (slice_get small_class.methods k ≡ Some n) × IsSome (instruction_at n 0))
     callee j q k m p one s call =

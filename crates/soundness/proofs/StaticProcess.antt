@@ -10,7 +10,7 @@ use Rattle.constpool.specs.Descriptor.{sig_of, read_params, read_type}
 use Rattle.classfile.specs.View.{ClassView}
 use Rattle.decode.specs.declared.instruction.Instruction.TheVariants as instruction
 use Rattle.decode.specs.declared.instruction.Placed.{Placed}
-use Rattle.decode.specs.Places.{target_of}
+use Rattle.decode.proofs.Targets.{no_target}
 use Rattle.frames.specs.Frames.{Frame}
 use Rattle.frames.specs.Signatures.{class_type, field_type, field_types, result_type, signature_of, method_signature}
 use Rattle.typecheck.specs.Typing.{Method, Class, IsTyping}
@@ -20,7 +20,7 @@ use Rattle.jtypes.specs.declared.loader.LoadAnswer.TheVariants as load
 use Rattle.verdict.specs.Machine.{State, step, start_of, here, onward}
 use Rattle.verdict.specs.Sound.{IsSafe}
 use Rattle.soundness.specs.Premises.{SoundnessOver, IsCheckedButForInstance}
-use Rattle.soundness.proofs.StraightCode.{placed, process_with, plain_call, gone_to, each_at, EachOutcome, outcome_at, only_method, from_last, from_before, typed_methods, only_member}
+use Rattle.soundness.proofs.StraightCode.{placed, process_with, plain_call, gone_to, each_at, EachOutcome, outcome_at, only_method, from_last, from_before, typed_methods, only_member, IsStraight, nowhere}
 
 abbrev fetch : Placed
 fetch = placed 0 1 (instruction.Load kind.Reference 1)
@@ -59,12 +59,12 @@ static_frames = static_frame [] ∷ static_frame (type.Ref ref.ObjectArray ∷ [
 
 static_outcomes : EachOutcome static_view static_method static_frames static_method.code static_frames
 static_outcomes = (
-  (static_frame (type.Ref ref.ObjectArray ∷ []), refl, record { branches = λ t h. absurd cc; falls = λ h. refl; after = λ h k. absurd cc }),
+  (static_frame (type.Ref ref.ObjectArray ∷ []), refl, record { branches = λ t h. absurd (nowhere t h); falls = λ h. refl; after = λ h k. absurd cc }),
   (
-    (static_frame (type.Int ∷ []), refl, record { branches = λ t h. absurd cc; falls = λ h. refl; after = λ h k. absurd cc }),
+    (static_frame (type.Int ∷ []), refl, record { branches = λ t h. absurd (nowhere t h); falls = λ h. refl; after = λ h k. absurd cc }),
     (
-      (static_frame (type.Null ∷ type.Int ∷ []), refl, record { branches = λ t h. absurd cc; falls = λ h. refl; after = λ h k. absurd cc }),
-      ((static_frame (type.Null ∷ type.Int ∷ []), refl, record { branches = λ t h. absurd cc; falls = λ h. absurd cc; after = λ h k. absurd cc }), tt),
+      (static_frame (type.Null ∷ type.Int ∷ []), refl, record { branches = λ t h. absurd (nowhere t h); falls = λ h. refl; after = λ h k. absurd cc }),
+      ((static_frame (type.Null ∷ type.Int ∷ []), refl, record { branches = λ t h. absurd (nowhere t h); falls = λ h. absurd cc; after = λ h k. absurd cc }), tt),
     ),
   ),
 )
@@ -84,7 +84,7 @@ static_formed = record {
   result = ((λ h. cc h), tt);
   room = omega arith;
   declared = λ p d h. absurd cc;
-  forward = λ q r p h k. absurd (each_at (λ p. target_of p.instruction ≡ Some (pos r) → ⊥) static_method.code ((λ e. cc e), ((λ e. cc e), ((λ e. cc e), ((λ e. cc e), tt)))) q p h k);
+  forward = λ q r p h k. absurd (no_target p.instruction (pos r) (each_at IsStraight static_method.code (refl, (refl, (refl, (refl, tt)))) q p h) k);
   consecutive = (refl, omega arith, (refl, omega arith, (refl, omega arith, (refl, omega arith, tt))));
   lengths = λ q p k h e. absurd (each_at (λ p. p.instruction ≡ instruction.NewArray k → ⊥) static_method.code ((λ e. cc e), ((λ e. cc e), ((λ e. cc e), ((λ e. cc e), tt)))) q p h e);
 }

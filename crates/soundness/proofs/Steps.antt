@@ -41,7 +41,9 @@ use Rattle.jtypes.proofs.LibraryCalls.{ReplyFits}
 use Rattle.decode.specs.declared.instruction.Instruction.{Instruction}
 use Rattle.decode.specs.declared.instruction.Instruction.TheVariants as instruction
 use Rattle.decode.specs.declared.instruction.Placed.{Placed}
-use Rattle.decode.specs.Places.{target_of, falls_through, is_return, int_of, pushed_by, pushed_before}
+use Rattle.decode.specs.Places.{IsTarget, chosen, falls_through, is_return, int_of, pushed_by, pushed_before}
+use Rattle.decode.specs.declared.instruction.Cases.{Cases}
+use Rattle.soundness.proofs.Switched.{chosen_is_target}
 use Rattle.frames.specs.Signatures.{constant_type}
 use Rattle.frames.specs.declared.members.Callee.{Callee}
 use Rattle.frames.specs.declared.members.Reached.{Reached}
@@ -55,7 +57,7 @@ use Rattle.transfer.proofs.RearrangedFit.{took, by_forms_fit}
 use Rattle.typecheck.specs.Typing.{Method, Class, instruction_at, IsFlow, own_number, own_of, call_of}
 use Rattle.bounds.specs.Paths.{Cost, Path, Bounds, StandsAt, length_of, words_at, last_cost, after_one, jumps, falls, calls, ends as ends_path}
 use Rattle.soundness.specs.Room.{IsFormedButForRoom, IsCheckedButForRoom}
-use Rattle.verdict.specs.Machine.{Activation, State, ends, throws, goes_on, with_operands, with_place, next_with, jump_with, load, store, store_value, increment, value_of_pushed, after_answer, after_test, make_array, same_kind, element_value, number_of, push_item, load_from, load_item, with_element, store_to, store_number, store_item, load_reference, push_length, measure, may_cast, cast, ask, split, activation_of, is_on_null, enter, after_reply, reach, invoke, end_with, return_to, narrowed, return_value, return_void, act, act_at, step, step_top}
+use Rattle.verdict.specs.Machine.{Activation, State, ends, throws, goes_on, with_operands, with_place, next_with, jump_with, load, store, store_value, increment, value_of_pushed, after_answer, after_test, switch, make_array, same_kind, element_value, number_of, push_item, load_from, load_item, with_element, store_to, store_number, store_item, load_reference, push_length, measure, may_cast, cast, ask, split, activation_of, is_on_null, enter, after_reply, reach, invoke, end_with, return_to, narrowed, return_value, return_void, act, act_at, step, step_top}
 use Rattle.soundness.proofs.Locals.{slot_at, slots_length, slots_store, slots_keep, first_locals, split_took}
 use Rattle.soundness.proofs.Callees.{IsOwn, CalleeFits, callee_fits}
 use Rattle.soundness.proofs.GoodStates.{none_top, alone, IsCounted, IsAt, is_inside, with_result, Awaits, AllAwait, all_await_kept, HasBudget, budget_on, budget_same, budget_call, budget_return, IsGood, SafeNext, goes_safe, arrive, enters_inside, enters_target, no_length, no_length_target, no_length_first, RestOf}
@@ -254,14 +256,14 @@ module _ (c : Class) (b : Bounds) (ok : IsCheckedButForRoom c) (s : State) (a : 
   put_safe i g stack operands h t falling no_call takes none fit = change_safe i g stack s.arrays s.now operands h t falling no_call takes none (same_kept s.arrays) fit
 
   -- to a target
-  jump_safe : (i : Instruction) (g : Frame) (target : ℤ) (operands : List Value) → IsHere c b s a below m p i g → target_of i ≡ Some target → EachSlotFits s.arrays a.locals g.locals → EachFit s.arrays operands g.stack → slots_by is_long_value operands ≤ m.environment.max_stack → SafeNext c b s.steps s.now.asked s.call (jump_with c s beyond below target operands)
+  jump_safe : (i : Instruction) (g : Frame) (target : ℤ) (operands : List Value) → IsHere c b s a below m p i g → IsTarget i target → EachSlotFits s.arrays a.locals g.locals → EachFit s.arrays operands g.stack → slots_by is_long_value operands ≤ m.environment.max_stack → SafeNext c b s.steps s.now.asked s.call (jump_with c s beyond below target operands)
   jump_safe i g target operands h to fit_locals fit_operands room =
-      let leads : target_of p.instruction ≡ Some target = ap target_of h.is ∙ to in
+      let leads : IsTarget p.instruction target = subst (λ (x : Instruction). IsTarget x target) (sym h.is) to in
       let d = h.flow.branches target leads in
       let q = d.0 in
       let a' : Activation = record { method = a.method; place = q; locals = a.locals; operands = operands } in
       let typed = arrive c s.arrays m h.here.view h.here.frames a' g h.formed h.here.member h.here.typing (enters_target m h.here.frames q g d.1 d.3 d.4) fit_locals fit_operands room (no_length_target m q d.1 operands h.formed d.3) in
-      let path = λ (k : Cost) (x : Path c a.method q k). jumps m p q (stands i g h) (leads ∙ ap (λ y. Some y) d.2) x in
+      let path = λ (k : Cost) (x : Path c a.method q k). jumps m p q (stands i g h) (subst (λ (y : ℤ). IsTarget p.instruction y) d.2 leads) x in
       subst (λ x. SafeNext c b s.steps s.now.asked s.call (jump_with c s beyond below x operands)) (sym d.2) (goes_safe c b s a' below m typed h.awaits (budget_same c b (a' ∷ below) (suc s.steps) (s.words + 0) s.words (omega arith) (budget_on c b a a' below s.steps s.words 0 path h.budget)))
 
   -- the invocation ends
@@ -382,13 +384,23 @@ module _ (c : Class) (b : Bounds) (ok : IsCheckedButForRoom c) (s : State) (a : 
     where
       go : (yes : Bool) (operands : List Value) (rest : List JType) → HasStack m.environment h.here.frame rest g → EachFit s.arrays operands rest → SafeNext c b s.steps s.now.asked s.call (after_test c s beyond below target (Some (yes, operands)))
       go true operands rest t f =
-          jump_safe (instruction.Branch test target) g target operands h refl (subst (EachSlotFits s.arrays a.locals) t.locals h.here.locals) (subst (EachFit s.arrays operands) t.operands f) (let e = slots_fit s.arrays operands rest f in let r = t.room in omega (arith, e, r))
+          jump_safe (instruction.Branch test target) g target operands h (inl refl) (subst (EachSlotFits s.arrays a.locals) t.locals h.here.locals) (subst (EachFit s.arrays operands) t.operands f) (let e = slots_fit s.arrays operands rest f in let r = t.room in omega (arith, e, r))
       go false operands rest t f = put_safe (instruction.Branch test target) g rest operands h t refl refl refl refl f
 
   goto_safe : (target : ℤ) (g : Frame) → IsHere c b s a below m p (instruction.Goto target) g → SafeNext c b s.steps s.now.asked s.call (jump_with c s beyond below target a.operands)
   goto_safe target g h =
       let same : h.here.frame ≡ g = cc h.moved in
-      jump_safe (instruction.Goto target) g target a.operands h refl (subst (λ (x : Frame). EachSlotFits s.arrays a.locals x.locals) same h.here.locals) (subst (λ (x : Frame). EachFit s.arrays a.operands x.stack) same h.here.operands) h.here.room
+      jump_safe (instruction.Goto target) g target a.operands h (inl refl) (subst (λ (x : Frame). EachSlotFits s.arrays a.locals x.locals) same h.here.locals) (subst (λ (x : Frame). EachFit s.arrays a.operands x.stack) same h.here.operands) h.here.room
+
+  switch_safe : (default : ℤ) (cases : Cases) (g : Frame) → IsHere c b s a below m p (instruction.Switch default cases) g → SafeNext c b s.steps s.now.asked s.call (switch c s beyond below default cases a.operands)
+  switch_safe default cases g h =
+      let x = take_put_parts m.environment h.here.frame g (Int ∷ []) [] h.moved in
+      let v = one_int s.arrays x.0 a.operands (took s.arrays (Int ∷ []) h.here.frame.stack x.0 a.operands x.1 h.here.operands) in
+      subst (λ y. SafeNext c b s.steps s.now.asked s.call (switch c s beyond below default cases y)) (sym v.2) (go v.0 v.1 x.0 x.2 v.3)
+    where
+      go : (n : ℤ) (operands : List Value) (rest : List JType) → HasStack m.environment h.here.frame rest g → EachFit s.arrays operands rest → SafeNext c b s.steps s.now.asked s.call (switch c s beyond below default cases (value.Int n ∷ operands))
+      go n operands rest t f =
+          jump_safe (instruction.Switch default cases) g (chosen default cases n) operands h (chosen_is_target default cases n) (subst (EachSlotFits s.arrays a.locals) t.locals h.here.locals) (subst (EachFit s.arrays operands) t.operands f) (let e = slots_fit s.arrays operands rest f in let r = t.room in omega (arith, e, r))
 
   make_array_safe : (k : ArrayKind) (g : Frame) → IsHere c b s a below m p (instruction.NewArray k) g → SafeNext c b s.steps s.now.asked s.call (make_array c s beyond below k a.operands)
   make_array_safe k g h =
@@ -642,6 +654,7 @@ module _ (c : Class) (b : Bounds) (ok : IsCheckedButForRoom c) (s : State) (a : 
   act_safe (instruction.Rearrange r) g h = rearrange_safe r g h
   act_safe (instruction.Branch test target) g h = branch_safe test target g h
   act_safe (instruction.Goto target) g h = goto_safe target g h
+  act_safe (instruction.Switch default cases) g h = switch_safe default cases g h
   act_safe (instruction.Return k) g h = return_safe k g h
   act_safe instruction.ReturnVoid g h = return_void_safe g h
   act_safe (instruction.Invoke k n) g h = invoke_safe k n g h

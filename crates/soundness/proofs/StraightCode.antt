@@ -1,10 +1,11 @@
 -- Classes of one method without branches and own calls.
-use Rattle.std.proofs.Common.{◌≡◌, ℕ, zero, suc, ◌==◌, Bool, true, false, cond, List, [], ◌∷◌, length, Option, Some, None, refl, sym, ap, ◌∙◌, subst}
-use Rattle.std.specs.Prelude.{slice_get, pos}
+use Rattle.std.proofs.Common.{◌≡◌, ℕ, zero, suc, ◌==◌, Bool, true, false, cond, List, [], ◌∷◌, length, Option, Some, None, refl, sym, ap, ◌∙◌, subst, ◌⊎◌, inl, inr}
+use Rattle.std.specs.Prelude.{slice_get, ℤ, pos}
 use Rattle.std.proofs.lemmas.Bool.{eqb-true}
 use Rattle.classfile.specs.View.{ClassView, MethodView}
 use Rattle.decode.specs.declared.instruction.Placed.{Placed}
 use Rattle.decode.specs.Places.{at_place, target_of, falls_through, is_return}
+use Rattle.decode.proofs.Targets.{no_target}
 use Rattle.frames.specs.Frames.{Frame}
 use Rattle.typecheck.specs.Typing.{Method, Class, HasOutcome, IsTyping, instruction_at, frame_of, call_of}
 use Rattle.bounds.specs.Recursion.{IsOrdered}
@@ -42,6 +43,15 @@ at_its_place (x ∷ code) q p e = go (at_its_place code q p) (x.place == q) refl
         let same : x ≡ p = cc f in
         sym (ap (λ (y : Placed). y.place) same) ∙ eqb-true x.place q is
     go later false is f = later f
+
+-- it leads to no place but the next
+abbrev pub IsStraight : Placed → Type 0
+IsStraight p = target_of p.instruction ≡ None
+
+-- such an instruction leads nowhere else
+pub nowhere : (t : ℤ) → (None ≡ Some t) ⊎ ((k : ℕ) × (None ≡ Some t)) → ⊥
+nowhere t (inl e) = cc e
+nowhere t (inr (k, e)) = cc e
 
 -- each instruction has an outcome from its frame
 abbrev pub EachOutcome : ClassView → Method → List Frame → List Placed → List Frame → Type 0
@@ -98,8 +108,7 @@ module _ (v : ClassView) (m : Method) where
   from_last n q at is j place k e (ends x p s r) = ap last_cost (sym (stands j place n x p q e at s).0)
   from_last n q at is j place k e (jumps x p r s to rest) =
       let same = (stands j place n x p q e at s).1 in
-      let no : None ≡ Some (pos r) = sym (subst (λ (y : Placed). target_of y.instruction ≡ None) same is.straight) ∙ to in
-      cc no
+      absurd (no_target p.instruction (pos r) (subst (λ (y : Placed). target_of y.instruction ≡ None) same is.straight) to)
   from_last n q at is j place k e (falls x p s on none rest) =
       let same = (stands j place n x p q e at s).1 in
       let no : false ≡ true = sym (subst (λ (y : Placed). falls_through y.instruction ≡ false) same is.over) ∙ on in
@@ -117,8 +126,7 @@ module _ (v : ClassView) (m : Method) where
       cc no
   from_before n q at is later then j place k e (jumps x p r s to rest) =
       let same = (stands j place n x p q e at s).1 in
-      let no : None ≡ Some (pos r) = sym (subst (λ (y : Placed). target_of y.instruction ≡ None) same is.straight) ∙ to in
-      cc no
+      absurd (no_target p.instruction (pos r) (subst (λ (y : Placed). target_of y.instruction ≡ None) same is.straight) to)
   from_before n q at is later then j place k e (falls {k = tail} x p s on none rest) =
       let same = stands j place n x p q e at s in
       let next : p.next ≡ q.next = ap (λ (y : Placed). y.next) (sym same.1) in

@@ -8,7 +8,8 @@ use Rattle.jtypes.specs.declared.operations.Pushed.TheVariants as pushed
 use Rattle.classfile.specs.View.{ClassView}
 use Rattle.decode.specs.declared.instruction.Instruction.TheVariants as instruction
 use Rattle.decode.specs.declared.instruction.Placed.{Placed}
-use Rattle.decode.specs.Places.{target_of, AreConsecutive}
+use Rattle.decode.specs.Places.{AreConsecutive}
+use Rattle.decode.proofs.Targets.{no_target}
 use Rattle.frames.specs.Frames.{Frame}
 use Rattle.typecheck.specs.Typing.{Method, Class, IsTyping, frame_at, declared_at}
 use Rattle.bounds.specs.Paths.{Bounds, Cost, Path, IsWithin, last_cost, after_one}
@@ -18,7 +19,7 @@ use Rattle.verdict.specs.Sound.{IsSafe}
 use Rattle.soundness.specs.Example.{process, signature}
 use Rattle.soundness.specs.Premises.{SoundnessOver}
 use Rattle.soundness.specs.OtherPremises.{SomeIsNeverSafe, IsCheckedButForOperands, HasPlainSignature, HasRoom, GoesForward, HasLengths}
-use Rattle.soundness.proofs.StraightCode.{placed, plain_call, gone_to, each_at, EachOutcome, outcome_at, only_method, from_last, from_before, typed_methods, only_member, only_instance}
+use Rattle.soundness.proofs.StraightCode.{placed, plain_call, gone_to, each_at, EachOutcome, outcome_at, only_method, from_last, from_before, typed_methods, only_member, only_instance, IsStraight, nowhere}
 use Rattle.soundness.proofs.SmallClasses.{view_with, method_with, signed, frame, plain_params, plain_result, fits_frame}
 
 abbrev long : Placed
@@ -44,10 +45,10 @@ frames = frame [] ∷ frame (type.Top ∷ []) ∷ frame (type.Null ∷ type.Top 
 
 outcomes : EachOutcome view method frames method.code frames
 outcomes = (
-  (frame (type.Long ∷ []), refl, record { branches = λ t h. absurd cc; falls = λ h. fits_frame (type.Long ∷ []) (type.Top ∷ []) (refl, tt); after = λ h k. absurd cc }),
+  (frame (type.Long ∷ []), refl, record { branches = λ t h. absurd (nowhere t h); falls = λ h. fits_frame (type.Long ∷ []) (type.Top ∷ []) (refl, tt); after = λ h k. absurd cc }),
   (
-    (frame (type.Null ∷ type.Top ∷ []), refl, record { branches = λ t h. absurd cc; falls = λ h. refl; after = λ h k. absurd cc }),
-    ((frame (type.Null ∷ type.Top ∷ []), refl, record { branches = λ t h. absurd cc; falls = λ h. absurd cc; after = λ h k. absurd cc }), tt),
+    (frame (type.Null ∷ type.Top ∷ []), refl, record { branches = λ t h. absurd (nowhere t h); falls = λ h. refl; after = λ h k. absurd cc }),
+    ((frame (type.Null ∷ type.Top ∷ []), refl, record { branches = λ t h. absurd (nowhere t h); falls = λ h. absurd cc; after = λ h k. absurd cc }), tt),
   ),
 )
 
@@ -71,7 +72,7 @@ formed : HasPlainSignature method × HasRoom method × GoesForward method × Has
 formed = (
   (plain_params, plain_result),
   omega arith,
-  (λ q r p h k. absurd (each_at (λ p. target_of p.instruction ≡ Some (pos r) → ⊥) method.code ((λ e. cc e), ((λ e. cc e), ((λ e. cc e), tt))) q p h k)),
+  (λ q r p h k. absurd (no_target p.instruction (pos r) (each_at IsStraight method.code (refl, (refl, (refl, tt))) q p h) k)),
   (λ q p k h e. absurd (each_at (λ p. p.instruction ≡ instruction.NewArray k → ⊥) method.code ((λ e. cc e), ((λ e. cc e), ((λ e. cc e), tt))) q p h e)),
   (refl, omega arith, (refl, omega arith, (refl, omega arith, tt))),
 )

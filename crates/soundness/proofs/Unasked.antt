@@ -1,11 +1,11 @@
 -- Steps in which no loader is asked.
-use Rattle.std.proofs.Common.{◌≡◌, Bool, true, false, ◌&&◌, Option, Some, refl, ap, ◌∙◌}
+use Rattle.std.proofs.Common.{◌≡◌, Bool, true, false, ◌&&◌, Some, refl, ap, ◌∙◌}
 use Rattle.std.specs.Prelude.{if◌then◌else◌}
 use Rattle.jtypes.specs.declared.loader.LoadAnswer.{LoadAnswer}
 use Rattle.jtypes.specs.declared.loader.LoadAnswer.TheVariants as load
 use Rattle.jtypes.specs.Loading.{may_ask}
 use Rattle.typecheck.specs.Typing.{Class}
-use Rattle.verdict.specs.Machine.{State, Next, Goes, step, is_get_next, after_load, step_with, Reaches, onward}
+use Rattle.verdict.specs.Machine.{State, Goes, step, is_get_next, after_load, step_with, Reaches, onward}
 
 and_false : (x : Bool) → (x && false) ≡ false
 and_false true = refl

@@ -6,7 +6,7 @@ use Rattle.jtypes.specs.Types.{is_long, slots_by}
 use Rattle.classfile.specs.View.{MethodView}
 use Rattle.decode.specs.declared.instruction.Instruction.TheVariants.{NewArray}
 use Rattle.decode.specs.declared.instruction.Placed.{Placed}
-use Rattle.decode.specs.Places.{target_of, AreConsecutive}
+use Rattle.decode.specs.Places.{IsTarget, AreConsecutive}
 use Rattle.frames.specs.Signatures.{method_signature}
 use Rattle.frames.specs.Frames.{Frame}
 use Rattle.typecheck.specs.Typing.{Method, Class, IsWellTyped, IsProcessOf, instruction_at, declared_at}
@@ -41,7 +41,7 @@ abbrev pub DeclaresNoTop : Method → Type 0
 DeclaresNoTop m = (p : ℕ) (d : Frame) → declared_at m p ≡ Some d → NoTop d.stack
 
 abbrev pub GoesForward : Method → Type 0
-GoesForward m = (q r : ℕ) (p : Placed) → instruction_at m q ≡ Some p → target_of p.instruction ≡ Some (pos r) → q < r
+GoesForward m = (q r : ℕ) (p : Placed) → instruction_at m q ≡ Some p → IsTarget p.instruction (pos r) → q < r
 
 abbrev pub HasLengths : Method → Type 0
 HasLengths m = (q : ℕ) (p : Placed) (k : ArrayKind) → instruction_at m q ≡ Some p → p.instruction ≡ NewArray k → IsNone (declared_at m q) × HasLength m.code q

@@ -6,7 +6,7 @@ use Rattle.jtypes.specs.Types.{is_long, slots_by}
 use Rattle.classfile.specs.View.{MethodView}
 use Rattle.decode.specs.declared.instruction.Instruction.TheVariants.{NewArray}
 use Rattle.decode.specs.declared.instruction.Placed.{Placed}
-use Rattle.decode.specs.Places.{target_of}
+use Rattle.decode.specs.Places.{IsTarget}
 use Rattle.frames.specs.Signatures.{method_signature, is_static}
 use Rattle.frames.specs.Frames.{Frame}
 use Rattle.typecheck.specs.Typing.{Method, Class, IsWellTyped, IsProcessOf, instruction_at, declared_at}
@@ -46,7 +46,7 @@ pub record IsFormedButForPlaces (m : Method) : Type 0 where
   pub result : NoTop (result_list m.environment.signature.result)
   pub room : slots_by is_long m.environment.signature.params ≤ m.environment.max_locals
   pub declared : (p : ℕ) (d : Frame) → declared_at m p ≡ Some d → NoTop d.stack
-  pub forward : (q r : ℕ) (p : Placed) → instruction_at m q ≡ Some p → target_of p.instruction ≡ Some (pos r) → q < r
+  pub forward : (q r : ℕ) (p : Placed) → instruction_at m q ≡ Some p → IsTarget p.instruction (pos r) → q < r
   pub lengths : (q : ℕ) (p : Placed) (k : ArrayKind) → instruction_at m q ≡ Some p → p.instruction ≡ NewArray k → IsNone (declared_at m q) × HasLength m.code q
 
 -- all that is asked of a checked class, but that its name is none of the reserved ones

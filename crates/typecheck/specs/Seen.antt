@@ -1,10 +1,11 @@
 -- What the parts of the check answer: the pass by its results.
-use Rattle.std.specs.Prelude.{ℕ, ◌==◌, min, Bool, false, not, ◌&&◌, ◌||◌, List, [], ◌∷◌, Option, Some, None, is_some, Result, Ok, Err, ℤ, pos, negsuc, if◌then◌else◌}
+use Rattle.std.specs.Prelude.{◌≡◌, ℕ, ◌==◌, min, Bool, false, not, ◌&&◌, ◌||◌, List, [], ◌∷◌, Option, Some, None, is_some, Result, Ok, Err, ℤ, pos, negsuc, if◌then◌else◌}
 use Rattle.jtypes.specs.declared.refusal.Refusal.{Refusal}
 use Rattle.jtypes.specs.declared.refusal.Refusal.TheVariants.{BadStackMap, TypeMismatch, FallsOff}
 use Rattle.classfile.specs.View.{ClassView}
+use Rattle.decode.specs.declared.instruction.Instruction.{Instruction}
 use Rattle.decode.specs.declared.instruction.Placed.{Placed}
-use Rattle.decode.specs.Places.{at_place, target_of, falls_through}
+use Rattle.decode.specs.Places.{at_place, target_of, cases_of, falls_through}
 use Rattle.frames.specs.declared.frame.Environment.{Environment}
 use Rattle.frames.specs.Frames.{Frame, frame_in}
 use Rattle.transfer.specs.Transfer.{transfer}
@@ -42,17 +43,32 @@ abbrev pub lacks_target : List (ℕ × Frame) → Option ℤ → Bool
 lacks_target ds None = false
 lacks_target ds (Some z) = not (is_some (target_frame ds z))
 
+-- or where one of a switch's keys leads
+abbrev pub lacks_cases : List (ℕ × Frame) → List ℤ → Bool
+lacks_cases ds [] = false
+lacks_cases ds (z ∷ cases) = lacks_target ds (Some z) || lacks_cases ds cases
+
+abbrev pub lacks_targets : List (ℕ × Frame) → Instruction → Bool
+lacks_targets ds i = lacks_target ds (target_of i) || lacks_cases ds (cases_of i)
+
 -- no frame is declared at an instruction's target, or behind it where it doesn't fall through
 abbrev pub lacks_at : List Placed → List (ℕ × Frame) → Placed → Bool
-lacks_at code ds p = lacks_target ds (target_of p.instruction) || (not (falls_through p.instruction) && (is_some (at_place code p.next) && not (is_some (frame_in ds p.next))))
+lacks_at code ds p = lacks_targets ds p.instruction || (not (falls_through p.instruction) && (is_some (at_place code p.next) && not (is_some (frame_in ds p.next))))
 
 -- the same by the rows
 abbrev pub lacks_target_row : List Declared → Option ℤ → Bool
 lacks_target_row ds None = false
 lacks_target_row ds (Some z) = not (is_some (target_row ds z))
 
+abbrev pub lacks_cases_row : List Declared → List ℤ → Bool
+lacks_cases_row ds [] = false
+lacks_cases_row ds (z ∷ cases) = lacks_target_row ds (Some z) || lacks_cases_row ds cases
+
+abbrev pub lacks_targets_row : List Declared → Instruction → Bool
+lacks_targets_row ds i = lacks_target_row ds (target_of i) || lacks_cases_row ds (cases_of i)
+
 abbrev pub lacks_row_at : List Placed → List Declared → Placed → Bool
-lacks_row_at code ds p = lacks_target_row ds (target_of p.instruction) || (not (falls_through p.instruction) && (is_some (at_place code p.next) && not (is_some (declared_row ds p.next))))
+lacks_row_at code ds p = lacks_targets_row ds p.instruction || (not (falls_through p.instruction) && (is_some (at_place code p.next) && not (is_some (declared_row ds p.next))))
 
 -- ---- one instruction of the pass
 
@@ -69,18 +85,30 @@ entered from (Some f) (Some d) = if frame_fits f d then Ok d else Err (mismatch_
 abbrev pub flows : Placed → Frame → Option Frame
 flows p g = if falls_through p.instruction then Some g else None
 
--- the outcome meets what is declared at the target
-abbrev pub met : Placed → Frame → Option Frame → Result (Option Frame) Refusal
-met p g None = Err BadStackMap
-met p g (Some d) = if frame_fits g d then Ok (flows p g) else Err (mismatch_at p.place)
+-- the outcome meets what is declared at a target, before what is said of others
+abbrev pub met : Placed → Frame → Option Frame → Result (Option Frame) Refusal → Result (Option Frame) Refusal
+met p g None others = Err BadStackMap
+met p g (Some d) others = if frame_fits g d then others else Err (mismatch_at p.place)
 
-abbrev pub branched : List (ℕ × Frame) → Placed → Frame → Option ℤ → Result (Option Frame) Refusal
-branched ds p g None = Ok (flows p g)
-branched ds p g (Some z) = met p g (target_frame ds z)
+-- the outcome fits at a target, whatever is said of others; or there it is refused
+abbrev pub IsMet : List (ℕ × Frame) → Placed → Frame → ℤ → Type 0
+IsMet ds p g target = (others : Result (Option Frame) Refusal) → met p g (target_frame ds target) others ≡ others
+
+abbrev pub IsUnmet : List (ℕ × Frame) → Placed → Frame → ℤ → Refusal → Type 0
+IsUnmet ds p g target r = (others : Result (Option Frame) Refusal) → met p g (target_frame ds target) others ≡ Err r
+
+-- and where the keys of a switch lead
+abbrev pub branched_cases : List (ℕ × Frame) → Placed → Frame → List ℤ → Result (Option Frame) Refusal
+branched_cases ds p g [] = Ok (flows p g)
+branched_cases ds p g (z ∷ cases) = met p g (target_frame ds z) (branched_cases ds p g cases)
+
+abbrev pub branched : List (ℕ × Frame) → Placed → Frame → Option ℤ → List ℤ → Result (Option Frame) Refusal
+branched ds p g None cases = Ok (flows p g)
+branched ds p g (Some z) cases = met p g (target_frame ds z) (branched_cases ds p g cases)
 
 abbrev pub left : List (ℕ × Frame) → Placed → Option Frame → Result (Option Frame) Refusal
 left ds p None = Err (mismatch_at p.place)
-left ds p (Some g) = branched ds p g (target_of p.instruction)
+left ds p (Some g) = branched ds p g (target_of p.instruction) (cases_of p.instruction)
 
 abbrev pub after : ClassView → Environment → List (ℕ × Frame) → Placed → Result Frame Refusal → Result (Option Frame) Refusal
 after v e ds p (Err r) = Err r

@@ -1,8 +1,8 @@
 //! Type checking of one method (JVMS §4.10.1).
 
-ghost use Rattle.std.specs.Prelude.{◌≡◌, ◌≢◌, ◌⊎◌, ◌<◌, ℕ, List, Any, length, map, is_some, option_copied, option_map, Some, IsSome, IfSome, Ok, Err, IfOk, IfErr, IsTrue, IsFalse};
+ghost use Rattle.std.specs.Prelude.{not, Result, Option, ◌≡◌, ◌≢◌, ◌⊎◌, ◌<◌, ℕ, List, Any, length, map, is_some, option_copied, option_map, Some, IsSome, IfSome, Ok, Err, IfOk, IfErr, IsTrue, IsFalse};
 ghost use Rattle.jtypes.specs.declared.refusal.Refusal.{Refusal};
-ghost use Rattle.decode.specs.Places.{at_place, target_of};
+ghost use Rattle.decode.specs.Places.{at_place, target_of, cases_of};
 ghost use Rattle.jtypes.specs.declared.types.JType.{JType};
 ghost use Rattle.frames.specs.Frames.{Frame, first_frame};
 ghost use Rattle.frames.specs.Seen.{AreInOrder, AreKept, declared_seen, frame_kept, frame_seen};
@@ -12,7 +12,7 @@ ghost use Rattle.typecheck.specs.Calls.{AreCallsOf, call_at};
 ghost use Rattle.typecheck.specs.DeclaredPlaces.{ArePlacesOf};
 ghost use Rattle.typecheck.specs.Typing.{IsWellTyped};
 ghost use Rattle.typecheck.specs.Mismatch.{CallsUnknown, CheckRefuses, LacksFrame};
-ghost use Rattle.typecheck.specs.Seen.{advanced, branched, declared_row, entered, flowing, lacks_row_at, method_of, mismatch_at, passed, target_row};
+ghost use Rattle.typecheck.specs.Seen.{advanced, branched, branched_cases, declared_row, entered, flowing, flows, lacks_cases_row, lacks_targets_row, lacks_row_at, method_of, mismatch_at, passed, target_row, IsMet, IsUnmet};
 
 use crate::assign::frame_assignable;
 use crate::{Called, Typed};
@@ -54,16 +54,43 @@ fn declared_at_target(declared: &[Declared], target: i128) -> Option<&Declared>
     }
 }
 
-/// Whether the branch target of an instruction, or what follows a goto or a return, has no declared frame (JVMS §4.10.1).
+fn lacks_one(declared: &[Declared], target: i128) -> bool
+    requires { AreInOrder declared.now }
+    ensures { result ≡ not (is_some (target_row declared.now target)) }
+{
+    declared_at_target(declared, target).is_none()
+}
+
+/// Whether a place where one of a switch's keys leads has no declared frame.
+fn lacks_case(declared: &[Declared], instruction: &Instruction) -> bool
+    requires { AreInOrder declared.now }
+    ensures { result ≡ lacks_cases_row declared.now (cases_of instruction.now) }
+{
+    for i in 0..instruction.case_count() {
+        if lacks_one(declared, instruction.case_target(i)) {
+            return true;
+        }
+    }
+    false
+}
+
+/// Whether a place to which an instruction may branch has no declared frame.
+fn lacks_target(declared: &[Declared], instruction: &Instruction) -> bool
+    requires { AreInOrder declared.now }
+    ensures { result ≡ lacks_targets_row declared.now instruction.now }
+{
+    match instruction.target() {
+        Some(target) => { lacks_one(declared, target) || lacks_case(declared, instruction) }
+        None => false,
+    }
+}
+
+/// Whether a branch target of an instruction, or what follows a goto, a switch or a return, has no declared frame (JVMS §4.10.1).
 fn lacks_at(code: &Code, declared: &[Declared], p: &Placed) -> bool
     requires { AreInOrder declared.now }
     ensures { result ≡ lacks_row_at code.now declared.now p.now }
 {
-    let lacks_target = match p.instruction.target() {
-        Some(target) => declared_at_target(declared, target).is_none(),
-        None => false,
-    };
-    lacks_target
+    lacks_target(declared, &p.instruction)
         || (!p.instruction.falls_through()
             && code.at(p.next).is_some()
             && !is_declared(declared, p.next))
@@ -119,22 +146,95 @@ fn enter(
     Ok(())
 }
 
-/// Whether an instruction's outcome flows on from it. It has to fit what is declared at the instruction's target.
+/// That the outcome of the instruction fits what is declared at one of its targets.
+fn meet(declared: &[Declared], p: &Placed, target: i128, outcome: &mut Flow) -> Result<(), Refusal>
+    requires order { AreInOrder declared.now }
+    requires rows { AreKept outcome.old.locals.kept declared.now }
+    ensures ok { IfOk result (λ _. IsMet (declared_seen outcome.old.locals.kept declared.now) p.now (frame_seen outcome.old) target) }
+    ensures err { IfErr result (λ r. r ≢ Refusal.NoMemory → IsUnmet (declared_seen outcome.old.locals.kept declared.now) p.now (frame_seen outcome.old) target r) }
+    ensures same { outcome.new ≡ outcome.old }
+{
+    let Some(d) = declared_at_target(declared, target) else {
+        return Err(Refusal::BadStackMap);
+    };
+    if !frame_assignable(outcome, d) {
+        return Err(mismatch(p.place));
+    }
+    Ok(())
+}
+
+/// That it fits at a target that stands behind one where it does. The same target isn't compared again: thousands of keys may
+/// lead to one place, whose frame has thousands of operands.
+fn meet_next(
+    declared: &[Declared],
+    p: &Placed,
+    before: i128,
+    target: i128,
+    outcome: &mut Flow,
+) -> Result<(), Refusal>
+    requires order { AreInOrder declared.now }
+    requires rows { AreKept outcome.old.locals.kept declared.now }
+    requires before { IsMet (declared_seen outcome.old.locals.kept declared.now) p.now (frame_seen outcome.old) before }
+    ensures ok { IfOk result (λ _. IsMet (declared_seen outcome.old.locals.kept declared.now) p.now (frame_seen outcome.old) target) }
+    ensures err { IfErr result (λ r. r ≢ Refusal.NoMemory → IsUnmet (declared_seen outcome.old.locals.kept declared.now) p.now (frame_seen outcome.old) target r) }
+    ensures same { outcome.new ≡ outcome.old }
+{
+    if target == before {
+        Ok(())
+    } else {
+        meet(declared, p, target, outcome)
+    }
+}
+
+/// That it fits where the keys of a switch lead, when it fits where the switch leads without a key.
+fn meet_cases(
+    declared: &[Declared],
+    p: &Placed,
+    default: i128,
+    outcome: &mut Flow,
+) -> Result<(), Refusal>
+    requires order { AreInOrder declared.now }
+    requires rows { AreKept outcome.old.locals.kept declared.now }
+    requires default { IsMet (declared_seen outcome.old.locals.kept declared.now) p.now (frame_seen outcome.old) default }
+    ensures ok { IfOk result (λ _. branched_cases (declared_seen outcome.old.locals.kept declared.now) p.now (frame_seen outcome.old) (cases_of p.now.instruction) ≡ Ok (flows p.now (frame_seen outcome.old))) }
+    ensures err { IfErr result (λ r. r ≢ Refusal.NoMemory → branched_cases (declared_seen outcome.old.locals.kept declared.now) p.now (frame_seen outcome.old) (cases_of p.now.instruction) ≡ Err r) }
+    ensures same { outcome.new ≡ outcome.old }
+{
+    let mut before = default;
+    for i in 0..p.instruction.case_count() {
+        let target = p.instruction.case_target(i);
+        meet_next(declared, p, before, target, outcome)?;
+        before = target;
+    }
+    Ok(())
+}
+
+/// That it fits at all its targets.
+fn meet_targets(declared: &[Declared], p: &Placed, outcome: &mut Flow) -> Result<(), Refusal>
+    requires order { AreInOrder declared.now }
+    requires rows { AreKept outcome.old.locals.kept declared.now }
+    ensures ok { IfOk result (λ _. branched (declared_seen outcome.old.locals.kept declared.now) p.now (frame_seen outcome.old) (target_of p.now.instruction) (cases_of p.now.instruction) ≡ Ok (flows p.now (frame_seen outcome.old))) }
+    ensures err { IfErr result (λ r. r ≢ Refusal.NoMemory → branched (declared_seen outcome.old.locals.kept declared.now) p.now (frame_seen outcome.old) (target_of p.now.instruction) (cases_of p.now.instruction) ≡ Err r) }
+    ensures same { outcome.new ≡ outcome.old }
+{
+    match p.instruction.target() {
+        Some(target) => {
+            meet(declared, p, target, outcome)?;
+            meet_cases(declared, p, target, outcome)
+        }
+        None => Ok(()),
+    }
+}
+
+/// Whether an instruction's outcome flows on from it. It has to fit what is declared at the instruction's targets.
 fn leave(declared: &[Declared], p: &Placed, outcome: &mut Flow) -> Result<bool, Refusal>
     requires order { AreInOrder declared.now }
     requires rows { AreKept outcome.old.locals.kept declared.now }
-    ensures ok { IfOk result (λ flows. branched (declared_seen outcome.old.locals.kept declared.now) p.now (frame_seen outcome.old) (target_of p.now.instruction) ≡ Ok (flowing flows outcome.new)) }
-    ensures err { IfErr result (λ r. r ≢ Refusal.NoMemory → branched (declared_seen outcome.old.locals.kept declared.now) p.now (frame_seen outcome.old) (target_of p.now.instruction) ≡ Err r) }
+    ensures ok { IfOk result (λ flows. branched (declared_seen outcome.old.locals.kept declared.now) p.now (frame_seen outcome.old) (target_of p.now.instruction) (cases_of p.now.instruction) ≡ Ok (flowing flows outcome.new)) }
+    ensures err { IfErr result (λ r. r ≢ Refusal.NoMemory → branched (declared_seen outcome.old.locals.kept declared.now) p.now (frame_seen outcome.old) (target_of p.now.instruction) (cases_of p.now.instruction) ≡ Err r) }
     ensures same { outcome.new ≡ outcome.old }
 {
-    if let Some(target) = p.instruction.target() {
-        let Some(d) = declared_at_target(declared, target) else {
-            return Err(Refusal::BadStackMap);
-        };
-        if !frame_assignable(outcome, d) {
-            return Err(mismatch(p.place));
-        }
-    }
+    meet_targets(declared, p, outcome)?;
     Ok(p.instruction.falls_through())
 }
 

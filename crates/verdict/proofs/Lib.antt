@@ -19,3 +19,4 @@ pub mod Accepted
 pub mod RowsFound
 pub mod Refused
 pub mod ParameterRoom
+pub mod Spots

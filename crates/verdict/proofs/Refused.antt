@@ -1,22 +1,18 @@
 -- What is refused stands.
 use Rattle.std.proofs.Common.{◌≡◌, ◌≢◌, ℕ, zero, suc, ◌<◌, Bool, true, false, cond, List, [], ◌∷◌, length, get_or, Option, Some, None, refl, sym, ap, ◌∙◌, subst, arith, ◌⊎◌, inl, inr}
 use Rattle.std.specs.Prelude.{slice_get, map, is_some, IsSome, Contains, Err, ◌==◌}
-use Rattle.std.proofs.lemmas.Bool.{and_from, eqb-true, false≢true, false_from_ne_true, eq-eqb}
+use Rattle.std.proofs.lemmas.Bool.{and_from, eqb-true, false≢true, eq-eqb}
 use Rattle.std.proofs.lemmas.Option.{slice_get-get_or}
 use Rattle.jtypes.specs.declared.refusal.Refusal.{Refusal}
-use Rattle.jtypes.specs.declared.refusal.Refusal.TheVariants.{NoMemory, UnknownMember, NoProcess, Recursive, LengthNotConstant, StepLimit, WordLimit, FrameLimit}
-use Rattle.jtypes.specs.Layout.{Stands}
+use Rattle.jtypes.specs.declared.refusal.Refusal.TheVariants.{NoMemory, NoProcess, Recursive, LengthNotConstant, StepLimit, WordLimit, FrameLimit}
 use Rattle.jtypes.specs.Lists.{same_bytes}
 use Rattle.constpool.specs.Lookup.{Slot}
 use Rattle.constpool.specs.Names.{process_name, process_descriptor}
 use Rattle.classfile.specs.declared.class_file.Parts.{Parts}
 use Rattle.classfile.specs.declared.class_file.CodeParts.{CodeParts}
-use Rattle.classfile.specs.Class.{class_file}
 use Rattle.classfile.specs.View.{ClassView, MethodView, view_of}
 use Rattle.decode.specs.declared.instruction.Placed.{Placed}
-use Rattle.decode.specs.Code.{IsSequence}
-use Rattle.decode.specs.Places.{at_place, CodeStands}
-use Rattle.decode.proofs.Unrefused.{members_unread}
+use Rattle.decode.specs.Places.{at_place}
 use Rattle.frames.specs.declared.members.Callee.{Callee}
 use Rattle.frames.specs.Frames.{Frame, frame_in}
 use Rattle.typecheck.specs.Typing.{Class, IsProcessOf, process_from, number_of_process, call_of, own_of}
@@ -29,58 +25,22 @@ use Rattle.bounds.specs.Lengths.{HaveLengths, OneLacksLength, LacksLengthIn}
 use Rattle.bounds.specs.Limits.{IsLimit, IsOfBounds}
 use Rattle.bounds.specs.Rows.{AreRowsOf, AreAllRowsOf, AreNotRecursive, IsAnswerFor, IsCircleIn}
 use Rattle.bounds.specs.Table.{LeadsOn}
-use Rattle.verdict.specs.Shape.{HasCode, IsProcess, ShapeStands, is_constructor}
+use Rattle.verdict.specs.Shape.{IsProcess}
 use Rattle.verdict.specs.Shaping.{HasGoodShape}
-use Rattle.verdict.specs.Verdict.{is_known, IsClassFile, HasShape, HasInstructions, HasTypes, IsClassOfFile, InstructionStands, InstructionsStand, TypesStand, ClassStands, IsRefused, by_layout, by_shape, by_instructions, by_types, by_class}
+use Rattle.verdict.specs.Verdict.{IsClassFile, HasShape, HasInstructions, HasTypes, IsClassOfFile, ClassStands, IsRefused, by_types, by_class}
 use Rattle.verdict.specs.Checked.{members}
 use Rattle.verdict.specs.Judging.{AreTyped, AreFound}
 use Rattle.verdict.specs.declared.instructions.Found.{Found}
 use Rattle.verdict.proofs.Texts.{same_refl}
-use Rattle.verdict.proofs.Methods.{any_from, zip_back}
+use Rattle.verdict.proofs.Methods.{any_from}
 use Rattle.verdict.proofs.OwnCalls.{own_call, none_is_process}
 use Rattle.verdict.proofs.RowsOfClass.{are_rows, calls_are, member_of_view, not_constructor, row_of_member}
 use Rattle.verdict.proofs.Verdicts.{types_stand, instructions_stand, class_not_recursive, class_leads_on, class_judged, class_exists, item_of}
 use Rattle.bounds.specs.declared.limits.Bounds as declared
 use Rattle.jtypes.specs.Profile.{Second}
 
--- ---- instructions and types
-
-pub code_refused : (v : ClassView) (bytes : List ℕ) (r : Refusal) → (r ≢ NoMemory → CodeStands Second v.pool bytes r) → (r ≡ NoMemory) ⊎ InstructionStands Second v bytes r
-code_refused v bytes NoMemory h = inl refl
-code_refused v bytes UnknownMember h = absurd (members_unread Second v.pool bytes (h (λ e. cc e)))
-code_refused v bytes r h = inr (h (λ e. cc e))
-
--- an instruction whose member isn't known
-pub member_refused : (v : ClassView) (bytes : List ℕ) (code : List Placed) (k : ℕ) (p : Placed) → IsSequence Second v.pool 0 bytes code → k < length code → p ≡ get_or code k p → is_known v p.instruction ≡ false → InstructionStands Second v bytes UnknownMember
-member_refused v bytes code k p s l there unknown = (code, s, (k, p, l, sym there, unknown))
-
-pub method_refused : (pool : List Slot) (p : Parts) (n : ℕ) (codes : List CodeParts) → HasGoodShape pool p codes n → (k : ℕ) (parts : CodeParts) → slice_get codes k ≡ Some parts → (k ≡ n → ⊥) → (r : Refusal) → (r ≡ NoMemory) ⊎ InstructionStands Second (view_of pool p) parts.code r → (r ≡ NoMemory) ⊎ InstructionsStand Second pool p r
-method_refused pool p n codes shape k parts at other r (inl e) = inl e
-method_refused pool p n codes shape k parts at other r (inr s) =
-    let m = zip_back (HasCode pool) p.methods codes k parts shape.codes_are at in
-    let not_one : is_constructor pool m.0 ≡ false = false_from_ne_true (is_constructor pool m.0) (λ e. other (shape.constructor_is.no_other k m.0 m.1 e)) in
-    inr (any_from _ p.methods k m.0 m.1 (not_one, (parts, m.2, s)))
-
--- ---- the whole
-
-pub layout_refused : (bytes : List ℕ) (r : Refusal) → (r ≢ NoMemory → Stands (class_file (length bytes)) bytes r) → (r ≡ NoMemory) ⊎ IsRefused Second bytes r
-layout_refused bytes NoMemory h = inl refl
-layout_refused bytes r h = inr (by_layout (h (λ e. cc)))
-
-pub shape_refused : (bytes : List ℕ) (pool : List Slot) (p : Parts) (r : Refusal) → IsClassFile bytes pool p → (r ≡ NoMemory) ⊎ ShapeStands pool p r → (r ≡ NoMemory) ⊎ IsRefused Second bytes r
-shape_refused bytes pool p r file (inl e) = inl e
-shape_refused bytes pool p r file (inr s) = inr (by_shape pool p file s)
-
-pub instructions_refused : (bytes : List ℕ) (pool : List Slot) (p : Parts) (n : ℕ) (codes : List CodeParts) (r : Refusal) → IsClassFile bytes pool p → HasGoodShape pool p codes n → (r ≡ NoMemory) ⊎ InstructionsStand Second pool p r → (r ≡ NoMemory) ⊎ IsRefused Second bytes r
-instructions_refused bytes pool p n codes r file shape (inl e) = inl e
-instructions_refused bytes pool p n codes r file shape (inr s) = inr (by_instructions pool p file (record { none_stands = shape.none_stands }) s)
-
-pub types_refused : (bytes : List ℕ) (pool : List Slot) (p : Parts) (n : ℕ) (codes : List CodeParts) (items : List Found) (r : Refusal) → IsClassFile bytes pool p → HasGoodShape pool p codes n → AreFound (view_of pool p) codes n (length codes) items → (r ≡ NoMemory) ⊎ TypesStand Second pool p r → (r ≡ NoMemory) ⊎ IsRefused Second bytes r
-types_refused bytes pool p n codes items r file shape are_found (inl e) = inl e
-types_refused bytes pool p n codes items r file shape are_found (inr s) = inr (by_types pool p file (record { none_stands = shape.none_stands }) (record { none_stands = instructions_stand pool p n codes shape items are_found }) s)
-
 -- a frame is declared at each of the places
-frame_among : (ds : List (ℕ × Frame)) (q i d : ℕ) → i < length (map (λ (d : ℕ × Frame). d.0) ds) → get_or (map (λ (d : ℕ × Frame). d.0) ds) i d ≡ q → IsSome (frame_in ds q)
+pub frame_among : (ds : List (ℕ × Frame)) (q i d : ℕ) → i < length (map (λ (d : ℕ × Frame). d.0) ds) → get_or (map (λ (d : ℕ × Frame). d.0) ds) i d ≡ q → IsSome (frame_in ds q)
 frame_among [] q i d l e = absurd (omega (arith, l))
 frame_among (x ∷ ds) q zero d l e = ap (λ b. is_some (cond b (Some x.1) (frame_in ds q))) (eq-eqb x.0 q e)
 frame_among (x ∷ ds) q (suc i) d l e = go (x.0 == q) (frame_among ds q i d (omega (arith, l)) e)
@@ -90,7 +50,7 @@ frame_among (x ∷ ds) q (suc i) d l e = go (x.0 == q) (frame_among ds q i d (om
     go false h = h
 
 -- where a call stands there is an instruction
-called_stands : (calls : List Called) (code : List Placed) → ((i : ℕ) (d : Called) → i < length calls → IsSome (at_place code (get_or calls i d).place)) → (place : ℕ) → IsSome (callee_in calls place) → IsSome (at_place code place)
+pub called_stands : (calls : List Called) (code : List Placed) → ((i : ℕ) (d : Called) → i < length calls → IsSome (at_place code (get_or calls i d).place)) → (place : ℕ) → IsSome (callee_in calls place) → IsSome (at_place code place)
 called_stands [] code h place s = cc
 called_stands (x ∷ calls) code h place s = go (x.place == place) refl s (called_stands calls code (λ i d l. h (suc i) d (omega (arith, l))) place)
   where
@@ -98,11 +58,11 @@ called_stands (x ∷ calls) code h place s = go (x.place == place) refl s (calle
     go true is f later = subst (λ (q : ℕ). IsSome (at_place code q)) (eqb-true x.place place is) (h 0 x (omega arith))
     go false is f later = later f
 
-own_is_some : (o : Option Callee) (k : ℕ) → own_of o ≡ Some k → IsSome o
+pub own_is_some : (o : Option Callee) (k : ℕ) → own_of o ≡ Some k → IsSome o
 own_is_some None k e = cc
 own_is_some (Some x) k e = refl
 
-some_of : {A : Type 0} (o : Option A) → IsSome o → (x : A) × (o ≡ Some x)
+pub some_of : {A : Type 0} (o : Option A) → IsSome o → (x : A) × (o ≡ Some x)
 some_of None e = cc
 some_of (Some x) e = (x, refl)
 

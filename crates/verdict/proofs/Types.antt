@@ -1,7 +1,7 @@
 -- A refusal of the types stands.
-use Rattle.std.proofs.Common.{◌≡◌, ℕ, ◌+◌, ◌<◌, ◌≤◌, Bool, true, false, cond, List, [], ◌∷◌, length, length-append, Option, Some, None, Result, Ok, Err, refl, sym, ap, ◌∙◌, subst, arith, ◌⊎◌, inl, inr}
-use Rattle.std.specs.Prelude.{slice_get, min, ◌==◌, IfErr, is_some}
-use Rattle.std.proofs.lemmas.Bool.{eqb-true, cases_lt}
+use Rattle.std.proofs.Common.{◌≡◌, ℕ, ◌+◌, ◌<◌, ◌≤◌, Bool, true, false, cond, List, [], ◌∷◌, length, length-append, Option, Some, None, refl, sym, ap, ◌∙◌, subst, arith, ◌⊎◌, inl, inr}
+use Rattle.std.specs.Prelude.{slice_get, min, ◌==◌, is_some, IsSome}
+use Rattle.std.proofs.lemmas.Bool.{eqb-true, eq-eqb, cases_lt}
 use Rattle.jtypes.specs.declared.refusal.Refusal.{Refusal}
 use Rattle.jtypes.specs.declared.refusal.Refusal.TheVariants.{NoMemory, UnknownMember, BadDescriptor, BadCode, BadStackMap, TypeMismatch, FallsOff}
 use Rattle.constpool.specs.Lookup.{Slot}
@@ -20,10 +20,13 @@ use Rattle.frames.specs.declared.signatures.Signature.{Signature}
 use Rattle.frames.specs.Signatures.{method_signature}
 use Rattle.typecheck.specs.Typing.{Method, instruction_at}
 use Rattle.typecheck.specs.Mismatch.{CallsUnknown, CheckRefuses, HasMismatch, IsMismatch, at_start, at_place_of}
-use Rattle.typecheck.specs.declared.typed.Typed.{Typed}
+use Rattle.verdict.specs.declared.spot.Located.{Located}
 use Rattle.verdict.specs.Shape.{is_constructor, HasBadCode, empty, long}
 use Rattle.verdict.specs.Verdict.{is_known, IsBody, TypesStand}
 use Rattle.verdict.specs.Judging.{HasInstructionsOf}
+use Rattle.verdict.specs.Spots.{StandsIn, IsLocated}
+use Rattle.verdict.specs.TypedClasses.{type_spot}
+use Rattle.verdict.proofs.Spots.{told}
 use Rattle.verdict.proofs.Codes.{has_some}
 use Rattle.verdict.proofs.Methods.{any_from}
 use Rattle.jtypes.specs.Profile.{Second}
@@ -53,6 +56,11 @@ itself : (q : ℕ) → q < 65_536 → min q 4294967295 ≡ q
 itself q l = omega (arith, l)
 
 -- ---- members
+
+-- a code that isn't empty begins at 0
+begins : (pool : List Slot) (bytes : List ℕ) (code : List Placed) → IsSequence Second pool 0 bytes code → (code ≡ [] → ⊥) → IsSome (at_place code 0)
+begins pool bytes [] s some = absurd (some refl)
+begins pool bytes (p ∷ code) s some = ap (λ b. is_some (cond b (Some p) (at_place code 0))) (eq-eqb p.place 0 s.0)
 
 not_known : (v : ClassView) (i : Instruction) → CallsUnknown v i → is_known v i ≡ false
 not_known v (Invoke kind i) h = h
@@ -99,17 +107,26 @@ module _ (pool : List Slot) (p : Parts) (number : ℕ) (parts : CodeParts) (code
       let same : h.member ≡ m = cc both in
       ap (is_constructor pool) (sym same) ∙ h.other
 
-  pub types_refused : (r : Refusal) → CheckRefuses (view_of pool p) e code tables r → (r ≡ NoMemory) ⊎ TypesStand Second pool p r
-  types_refused NoMemory s = inl refl
-  types_refused UnknownMember s = absurd (h.good.none_stands UnknownMember (code, h.good.sequence, (s.0, s.1, s.2, s.3, not_known (view_of pool p) s.1.instruction s.4)))
-  types_refused BadStackMap s = inr (any_from _ p.methods number m there (other, (e, code, tables, body, s)))
-  types_refused (TypeMismatch place) s =
-      let is : s.0 ≡ place = sym (place_is s.0 s.1) ∙ sym s.2 in
-      inr (any_from _ p.methods number m there (other, (e, code, tables, body, subst (λ (q : ℕ). HasMismatch (view_of pool p) e code tables q) is s.1)))
-  types_refused FallsOff (inl falls) = inr (any_from _ p.methods number m there (other, (e, code, tables, body, falls)))
-  types_refused FallsOff (inr none) = absurd (not_empty none)
-  types_refused r s = absurd s
+  -- an instruction stands where the types fail
+  stands : (q : ℕ) → HasMismatch (view_of pool p) e code tables q → IsSome (at_place code q)
+  stands q fails = go (fails_somewhere (view_of pool p) (record { environment = e; code = code; declared = fails.1.0 }) q fails.1.2)
+    where
+      go : (q ≡ 0) ⊎ ((x : Placed) × (at_place code q ≡ Some x)) → IsSome (at_place code q)
+      go (inl first) = subst (λ (n : ℕ). IsSome (at_place code n)) (sym first) (begins pool parts.code code h.good.sequence not_empty)
+      go (inr x) = ap is_some x.1
 
-  pub method_judged : (r : Result Typed Refusal) → IfErr r (CheckRefuses (view_of pool p) e code tables) → IfErr r (λ r. (r ≡ NoMemory) ⊎ TypesStand Second pool p r)
-  method_judged (Ok t) s = tt
-  method_judged (Err r) s = types_refused r s
+  located : (r : Refusal) → TypesStand Second pool p r → StandsIn Second pool p r (type_spot number r) → (l : Located) → l.refusal ≡ r → l.spot ≡ type_spot number r → IsLocated (TypesStand Second pool p) pool p l
+  located r s at l is spot = told (TypesStand Second pool p) pool p l r (type_spot number r) is spot s at
+
+  -- what is refused of a method stands where it is told to
+  pub types_located : (r : Refusal) → CheckRefuses (view_of pool p) e code tables r → (l : Located) → l.refusal ≡ r → l.spot ≡ type_spot number r → IsLocated (TypesStand Second pool p) pool p l
+  types_located NoMemory s l is spot = inl is
+  types_located UnknownMember s l is spot = absurd (h.good.none_stands UnknownMember (code, h.good.sequence, (s.0, s.1, s.2, s.3, not_known (view_of pool p) s.1.instruction s.4)))
+  types_located BadStackMap s l is spot = located BadStackMap (any_from _ p.methods number m there (other, (e, code, tables, body, s))) (m, there, (other, e, code, tables, body, s)) l is spot
+  types_located (TypeMismatch place) s l is spot =
+      let at : s.0 ≡ place = sym (place_is s.0 s.1) ∙ sym s.2 in
+      let fails : HasMismatch (view_of pool p) e code tables place = subst (λ (q : ℕ). HasMismatch (view_of pool p) e code tables q) at s.1 in
+      located (TypeMismatch place) (any_from _ p.methods number m there (other, (e, code, tables, body, fails))) (inr (m, there, (other, e, code, tables, body, (refl, stands place fails, fails)))) l is spot
+  types_located FallsOff (inl falls) l is spot = located FallsOff (any_from _ p.methods number m there (other, (e, code, tables, body, falls))) (m, there, (other, e, code, tables, body, falls)) l is spot
+  types_located FallsOff (inr none) l is spot = absurd (not_empty none)
+  types_located r s l is spot = absurd s

@@ -13,7 +13,7 @@ use Rattle.classfile.specs.declared.class_file.Parts.{Parts}
 use Rattle.classfile.specs.declared.class_file.CodeParts.{CodeParts}
 use Rattle.classfile.specs.View.{ClassView, MethodView, method_view, view_of, tables_of}
 use Rattle.decode.specs.declared.instruction.Placed.{Placed}
-use Rattle.decode.specs.Places.{at_place, target_of, falls_through, HasBackwardTarget}
+use Rattle.decode.specs.Places.{at_place, IsTarget, falls_through, HasBackwardTarget}
 use Rattle.decode.proofs.Consecutive.{sequence_is_consecutive}
 use Rattle.frames.specs.declared.frame.Environment.{Environment}
 use Rattle.frames.specs.declared.signatures.Signature.{Signature}
@@ -190,7 +190,7 @@ module _ (pool : List Slot) (p : Parts) (n : ℕ) (codes : List CodeParts) (shap
     -- ---- each instruction leads on
 
     module _ (instructions : (r : Refusal) → InstructionsStand Second pool p r → ⊥) where
-      forward : (i : ℕ) (d : Typed) → i < length rows → (q t : ℕ) (x : Placed) → at_place (get_or rows i d).code q ≡ Some x → x.place ≡ q → target_of x.instruction ≡ Some (pos t) → t ≤ q → ⊥
+      forward : (i : ℕ) (d : Typed) → i < length rows → (q t : ℕ) (x : Placed) → at_place (get_or rows i d).code q ≡ Some x → x.place ≡ q → IsTarget x.instruction (pos t) → t ≤ q → ⊥
       forward i d l q t x e place to le =
           let row = get_or rows i d in
           let is = are.each i d l in
@@ -206,13 +206,13 @@ module _ (pool : List Slot) (p : Parts) (n : ℕ) (codes : List CodeParts) (shap
           next : (j q : ℕ) (m : Method) (x : Placed) → members c j ≡ true → StandsAt c j q m x → falls_through x.instruction ≡ true → (q < x.next) × IsSome (instruction_at m x.next)
           next j q m x e s falls = let r = row_found j m e s.method in next_stands c.view m r.ready r.typed q x s.instruction falls
 
-          target : (j q : ℕ) (m : Method) (x : Placed) (z : ℤ) → members c j ≡ true → StandsAt c j q m x → target_of x.instruction ≡ Some z → (t : ℕ) × (z ≡ pos t) × (q < t) × IsSome (instruction_at m t)
+          target : (j q : ℕ) (m : Method) (x : Placed) (z : ℤ) → members c j ≡ true → StandsAt c j q m x → IsTarget x.instruction z → (t : ℕ) × (z ≡ pos t) × (q < t) × IsSome (instruction_at m t)
           target j q m x z e s to =
               let r = row_found j m e s.method in
               let t = target_stands c.view m r.ready r.typed q x z s.instruction to in
               let here : at_place (get_or rows r.index r.default).code q ≡ Some x = ap (λ (code : List Placed). at_place code q) (sym r.code) ∙ s.instruction in
               let place : x.place ≡ q = (found 0 m.code r.ready.consecutive q x s.instruction).0 in
-              let back : t.0 ≤ q → ⊥ = forward r.index r.default r.within q t.0 x here place (to ∙ ap (λ (y : ℤ). Some y) t.1) in
+              let back : t.0 ≤ q → ⊥ = forward r.index r.default r.within q t.0 x here place (subst (λ (y : ℤ). IsTarget x.instruction y) t.1 to) in
               (t.0, t.1, ahead q t.0 back, t.2)
             where
               ahead : (a b : ℕ) → (b ≤ a → ⊥) → a < b

@@ -8,3 +8,6 @@ pub mod Meaning
 pub mod Sound
 pub mod Promise
 pub mod Judged
+pub mod Spots
+pub mod TypedClasses
+pub mod ShapeSpots

@@ -211,7 +211,7 @@ fn judge_code(
     Ok(parts)
 }
 
-fn judge_method(alloc: Global, class: &ClassFile, method: &Member) -> Result<CodeParts, Refusal>
+pub fn judge_method(alloc: Global, class: &ClassFile, method: &Member) -> Result<CodeParts, Refusal>
     ensures { Judges (HasGoodMethod class.now.pool class.now.parts method.now) (MethodStands class.now.pool class.now.parts method.now) result }
 {
     let slots = judge_descriptor(alloc, class, method)?;
@@ -339,7 +339,7 @@ fn judge_constructors(
 
 /// Whether two methods have one name and one descriptor (JVMS §4.6). What is shorter is compared first: of many methods one name or
 /// one descriptor may take half of the class.
-fn are_doubles(class: &ClassFile, m: &Member, n: &Member) -> bool
+pub fn are_doubles(class: &ClassFile, m: &Member, n: &Member) -> bool
     ensures { result ≡ are_doubles class.now.pool m.now n.now }
 {
     let name = class.method_name(m);

@@ -15,17 +15,13 @@ ghost use Rattle.bounds.specs.Paths.{AreBounds};
 ghost use Rattle.bounds.specs.Rows.{bounds_in};
 ghost use Rattle.jtypes.specs.Profile.{Second};
 
-use crate::instructions::{Found, judge_instructions};
-use crate::shape::{is_process, judge_shape};
+use crate::typed_class::{TypedClass, type_class};
 use bounds::{Bounds, bound};
-use classfile::{ClassFile, ClassView, CodeParts, contents_named, read_class};
-use constpool::names;
-use decode::Code;
-use frames::{Environment, MemberView, MethodStart, method_signature};
+use classfile::{ClassFile, ClassView};
 use jtypes::Refusal;
 use std::alloc::Global;
 use std::marker::Model;
-use typecheck::{Typed, check_method};
+use typecheck::Typed;
 
 /// A class that was accepted.
 #[derive(Debug, Drop)]
@@ -97,72 +93,6 @@ impl JudgedClass {
     }
 }
 
-/// Checks the types of the method with this number.
-fn judge_method(
-    alloc: Global,
-    class: &ClassFile,
-    members: &MemberView<'_>,
-    number: usize,
-    parts: &CodeParts,
-    code: Code,
-) -> Result<Typed, Refusal>
-    requires members { members.now ≡ view_of class.now.pool class.now.parts }
-    requires code { HasInstructionsOf class.now.pool class.now.parts number parts.now code }
-    ensures number { IfOk result (λ t. t.number ≡ number) }
-    ensures row { IfOk result (λ t. IsTypedRow class.now.pool class.now.parts t) }
-    ensures err { IfErr result (λ r. (r ≡ Refusal.NoMemory) ⊎ TypesStand Second class.now.pool class.now.parts r) }
-{
-    let view = class.view();
-    let Some(method) = view.method(number) else {
-        return Err(Refusal::BadDescriptor);
-    };
-    let Some(member) = class.parts.methods.as_slice().get(number) else {
-        return Err(Refusal::BadDescriptor);
-    };
-    let Some(signature) = method_signature(alloc, &view, &method)? else {
-        return Err(Refusal::BadDescriptor);
-    };
-    let environment = Environment {
-        signature,
-        max_stack: parts.max_stack,
-        max_locals: parts.max_locals,
-    };
-    // Fewer locals than the parameters take were refused with the method's shape.
-    let Some(start) = MethodStart::new(environment) else {
-        return Err(Refusal::BadCode);
-    };
-    let tables = contents_named(
-        alloc,
-        &class.pool,
-        names::STACK_MAP_TABLE,
-        parts.attributes.as_slice(),
-    )?;
-    let is_process = is_process(class, member);
-    check_method(alloc, number, is_process, start, &tables, code, members)
-}
-
-/// Checks the types of the methods whose instructions were found.
-fn judge_types(
-    alloc: Global,
-    class: &ClassFile,
-    members: &MemberView<'_>,
-    codes: &[CodeParts],
-    found: Vec<Found>,
-    constructor: usize,
-) -> Result<Vec<Typed>, Refusal>
-    requires members { members.now ≡ view_of class.now.pool class.now.parts }
-    requires shape { HasGoodShape class.now.pool class.now.parts codes.now constructor }
-    requires found { AreFound (view_of class.now.pool class.now.parts) codes.now constructor (length codes.now) found.items }
-    ensures ok { IfOk result (λ rows. AreTyped class.now.pool class.now.parts constructor (length codes.now) rows.items) }
-    ensures err { IfErr result (λ r. (r ≡ Refusal.NoMemory) ⊎ TypesStand Second class.now.pool class.now.parts r) }
-{
-    let mut methods = Vec::new(alloc);
-    for Found { number, code } in found {
-        methods.push(judge_method(alloc, class, members, number, &codes[number], code)?)?;
-    }
-    Ok(methods)
-}
-
 /// Judges the bytes of a class, level by level: its layout, its shape, its instructions, their types, and its bounds
 /// (JVMS §4, §4.10.1).
 pub fn judge(alloc: Global, bytes: &[u8]) -> Result<JudgedClass, Refusal>
@@ -184,25 +114,9 @@ pub fn judge(alloc: Global, bytes: &[u8]) -> Result<JudgedClass, Refusal>
     // A refusal that is answered stands, but for want of memory.
     ensures refused { IfErr result (λ r. (r ≡ Refusal.NoMemory) ⊎ IsRefused Second bytes.now r) }
 {
-    let class = read_class(alloc, bytes)?;
-    let shape = judge_shape(alloc, &class)?;
-    let methods = {
-        let members = MemberView::new(alloc, &class)?;
-        let instructions = judge_instructions(
-            alloc,
-            &class,
-            &members,
-            &shape.codes,
-            shape.constructor,
-        )?;
-        judge_types(
-            alloc,
-            &class,
-            &members,
-            &shape.codes,
-            instructions,
-            shape.constructor,
-        )?
+    let TypedClass { class, methods } = match type_class(alloc, bytes) {
+        Ok(found) => found,
+        Err(located) => return Err(located.refusal),
     };
     let bounds = bound(alloc, &methods)?;
     Ok(JudgedClass {

@@ -3,5 +3,11 @@ pub mod Places
 pub mod Counting
 pub mod Named
 pub mod Pushing
+pub mod Switched
 pub mod Linked
 pub mod Widths
+pub mod Extending
+pub mod Shaping
+pub mod Owning
+pub mod Standing
+pub mod Staying

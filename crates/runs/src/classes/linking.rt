@@ -2,7 +2,7 @@
 
 use super::class_named;
 use jtypes::{Binary, Comparison, Native, RefType, Refusal};
-use linked::Linked;
+use linked::{Keys, Linked, LinkedSwitch};
 use rowclasses as rows;
 use std::test::Fail;
 use verify::{Verified, is_checked, verify};
@@ -71,6 +71,29 @@ fn branches_lead_to_numbers(rt: HostRuntime) {
     ] {
         assert!(rt; linked_at(&class, number) == linked);
     }
+}
+
+/// Whether a switch has these keys, and leads to the instructions with these numbers, the default's first.
+fn leads(switch: Option<&LinkedSwitch>, keys: &[i32], targets: &[u32]) -> bool {
+    match switch {
+        Some(
+            LinkedSwitch {
+                keys: Keys::Listed(listed),
+                targets: found,
+            },
+        ) => listed.as_slice() == keys && found.as_slice() == targets,
+        _ => false,
+    }
+}
+
+#[test]
+fn switches_stand_beside_the_code(rt: HostRuntime) {
+    let Some(class) = class_named(rt.alloc(), "Look") else {
+        panic!(rt; "the class is refused");
+    };
+    assert!(rt; linked_at(&class, 5) == Some(Linked::Switch(0)));
+    assert!(rt; leads(class.linked().switches.get(0), &[-5, 9], &[11, 6, 9]));
+    assert!(rt; class.linked().switches.get(1).is_none());
 }
 
 #[test]

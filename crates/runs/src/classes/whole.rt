@@ -77,6 +77,37 @@ fn all_words_are_there_for_the_next_run(rt: HostRuntime) {
     assert_eq!(rt; done, Some([MADE_65535, MADE_65535]));
 }
 
+/// Classes with a switch of the entry's value, each with two values, what it makes of them, and in how many steps.
+static SWITCHED: [(&str, [i64; 2], [(Arg, u32); 2]); 4] = [
+    ("Table", [1, 2], [(Arg::Long(1), 9), (Arg::Null, 8)]),
+    ("Table", [3, 0], [(Arg::Long(0), 9), (Arg::Long(0), 9)]),
+    ("Look", [-5, 9], [(Arg::Long(1), 9), (Arg::Null, 8)]),
+    ("Look", [5, 10], [(Arg::Long(0), 9), (Arg::Long(0), 9)]),
+];
+
+/// What two invocations return, and their steps.
+fn told(done: Option<[Done; 2]>) -> Option<[(Outcome, u32); 2]> {
+    match done {
+        Some(done) => Some([
+            (done[0].outcome, done[0].steps),
+            (done[1].outcome, done[1].steps),
+        ]),
+        None => None,
+    }
+}
+
+#[test]
+fn switches_lead_where_their_keys_do(rt: HostRuntime) {
+    for (name, values, [first, second]) in SWITCHED {
+        let done = done_twice(rt.alloc(), name, [Some(values[0]), Some(values[1])]);
+        let want = [
+            (Outcome::Returned(first.0), first.1),
+            (Outcome::Returned(second.0), second.1),
+        ];
+        assert!(rt; told(done) == Some(want), "{name}");
+    }
+}
+
 /// How an invocation of Counter with these arguments ends, and its steps.
 fn counted(alloc: Global, args: &[Arg]) -> Option<(Outcome, u32)> {
     let args = Args::of(args)?;

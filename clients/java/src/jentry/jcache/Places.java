@@ -18,7 +18,7 @@ final class Places {
     private static final int OUTSIDE_PROFILE = Refusal.OUTSIDE_PROFILE.number();
     private static final int BACKWARD_BRANCH = Refusal.BACKWARD_BRANCH.number();
     private static final int TYPE_MISMATCH = Refusal.TYPE_MISMATCH.number();
-    private static final int TABLESWITCH = 170, LOOKUPSWITCH = 171, WIDE = 196, IINC = 132;
+    private static final int TABLESWITCH = 170, LOOKUPSWITCH = 171, WIDE = 196, GOTO_W = 200, IINC = 132;
 
     // The lengths of instructions by their opcodes; those of the two switches and of wide are told by their operands.
     private static final int[] LENGTHS = new int[256];
@@ -137,7 +137,8 @@ final class Places {
         int opcode = code[at] & 0xFF;
         return number == OUTSIDE_PROFILE && opcode == detail
             || number == TYPE_MISMATCH && at == detail
-            || number == BACKWARD_BRANCH && isBranch(opcode) && (short) u2(code, at + 1) <= 0;
+            || number == BACKWARD_BRANCH && isBranch(opcode) && (short) u2(code, at + 1) <= 0
+            || number == BACKWARD_BRANCH && opcode == GOTO_W && s4(code, at + 1) <= 0;
     }
 
     private void add(String place) {

@@ -39,15 +39,13 @@ enum Refusal {
     private static final Refusal[] ALL = values();
     private static final Map<Integer, String> OPCODES = Map.ofEntries(
         Map.entry(12, "float isn't known: reckon in long, with a fixed point"),
-        Map.entry(18, "strings and class literals aren't known: use numbers as codes"),
+        Map.entry(18, "strings and class literals aren't known, a switch of a String neither: use numbers as codes"),
         Map.entry(20, "double isn't known: reckon in long, with a fixed point"),
         Map.entry(138, "double isn't known: reckon in long, with a fixed point"),
         Map.entry(143, "double isn't known: reckon in long, with a fixed point"),
         Map.entry(165, "compare boxes by longValue()"),
         Map.entry(166, "compare boxes by longValue()"),
-        Map.entry(170, "write if and else if in place of a switch"),
-        Map.entry(171, "write if and else if in place of a switch"),
-        Map.entry(178, "static fields that are no constants can't be used: use arguments, locals, the entry's value"),
+        Map.entry(178, "static fields that are no constants can't be used, enums neither: use arguments, locals, the entry's value, numbers as codes"),
         Map.entry(179, "static fields that are no constants can't be used: use arguments, locals, the entry's value"),
         Map.entry(180, "fields can't be used, since the object isn't sent: use arguments, locals, the entry's value"),
         Map.entry(181, "fields can't be used, since the object isn't sent: use arguments, locals, the entry's value"),

@@ -97,6 +97,15 @@ class InvokeTest extends OnServer {
         assertThrows(ProcessorRefusedException.class, () -> server.own().invokeAsync(k, new Sample.Loops()));
     }
 
+    @Test void switchesLeadWhereTheirKeysDo() {
+        int[] keys = {-1, 0, 1, 2, 3, 999, 1_000, 1_001, Integer.MIN_VALUE, Integer.MAX_VALUE};
+        long[] wanted = {0, 10, 11, 12, 0, 0, 13, 0, -1, 14};
+        for (int i = 0; i < keys.length; i++) {
+            assertEquals(wanted[i], cache.invoke(k, new Sample.Switches(), keys[i]));
+        }
+        assertEquals(NullPointerException.class, causeOf(new Sample.Switches(), (Object) null).getClass());
+    }
+
     @Test void classesThatCanBeSent() {
         assertEquals(6L, cache.invoke(k, new TopLevel()));
         assertEquals(9L, cache.invoke(k, new Sample.Unused()));
@@ -157,6 +166,8 @@ class InvokeTest extends OnServer {
         refused.put(new Sample.HasState(5), List.of(9, "ConstructorForm", "hand values over as arguments"));
         refused.put(new Sample.UsesField(), List.of(17, "OutsideProfile", "opcode 180, in process line "));
         refused.put(new Sample.Prints(), List.of(17, "OutsideProfile", "opcode 178, in process line "));
+        refused.put(new Sample.SwitchOfText(), List.of(17, "OutsideProfile", "opcode 18, in process line "));
+        refused.put(new Sample.SwitchOfEnum(), List.of(17, "OutsideProfile", "opcode 178, in process line "));
         refused.put(new Sample.Loops(), List.of(20, "BackwardBranch", "in process line "));
         refused.put(new Sample.Catches(), List.of(15, "ExceptionTable", "in process ("));
         refused.put(new Sample.Calls(), List.of(24, "UnknownMember", "write it as a method of the class"));

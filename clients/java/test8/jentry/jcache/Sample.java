@@ -116,6 +116,61 @@ final class Sample {
         }
     }
 
+    /** A dense switch, and one whose keys stand far apart. */
+    static class Switches implements EntryProcessor<Long, Long, Object> {
+        @Override public Object process(MutableEntry<Long, Long> entry, Object... arguments) {
+            int key = (Integer) arguments[0];
+            switch (key) {
+                case 0:
+                    return 10L;
+                case 1:
+                    return 11L;
+                case 2:
+                    return 12L;
+                default:
+                    return sparse(key);
+            }
+        }
+
+        private static long sparse(int key) {
+            switch (key) {
+                case Integer.MIN_VALUE:
+                    return -1;
+                case 1_000:
+                    return 13;
+                case Integer.MAX_VALUE:
+                    return 14;
+                default:
+                    return 0;
+            }
+        }
+    }
+
+    static class SwitchOfText implements EntryProcessor<Long, Long, Object> {
+        @Override public Object process(MutableEntry<Long, Long> entry, Object... arguments) {
+            Object kind = arguments[0];
+            switch ((String) kind) {
+                case "old":
+                    return 1L;
+                default:
+                    return 0L;
+            }
+        }
+    }
+
+    enum Kind { OLD, NEW }
+
+    static class SwitchOfEnum implements EntryProcessor<Long, Long, Object> {
+        @Override public Object process(MutableEntry<Long, Long> entry, Object... arguments) {
+            switch (entry.exists() ? Kind.OLD : Kind.NEW) {
+                case OLD:
+                    return 1L;
+                default:
+                    return 0L;
+            }
+        }
+    }
+
     static class HasState implements EntryProcessor<Long, Long, Object> {
         private final long amount;
 

@@ -1,4 +1,4 @@
-use Rattle.std.proofs.Common.{◌≡◌, sym, ◌∙◌}
+use Rattle.std.proofs.Common.{sym, ◌∙◌}
 use Rattle.machine.specs.Holds.{at_spot}
 use Rattle.machine.proofs.Informing.{unasked_turn, informed_turn, failed_turn}
 use Rattle.machine.proofs.asking.ask.Goals as goal

@@ -1,11 +1,10 @@
 use Rattle.std.proofs.Common.{◌≡◌, ◌∷◌, sym, ap, ◌∙◌, subst}
-use Rattle.jtypes.specs.declared.types.RefValue.TheVariants as reference
 use Rattle.jtypes.specs.declared.types.Value.TheVariants.{Ref}
 use Rattle.jtypes.specs.declared.operations.Native.TheVariants as native
 use Rattle.linked.specs.declared.linked.Linked.TheVariants as linked
 use Rattle.slots.specs.Reads.{Reads}
 use Rattle.machine.specs.Asking.{is_entry, gets_value}
-use Rattle.machine.proofs.Informing.{entry_top, other_top, other_native}
+use Rattle.machine.proofs.Informing.{entry_top, other_top}
 use Rattle.machine.proofs.asking.gets_value.Goals as goal
 
 pub top_reference-requires : goal.top_reference-requires

@@ -1,14 +1,17 @@
-use Rattle.std.proofs.Common.{◌≡◌, ◌≢◌, List, true, length, ap, subst, arith, get_or}
+use Rattle.std.proofs.Common.{◌≡◌, ◌≢◌, ◌∙◌, List, true, length, ap, subst, sym, arith, get_or, inr}
 use Rattle.std.proofs.lemmas.Result.{err_from_is_err_and}
 use Rattle.jtypes.specs.declared.refusal.Refusal.{Refusal}
 use Rattle.constpool.specs.Lookup.{Slot}
 use Rattle.decode.specs.declared.instruction.Placed.{Placed}
+use Rattle.decode.proofs.Faults.{stands_at}
 use Rattle.decode.specs.Code.{IsSequence}
 use Rattle.decode.specs.Places.{CodeStands}
+use Rattle.decode.specs.Faults.{CodeStandsAt}
+use Rattle.decode.specs.declared.fault.Fault.{Fault}
 use Rattle.verdict.specs.Verdict.{is_known}
 use Rattle.jtypes.specs.declared.refusal.Refusal.TheVariants.{NoMemory}
 use Rattle.verdict.proofs.Judged.{good_code}
-use Rattle.verdict.proofs.Refused.{code_refused}
+use Rattle.verdict.proofs.Spots.{code_located}
 use Rattle.jtypes.specs.Profile.{Second}
 use Rattle.verdict.proofs.instructions.judge_code.Goals as goal
 
@@ -24,5 +27,13 @@ returns-clause-ok c =
 pub returns-in_err-code-clause-err : goal.returns-in_err-code-clause-err
 returns-in_err-code-clause-err c =
     let e = err_from_is_err_and c.from_residual.result c.from_residual.ensures.1 in
-    let refusal : Refusal = c.in_err-code.field-0.0 in
-    rw (e.1, e.2) (code_refused c.args.view.now c.args.bytes.now refusal (subst (λ (pool : List Slot). refusal ≢ NoMemory → CodeStands Second pool c.args.bytes.now refusal) c.pool.ensures c.in_err-code.ensures.refused))
+    let f : Fault = c.in_err-code.field-0.0 in
+    rw (e.1, e.2) (code_located c.args.view.now c.args.bytes.now f.place f.refusal (subst (λ (pool : List Slot). f.refusal ≢ NoMemory → CodeStandsAt Second pool c.args.bytes.now f.place f.refusal) c.pool.ensures c.in_err-code.ensures.refused))
+
+pub returns-then-not-branch-clause-err : goal.returns-then-not-branch-clause-err
+returns-then-not-branch-clause-err c =
+    let list = c.as_slice-p-items in
+    let code = c.in_ok-code.code in
+    let p = c.p-item.result in
+    let at = stands_at code list.result.now c.loop-p.p-index p list.ensures.value list.ensures.rising c.loop-p-test.true c.p-item.is in
+    inr (code, subst (λ (pool : List Slot). IsSequence Second pool 0 c.args.bytes.now code) c.pool.ensures c.in_ok-code.ensures.found, p, at, sym c.in_ok-is_known.ensures ∙ c.if-not-branch.true)

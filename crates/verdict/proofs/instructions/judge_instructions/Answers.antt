@@ -2,15 +2,14 @@ use Rattle.std.proofs.Common.{rules, ◌≡◌, refl, sym, ap, ◌∙◌, subst,
 use Rattle.std.proofs.lemmas.Option.{slice_get-get_or}
 use Rattle.classfile.specs.View.{view_of, ClassView}
 use Rattle.classfile.specs.declared.class_file.CodeParts.{CodeParts}
-use Rattle.std.proofs.lemmas.Result.{err_from_is_err_and}
-use Rattle.jtypes.specs.declared.refusal.Refusal.{Refusal}
+use Rattle.decode.specs.declared.fault.Fault.{Fault}
 use Rattle.jtypes.specs.declared.refusal.Refusal.TheVariants.{NoMemory}
-use Rattle.verdict.specs.Verdict.{InstructionStands}
+use Rattle.verdict.specs.Spots.{InstructionStandsAt}
 use Rattle.verdict.specs.Judging.{IsFoundIn, IsGoodCode}
-use Rattle.verdict.proofs.Refused.{method_refused}
+use Rattle.verdict.proofs.Spots.{instruction_located}
 use Rattle.verdict.specs.declared.instructions.Found.{Found}
 use Rattle.verdict.proofs.Numbered.{next_numbered, skip_numbered}
-use Rattle.verdict.proofs.instructions.judge_instructions.Goals.{then-number-constructor+in_ok-code+in_ok-push, else-number-constructor}
+use Rattle.verdict.proofs.instructions.judge_instructions.Goals.{then-number-constructor+in-Ok+in_ok-push-in-Ok, else-number-constructor}
 use Rattle.jtypes.specs.Profile.{Second}
 use Rattle.verdict.proofs.instructions.judge_instructions.Goals as goal
 
@@ -22,26 +21,25 @@ loop-number-preserved c =
     let constructor : ℕ = c.args.constructor in
     let so_far = c.loop-number.invariant in
     elim c.if-number-constructor.branch [
-      | then-number-constructor+in_ok-code+in_ok-push w ↦
+      | then-number-constructor+in-Ok+in_ok-push-in-Ok w ↦
           let parts : CodeParts = w.index-codes-number.result in
-          let one : Found = record { number = n; code = w.in_ok-code.code } in
-          let good : IsGoodCode v parts.code w.in_ok-code.code = subst (λ (x : ClassView). IsGoodCode x parts.code w.in_ok-code.code) c.requires.view (subst (λ (b : List ℕ). IsGoodCode c.args.view.now b w.in_ok-code.code) (w.as_slice.ensures ∙ ap (λ (x : CodeParts). x.code) (sym w.index-codes-number.is)) w.in_ok-code.ensures.ok) in
+          let one : Found = record { number = n; code = w.in-Ok.code } in
+          let good : IsGoodCode v parts.code w.in-Ok.code = subst (λ (x : ClassView). IsGoodCode x parts.code w.in-Ok.code) c.requires.view (subst (λ (b : List ℕ). IsGoodCode c.args.view.now b w.in-Ok.code) (w.as_slice.ensures ∙ ap (λ (x : CodeParts). x.code) (sym w.index-codes-number.is)) w.in-Ok.ensures.ok) in
           let there = slice_get-get_or codes n parts c.loop-number-test.true ∙ ap (λ (x : CodeParts). Some x) (sym w.index-codes-number.is) in
-          rw w.found-is (rw w.in_ok-push.ensures.items (next_numbered (λ (f : Found). f.number) (IsFoundIn v codes) constructor n c.loop-number.found.items one so_far w.if-number-constructor.true refl (record { parts = parts; there = there; good = good })))
+          rw w.found-is (rw w.in_ok-push-in-Ok.ensures.items (next_numbered (λ (f : Found). f.number) (IsFoundIn v codes) constructor n c.loop-number.found.items one so_far w.if-number-constructor.true refl (record { parts = parts; there = there; good = good })))
       | else-number-constructor w ↦ rw w.found-is (skip_numbered (λ (f : Found). f.number) (IsFoundIn v codes) constructor n c.loop-number.found.items so_far (search rules))
     ]
 
-pub returns-in_err-code-clause-err : goal.returns-in_err-code-clause-err
-returns-in_err-code-clause-err c =
+pub returns-in-Err-clause-err : goal.returns-in-Err-clause-err
+returns-in-Err-clause-err c =
     let pool = c.args.class.now.pool in
     let p = c.args.class.now.parts in
     let v : ClassView = view_of pool p in
     let codes : List CodeParts = c.args.codes.now in
     let n : ℕ = c.loop-number.number in
     let parts : CodeParts = c.index-codes-number.result in
-    let refusal : Refusal = c.in_err-code.field-0.0 in
+    let f : Fault = c.in-Err.fault in
     let there = slice_get-get_or codes n parts c.loop-number-test.true ∙ ap (λ (x : CodeParts). Some x) (sym c.index-codes-number.is) in
     let bytes = c.as_slice.ensures ∙ ap (λ (x : CodeParts). x.code) (sym c.index-codes-number.is) in
-    let stands : (refusal ≡ NoMemory) ⊎ InstructionStands Second v parts.code refusal = subst (λ (x : ClassView). (refusal ≡ NoMemory) ⊎ InstructionStands Second x parts.code refusal) c.requires.view (subst (λ (b : List ℕ). (refusal ≡ NoMemory) ⊎ InstructionStands Second c.args.view.now b refusal) bytes c.in_err-code.ensures.err) in
-    let e = err_from_is_err_and c.from_residual.result c.from_residual.ensures.1 in
-    rw (e.1, e.2) (method_refused pool p c.args.constructor codes c.requires.shape n parts there c.if-number-constructor.true refusal stands)
+    let stands : (f.refusal ≡ NoMemory) ⊎ InstructionStandsAt Second v parts.code f.place f.refusal = subst (λ (x : ClassView). (f.refusal ≡ NoMemory) ⊎ InstructionStandsAt Second x parts.code f.place f.refusal) c.requires.view (subst (λ (b : List ℕ). (f.refusal ≡ NoMemory) ⊎ InstructionStandsAt Second c.args.view.now b f.place f.refusal) bytes c.in-Err.ensures.err) in
+    instruction_located pool p c.args.constructor codes c.requires.shape n parts there c.if-number-constructor.true f stands c.located.result c.located.ensures.refusal c.located.ensures.spot

@@ -1,4 +1,4 @@
-use Rattle.std.proofs.Common.{◌≡◌, ◌⊎◌, inl, inr, sym}
+use Rattle.std.proofs.Common.{inl, inr, sym}
 use Rattle.std.specs.Prelude.{Result, Ok, Err, IfOk, IfErr}
 use Rattle.verify.proofs.verified.verify.Goals as goal
 

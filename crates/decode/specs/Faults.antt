@@ -1,0 +1,33 @@
+-- Refusals of a code, by the place of the instruction at which they stand.
+use Rattle.std.specs.Prelude.{◌≡◌, ◌≢◌, ℕ, ◌<◌, List, ◌++◌, length, Some, Result, Ok, Err, ◌⊎◌}
+use Rattle.std.specs.Global.{Vec}
+use Rattle.jtypes.specs.declared.refusal.Refusal.{Refusal}
+use Rattle.jtypes.specs.declared.refusal.Refusal.TheVariants.{BadTarget, BackwardBranch, NoMemory}
+use Rattle.jtypes.specs.Layout.{Stands}
+use Rattle.jtypes.specs.Profile.{Profile, Second}
+use Rattle.constpool.specs.Lookup.{Slot}
+use Rattle.decode.specs.declared.instruction.Placed.{Placed}
+use Rattle.decode.specs.declared.fault.Fault.{Fault}
+use Rattle.decode.specs.Code.{one, IsSequence, StopsWith}
+use Rattle.decode.specs.Places.{at_place, HasBadTarget, HasBackwardTarget}
+
+-- the reading of the instructions stops with this refusal at the one that begins at this place
+abbrev pub StopsAt : Profile → List Slot → List ℕ → ℕ → Refusal → Type 0
+StopsAt profile pool bytes place r =
+    (ps : List Placed) × (front : List ℕ) × (back : List ℕ) × (bytes ≡ front ++ back) × IsSequence profile pool 0 front ps × (0 < length back) × Stands (one profile pool (length front)) back r × (length front ≡ place)
+
+-- a refusal of branches stands at the instruction at this place of a code that was read to its end
+abbrev pub BranchStandsAt : List Placed → ℕ → Refusal → Type 0
+BranchStandsAt code place BadTarget = (p : Placed) × (at_place code place ≡ Some p) × HasBadTarget code p
+BranchStandsAt code place BackwardBranch = (p : Placed) × (at_place code place ≡ Some p) × HasBackwardTarget p
+BranchStandsAt code place _ = ⊥
+
+-- a refusal stands in the bytes of a code at the instruction that begins at this place, calls and casts aside
+abbrev pub CodeStandsAt : Profile → List Slot → List ℕ → ℕ → Refusal → Type 0
+CodeStandsAt profile pool bytes place r =
+    StopsAt profile pool bytes place r ⊎ ((code : List Placed) × IsSequence profile pool 0 bytes code × BranchStandsAt code place r)
+
+-- what the reading of a sequence answers
+abbrev pub Reads : List Slot → List ℕ → Result (Vec Placed) Fault → Type 0
+Reads pool bytes (Ok placed) = IsSequence Second pool 0 bytes placed.items × ((r : Refusal) → StopsWith Second pool bytes r → ⊥)
+Reads pool bytes (Err f) = f.refusal ≢ NoMemory → StopsAt Second pool bytes f.place f.refusal
