@@ -4,6 +4,9 @@ use std::alloc::Global;
 use std::fs::OpenOptions;
 use std::io::{ErrorKind, Read};
 
+/// The most bytes that a class may have.
+pub const MOST_CLASS: usize = 65_536;
+
 /// Why a file was not read.
 #[derive(Clone, Copy, Debug, PartialEq, Eq)]
 pub enum FileFault {

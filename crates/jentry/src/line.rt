@@ -19,6 +19,10 @@ pub enum Request<'a> {
     Check {
         file: &'a str,
     },
+    /// Judge it, and tell where it is refused, or what its methods take.
+    Explain {
+        file: &'a str,
+    },
     /// Judge it, and run it on this key, with this entry before and these arguments.
     Run {
         file: &'a str,
@@ -42,10 +46,13 @@ fn option<'a>(alloc: Global, name: &'a str) -> Word<'a> {
     Word::new(alloc, name).long(name).action(ArgAction::Set)
 }
 
-/// The form of a line: `check FILE`, `run FILE KEY VALUE [ARGS..]` and `serve [--workers N] [--stripes N] [--load FILE]`,
-/// with no other options.
+/// The form of a line: `check FILE`, `explain FILE`, `run FILE KEY VALUE [ARGS..]` and
+/// `serve [--workers N] [--stripes N] [--load FILE]`, with no other options.
 fn form<'a>(alloc: Global) -> Result<Command<'a>, AllocError> {
     let check = Command::new(alloc, "check")
+        .disable_help_flag(true)
+        .arg(value(alloc, "FILE"))?;
+    let explain = Command::new(alloc, "explain")
         .disable_help_flag(true)
         .arg(value(alloc, "FILE"))?;
     let args = Word::new(alloc, "ARGS")
@@ -68,6 +75,7 @@ fn form<'a>(alloc: Global) -> Result<Command<'a>, AllocError> {
         .disable_help_subcommand(true)
         .subcommand_required(true)
         .subcommand(check)?
+        .subcommand(explain)?
         .subcommand(run)?
         .subcommand(serve)
 }
@@ -172,6 +180,9 @@ fn request_of<'a>(matches: &ArgMatches<'a>) -> Result<Request<'a>, Failure<'a>> 
     };
     if name == "check" {
         return Ok(Request::Check { file });
+    }
+    if name == "explain" {
+        return Ok(Request::Explain { file });
     }
     match run_of(found, file) {
         Some(request) => Ok(request),

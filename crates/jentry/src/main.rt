@@ -1,6 +1,7 @@
 //! The program.
 #![tactic(auto)]
 
+mod explaining;
 mod files;
 mod line;
 mod output;

@@ -1,6 +1,7 @@
 //! One command.
 
-use crate::files::Files;
+use crate::explaining::explain_answer;
+use crate::files::{Files, MOST_CLASS};
 use crate::line::{Request, parse};
 use crate::output::{Answer, Failure, OK, accepted, ran, refused};
 use cache::NoGate;
@@ -17,9 +18,6 @@ use wire::Counted;
 
 /// How many bytes of the input are read ahead at most.
 const AHEAD: usize = 65_536;
-
-/// The most bytes that a class may have.
-const MOST_CLASS: usize = 65_536;
 
 /// The most bytes of a loader's file: 16,777,216 rows.
 const MOST_ROWS: usize = 268_435_456;
@@ -141,6 +139,7 @@ fn perform<'a, T: Threads + Wait + Sync, I: Read, W: Write>(
     };
     match &request {
         Request::Check { file } => write_answer(output, &check_answer(alloc, files, file)?),
+        Request::Explain { file } => write_answer(output, &explain_answer(alloc, files, file)?),
         Request::Run {
             file,
             key,

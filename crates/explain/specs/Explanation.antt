@@ -1,0 +1,26 @@
+-- What is told of the bytes of a class.
+use Rattle.std.specs.Prelude.{ℕ, List}
+use Rattle.jtypes.specs.declared.refusal.Refusal.TheVariants.{Recursive}
+use Rattle.jtypes.specs.Profile.{Second}
+use Rattle.typecheck.specs.Typing.{Class, IsProcessOf}
+use Rattle.bounds.specs.Paths.{AreBounds}
+use Rattle.bounds.specs.Rows.{bounds_in}
+use Rattle.verdict.specs.Verdict.{IsAccepted, IsClassOf, IsRefused}
+use Rattle.verdict.specs.Spots.{IsAtSpot}
+use Rattle.explain.specs.declared.costs.MethodCost.{MethodCost}
+use Rattle.explain.specs.declared.explained.Explained.{Explained}
+use Rattle.explain.specs.declared.explained.Explained.TheVariants as told
+use Rattle.explain.specs.Costs.{AreCostsOf}
+use Rattle.explain.specs.Circles.{IsCircle}
+
+-- what each method of the class of these bytes takes at most
+abbrev pub AreCostsIn : List ℕ → List MethodCost → Type 0
+AreCostsIn bytes costs = (c : Class) → IsClassOf Second bytes c → AreCostsOf c costs
+
+-- what an explanation says of the bytes
+abbrev pub IsExplanation : List ℕ → Explained → Type 0
+IsExplanation bytes (told.Accepted bounds methods) =
+    IsAccepted Second bytes × ((c : Class) (j : ℕ) → IsClassOf Second bytes c → IsProcessOf c j → AreBounds c j (bounds_in bounds)) × AreCostsIn bytes methods.items
+IsExplanation bytes (told.Refused l) = IsRefused Second bytes l.refusal × IsAtSpot Second bytes l.refusal l.spot
+IsExplanation bytes (told.Recursive calls) = IsRefused Second bytes Recursive × ((c : Class) → IsClassOf Second bytes c → IsCircle c calls.items)
+IsExplanation bytes (told.PastLimit refusal methods) = IsRefused Second bytes refusal × AreCostsIn bytes methods.items

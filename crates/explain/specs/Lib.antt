@@ -1,0 +1,4 @@
+pub mod Costs
+pub mod Circles
+pub mod Listed
+pub mod Explanation

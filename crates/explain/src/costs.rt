@@ -1,0 +1,48 @@
+//! What each method takes.
+
+ghost use Rattle.std.specs.Prelude.{◌≡◌, length, IfOk};
+ghost use Rattle.bounds.specs.Cells.{known_at};
+ghost use Rattle.bounds.specs.Rows.{AreAllKnown};
+ghost use Rattle.explain.specs.Listed.{AreListed};
+
+use bounds::Cost;
+use std::alloc::{AllocError, Global};
+use typecheck::Typed;
+
+/// What the paths of a method take at most, with what passes 32 bits cut off.
+#[derive(Clone, Copy, Debug, PartialEq, Eq)]
+pub struct MethodCost {
+    /// Its number among the methods of its class, from 0.
+    pub number: usize,
+    pub cost: Cost,
+}
+
+/// The cost of the method with a number, if it is known.
+fn known_at(known: &[Option<Cost>], number: usize) -> Option<Cost>
+    ensures { result ≡ known_at known.now number }
+{
+    match known.get(number) {
+        Some(cost) => *cost,
+        None => None,
+    }
+}
+
+/// The costs of these methods, in their order, from those by numbers.
+pub fn listed(
+    alloc: Global,
+    methods: &[Typed],
+    known: &[Option<Cost>],
+) -> Result<Vec<MethodCost>, AllocError>
+    requires { AreAllKnown methods.now known.now }
+    ensures { IfOk result (λ costs. AreListed methods.now known.now (length methods.now) costs.items) }
+{
+    let mut costs = Vec::new(alloc);
+    for method in methods {
+        let number = method.number;
+        match known_at(known, number) {
+            Some(cost) => costs.push(MethodCost { number, cost })?,
+            None => unreachable!(),
+        }
+    }
+    Ok(costs)
+}
