@@ -246,21 +246,22 @@ fn no_jobs_leave_the_entries(rt: HostRuntime) -> Result<(), Fail> {
     Ok(())
 }
 
-/// How many of four workers a round is worth in which 14 instructions are run at most, by shares from 0 to 15.
-fn worths(registry: &Registry, class: &ClassId) -> [usize; 6]
+/// How many of four workers a round is worth that has five calls and runs 14 instructions at most: reckoned as 2,574 of them.
+fn worths(registry: &Registry, class: &ClassId) -> [usize; 8]
     requires { IsOf registry.now class.now }
 {
     let args = Args::none();
     let jobs = on_own_keys(class, &args);
-    let mut worths = [0; 6];
-    for (worth_of, share) in worths.iter_mut().zip([0, 1, 4, 7, 14, 15]) {
+    let mut worths = [0; 8];
+    let shares = [0, 1, 643, 644, 858, 859, 1287, 1288];
+    for (worth_of, share) in worths.iter_mut().zip(shares) {
         *worth_of = worth(registry, &jobs, 4, share);
     }
     worths
 }
 
 /// The same, with a registry of its own.
-fn worths_of<R: Threads + Wait + Sync>(rt: &R, alloc: Global, plus: &[u8]) -> Option<[usize; 6]> {
+fn worths_of<R: Threads + Wait + Sync>(rt: &R, alloc: Global, plus: &[u8]) -> Option<[usize; 8]> {
     match Registry::new(alloc) {
         Ok(registry) => match registry.define(rt, alloc, plus) {
             Ok(class) => Some(worths(&registry, &class)),
@@ -274,6 +275,9 @@ fn worths_of<R: Threads + Wait + Sync>(rt: &R, alloc: Global, plus: &[u8]) -> Op
 fn a_round_is_worth_a_worker_for_each_share(rt: HostRuntime) -> Result<(), Fail> {
     let alloc = rt.alloc();
     let plus = rows::plus(alloc)?;
-    assert_eq!(rt; worths_of(&rt, alloc, &plus), Some([4, 4, 3, 2, 1, 1]));
+    assert_eq!(rt;
+        worths_of(&rt, alloc, &plus),
+        Some([4, 4, 4, 3, 3, 2, 2, 1])
+    );
     Ok(())
 }

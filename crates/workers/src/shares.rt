@@ -7,17 +7,21 @@ ghost use Rattle.invokeall.specs.Jobs.{IsCallable};
 use invokeall::Job;
 use registry::Registry;
 
-/// The instructions that make a worker more worth its thread. To start a thread and to wait for its end takes some thirty microseconds,
-/// in which a worker runs four to eight thousand instructions.
-pub const SHARE: u32 = 16_384;
+/// The instructions that make a worker more worth its thread. To start a thread and to wait for its end takes some hundred
+/// microseconds of a busy machine, in which a worker runs about as many instructions as this.
+pub const SHARE: u32 = 131_072;
 
-/// The instructions that a job takes at most: those that its class states.
+/// The instructions that a call is reckoned to take beside those of its class: it takes a stripe, finds an entry, puts it and
+/// leaves a record, in half a microsecond.
+const CALL: u64 = 512;
+
+/// The instructions that a job takes at most: those of its call, and those that its class states.
 fn steps_of(registry: &Registry, job: &Job<'_>) -> u64
     requires { IsCallable registry.now job.now }
 {
     match job {
-        Job::Invoke { class, .. } => u64::from(registry.class(class).bounds().steps),
-        _ => 0,
+        Job::Invoke { class, .. } => CALL + u64::from(registry.class(class).bounds().steps),
+        _ => CALL,
     }
 }
 
@@ -33,7 +37,7 @@ fn steps_of_all(registry: &Registry, jobs: &[Job<'_>]) -> u64
 }
 
 /// How many of at most so many workers a round is worth: one for each `share` instructions that its jobs take at most, by the bounds
-/// that their classes state, and at least one. Where `share` is 0 it is worth all of them.
+/// that their classes state and by what a call takes beside, and at least one. Where `share` is 0 it is worth all of them.
 pub fn worth(registry: &Registry, jobs: &[Job<'_>], most: usize, share: u32) -> usize
     requires callable { All (IsCallable registry.now) jobs.now }
     requires some { 0 < most }
