@@ -15,3 +15,5 @@ pub mod Replies
 pub mod Spread
 pub mod Putting
 pub mod Flights
+pub mod Boxes
+pub mod Entries

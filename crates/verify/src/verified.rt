@@ -25,11 +25,12 @@ use soundness::{
     type_soundness,
 };
 use std::alloc::{AllocError, Global};
+use std::fmt;
 use std::marker::Model;
 use verdict::judge;
 
 /// A class that was accepted, with its linked code. It is seen as the class itself, which its bytes are.
-#[derive(Debug, Drop)]
+#[derive(Drop)]
 pub struct Verified {
     file: ClassFile,
     bounds: Bounds,
@@ -46,6 +47,14 @@ impl Model for Verified {
     ghost view = { λ a. a.class.0 };
 
     ghost invariant = { λ a. Holds a.class.0 a.bounds a.linked };
+}
+
+impl fmt::Debug for Verified {
+    fn fmt<W: fmt::Write>(&self, f: &mut fmt::Formatter<W>) -> fmt::Result {
+        f.debug_struct("Verified")
+            .field("bounds", &self.bounds)
+            .finish_non_exhaustive()
+    }
 }
 
 /// Judges the bytes of a class, and links its instructions.
