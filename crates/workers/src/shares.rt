@@ -7,9 +7,9 @@ ghost use Rattle.invokeall.specs.Jobs.{IsCallable};
 use invokeall::Job;
 use registry::Registry;
 
-/// The instructions that make a worker more worth its thread. To start a thread and to wait for its end takes some hundred
-/// microseconds of a busy machine, in which a worker runs about as many instructions as this.
-pub const SHARE: u32 = 131_072;
+/// The instructions that make a worker more worth its thread: some two hundred microseconds of work. To start a thread and to wait
+/// for its end takes about half of that.
+pub const SHARE: u32 = 262_144;
 
 /// The instructions that a call is reckoned to take beside those of its class: it takes a stripe, finds an entry, puts it and
 /// leaves a record, in half a microsecond.
