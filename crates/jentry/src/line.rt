@@ -46,38 +46,45 @@ fn option<'a>(alloc: Global, name: &'a str) -> Word<'a> {
     Word::new(alloc, name).long(name).action(ArgAction::Set)
 }
 
-/// The form of a line: `check FILE`, `explain FILE`, `run FILE KEY VALUE [ARGS..]` and
-/// `serve [--workers N] [--stripes N] [--load FILE]`, with no other options.
-fn form<'a>(alloc: Global) -> Result<Command<'a>, AllocError> {
-    let check = Command::new(alloc, "check")
-        .disable_help_flag(true)
-        .arg(value(alloc, "FILE"))?;
-    let explain = Command::new(alloc, "explain")
-        .disable_help_flag(true)
-        .arg(value(alloc, "FILE"))?;
+/// A command with no options yet.
+fn command<'a>(alloc: Global, name: &'a str) -> Command<'a> {
+    Command::new(alloc, name).disable_help_flag(true)
+}
+
+/// A command on a file.
+fn on_file<'a>(alloc: Global, name: &'a str) -> Result<Command<'a>, AllocError> {
+    command(alloc, name).arg(value(alloc, "FILE"))
+}
+
+/// `run FILE KEY VALUE [ARGS..]`
+fn run_form<'a>(alloc: Global) -> Result<Command<'a>, AllocError> {
     let args = Word::new(alloc, "ARGS")
         .num_args(0..)
         .action(ArgAction::Append);
-    let run = Command::new(alloc, "run")
-        .disable_help_flag(true)
-        .arg(value(alloc, "FILE"))?
+    on_file(alloc, "run")?
         .arg(value(alloc, "KEY"))?
         .arg(value(alloc, "VALUE"))?
-        .arg(args)?;
-    let serve = Command::new(alloc, "serve")
-        .disable_help_flag(true)
+        .arg(args)
+}
+
+/// `serve [--workers N] [--stripes N] [--load FILE]`
+fn serve_form<'a>(alloc: Global) -> Result<Command<'a>, AllocError> {
+    command(alloc, "serve")
         .arg(option(alloc, "workers"))?
         .arg(option(alloc, "stripes"))?
-        .arg(option(alloc, "load"))?;
-    Command::new(alloc, "jentry")
+        .arg(option(alloc, "load"))
+}
+
+/// The form of a line: `check FILE`, `explain FILE`, and those of `run` and `serve`, with no other options.
+fn form<'a>(alloc: Global) -> Result<Command<'a>, AllocError> {
+    command(alloc, "jentry")
         .no_binary_name(true)
-        .disable_help_flag(true)
         .disable_help_subcommand(true)
         .subcommand_required(true)
-        .subcommand(check)?
-        .subcommand(explain)?
-        .subcommand(run)?
-        .subcommand(serve)
+        .subcommand(on_file(alloc, "check")?)?
+        .subcommand(on_file(alloc, "explain")?)?
+        .subcommand(run_form(alloc)?)?
+        .subcommand(serve_form(alloc)?)
 }
 
 fn matches_of<'a>(alloc: Global, words: &'a [&'a str]) -> Result<ArgMatches<'a>, Error> {
