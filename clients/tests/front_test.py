@@ -171,6 +171,12 @@ class ManyConnections(FrontTest):
             self.ask(b, invoke(0, 7) + END, result(43) + ENDED)
             self.ask(b, invoke(1, 7) + invoke(0xFFFFFFFF, 7) + invoke_all(1, [7]) + END, 3 * denied(1) + ENDED)
 
+    def test_rounds_before_what_is_no_request_are_answered(self):
+        with Running() as front, front.open() as a:
+            a.sendall(put(1, 1) + END + 5_000 * (invoke(0, 7) + END) + frame(b"\xff") + END)
+            self.told(a, DONE + ENDED + 5_000 * (denied(1) + ENDED))
+            self.assertTrue(is_ended(a))
+
     def test_a_round_that_breaks_off_is_not_run(self):
         with Running() as front, front.open() as b:
             for text in (put(1, 1), put(1, 1) + put(2, 2)[:9], b"\0\0", define(plus())[:100]):
@@ -278,6 +284,22 @@ class ManyConnections(FrontTest):
             for n in range(200):
                 self.ask(b, put(1, n) + END, DONE + ENDED)
 
+    def test_a_slow_reader_gets_all_in_the_end(self):
+        with Running() as front, front.open() as a:
+            text, wanted = b"".join(get(n) for n in range(4_000)) + END + 500 * END, 4_000 * value(None) + 501 * ENDED
+            thread = threading.Thread(target=a.sendall, args=(20 * text,))
+            thread.start()
+            time.sleep(0.5)
+            self.told(a, 20 * wanted)
+            thread.join(PATIENCE)
+
+    def test_who_takes_no_replies_is_closed(self):
+        with Running("--idle", "1") as front, front.open() as a:
+            text = b"".join(get(n) for n in range(4_000)) + END
+            with self.assertRaises(ConnectionError):
+                for _ in range(400):
+                    a.sendall(text)
+
     def test_large_rounds_beside_small_ones(self):
         going, rounds = threading.Event(), []
         text, wanted = b"".join(put(n, n) for n in range(4_096)) + END, 4_096 * DONE + ENDED
@@ -295,6 +317,53 @@ class ManyConnections(FrontTest):
             thread.join(PATIENCE)
             self.assertGreater(len(rounds), 0)
             self.assertTrue(all(rounds))
+
+
+class Waits(FrontTest):
+    """What happens while a connection's round is at the server, which takes its time."""
+
+    def slow(self, seconds):
+        return Running(server=STAND_IN + ["--slow", str(seconds)])
+
+    def processor_seconds(self, front):
+        with open(f"/proc/{front.process.pid}/stat") as stat:
+            words = stat.read().rsplit(")", 1)[1].split()
+        return sum(map(int, words[11:13])) / os.sysconf("SC_CLK_TCK")
+
+    def test_who_leaves_while_its_round_runs(self):
+        with self.slow(1) as front, front.open() as b:
+            for at in range(3):
+                with front.open() as a:
+                    a.sendall(put(at, at) + END + put(at, 77) + put(9, 9))
+                time.sleep(0.1)
+            self.ask(b, get(9) + END, value(None) + ENDED)
+            self.ask(b, get(0) + get(1) + get(2) + END, value(0) + value(1) + value(2) + ENDED)
+            self.assertLess(self.processor_seconds(front), 0.5)
+
+    def test_who_brings_a_class_and_leaves(self):
+        with self.slow(0.5) as front, front.open() as b:
+            with front.open() as a:
+                a.sendall(define(plus()) + END)
+                time.sleep(0.1)
+            self.define(b, plus(), 0)
+
+    def test_more_rounds_wait_quietly(self):
+        with self.slow(0.5) as front, front.open() as a, front.open() as b:
+            a.sendall(put(1, 1) + END + put(1, 2) + END)
+            a.sendall(put(1, 3) + END + get(1))
+            b.sendall(get(2) + END)
+            b.shutdown(socket.SHUT_WR)
+            self.told(b, value(None) + ENDED)
+            self.told(a, 3 * (DONE + ENDED))
+            self.ask(a, END, value(3) + ENDED)
+            self.assertLess(self.processor_seconds(front), 0.5)
+
+    def test_a_front_that_nobody_asks_sleeps(self):
+        with Running() as front, front.open() as a:
+            self.ask(a, put(1, 1) + END, DONE + ENDED)
+            before = self.processor_seconds(front)
+            time.sleep(1)
+            self.assertLess(self.processor_seconds(front) - before, 0.05)
 
 
 class ClassesRunOut(FrontTest):

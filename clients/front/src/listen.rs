@@ -1,14 +1,14 @@
-//! Sockets, and a thread for each connection.
+//! Sockets, and who takes the connections that come.
 
-use crate::connection::{serve, Shared};
 use crate::options::Place;
 use std::fs;
-use std::io::{self, BufReader, Read, Write};
+use std::io::{self, Read, Write};
+use std::mem::take;
 use std::net::{TcpListener, TcpStream};
-use std::os::unix::io::{AsFd, OwnedFd};
+use std::os::unix::io::{AsFd, AsRawFd, OwnedFd, RawFd};
 use std::os::unix::net::{UnixListener, UnixStream};
 use std::sync::atomic::{AtomicUsize, Ordering};
-use std::sync::Arc;
+use std::sync::Mutex;
 use std::thread;
 use std::time::Duration;
 
@@ -18,27 +18,86 @@ const OTHER_FILES: usize = 16;
 /// How long the front waits where a connection can't be taken, for want of files for example.
 const PAUSE: Duration = Duration::from_millis(50);
 
-const STACK: usize = 128 * 1024;
-const BUFFER: usize = 16 * 1024;
-
 /// A socket that listens.
 pub enum Listener {
     Unix(UnixListener),
     Tcp(TcpListener),
 }
 
-/// What connections there are, and how many there may be.
+/// A connection's socket, whose reads and writes never wait.
+pub enum Stream {
+    Unix(UnixStream),
+    Tcp(TcpStream),
+}
+
+impl Read for Stream {
+    fn read(&mut self, buffer: &mut [u8]) -> io::Result<usize> {
+        match self {
+            Stream::Unix(it) => it.read(buffer),
+            Stream::Tcp(it) => it.read(buffer),
+        }
+    }
+}
+
+impl Write for Stream {
+    fn write(&mut self, text: &[u8]) -> io::Result<usize> {
+        match self {
+            Stream::Unix(it) => it.write(text),
+            Stream::Tcp(it) => it.write(text),
+        }
+    }
+
+    fn flush(&mut self) -> io::Result<()> {
+        Ok(())
+    }
+}
+
+impl AsRawFd for Stream {
+    fn as_raw_fd(&self) -> RawFd {
+        match self {
+            Stream::Unix(it) => it.as_raw_fd(),
+            Stream::Tcp(it) => it.as_raw_fd(),
+        }
+    }
+}
+
+/// Where those who take connections leave them. How many there are is counted here too.
 pub struct Gate {
-    shared: Shared,
     most: usize,
-    idle: Option<Duration>,
     count: AtomicUsize,
+    arrived: Mutex<Vec<Stream>>,
+    bell: UnixStream,
 }
 
 impl Gate {
-    /// A gate for at most so many connections; one that stands still for `idle` is closed.
-    pub fn new(shared: Shared, most: usize, idle: Option<Duration>) -> Gate {
-        Gate { shared, most, idle, count: AtomicUsize::new(0) }
+    /// A gate for at most so many connections. Beside it, what tells by a byte that connections have arrived.
+    pub fn new(most: usize) -> io::Result<(Gate, UnixStream)> {
+        let (bell, told) = UnixStream::pair()?;
+        bell.set_nonblocking(true)?;
+        Ok((Gate { most, count: AtomicUsize::new(0), arrived: Mutex::default(), bell }, told))
+    }
+
+    /// Takes a connection in, if there is room for one more. Else it is closed.
+    fn enter(&self, stream: Stream) {
+        if self.count.fetch_add(1, Ordering::SeqCst) >= self.most {
+            self.leave();
+            return;
+        }
+        if let Ok(mut arrived) = self.arrived.lock() {
+            arrived.push(stream);
+        }
+        // A bell that takes no more bytes has rung.
+        let _ = (&self.bell).write(&[1]);
+    }
+
+    /// The connections that have arrived.
+    pub fn arrived(&self) -> Vec<Stream> {
+        self.arrived.lock().map_or_else(|_| Vec::new(), |mut arrived| take(&mut *arrived))
+    }
+
+    /// Makes room for another in place of one that is gone.
+    pub fn leave(&self) {
+        self.count.fetch_sub(1, Ordering::SeqCst);
     }
 }
 
@@ -90,49 +149,26 @@ pub fn most_by_files() -> Option<usize> {
 }
 
 /// Takes the connections of a listener, for ever.
-pub fn run(listener: &Listener, gate: &Arc<Gate>) {
+pub fn run(listener: &Listener, gate: &Gate) {
     loop {
-        let taken = match listener {
-            Listener::Unix(it) => it.accept().map(|(stream, _)| take_unix(gate, stream)),
-            Listener::Tcp(it) => it.accept().map(|(stream, _)| take_tcp(gate, stream)),
-        };
-        if taken.is_err() {
-            thread::sleep(PAUSE);
+        match accept(listener) {
+            Ok(Some(stream)) => gate.enter(stream),
+            Ok(None) => {}
+            Err(_) => thread::sleep(PAUSE),
         }
     }
 }
 
-fn take_unix(gate: &Arc<Gate>, stream: UnixStream) {
-    let is_set = stream.set_nonblocking(false).and(stream.set_read_timeout(gate.idle)).and(stream.set_write_timeout(gate.idle));
-    if is_set.is_ok() {
-        start(gate, move |gate| talk(gate, &stream, &stream));
-    }
-}
-
-fn take_tcp(gate: &Arc<Gate>, stream: TcpStream) {
-    let is_set = stream.set_nonblocking(false).and(stream.set_read_timeout(gate.idle)).and(stream.set_write_timeout(gate.idle)).and(stream.set_nodelay(true));
-    if is_set.is_ok() {
-        start(gate, move |gate| talk(gate, &stream, &stream));
-    }
-}
-
-/// Starts the thread of a connection, if there is room for one more. Else the connection is closed.
-fn start(gate: &Arc<Gate>, work: impl FnOnce(&Gate) + Send + 'static) {
-    if gate.count.fetch_add(1, Ordering::SeqCst) >= gate.most {
-        gate.count.fetch_sub(1, Ordering::SeqCst);
-        return;
-    }
-    let mine = gate.clone();
-    let started = thread::Builder::new().stack_size(STACK).spawn(move || {
-        work(&mine);
-        mine.count.fetch_sub(1, Ordering::SeqCst);
-    });
-    if started.is_err() {
-        gate.count.fetch_sub(1, Ordering::SeqCst);
-    }
-}
-
-/// Serves a connection. How it ended is the client's to know.
-fn talk(gate: &Gate, input: impl Read, output: impl Write) {
-    let _ = serve(&gate.shared, BufReader::with_capacity(BUFFER, input), output);
+/// Takes the next connection. None where it has broken off already.
+fn accept(listener: &Listener) -> io::Result<Option<Stream>> {
+    Ok(match listener {
+        Listener::Unix(it) => {
+            let (stream, _) = it.accept()?;
+            stream.set_nonblocking(true).ok().map(|_| Stream::Unix(stream))
+        }
+        Listener::Tcp(it) => {
+            let (stream, _) = it.accept()?;
+            stream.set_nonblocking(true).and(stream.set_nodelay(true)).ok().map(|_| Stream::Tcp(stream))
+        }
+    })
 }

@@ -6,17 +6,20 @@
 mod classes;
 mod connection;
 mod desk;
+mod front;
 mod listen;
 mod options;
 mod piece;
+mod poll;
 mod request;
 mod server;
 
-use classes::Classes;
 use connection::Shared;
 use desk::Desk;
+use front::Front;
 use listen::Gate;
 use options::{Options, Place};
+use std::io;
 use std::process::exit;
 use std::sync::Arc;
 use std::thread;
@@ -52,18 +55,21 @@ fn run(options: Options) -> Result<(), String> {
         listeners.push((listener, name));
     }
     let (into, out) = server::start(&program, move || remove_sockets(&places)).map_err(|e| format!("can't start {}: {}", program[0], e))?;
-    let desk = Desk::new(into, out, steps, server::end_soon);
-    let shared = Shared { desk, classes: Classes::default(), most_classes: classes, most_requests: requests };
+    let (gate, bell) = Gate::new(most).map_err(no_files)?;
+    let gate = Arc::new(gate);
+    let desk = Desk::new(into, out, steps);
     let idle = if idle == 0 { None } else { Some(Duration::from_secs(idle)) };
-    let gate = Arc::new(Gate::new(shared, most, idle));
-    let mut threads = Vec::new();
+    let front = Front::new(gate.clone(), bell, desk, Shared::new(classes, requests), idle).map_err(no_files)?;
     for (listener, name) in listeners {
         let gate = gate.clone();
         eprintln!("jentry-front: listening on {}", name);
-        threads.push(thread::spawn(move || listen::run(&listener, &gate)));
+        thread::spawn(move || listen::run(&listener, &gate));
     }
-    threads.into_iter().for_each(|it| drop(it.join()));
-    Ok(())
+    front.run()
+}
+
+fn no_files(e: io::Error) -> String {
+    format!("can't open what it needs: {}", e)
 }
 
 fn main() {

@@ -4,7 +4,7 @@
 //! before it goes on.
 
 use std::collections::HashSet;
-use std::io::{self, Read};
+use std::io;
 
 /// The longest frame, in bytes behind its length.
 pub const LONGEST: usize = 131_072;
@@ -30,37 +30,17 @@ pub enum Frame {
     InvokeAll { class: u32, keys: usize },
 }
 
-/// Reads the next frame, with its length in front. False at an end of the input between frames; an error where the input ends inside
-/// of one, and where a length is 0 or too long.
-pub fn read_frame(input: &mut impl Read, into: &mut Vec<u8>) -> io::Result<bool> {
-    let mut head = [0; 4];
-    if !read_head(input, &mut head)? {
-        return Ok(false);
+/// How many bytes the frame has that begins here, with its length in front. None where it isn't there to its end; an error where its length is
+/// 0 or too long.
+pub fn frame_length(input: &[u8]) -> io::Result<Option<usize>> {
+    if input.len() < 4 {
+        return Ok(None);
     }
-    let length = u32::from_be_bytes(head) as usize;
+    let length = number_at(input, 0) as usize;
     if length < 1 || length > LONGEST {
         return Err(io::ErrorKind::InvalidData.into());
     }
-    into.clear();
-    into.extend_from_slice(&head);
-    into.resize(4 + length, 0);
-    input.read_exact(&mut into[4..])?;
-    Ok(true)
-}
-
-/// Reads a frame's length. False where nothing at all came.
-fn read_head(input: &mut impl Read, head: &mut [u8; 4]) -> io::Result<bool> {
-    let mut had = 0;
-    while had < 4 {
-        match input.read(&mut head[had..]) {
-            Ok(0) if had == 0 => return Ok(false),
-            Ok(0) => return Err(io::ErrorKind::UnexpectedEof.into()),
-            Ok(more) => had += more,
-            Err(e) if e.kind() == io::ErrorKind::Interrupted => {}
-            Err(e) => return Err(e),
-        }
-    }
-    Ok(true)
+    Ok(if input.len() < 4 + length { None } else { Some(4 + length) })
 }
 
 /// The number in the four bytes from here on. The caller has seen that they are there.
@@ -139,6 +119,18 @@ mod tests {
 
     fn judged(body: &[u8]) -> Option<Frame> {
         judge(&mut framed(body))
+    }
+
+    #[test]
+    fn a_frame_is_there_once_its_end_is() {
+        let text = [framed(&[8]), framed(&[3; 9])].concat();
+        for end in 0..text.len() {
+            assert_eq!(frame_length(&text[..end]).ok(), Some(if end < 5 { None } else { Some(5) }), "a beginning of {} bytes", end);
+        }
+        assert_eq!(frame_length(&text[5..]).ok(), Some(Some(13)));
+        assert_eq!(frame_length(&[0, 2, 0, 0]).ok(), Some(None));
+        assert!(frame_length(&[0, 2, 0, 1]).is_err());
+        assert!(frame_length(&[0, 0, 0, 0]).is_err());
     }
 
     #[test]
