@@ -254,6 +254,60 @@ fn run_on_each(class: &Verified, entries: &[(i64, Option<i64>)], workspace: &mut
     steps
 }
 
+/// What a run takes on each of the entries of the first round's keys.
+fn timed_runs(
+    clock: &impl CpuClock,
+    alloc: Global,
+    class: &Verified,
+    tables: &Tables,
+    keys: &[i64],
+    workspace: &mut Workspace,
+) -> Result<Times, Failure> {
+    let entries = found(alloc, tables, keys)?;
+    let (run, _steps) = rounds(
+        clock,
+        CALLS,
+        |_count| run_on_each(class, &entries, workspace),
+    )?;
+    Ok(run)
+}
+
+/// What an invocation, a run of its class and a put on a key that is there take, and the entries afterwards.
+fn timed_there(
+    clock: &impl CpuClock,
+    alloc: Global,
+    class: &Verified,
+    plans: &[Vec<i64>],
+    keys: &[i64],
+    workspace: &mut Workspace,
+    tables: Tables,
+) -> Result<([Times; 3], Tables), Failure>
+    requires { length tables ≡ 1 }
+    ensures { IfOk result (λ r. length r.1 ≡ 1) }
+{
+    let run = timed_runs(clock, alloc, class, &tables, keys, workspace)?;
+    let (invoke, tables) = timed(clock, alloc, Kind::Invoke(class), plans, tables, workspace)?;
+    let (there, tables) = timed(clock, alloc, Kind::Put, plans, tables, workspace)?;
+    Ok(([invoke, run, there], tables))
+}
+
+/// The same of the first so many keys, by rounds of them all.
+fn timed_some(
+    clock: &impl CpuClock,
+    alloc: Global,
+    class: &Verified,
+    keys: u32,
+    workspace: &mut Workspace,
+) -> Result<([Times; 3], Tables), Failure>
+    requires { 0 < keys }
+    ensures { IfOk result (λ r. length r.1 ≡ 1) }
+{
+    let first = plan(alloc, 0, 0, keys)?;
+    let plans = plans(alloc, 0, keys)?;
+    let tables = filled(clock, alloc, keys, workspace)?;
+    timed_there(clock, alloc, class, &plans, &first, workspace, tables)
+}
+
 /// What calls on one stripe of so many keys take.
 pub fn on_stripe(
     clock: &impl CpuClock,
@@ -264,16 +318,8 @@ pub fn on_stripe(
     requires { 0 < keys }
 {
     let mut workspace = Workspace::new(alloc)?;
-    let some = plans(alloc, 0, keys)?;
+    let ([invoke, run, there], tables) = timed_some(clock, alloc, class, keys, &mut workspace)?;
     let others = plans(alloc, keys, MOST_KEYS)?;
-    let tables = filled(clock, alloc, keys, &mut workspace)?;
-    let entries = found(alloc, &tables, &plan(alloc, 0, 0, keys)?)?;
-    let kind = Kind::Invoke(class);
-    let (invoke, tables) = timed(clock, alloc, kind, &some, tables, &mut workspace)?;
-    let (run, _steps) = rounds(clock, CALLS, |_count| {
-        run_on_each(class, &entries, &mut workspace)
-    })?;
-    let (there, tables) = timed(clock, alloc, Kind::Put, &some, tables, &mut workspace)?;
     let absent = timed_absent(clock, alloc, &others, tables, &mut workspace)?;
     Ok(StripeTimes {
         there,

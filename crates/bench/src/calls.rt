@@ -289,6 +289,28 @@ fn plans(alloc: Global, keys: u32, seats: usize) -> Result<Vec<Vec<Vec<i64>>>, A
     Ok(list)
 }
 
+/// What an invocation and a put take, by these plans.
+fn timed_on<R: Threads + Wait + Clock + Sync>(
+    rt: &R,
+    alloc: Global,
+    registry: &Registry,
+    class: &ClassId,
+    plans: &[Vec<Vec<i64>>],
+    keys: u32,
+) -> Result<CallTimes, Failure>
+    requires { IsOf registry.now class.now }
+{
+    let tables = filled(rt, alloc, registry, class, keys)?;
+    let (invoke, tables) = timed(rt, alloc, registry, class, Kind::Invoke, plans, tables)?;
+    let invoked = sum_of(&tables, keys);
+    let (put, tables) = timed(rt, alloc, registry, class, Kind::Put, plans, tables)?;
+    Ok(CallTimes {
+        invoke,
+        put,
+        sums: [invoked, sum_of(&tables, keys)],
+    })
+}
+
 /// What calls of 1 to 16 seats take on a cache of so many keys.
 pub fn calls<R: Threads + Wait + Clock + Sync>(
     rt: &R,
@@ -300,19 +322,11 @@ pub fn calls<R: Threads + Wait + Clock + Sync>(
     requires keys { 15 < keys }
     requires seats { 0 < seats }
 {
-    let registry = Registry::new(alloc)?;
-    let class = defined(rt, alloc, &registry, bytes)?;
     let plans = plans(alloc, keys, seats)?;
     if !are_all_apart(&plans, seats) {
         return Err(Failure::NotApart);
     }
-    let tables = filled(rt, alloc, &registry, &class, keys)?;
-    let (invoke, tables) = timed(rt, alloc, &registry, &class, Kind::Invoke, &plans, tables)?;
-    let invoked = sum_of(&tables, keys);
-    let (put, tables) = timed(rt, alloc, &registry, &class, Kind::Put, &plans, tables)?;
-    Ok(CallTimes {
-        invoke,
-        put,
-        sums: [invoked, sum_of(&tables, keys)],
-    })
+    let registry = Registry::new(alloc)?;
+    let class = defined(rt, alloc, &registry, bytes)?;
+    timed_on(rt, alloc, &registry, &class, &plans, keys)
 }

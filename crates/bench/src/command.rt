@@ -99,6 +99,23 @@ fn striping(
     Ok(of_stripe(alloc, times, keys)?)
 }
 
+/// Runs the class of these bytes, or makes calls of it on one stripe.
+fn on_class<R: CpuClock>(
+    clock: &R,
+    alloc: Global,
+    bytes: &[u8],
+    call: Option<&Call>,
+    count: u32,
+) -> Result<String, Failure> {
+    let Ok(class) = verify(alloc, bytes) else {
+        return Err(Failure::Refused);
+    };
+    match call {
+        Some(call) => running(clock, alloc, &class, call, count),
+        None => striping(clock, alloc, &class, count),
+    }
+}
+
 /// Does what a line asks, and answers the line that tells it.
 pub fn measured<R: CpuClock + Clock + Threads + Wait + Sync + Files>(
     rt: &R,
@@ -111,14 +128,8 @@ pub fn measured<R: CpuClock + Clock + Threads + Wait + Sync + Files>(
     let bytes = read_class(rt, alloc, file)?;
     match work {
         Work::Verifying => verifying(rt, alloc, &bytes, count),
-        Work::Running(call) => match verify(alloc, &bytes) {
-            Ok(class) => running(rt, alloc, &class, &call, count),
-            Err(_) => Err(Failure::Refused),
-        },
-        Work::Striping => match verify(alloc, &bytes) {
-            Ok(class) => striping(rt, alloc, &class, count),
-            Err(_) => Err(Failure::Refused),
-        },
+        Work::Running(call) => on_class(rt, alloc, &bytes, Some(&call), count),
+        Work::Striping => on_class(rt, alloc, &bytes, None, count),
         Work::Calling { seats } => calling(rt, alloc, &bytes, count, seats),
         Work::Serving { seats } => serving(rt, alloc, &bytes, count, seats),
     }

@@ -92,6 +92,26 @@ fn timed<R: Threads + Wait + Clock + Sync>(
     Ok((times_of(&mut times), tables))
 }
 
+/// What a round of so many invocations of a class takes, and what the entries add up to behind the rounds.
+fn timed_on<R: Threads + Wait + Clock + Sync>(
+    rt: &R,
+    alloc: Global,
+    registry: &Registry,
+    class: &ClassId,
+    jobs: u32,
+    seats: usize,
+) -> Result<(Times, i64), Failure>
+    requires class { IsOf registry.now class.now }
+    requires seats { IsSeatCount seats }
+    requires jobs { IsJobCount jobs }
+{
+    let args = Args::none();
+    let list = jobs_of(alloc, class, &args, jobs)?;
+    let tables = filled(rt, alloc, registry, class, jobs)?;
+    let (times, tables) = timed(rt, alloc, registry, tables, seats, &list)?;
+    Ok((times, sum_of(&tables, jobs)))
+}
+
 /// What a round of so many invocations takes, by 1 to 16 workers, each on an entry that is there; and what the entries add up to behind the rounds.
 pub fn rounds<R: Threads + Wait + Clock + Sync>(
     rt: &R,
@@ -105,9 +125,5 @@ pub fn rounds<R: Threads + Wait + Clock + Sync>(
 {
     let registry = Registry::new(alloc)?;
     let class = defined(rt, alloc, &registry, bytes)?;
-    let args = Args::none();
-    let list = jobs_of(alloc, &class, &args, jobs)?;
-    let tables = filled(rt, alloc, &registry, &class, jobs)?;
-    let (times, tables) = timed(rt, alloc, &registry, tables, seats, &list)?;
-    Ok((times, sum_of(&tables, jobs)))
+    timed_on(rt, alloc, &registry, &class, jobs, seats)
 }
