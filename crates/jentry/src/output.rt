@@ -148,13 +148,18 @@ fn outcome(alloc: Global, outcome: Outcome) -> Result<Answer, AllocError> {
     }
 }
 
-/// The three lines of a run on an entry.
-pub fn ran(alloc: Global, done: Done, before: Option<i64>) -> Result<Answer, AllocError> {
-    let Answer { mut text, status } = outcome(alloc, done.outcome)?;
+/// The lines of a run behind its outcome: the entry that it leaves, its steps and its words.
+fn left(alloc: Global, done: Done, before: Option<i64>) -> Result<String, AllocError> {
     let entry = entry_text(alloc, entry_after(done.effect, before))?;
     let steps = done.steps;
     let words = done.words;
-    let rest = format!(in alloc; "value {entry}\nsteps {steps} words {words}\n")?;
+    format!(in alloc; "value {entry}\nsteps {steps} words {words}\n")
+}
+
+/// The three lines of a run on an entry.
+pub fn ran(alloc: Global, done: Done, before: Option<i64>) -> Result<Answer, AllocError> {
+    let rest = left(alloc, done, before)?;
+    let Answer { mut text, status } = outcome(alloc, done.outcome)?;
     text.push_str(rest.as_str())?;
     Ok(Answer { text, status })
 }

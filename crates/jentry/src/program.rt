@@ -47,6 +47,19 @@ fn check_answer<'a>(
     }
 }
 
+/// The answer to a run of a class.
+fn run_of(
+    alloc: Global,
+    class: &Verified,
+    key: i64,
+    before: Option<i64>,
+    args: &Args,
+) -> Result<Answer, AllocError> {
+    let mut workspace = Workspace::new(alloc)?;
+    let done = run(class, key, before, args, &mut workspace, &NoLoader);
+    ran(alloc, done, before)
+}
+
 /// The answer to a class that is to be run.
 fn run_answer<'a>(
     alloc: Global,
@@ -57,11 +70,7 @@ fn run_answer<'a>(
     args: &Args,
 ) -> Result<Answer, Failure<'a>> {
     match verified(alloc, files, file)? {
-        Ok(class) => {
-            let mut workspace = Workspace::new(alloc)?;
-            let done = run(&class, key, before, args, &mut workspace, &NoLoader);
-            Ok(ran(alloc, done, before)?)
-        }
+        Ok(class) => Ok(run_of(alloc, &class, key, before, args)?),
         Err(refusal) => Ok(refused(alloc, refusal)?),
     }
 }
