@@ -302,21 +302,33 @@ type Histories = (
     Option<(usize, u32, i64)>,
 );
 
-fn three_calls(alloc: Global) -> Option<Histories> {
+/// What is told of a world in which each call has ended.
+fn histories_of(world: &World<'_, NoLoader>) -> Histories {
+    (
+        world.stripes(),
+        world.finished().len(),
+        last_of(world, 0),
+        last_of(world, 1),
+    )
+}
+
+/// The same behind three calls.
+fn behind_three(world: &mut World<'_, NoLoader>) -> Option<Histories> {
     let calls = [
         Call::Put { key: 1, value: 5 },
         Call::Get { key: 2 },
         Call::Get { key: -1 },
     ];
+    if are_made(world, 2, &calls) && world.is_idle() {
+        Some(histories_of(world))
+    } else {
+        None
+    }
+}
+
+fn three_calls(alloc: Global) -> Option<Histories> {
     match opened(alloc, 2, 3) {
-        Some(mut world) => {
-            if !are_made(&mut world, 2, &calls) || !world.is_idle() {
-                return None;
-            }
-            let count = world.finished().len();
-            let even = last_of(&world, 0);
-            Some((world.stripes(), count, even, last_of(&world, 1)))
-        }
+        Some(mut world) => behind_three(&mut world),
         None => None,
     }
 }
