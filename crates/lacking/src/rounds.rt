@@ -180,7 +180,42 @@ fn keys_and_doubles() -> [i64; 64] {
     keys
 }
 
-/// Adds one to each key by one call.
+/// Adds one to each key by one call at these seats.
+fn listed<'a, R: Threads + Wait + Sync>(
+    rt: &R,
+    alloc: Global,
+    cache: &Cache<'a, '_, NoLoader>,
+    class: &ClassId,
+    seats: &mut Vec<Seat<'a>>,
+) -> Option<Vec<(i64, JobReply)>>
+    requires class { IsOf cache.now.registry class.now }
+    requires count { IsWorkerCount (length seats.old.items) }
+    requires home { All (IsAtHome cache.now) seats.old.items }
+    requires seats { AreSeats cache.now seats.old.items }
+    ensures { AreSeats cache.now seats.new.items }
+{
+    let Ok(mut spaces) = workspaces(alloc, seats.len()) else {
+        return None;
+    };
+    let keys = keys_and_doubles();
+    let args = Args::none();
+    match invoke_all(
+        rt,
+        alloc,
+        cache,
+        class,
+        &keys,
+        args,
+        seats,
+        &mut spaces,
+        &NoGate,
+    ) {
+        Ok(results) => Some(results),
+        Err(AllocError) => None,
+    }
+}
+
+/// The same on a cache that is opened for it.
 fn plus_on_all<R: Threads + Wait + Sync>(
     rt: &R,
     alloc: Global,
@@ -195,52 +230,62 @@ fn plus_on_all<R: Threads + Wait + Sync>(
         Ok(opened) => opened,
         Err(tables) => return (None, tables),
     };
-    let Ok(mut spaces) = workspaces(alloc, seats.len()) else {
-        return (None, cache.close(seats).tables);
-    };
-    let keys = keys_and_doubles();
-    let args = Args::none();
-    match invoke_all(
-        rt,
-        alloc,
-        &cache,
-        class,
-        &keys,
-        args,
-        &mut seats,
-        &mut spaces,
-        &NoGate,
-    ) {
-        Ok(results) => (Some(results), cache.close(seats).tables),
-        Err(AllocError) => (None, cache.close(seats).tables),
-    }
+    let results = listed(rt, alloc, &cache, class, &mut seats);
+    (results, cache.close(seats).tables)
 }
 
-/// Whether rounds by so many workers, of puts, of invocations and of one call on all keys, do what they tell.
+/// Whether a round of this work, by so many workers, does what it tells; and the tables afterwards.
+fn work_is_right<R: Threads + Wait + Sync>(
+    rt: &R,
+    alloc: Global,
+    registry: &Registry,
+    class: &ClassId,
+    count: usize,
+    work: Work,
+    tables: Tables,
+) -> Result<(bool, Tables), AllocError>
+    requires { IsOf registry.now class.now }
+{
+    let args = Args::none();
+    let jobs = jobs_for(alloc, work, class, &args)?;
+    let before = entries_of(&tables);
+    let (answers, tables) = round(rt, alloc, registry, tables, count, &jobs);
+    let is_told = are_told(work, &before, answers.as_deref(), &entries_of(&tables));
+    Ok((is_told, tables))
+}
+
+/// Whether rounds of a class by so many workers, of puts, of invocations and of one call on all keys, do what they tell.
+fn all_are_right<R: Threads + Wait + Sync>(
+    rt: &R,
+    alloc: Global,
+    registry: &Registry,
+    class: &ClassId,
+    count: usize,
+) -> Result<bool, AllocError>
+    requires { IsOf registry.now class.now }
+{
+    let Ok(tables) = Tables::new(alloc, 4) else {
+        return Err(AllocError);
+    };
+    let (is_put, tables) = work_is_right(rt, alloc, registry, class, count, Work::Put, tables)?;
+    let (is_run, tables) = work_is_right(rt, alloc, registry, class, count, Work::Plus, tables)?;
+    let before = entries_of(&tables);
+    let (results, tables) = plus_on_all(rt, alloc, registry, tables, count, class);
+    let is_listed = are_listed(&before, results.as_deref(), &entries_of(&tables));
+    Ok(is_put && is_run && is_listed)
+}
+
+/// The same of Plus, in a registry of its own.
 fn rounds_are_right<R: Threads + Wait + Sync>(
     rt: &R,
     alloc: Global,
     count: usize,
 ) -> Result<bool, AllocError> {
-    let Ok(tables) = Tables::new(alloc, 4) else {
-        return Err(AllocError);
-    };
     let registry = Registry::new(alloc)?;
     let Ok(class) = registry.define(rt, alloc, &rows::plus(alloc)?) else {
         return Err(AllocError);
     };
-    let args = Args::none();
-    let jobs = jobs_for(alloc, Work::Put, &class, &args)?;
-    let (answers, tables) = round(rt, alloc, &registry, tables, count, &jobs);
-    let first = entries_of(&tables);
-    let is_put = are_told(Work::Put, &[None; KEYS], answers.as_deref(), &first);
-    let jobs = jobs_for(alloc, Work::Plus, &class, &args)?;
-    let (answers, tables) = round(rt, alloc, &registry, tables, count, &jobs);
-    let second = entries_of(&tables);
-    let is_run = are_told(Work::Plus, &first, answers.as_deref(), &second);
-    let (results, tables) = plus_on_all(rt, alloc, &registry, tables, count, &class);
-    let is_listed = are_listed(&second, results.as_deref(), &entries_of(&tables));
-    Ok(is_put && is_run && is_listed)
+    all_are_right(rt, alloc, &registry, &class, count)
 }
 
 /// Where memory lacks for what stands around the rounds, there is nothing to see.
