@@ -33,5 +33,6 @@ pub mod Operating
 pub mod Placing
 pub mod Deciding
 pub mod Items
+pub mod Boxing
 pub mod Landing
 pub mod Leaping

@@ -15,3 +15,4 @@ pub mod Replies
 pub mod Spread
 pub mod Putting
 pub mod Flights
+pub mod Boxes

@@ -15,7 +15,8 @@ use jtypes::{JavaFault, Outcome, RefType, RefValue};
 use natives::passes;
 
 /// Whether a reference may be cast: null, and what is of the type.
-fn may_cast(arena: &Arena, value: RefValue, target: RefType) -> bool
+#[inline(always)]
+pub fn may_cast(arena: &Arena, value: RefValue, target: RefType) -> bool
     requires { (v : RefValue) × IsReference arena.now.arrays v value }
     ensures { (v : RefValue) → IsReference arena.now.arrays v value → result ≡ may_cast arena.now.arrays v target }
 {

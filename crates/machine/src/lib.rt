@@ -5,6 +5,7 @@ mod act;
 mod arithmetic;
 mod arrays;
 mod asking;
+mod boxes;
 mod branches;
 mod calls;
 mod casts;
