@@ -34,5 +34,6 @@ pub mod Placing
 pub mod Deciding
 pub mod Items
 pub mod Boxing
+pub mod EntryCalls
 pub mod Landing
 pub mod Leaping

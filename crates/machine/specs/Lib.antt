@@ -16,3 +16,4 @@ pub mod Spread
 pub mod Putting
 pub mod Flights
 pub mod Boxes
+pub mod Entries

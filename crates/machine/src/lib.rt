@@ -12,6 +12,7 @@ mod casts;
 mod common;
 mod done;
 mod elements;
+mod entries;
 mod flight;
 mod forking;
 mod leap;
