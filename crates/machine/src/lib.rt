@@ -10,6 +10,7 @@ mod branches;
 mod calls;
 mod casts;
 mod common;
+mod dividing;
 mod done;
 mod elements;
 mod entries;
