@@ -33,8 +33,8 @@ const HELD: u64 = 1;
 /// Where a seat holds it, and another one may sleep until it is given back.
 const AWAITED: u64 = 2;
 
-/// How often a taken stripe is looked at before the seat sleeps. That takes some five microseconds, and most calls hold a stripe for
-/// one or two; to fall asleep and to be woken takes ten times as long.
+/// How often a taken stripe is looked at before the seat sleeps. So many looks take about half a microsecond, and to fall asleep and
+/// be woken takes some six.
 const LOOKS: u32 = 100;
 
 /// Takes a stripe if it is free. Its word becomes the mark in any case.

@@ -7,8 +7,8 @@ ghost use Rattle.invokeall.specs.Jobs.{IsCallable};
 use invokeall::Job;
 use registry::Registry;
 
-/// The instructions that make a worker more worth its thread: some two hundred microseconds of work. To start a thread and to wait
-/// for its end takes about half of that.
+/// The instructions that make a worker more worth its thread: some two hundred microseconds of work or more. A thread that does
+/// nothing takes some thirty to start and end, and rounds were seen to lose more by a further worker.
 pub const SHARE: u32 = 262_144;
 
 /// The instructions that a call is reckoned to take beside those of its class: it takes a stripe, finds an entry, puts it and
