@@ -4,7 +4,6 @@ import static org.junit.jupiter.api.Assertions.assertDoesNotThrow;
 import static org.junit.jupiter.api.Assertions.assertEquals;
 import static org.junit.jupiter.api.Assertions.assertFalse;
 import static org.junit.jupiter.api.Assertions.assertNotSame;
-import static org.junit.jupiter.api.Assertions.assertNull;
 import static org.junit.jupiter.api.Assertions.assertSame;
 import static org.junit.jupiter.api.Assertions.assertThrows;
 import static org.junit.jupiter.api.Assertions.assertTrue;
@@ -21,88 +20,8 @@ import javax.cache.integration.CompletionListener;
 import org.junit.jupiter.api.Test;
 import org.junit.jupiter.api.function.Executable;
 
-/** Each method of Cache, on the real server. */
+/** What holds for all methods of Cache, and those that have no test of their own, on the real server. */
 class CacheTest extends OnServer {
-    @Test void getAndContainsKey() {
-        assertNull(cache.get(k));
-        assertFalse(cache.containsKey(k));
-        cache.put(k, 5L);
-        assertEquals(5L, cache.get(k));
-        assertTrue(cache.containsKey(k));
-    }
-
-    @Test void put() {
-        cache.put(k, Long.MIN_VALUE);
-        assertEquals(Long.MIN_VALUE, cache.get(k));
-        cache.put(k, Long.MAX_VALUE);
-        assertEquals(Long.MAX_VALUE, cache.get(k));
-        cache.put(-k, -1L);
-        assertEquals(-1L, cache.get(-k));
-        assertTrue(cache.remove(-k));
-    }
-
-    @Test void remove() {
-        assertFalse(cache.remove(k));
-        cache.put(k, 0L);
-        assertTrue(cache.remove(k));
-        assertFalse(cache.remove(k));
-        assertNull(cache.get(k));
-    }
-
-    @Test void getAndPut() {
-        assertNull(cache.getAndPut(k, -5L));
-        assertEquals(-5L, cache.getAndPut(k, 6L));
-        assertEquals(6L, cache.get(k));
-    }
-
-    @Test void putIfAbsent() {
-        assertTrue(cache.putIfAbsent(k, 5L));
-        assertFalse(cache.putIfAbsent(k, 6L));
-        assertEquals(5L, cache.get(k));
-    }
-
-    @Test void removeWhereOld() {
-        assertFalse(cache.remove(k, 5L));
-        cache.put(k, -5L);
-        assertFalse(cache.remove(k, 5L));
-        assertTrue(cache.containsKey(k));
-        assertTrue(cache.remove(k, -5L));
-        assertFalse(cache.containsKey(k));
-    }
-
-    @Test void getAndRemove() {
-        assertNull(cache.getAndRemove(k));
-        cache.put(k, 5L);
-        assertEquals(5L, cache.getAndRemove(k));
-        assertFalse(cache.containsKey(k));
-    }
-
-    @Test void replaceWhereOld() {
-        assertFalse(cache.replace(k, 5L, 6L));
-        assertFalse(cache.containsKey(k));
-        cache.put(k, 5L);
-        assertFalse(cache.replace(k, 6L, 7L));
-        assertEquals(5L, cache.get(k));
-        assertTrue(cache.replace(k, 5L, -7L));
-        assertEquals(-7L, cache.get(k));
-    }
-
-    @Test void replace() {
-        assertFalse(cache.replace(k, 5L));
-        assertFalse(cache.containsKey(k));
-        cache.put(k, 5L);
-        assertTrue(cache.replace(k, 6L));
-        assertEquals(6L, cache.get(k));
-    }
-
-    @Test void getAndReplace() {
-        assertNull(cache.getAndReplace(k, 5L));
-        assertFalse(cache.containsKey(k));
-        cache.put(k, 5L);
-        assertEquals(5L, cache.getAndReplace(k, 6L));
-        assertEquals(6L, cache.get(k));
-    }
-
     @Test void getAllPutAllRemoveAll() {
         Map<Long, Long> entries = new HashMap<>();
         server.keys(0, 10_000).forEach(key -> entries.put(key, 2 * key));

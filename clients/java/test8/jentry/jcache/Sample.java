@@ -60,6 +60,69 @@ final class Sample {
         }
     }
 
+    static class Value implements EntryProcessor<Long, Long, Object> {
+        @Override public Object process(MutableEntry<Long, Long> entry, Object... arguments) {
+            return entry.getValue();
+        }
+    }
+
+    static class Exists implements EntryProcessor<Long, Long, Integer> {
+        @Override public Integer process(MutableEntry<Long, Long> entry, Object... arguments) {
+            return entry.exists() ? 1 : 0;
+        }
+    }
+
+    /** Removes its entry and divides by zero. */
+    static class RemovesAndThrows implements EntryProcessor<Long, Long, Object> {
+        @Override public Object process(MutableEntry<Long, Long> entry, Object... arguments) {
+            entry.remove();
+            return 1L / arguments.length;
+        }
+    }
+
+    /** Sets its entry and divides by zero. */
+    static class PutsAndThrows implements EntryProcessor<Long, Long, Object> {
+        @Override public Object process(MutableEntry<Long, Long> entry, Object... arguments) {
+            entry.setValue(1L);
+            return 1L / arguments.length;
+        }
+    }
+
+    /** Takes more than 1,500,000 instructions. */
+    static class Heavy implements EntryProcessor<Long, Long, Long> {
+        @Override public Long process(MutableEntry<Long, Long> entry, Object... arguments) {
+            return seven(1);
+        }
+
+        private static long one(long it) {
+            return it * it + it;
+        }
+
+        private static long two(long it) {
+            return one(one(one(one(one(one(one(one(it))))))));
+        }
+
+        private static long three(long it) {
+            return two(two(two(two(two(two(two(two(it))))))));
+        }
+
+        private static long four(long it) {
+            return three(three(three(three(three(three(three(three(it))))))));
+        }
+
+        private static long five(long it) {
+            return four(four(four(four(four(four(four(four(it))))))));
+        }
+
+        private static long six(long it) {
+            return five(five(five(five(five(five(five(five(it))))))));
+        }
+
+        private static long seven(long it) {
+            return six(six(six(six(six(six(six(six(it))))))));
+        }
+    }
+
     /** Has a field that no code uses. */
     static class Unused implements EntryProcessor<Long, Long, Object> {
         long unused;

@@ -2,7 +2,6 @@ package jentry.jcache;
 
 import static org.junit.jupiter.api.Assertions.assertEquals;
 import static org.junit.jupiter.api.Assertions.assertFalse;
-import static org.junit.jupiter.api.Assertions.assertNull;
 import static org.junit.jupiter.api.Assertions.assertThrows;
 import static org.junit.jupiter.api.Assertions.assertTrue;
 
@@ -12,100 +11,13 @@ import java.net.URLClassLoader;
 import java.util.HashMap;
 import java.util.List;
 import java.util.Map;
-import java.util.Set;
-import java.util.concurrent.CompletionException;
 import javax.cache.CacheException;
 import javax.cache.processor.EntryProcessor;
-import javax.cache.processor.EntryProcessorException;
-import javax.cache.processor.EntryProcessorResult;
 import javax.cache.processor.MutableEntry;
 import org.junit.jupiter.api.Test;
 
-/** Processors: which can be sent, what they answer and throw, on the real server. */
-class InvokeTest extends OnServer {
-    @Test void argumentsAndResults() {
-        assertEquals(5L, cache.invoke(k, new Sample.Add(), 5L));
-        assertEquals(-2L, cache.invoke(k, new Sample.Add(), -7L));
-        assertEquals(-2L, cache.get(k));
-        assertEquals(k, cache.invoke(k, new Sample.Key()));
-        for (Object argument : new Object[] {1L, -1, Long.MIN_VALUE, Integer.MIN_VALUE, null}) {
-            assertEquals(argument, cache.invoke(k, new Sample.First(), argument, 3L));
-        }
-        assertEquals(8, cache.invoke(k, new Sample.Count(), 1L, 2, null, 4L, 5L, 6L, 7L, 8L));
-        assertEquals(0, cache.invoke(k, new Sample.Count()));
-        assertEquals(0, cache.invoke(k, new Sample.Count(), (Object[]) null));
-        assertNull(cache.invoke(k, new Sample.Removes()));
-        assertFalse(cache.containsKey(k));
-    }
-
-    @Test void resultsAreLongIntegerNumberOrObject() {
-        Long ofLong = cache.invoke(k, new Sample.Key());
-        Integer ofInteger = cache.invoke(k, new Sample.Count(), 1L, 2L);
-        Object ofObject = cache.invoke(k, new Sample.First(), 3);
-        Number ofNumber = cache.invoke(k, new Sample.Half(), 9L);
-        assertEquals(List.of(k, 2, 3, 4L), List.of(ofLong, ofInteger, ofObject, ofNumber));
-        assertEquals(4, cache.invoke(k, new Sample.Half(), 9));
-    }
-
-    @Test void argumentsThatCannotBeSent() {
-        assertThrows(IllegalArgumentException.class, () -> cache.invoke(k, new Sample.Add(), "text"));
-        assertThrows(IllegalArgumentException.class, () -> cache.invoke(k, new Sample.Count(), 1L, 2L, 3L, 4L, 5L, 6L, 7L, 8L, 9L));
-        assertThrows(IllegalArgumentException.class, () -> cache.invokeAll(Set.of(k), new Sample.Add(), 1.5));
-        assertThrows(IllegalArgumentException.class, () -> server.own().invokeAsync(k, new Sample.Add(), 'x'));
-        assertFalse(cache.containsKey(k));
-    }
-
-    private Throwable causeOf(EntryProcessor<Long, Long, ?> processor, Object... arguments) {
-        return assertThrows(EntryProcessorException.class, () -> cache.invoke(k, processor, arguments)).getCause();
-    }
-
-    @Test void exceptionsOfProcessors() {
-        assertEquals(NullPointerException.class, causeOf(new Sample.Divides()).getClass());
-        cache.put(k, 0L);
-        Throwable cause = causeOf(new Sample.Divides());
-        assertEquals(ArithmeticException.class, cause.getClass());
-        assertTrue(cause.getMessage().contains("Sample$Divides"), cause.getMessage());
-        assertEquals(ArrayIndexOutOfBoundsException.class, causeOf(new Sample.Add()).getClass());
-        assertEquals(ClassCastException.class, causeOf(new Sample.Add(), 1).getClass());
-        assertEquals(0L, cache.get(k));
-    }
-
-    @Test void invokeAllAnswersByKey() {
-        long one = server.key(1), zero = server.key(2), twenty = server.key(3), none = server.key(4);
-        cache.putAll(Map.of(one, 1L, zero, 0L, twenty, 20L));
-        Map<Long, EntryProcessorResult<Long>> results = cache.invokeAll(Set.of(one, zero, twenty, none), new Sample.Divides());
-        assertEquals(Set.of(zero, twenty, none), results.keySet());
-        assertEquals(5L, results.get(twenty).get());
-        assertEquals(ArithmeticException.class, assertThrows(EntryProcessorException.class, () -> results.get(zero).get()).getCause().getClass());
-        assertEquals(NullPointerException.class, assertThrows(EntryProcessorException.class, () -> results.get(none).get()).getCause().getClass());
-        assertEquals(Map.of(one, 77L, zero, 0L, twenty, 77L), cache.getAll(Set.of(one, zero, twenty, none)));
-    }
-
-    @Test void invokeAllOfManyKeys() {
-        Map<Long, EntryProcessorResult<Long>> results = cache.invokeAll(server.keys(0, 9_000), new Sample.Add(), 3L);
-        assertEquals(server.keys(0, 9_000), results.keySet());
-        results.values().forEach(it -> assertEquals(3L, it.get()));
-        assertEquals(3L, cache.get(server.key(8_999)));
-    }
-
-    @Test void invokeAsyncAnswersAndThrows() {
-        assertEquals(5L, server.own().invokeAsync(k, new Sample.Add(), 5L).join());
-        assertNull(server.own().invokeAsync(k, new Sample.Removes()).join());
-        Throwable thrown = assertThrows(CompletionException.class, () -> server.own().invokeAsync(k, new Sample.Divides()).join()).getCause();
-        assertEquals(EntryProcessorException.class, thrown.getClass());
-        assertEquals(NullPointerException.class, thrown.getCause().getClass());
-        assertThrows(ProcessorRefusedException.class, () -> server.own().invokeAsync(k, new Sample.Loops()));
-    }
-
-    @Test void switchesLeadWhereTheirKeysDo() {
-        int[] keys = {-1, 0, 1, 2, 3, 999, 1_000, 1_001, Integer.MIN_VALUE, Integer.MAX_VALUE};
-        long[] wanted = {0, 10, 11, 12, 0, 0, 13, 0, -1, 14};
-        for (int i = 0; i < keys.length; i++) {
-            assertEquals(wanted[i], cache.invoke(k, new Sample.Switches(), keys[i]));
-        }
-        assertEquals(NullPointerException.class, causeOf(new Sample.Switches(), (Object) null).getClass());
-    }
-
+/** The class files of processors: which can be sent, and what is told of those that can't or are refused, on the real server. */
+class ClassFileTest extends OnServer {
     @Test void classesThatCanBeSent() {
         assertEquals(6L, cache.invoke(k, new TopLevel()));
         assertEquals(9L, cache.invoke(k, new Sample.Unused()));
@@ -121,7 +33,7 @@ class InvokeTest extends OnServer {
         EntryProcessor<?, ?, ?> proxy = (EntryProcessor<?, ?, ?>) Proxy.newProxyInstance(getClass().getClassLoader(), new Class<?>[] {EntryProcessor.class}, (a, b, c) -> 1L);
         Map<EntryProcessor<Long, Long, Object>, String> refused = new HashMap<>();
         refused.put((entry, arguments) -> 1L, "lambda or a method reference, which has no class file");
-        refused.put(InvokeTest::answer, "lambda or a method reference, which has no class file");
+        refused.put(ClassFileTest::answer, "lambda or a method reference, which has no class file");
         refused.put(Sample.inner(), "inner class, which holds its outer instance; make it static");
         refused.put(Sample.capturing(5), "is made with values from outside");
         long rounds = rounds();

@@ -1,0 +1,58 @@
+package jentry.jcache;
+
+import static org.junit.jupiter.api.Assertions.assertEquals;
+import static org.junit.jupiter.api.Assertions.assertThrows;
+import static org.junit.jupiter.api.Assertions.assertTrue;
+
+import java.net.URI;
+import java.util.List;
+import java.util.Map;
+import java.util.Properties;
+import javax.cache.Cache;
+import javax.cache.CacheException;
+import javax.cache.CacheManager;
+import javax.cache.spi.CachingProvider;
+import org.junit.jupiter.api.BeforeEach;
+import org.junit.jupiter.api.Test;
+
+/** The URIs and properties of a manager, on the real server. */
+class UriTest extends OnServer {
+    private CachingProvider provider;
+
+    @BeforeEach void find() {
+        provider = server.manager.getCachingProvider();
+    }
+
+    private String cannot(String uri, String... properties) {
+        Properties all = StandIn.properties(properties);
+        return assertThrows(CacheException.class, () -> provider.getCacheManager(URI.create(uri), null, all)).getMessage();
+    }
+
+    @Test void urisAndPropertiesThatCannotBeUnderstood() {
+        for (String uri : List.of("jentry:relative", "jentry+unix:relative", "jentry+tcp://host", "jentry+tcp:host:1", "redis://host:1")) {
+            assertTrue(cannot(uri).contains("a URI is jentry:default, jentry:/PATH/OF/PROGRAM"), uri);
+        }
+        assertTrue(cannot("jentry:/a", "jentry.tiemout", "1").contains("jentry.tiemout"));
+        assertTrue(cannot("jentry+unix:/a", "jentry.workers", "1").contains("jentry.workers"));
+        for (String name : List.of("jentry.timeout", "jentry.queue", "jentry.workers", "jentry.stripes")) {
+            assertTrue(cannot("jentry:/a", name, "-1").contains(name + " is a number from"), name);
+            assertTrue(cannot("jentry:/a", name, "x").contains(name + " is a number from"), name);
+        }
+        assertTrue(cannot("jentry:/a", "jentry.queue", "0").contains("from 1"));
+    }
+
+    @Test void propertiesOfAChild() {
+        Properties all = new Properties();
+        all.setProperty("jentry.program", System.getProperty("jentry.program"));
+        all.setProperty("jentry.workers", "2");
+        all.setProperty("jentry.stripes", "4");
+        all.setProperty("jentry.timeout", "0");
+        all.setProperty("other", "kept");
+        try (CacheManager own = provider.getCacheManager(URI.create("jentry:default"), new ClassLoader() { }, all)) {
+            assertEquals(all, own.getProperties());
+            Cache<Long, Long> small = own.createCache("a", Server.types());
+            small.putAll(Map.of(1L, 1L, 2L, 2L));
+            assertEquals(2L, small.invoke(2L, new Sample.Key()));
+        }
+    }
+}
