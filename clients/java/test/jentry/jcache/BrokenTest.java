@@ -34,8 +34,6 @@ import org.junit.jupiter.api.Timeout;
 class BrokenTest {
     private static final String NOT_KNOWN = "whether this call has run is not known";
     private static final String NOT_SENT = "this call was not sent";
-    // It takes some milliseconds; a busy machine may take a thousand times as long.
-    private static final long SOON_MILLIS = 5_000;
 
     private static String failure(Runnable call) {
         return assertThrows(CacheException.class, call::run).getMessage();
@@ -97,30 +95,52 @@ class BrokenTest {
         breaks(0, new byte[] {-1, -1, -1, -1}, "a reply of -1 bytes", it -> it.get(1L));
     }
 
-    @Test void theServersEndFailsEveryCall() throws Exception {
+    private static long[] endInMidRound(boolean tcp) throws Exception {
+        AtomicLong ended = new AtomicLong(), last = new AtomicLong();
+        StandIn.Script script = (it, round, requests) -> {
+            ended.set(System.nanoTime());
+            return round == 200 ? null : it.right(requests);
+        };
+        try (StandIn server = tcp ? StandIn.tcp(script) : StandIn.unix(script)) {
+            Cache<Long, Long> cache = server.cache();
+            AtomicInteger known = new AtomicInteger();
+            Team.of(32, t -> {
+                String message = failure(() -> {
+                    while (true) {
+                        cache.put((long) t, 1L);
+                    }
+                });
+                last.accumulateAndGet(System.nanoTime(), Math::max);
+                assertTrue(message.contains(NOT_KNOWN) || message.contains(NOT_SENT), message);
+                known.addAndGet(message.contains(NOT_KNOWN) ? 1 : 0);
+            }).join();
+            assertTrue(known.get() > 0);
+            assertTrue(failure(() -> cache.get(1L)).contains(NOT_SENT));
+            assertThrows(CacheException.class, () -> cache.unwrap(JentryCache.class).invokeAsync(1L, new Sample.Key()));
+        }
+        return new long[] {ended.get(), last.get()};
+    }
+
+    @Test void theServersEndFailsEveryCallWithinASecond() throws Exception {
         for (boolean tcp : new boolean[] {false, true}) {
-            AtomicLong ended = new AtomicLong();
-            StandIn.Script script = (it, round, requests) -> {
-                ended.set(System.nanoTime());
-                return round == 200 ? null : it.right(requests);
-            };
+            Soon.within(() -> endInMidRound(tcp));
+        }
+    }
+
+    @Test void eachCacheHasAConnectionOfItsOwn() throws Exception {
+        StandIn.Script script = (it, round, requests) -> it.right(requests);
+        for (boolean tcp : new boolean[] {false, true}) {
             try (StandIn server = tcp ? StandIn.tcp(script) : StandIn.unix(script)) {
-                Cache<Long, Long> cache = server.cache();
-                AtomicInteger known = new AtomicInteger();
-                Team.of(32, t -> {
-                    String message = failure(() -> {
-                        while (true) {
-                            cache.put((long) t, 1L);
-                        }
-                    });
-                    long millis = TimeUnit.NANOSECONDS.toMillis(System.nanoTime() - ended.get());
-                    assertTrue(millis < SOON_MILLIS, "told after " + millis + " ms");
-                    assertTrue(message.contains(NOT_KNOWN) || message.contains(NOT_SENT), message);
-                    known.addAndGet(message.contains(NOT_KNOWN) ? 1 : 0);
-                }).join();
-                assertTrue(known.get() > 0);
-                assertTrue(failure(() -> cache.get(1L)).contains(NOT_SENT));
-                assertThrows(CacheException.class, () -> cache.unwrap(JentryCache.class).invokeAsync(1L, new Sample.Key()));
+                Cache<Long, Long> one = server.cache(), other = one.getCacheManager().createCache("other", Server.types());
+                one.put(1L, 5L);
+                assertEquals(5L, other.get(1L));
+                assertEquals(2, server.connections());
+                one.close();
+                for (int i = 0; server.connections() != 1; i++) {
+                    assertTrue(i < 30_000, "a connection that stays");
+                    Thread.sleep(1);
+                }
+                assertEquals(5L, other.get(1L));
             }
         }
     }

@@ -43,6 +43,7 @@ final class StandIn implements AutoCloseable {
     private final Map<Long, Long> entries = new ConcurrentHashMap<>();
     private final AtomicInteger classes = new AtomicInteger();
     private final AtomicInteger rounds = new AtomicInteger();
+    private final AtomicInteger connections = new AtomicInteger();
     private final URI uri;
     private CacheManager manager;
 
@@ -99,7 +100,13 @@ final class StandIn implements AutoCloseable {
         }
     }
 
+    /** How many connections it has at this moment. */
+    int connections() {
+        return connections.get();
+    }
+
     private void serve(SocketChannel connection) {
+        connections.incrementAndGet();
         try (connection) {
             DataInputStream in = new DataInputStream(Channels.newInputStream(connection));
             OutputStream out = Channels.newOutputStream(connection);
@@ -116,6 +123,8 @@ final class StandIn implements AutoCloseable {
             }
         } catch (Exception e) {
             // The client went, or the test is over.
+        } finally {
+            connections.decrementAndGet();
         }
     }
 
