@@ -112,17 +112,29 @@ class Cache(jentry.Requests, jentry.Processors):
         """Ends the stream. Calls that wait raise StreamEnded, and so do later ones."""
         self._fail(jentry.StreamEnded("the stream is closed"))
         self._reading.cancel()
+        await asyncio.gather(self._reading, return_exceptions=True)
         self._out.close()
         try:
             await self._out.wait_closed()
         except OSError:
             pass
         if self._child:
-            try:
-                await asyncio.wait_for(self._child.wait(), 5)
-            except asyncio.TimeoutError:
-                self._child.kill()
-                await self._child.wait()
+            await self._end_child()
+
+    async def _end_child(self):
+        """Waits for the child's end. What it still tells is read on: asyncio doesn't see the end of a child before that of its output."""
+        rest = asyncio.ensure_future(self._read_on())
+        try:
+            await asyncio.wait_for(self._child.wait(), 5)
+        except asyncio.TimeoutError:
+            self._child.kill()
+            await self._child.wait()
+        rest.cancel()
+        await asyncio.gather(rest, return_exceptions=True)
+
+    async def _read_on(self):
+        while await self._in.read(65_536):
+            pass
 
     async def __aenter__(self):
         return self

@@ -18,7 +18,7 @@ sys.path[:0] = [HERE, os.path.join(HERE, "../tests")]
 import jentry
 import jentry_aio
 import jentry_processors
-from class_files import plus, ratio
+from class_files import heavy, plus, ratio
 from running import FRONT, PATIENCE, PROGRAM, SERVER, STAND_IN, Running
 
 EXAMPLES = os.path.join(HERE, "../../examples")
@@ -185,6 +185,15 @@ class Endings:
     def test_a_reply_too_few(self):
         self.ends_for_all("--short")
 
+    def test_another_kind_of_reply(self):
+        self.ends_for_all("--other")
+
+    def test_a_frame_of_1_mb(self):
+        self.ends_for_all("--huge")
+
+    def test_a_frame_of_no_length(self):
+        self.ends_for_all("--empty")
+
 
 class Threads(Threaded, Endings):
     def test_64_threads_on_one_key(self):
@@ -212,6 +221,57 @@ class Threads(Threaded, Endings):
                     if [it.result() for it in answers] != [n, None]:
                         raise AssertionError("another's reply")
             self.run_threads(32, work)
+
+    def test_rounds_of_many_beside_single_calls(self):
+        with jentry.Cache.start(*SERVER) as cache:
+            processor = cache.define(plus())
+            cache.put(-1, 0)
+
+            def work(me):
+                for n in range(5):
+                    if me % 2:
+                        for _ in range(50):
+                            cache.invoke(-1, processor)
+                        continue
+                    keys = range(1_000 * me, 1_000 * me + 700)
+                    with cache.round() as r:
+                        puts = [r.put(key, key + n) for key in keys]
+                    with cache.round() as r:
+                        gets = [r.get(key) for key in keys]
+                    if [it.result() for it in puts + gets] != 700 * [None] + [key + n for key in keys]:
+                        raise AssertionError("another's reply")
+            self.run_threads(16, work)
+            self.assertEqual(cache.get(-1), 8 * 5 * 50)
+
+    @unittest.skipUnless(PROGRAM, "the program isn't built")
+    def test_the_server_is_killed_in_mid_round(self):
+        with tempfile.TemporaryDirectory() as folder:
+            number = os.path.join(folder, "number")
+            with jentry.Cache.start("sh", "-c", f"echo $$ >{number}; exec {PROGRAM} serve") as cache:
+                processor, told = cache.define(heavy()), []
+                rounds = [lambda: cache.invoke_all(range(4_096), processor)] + 8 * [lambda: cache.put(1, 1)]
+
+                def work(n):
+                    try:
+                        told.append(rounds[n]())
+                    except jentry.StreamEnded:
+                        told.append("ended")
+
+                def kill():
+                    while not cache._is_led or len(cache._waiting) < 8:
+                        threading.Event().wait(0.001)
+                    self.assertEqual(told, [])
+                    with open(number) as file:
+                        os.kill(int(file.read()), signal.SIGKILL)
+                leader = threading.Thread(target=work, args=(0,))
+                leader.start()
+                while not cache._is_led or cache._waiting:
+                    threading.Event().wait(0.001)
+                self.run_threads(8, lambda n: work(n + 1), meanwhile=kill)
+                leader.join(PATIENCE)
+                self.assertEqual(told, 9 * ["ended"])
+                with self.assertRaises(jentry.StreamEnded):
+                    cache.get(1)
 
     def ends_for_all(self, option, *more):
         cache = jentry.Cache.start(*STAND_IN, option, "40", *more)
@@ -419,6 +479,86 @@ class Loop(unittest.TestCase, Endings):
             with self.assertRaises(jentry.StreamEnded):
                 await cache.get(1)
         self.run_in_loop(work, STAND_IN + [option, "2"])
+
+    @unittest.skipUnless(PROGRAM, "the program isn't built")
+    def test_the_server_is_killed_in_mid_round(self):
+        async def work(cache):
+            processor = await cache.define(heavy())
+            out = [asyncio.ensure_future(self.invoke_all(cache, processor))]
+            await asyncio.sleep(0.05)
+            out += [asyncio.ensure_future(self.get(cache, key)) for key in range(8)]
+            await asyncio.sleep(0)
+            self.assertEqual([it.done() for it in out], 9 * [False])
+            cache._child.kill()
+            told = await asyncio.gather(*out, return_exceptions=True)
+            self.assertEqual([type(it) for it in told], 9 * [jentry.StreamEnded])
+            with self.assertRaises(jentry.StreamEnded):
+                await cache.get(1)
+        self.run_in_loop(work)
+
+    async def invoke_all(self, cache, processor):
+        return await cache.invoke_all(range(4_096), processor)
+
+    def test_what_can_not_be_sent_is_not_sent(self):
+        async def work(cache):
+            processor = await cache.define(plus())
+            for wrong in (lambda: cache.put(2**63, 1), lambda: cache.get("7"), lambda: cache.invoke(1, processor, *range(9)),
+                          lambda: cache.invoke_all(range(4_097), processor), lambda: cache.define(bytes(jentry.LONGEST))):
+                with self.assertRaises(Exception) as told:
+                    await wrong()
+                self.assertNotIsInstance(told.exception, jentry.Error)
+            self.assertIsNone(await cache.get(1))
+        self.run_in_loop(work)
+
+    def test_processors(self):
+        async def work(cache):
+            processor = await cache.define(plus())
+            self.assertEqual((processor.number, processor.steps, processor.words), (0, 14, 0))
+            await cache.put(7, 41)
+            self.assertEqual(await cache.invoke(7, processor), 42)
+            with self.assertRaises(jentry.ProcessorThrew) as told:
+                await cache.invoke(8, processor)
+            self.assertEqual((told.exception.number, told.exception.name), (3, "NullPointerException"))
+            told = await cache.invoke_all([7, 8, 7], processor)
+            self.assertEqual(list(told), [7, 8])
+            self.assertEqual(told[7], 43)
+            self.assertIsInstance(told[8], jentry.ProcessorThrew)
+        self.run_in_loop(work)
+
+    def test_tasks_of_many_keys_beside_single_calls(self):
+        async def many(cache, processor, me):
+            keys = range(1_000 * me, 1_000 * me + 700)
+            await asyncio.gather(*(cache.put(key, key) for key in keys))
+            told = await cache.invoke_all(keys, processor)
+            return [told[key] - key for key in keys] + [await cache.get(key) - key for key in keys[:5]]
+
+        async def single(cache, processor):
+            return [await cache.invoke(-1, processor) for _ in range(50)]
+
+        async def work(cache):
+            processor = await cache.define(plus())
+            await cache.put(-1, 0)
+            told = await asyncio.gather(*(many(cache, processor, me) for me in range(8)), *(single(cache, processor) for _ in range(8)))
+            self.assertEqual(told[:8], 8 * [705 * [1]])
+            self.assertEqual(sorted(sum(told[8:], [])), list(range(1, 401)))
+            self.assertTrue(all(it == sorted(it) for it in told[8:]))
+        self.run_in_loop(work)
+
+    def test_closed(self):
+        async def work(cache):
+            await cache.close()
+            await cache.close()
+            with self.assertRaises(jentry.StreamEnded):
+                await cache.get(1)
+        self.run_in_loop(work)
+
+    @unittest.skipUnless(PROGRAM, "the program isn't built")
+    def test_a_refused_class(self):
+        async def work(cache):
+            with self.assertRaises(jentry.Refused) as told:
+                await cache.define(b"none")
+            self.assertEqual((told.exception.number, told.exception.name), (3, "BadMagic"))
+        self.run_in_loop(work)
 
     @unittest.skipUnless(PROGRAM and HAS_PROCESSORS, "the program or the class files of the processors aren't there")
     def test_built_in_processors(self):

@@ -2,10 +2,11 @@
 """fake_server: speaks the frames of `jentry serve` without a machine, for tests of clients where the program isn't built, and of what a
 client does where a server fails. Every class is accepted and adds one to its entry.
 
-    fake_server.py [--die N] [--wrong N] [--short N] [--slow SECONDS]
+    fake_server.py [--die N] [--wrong N] [--short N] [--other N] [--huge N] [--empty N] [--slow SECONDS]
 
 --die N ends it in its round N, before the replies to that round; --wrong N puts a reply more than there are requests into round N;
---short N leaves the last reply of round N out; --slow makes each round take so long.
+--short N leaves the last reply of round N out. In place of that reply --other N tells one that answers no request, --huge N one of
+1 MB, --empty N one of no length. --slow makes each round take so long.
 """
 import argparse
 import struct
@@ -13,6 +14,9 @@ import sys
 import time
 
 MOST_JOBS = 4_096
+OTHER = b"\0\0\0\1\x4d"
+HUGE = struct.pack(">I", 1 << 20) + bytes(1 << 20)
+EMPTY = bytes(4)
 
 
 def long(it):
@@ -91,6 +95,9 @@ def serve(options, read, write):
             out.append(b"\0\0\0\1\3")
         if rounds == options.short:
             out.pop()
+        for at, reply in ((options.other, OTHER), (options.huge, HUGE), (options.empty, EMPTY)):
+            if rounds == at:
+                out[-1] = reply
         write.write(b"".join(out) + b"\0\0\0\1\x09")
         write.flush()
         out.clear()
@@ -98,7 +105,7 @@ def serve(options, read, write):
 
 if __name__ == "__main__":
     parser = argparse.ArgumentParser()
-    for name in ("--die", "--wrong", "--short"):
+    for name in ("--die", "--wrong", "--short", "--other", "--huge", "--empty"):
         parser.add_argument(name, type=int, default=-1)
     parser.add_argument("--slow", type=float, default=0)
     try:
