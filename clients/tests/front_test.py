@@ -185,6 +185,7 @@ class ManyConnections(FrontTest):
             self.ask(b, get(1) + get(2) + END, 2 * value(None) + ENDED)
 
     def test_what_is_no_request_ends_its_connection_alone(self):
+        self.assertEqual(len(MALFORMED), 18)
         with Running() as front, front.open() as b:
             for text in MALFORMED:
                 with self.subTest(text=text[:20]), front.open() as a:
@@ -317,6 +318,30 @@ class ManyConnections(FrontTest):
             thread.join(PATIENCE)
             self.assertGreater(len(rounds), 0)
             self.assertTrue(all(rounds))
+
+
+    def test_rounds_sent_ahead_hold_up_nobody(self):
+        count, taken, wrong = 50_000, [], []
+
+        def take_all(line):
+            try:
+                for n in range(0, count, 1_000):
+                    wrong.append(take(line, 1_000 * len(DONE + ENDED)) != 1_000 * (DONE + ENDED))
+                    taken.append(n)
+            except (OSError, EOFError) as e:
+                wrong.append(repr(e))
+        with Running() as front, front.open() as b, front.open() as a:
+            taker = threading.Thread(target=take_all, args=(a,))
+            sender = threading.Thread(target=a.sendall, args=(count * (put(1, 1) + END),))
+            taker.start()
+            sender.start()
+            for n in range(20):
+                self.ask(b, put(-1, n) + get(-2) + END, DONE + value(None) + ENDED)
+            self.assertLess(len(taken), count // 1_000, "the rounds were all answered before others")
+            for it in (sender, taker):
+                it.join(2 * PATIENCE)
+            self.assertEqual(set(wrong), {False})
+            self.assertEqual(len(taken), count // 1_000)
 
 
 class Waits(FrontTest):
@@ -466,6 +491,31 @@ class Ends(FrontTest):
 
     def test_the_server_tells_too_little(self):
         self.ends_with("--short", "the server")
+
+    def test_the_server_tells_another_kind_of_reply(self):
+        self.ends_with("--other", "the server")
+
+    def test_the_server_tells_a_frame_of_1_mb(self):
+        self.ends_with("--huge", "the server")
+
+    def test_the_server_tells_a_frame_of_no_length(self):
+        self.ends_with("--empty", "the server")
+
+    @unittest.skipUnless(PROGRAM, "the stand-in runs no classes")
+    def test_the_server_is_killed_in_mid_round(self):
+        """Nothing of the round is told, neither of the one that waits; all connections end, and so does the front."""
+        with Running("--steps", "1000000000") as front, front.open() as a, front.open() as b, front.open() as c:
+            self.define(a, heavy(), 0)
+            self.ask(b, put(1, 1) + END, DONE + ENDED)
+            a.sendall(b"".join(invoke(0, key) for key in range(4_096)) + END)
+            time.sleep(0.05)
+            b.sendall(put(1, 2) + END)
+            self.assertEqual([has_more(it) for it in (a, b, c)], 3 * [False])
+            os.kill(front.server(), signal.SIGKILL)
+            for it in (a, b, c):
+                self.assertTrue(is_ended(it))
+            self.assertEqual(front.end(), 3)
+            self.assertIn("the server has ended (signal: 9 (SIGKILL))", front.words[-1])
 
     def test_the_server_ends_while_nobody_asks(self):
         with Running() as front, front.open() as a:
