@@ -120,6 +120,15 @@ impl Connection {
         self.advance(shared)
     }
 
+    /// The same for a connection that isn't writing and may have sent nothing; then the answer is None.
+    pub fn hear(&mut self, shared: &mut Shared) -> io::Result<Option<Step>> {
+        if self.read(&mut shared.buffer)? {
+            self.advance(shared).map(Some)
+        } else {
+            Ok(None)
+        }
+    }
+
     /// Takes the replies to its round.
     pub fn answer(&mut self, replies: &[u8]) {
         self.output.extend_from_slice(replies);
@@ -144,8 +153,8 @@ impl Connection {
         self.is_away = false;
     }
 
-    /// Reads what came, or a part of it.
-    fn read(&mut self, buffer: &mut [u8]) -> io::Result<()> {
+    /// Reads what came, or a part of it. Tells whether anything came.
+    fn read(&mut self, buffer: &mut [u8]) -> io::Result<bool> {
         self.input.drain(..take(&mut self.taken));
         if self.input.is_empty() {
             self.input.shrink_to(KEPT);
@@ -154,9 +163,9 @@ impl Connection {
             Ok(0) => Err(io::ErrorKind::UnexpectedEof.into()),
             Ok(count) => {
                 self.input.extend_from_slice(&buffer[..count]);
-                Ok(())
+                Ok(true)
             }
-            Err(e) if is_for_later(&e) => Ok(()),
+            Err(e) if is_for_later(&e) => Ok(false),
             Err(e) => Err(e),
         }
     }

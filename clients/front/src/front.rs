@@ -8,6 +8,7 @@ use crate::listen::{Gate, Stream};
 use crate::piece::{Part, Turn};
 use crate::poll::{Poll, INPUT, OUTPUT};
 use crate::server::end_soon;
+use crate::spin::Spin;
 use std::collections::HashMap;
 use std::io::{self, Read};
 use std::mem::take;
@@ -19,6 +20,9 @@ use std::time::{Duration, Instant};
 const SERVER: u64 = 0;
 const BELL: u64 = 1;
 const FIRST: u64 = 2;
+
+/// How many times in a row the front may find something at the likeliest place, before it looks at all files.
+const MOST_AHEAD: u32 = 8;
 
 /// How often the front looks for connections that stand still.
 const SWEEP: Duration = Duration::from_millis(250);
@@ -33,14 +37,29 @@ struct Line {
 /// All connections, and the server.
 pub struct Front {
     poll: Poll,
+    spin: Spin,
     gate: Arc<Gate>,
     bell: UnixStream,
     desk: Desk,
     shared: Shared,
     lines: HashMap<u64, Line>,
     next: u64,
+    /// The connection that was told something last: the next to come, where it calls in a row.
+    told: u64,
+    /// How many times in a row something was found at the likeliest place.
+    ahead: u32,
     idle: Option<Duration>,
     swept: Instant,
+}
+
+/// What a wait ended by.
+enum Woken {
+    /// The replies to the piece at the server are all there.
+    Done(Vec<Turn<Owner>>),
+    /// Something came of the connection that was looked at first.
+    Connection,
+    /// So many files are ready, which the poll tells.
+    Files(usize),
 }
 
 impl Front {
@@ -49,7 +68,7 @@ impl Front {
         let poll = Poll::new()?;
         poll.change(desk.replies(), SERVER, 0, INPUT)?;
         poll.change(&bell, BELL, 0, INPUT)?;
-        Ok(Front { poll, gate, bell, desk, shared, lines: HashMap::new(), next: FIRST, idle, swept: Instant::now() })
+        Ok(Front { poll, spin: Spin::new(), gate, bell, desk, shared, lines: HashMap::new(), next: FIRST, told: 0, ahead: 0, idle, swept: Instant::now() })
     }
 
     /// Serves until the server ends or answers what is no reply. Then its input ends, all connections are closed, and so are those that come
@@ -68,19 +87,78 @@ impl Front {
     /// Waits until there is something to do, and does it. The next piece is sent before anybody is told of the last one. An error is the
     /// server's end.
     fn turn(&mut self) -> io::Result<()> {
-        let ready = self.poll.wait(self.idle.map(|_| SWEEP))?;
         let mut done = Vec::new();
-        for token in ready {
-            match token {
-                SERVER => done = self.desk.receive()?,
-                BELL => self.take_arrived(),
-                connection => self.go_on(connection),
+        match self.wait()? {
+            Woken::Done(turns) => done = turns,
+            Woken::Connection => {}
+            Woken::Files(count) => {
+                for at in 0..count {
+                    match self.poll.token(at) {
+                        SERVER => done.extend(self.desk.receive()?.unwrap_or_default()),
+                        BELL => self.take_arrived(),
+                        connection => self.go_on(connection),
+                    }
+                }
             }
         }
         self.desk.send()?;
         done.into_iter().for_each(|turn| self.tell(turn));
         self.sweep();
         self.desk.send()
+    }
+
+    /// Waits until there is something to do. It looks again and again before it sleeps.
+    fn wait(&mut self) -> io::Result<Woken> {
+        let mut begun = None;
+        loop {
+            let found = self.look()?;
+            let goes_on = match begun {
+                Some(begun) => self.spin.goes_on(begun, found.is_some()),
+                None if found.is_some() => false,
+                None => {
+                    begun = self.spin.begin();
+                    begun.is_some()
+                }
+            };
+            match found {
+                Some(it) => return Ok(it),
+                None if goes_on => {}
+                None => return Ok(Woken::Files(self.poll.wait(self.idle.map(|_| SWEEP))?)),
+            }
+        }
+    }
+
+    /// Looks for something to do. Where one connection alone calls it looks first where something is likeliest to come: at the server while
+    /// it has a piece, else at that connection.
+    fn look(&mut self) -> io::Result<Option<Woken>> {
+        if self.ahead < MOST_AHEAD && self.desk.has_one() {
+            self.ahead += 1;
+            if self.desk.is_out() {
+                if let Some(turns) = self.desk.receive()? {
+                    return Ok(Some(Woken::Done(turns)));
+                }
+            } else if self.hears(self.told) {
+                return Ok(Some(Woken::Connection));
+            }
+        }
+        self.ahead = 0;
+        let count = self.poll.look()?;
+        Ok(if count > 0 { Some(Woken::Files(count)) } else { None })
+    }
+
+    /// Reads what has come of a connection that is listened to, if anything has, and goes on with it.
+    fn hears(&mut self, number: u64) -> bool {
+        let line = match self.lines.get_mut(&number) {
+            Some(line) if line.awaited == INPUT && !line.connection.is_away() => line,
+            _ => return false,
+        };
+        let step = match line.connection.hear(&mut self.shared) {
+            Ok(None) => return false,
+            Ok(Some(step)) => Ok(step),
+            Err(e) => Err(e),
+        };
+        self.follow(number, step);
+        true
     }
 
     fn take_arrived(&mut self) {
@@ -156,6 +234,7 @@ impl Front {
     /// Tells a connection what came of its round or its class.
     fn tell(&mut self, turn: Turn<Owner>) {
         let Owner { connection, class } = turn.owner;
+        self.told = connection;
         let replies = turn.part.into_replies();
         match class {
             None => self.resume(connection, |it| it.answer(&replies)),

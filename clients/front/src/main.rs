@@ -13,6 +13,7 @@ mod piece;
 mod poll;
 mod request;
 mod server;
+mod spin;
 
 use connection::Shared;
 use desk::Desk;
@@ -57,7 +58,7 @@ fn run(options: Options) -> Result<(), String> {
     let (into, out) = server::start(&program, move || remove_sockets(&places)).map_err(|e| format!("can't start {}: {}", program[0], e))?;
     let (gate, bell) = Gate::new(most).map_err(no_files)?;
     let gate = Arc::new(gate);
-    let desk = Desk::new(into, out, steps);
+    let desk = Desk::new(into, out, steps).map_err(no_files)?;
     let idle = if idle == 0 { None } else { Some(Duration::from_secs(idle)) };
     let front = Front::new(gate.clone(), bell, desk, Shared::new(classes, requests), idle).map_err(no_files)?;
     for (listener, name) in listeners {

@@ -271,8 +271,8 @@ impl Piece {
         self.left_out.get(turn).copied().unwrap_or(true)
     }
 
-    /// Deals the server's replies, texts without their lengths one behind the other, `ends` telling where each ends. False where one of
-    /// them is no reply to its request.
+    /// Deals the server's replies, frames one behind the other, `ends` telling where each ends. False where one of them is no reply to its
+    /// request.
     pub fn deal<T>(&self, turns: &mut [Turn<T>], text: &[u8], ends: &[usize]) -> bool {
         let mut ends = ends.iter();
         let mut begin = 0;
@@ -289,9 +289,8 @@ impl Piece {
             let reply = &text[begin..end];
             begin = end;
             let went = match what {
-                What::Keys { keys, last } => part.join(keys.clone(), *last, reply),
+                What::Keys { keys, last } => part.join(keys.clone(), *last, &reply[4..]),
                 _ => {
-                    part.told.extend_from_slice(&(reply.len() as u32).to_be_bytes());
                     part.told.extend_from_slice(reply);
                     Some(())
                 }

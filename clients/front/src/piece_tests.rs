@@ -2,7 +2,7 @@
 
 use super::*;
 
-const DONE: [u8; 1] = [3];
+const DONE: [u8; 5] = [0, 0, 0, 1, 3];
 
 fn plain(key: u8) -> Vec<u8> {
     let mut text = vec![0, 0, 0, 9, 3];
@@ -107,7 +107,7 @@ fn replies_go_to_their_places() {
     let mut turns = vec![turn(1, one), turn(2, other)];
     let piece = Piece::gather(&mut turns, 1_000);
     assert_eq!(piece.replies(), 3);
-    assert!(piece.deal(&mut turns, &[5, 1, 5, 2, 5, 3], &[2, 4, 6]));
+    assert!(piece.deal(&mut turns, &[0, 0, 0, 2, 5, 1, 0, 0, 0, 2, 5, 2, 0, 0, 0, 2, 5, 3], &[6, 12, 18]));
     let told: Vec<Vec<u8>> = turns.into_iter().map(|it| it.part.into_replies()).collect();
     assert_eq!(told[0], [0, 0, 0, 2, 5, 1, 0, 0, 0, 1, 77, 0, 0, 0, 2, 5, 2]);
     assert_eq!(told[1], [0, 0, 0, 1, 78, 0, 0, 0, 2, 5, 3]);
@@ -126,7 +126,8 @@ fn replies_to_parts_of_an_invoke_all_are_put_together() {
         let piece = Piece::gather(&mut turns, 1);
         let sent = many(&[4 - at as u8]);
         assert_eq!(piece.text()[..sent.len()], sent[..]);
-        assert!(piece.deal(&mut turns, reply, &[reply.len()]));
+        let frame = [&(reply.len() as u32).to_be_bytes()[..], reply].concat();
+        assert!(piece.deal(&mut turns, &frame, &[frame.len()]));
     }
     assert!(turns[0].part.is_done());
     let body = [&[7, 0, 3][..], &key(4), &five, &key(2), &[2, 3], &key(1), &[1, 2]].concat();
@@ -147,5 +148,5 @@ fn a_reply_of_another_kind_is_none_for_keys() {
 fn replies_that_are_missing_are_seen() {
     let mut turns = vec![round(1, 2, 64)];
     let piece = Piece::gather(&mut turns, 1_000);
-    assert!(!piece.deal(&mut turns, &DONE, &[1]));
+    assert!(!piece.deal(&mut turns, &DONE, &[5]));
 }
