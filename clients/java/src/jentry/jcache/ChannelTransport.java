@@ -26,6 +26,8 @@ final class ChannelTransport implements Transport {
     private final Selector selector;
     private final SelectionKey key;
 
+    private final Spin spin = new Spin();
+
     // A channel copies arrays by a buffer of each thread's own, which it keeps. With this one there is one for all threads.
     private final ByteBuffer buffer = ByteBuffer.allocateDirect(ROOM);
 
@@ -79,7 +81,7 @@ final class ChannelTransport implements Transport {
         boolean interrupted = false;
         try {
             buffer.clear().limit(Math.min(ROOM, count));
-            int got = channel.read(buffer);
+            int got = look();
             while (got == 0) {
                 interrupted |= await(SelectionKey.OP_READ);
                 got = channel.read(buffer);
@@ -89,6 +91,18 @@ final class ChannelTransport implements Transport {
         } finally {
             restore(interrupted);
         }
+    }
+
+    /** Reads what is there, or comes soon; 0 where nothing does. */
+    private int look() throws IOException {
+        int got = channel.read(buffer);
+        if (got == 0 && spin.begins()) {
+            do {
+                Thread.onSpinWait();
+                got = channel.read(buffer);
+            } while (spin.goesOn(got != 0));
+        }
+        return got;
     }
 
     /** Waits until the channel is ready, or something wakes the selector; answers whether an interrupt did. */
