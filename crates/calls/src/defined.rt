@@ -9,7 +9,7 @@ use rowclasses as rows;
 use std::alloc::Global;
 use std::sync::Wait;
 use std::test::Fail;
-use std::thread::join;
+use std::thread::{Threads, join};
 
 /// Defines a class 50 times.
 fn defined<R: Wait>(
@@ -39,54 +39,90 @@ fn of_steps(registry: &Registry, ids: &[ClassId], steps: u32) -> usize
         .count()
 }
 
+/// The steps of two classes and the slots of the other, by the ids for which they are kept in a registry one after the other; none where one is refused.
+fn bounds_of_both<R: Wait>(
+    rt: &R,
+    alloc: Global,
+    registry: &Registry,
+    bytes: &[u8],
+    other: &[u8],
+) -> Option<(u32, u32, u32)> {
+    match registry.define(rt, alloc, bytes) {
+        Ok(id) => match registry.define(rt, alloc, other) {
+            Ok(other) => {
+                let steps = registry.class(&id).bounds().steps;
+                let bounds = registry.class(&other).bounds();
+                Some((steps, bounds.steps, bounds.slots))
+            }
+            Err(_) => None,
+        },
+        Err(_) => None,
+    }
+}
+
 #[test]
 fn an_id_gives_its_class(rt: HostRuntime) -> Result<(), Fail> {
-    let alloc = rt.alloc();
-    let registry = Registry::new(alloc)?;
-    let Ok(plus) = registry.define(&rt, alloc, &rows::plus(alloc)?) else {
-        panic!(rt; "plus is refused");
-    };
-    let Ok(counter) = registry.define(&rt, alloc, &rows::counter(alloc)?) else {
-        panic!(rt; "counter is refused");
-    };
-    assert_eq!(rt; registry.class(&plus).bounds().steps, 14);
-    assert_eq!(rt; registry.class(&counter).bounds().steps, 24);
-    assert_eq!(rt; registry.class(&counter).bounds().slots, 11);
-    let refused = match registry.define(&rt, alloc, &[]) {
-        Ok(_) => None,
-        Err(refusal) => Some(refusal),
-    };
+    let registry = Registry::new(rt.alloc())?;
+    let plus = rows::plus(rt.alloc())?;
+    let counter = rows::counter(rt.alloc())?;
+    let bounds = bounds_of_both(&rt, rt.alloc(), &registry, &plus, &counter);
+    assert_eq!(rt; bounds, Some((14, 24, 11)));
+    let refused = registry.define(&rt, rt.alloc(), &[]).err();
     assert_eq!(rt; refused, Some(Refusal::Truncated));
     Ok(())
 }
 
-#[test]
-fn four_threads_define(rt: HostRuntime) -> Result<(), Fail> {
-    let alloc = rt.alloc();
-    let registry = Registry::new(alloc)?;
-    let bytes = rows::plus(alloc)?;
+/// What a thread is given that defines a class 50 times.
+type Defined = Result<Vec<ClassId>, Refusal>;
+
+/// How many of a thread's ids have a class of so many steps; none where it was refused one.
+fn count_of(registry: &Registry, ids: Defined, steps: u32) -> Option<usize>
+    requires { IfOk ids (λ ids. All (λ id. IsOf registry.now id) ids.items) }
+{
+    match ids {
+        Ok(ids) => Some(of_steps(registry, &ids, steps)),
+        Err(_) => None,
+    }
+}
+
+/// How many ids with a class of 14 steps each of four threads has.
+fn counts_of_four<R: Threads + Wait + Sync>(
+    rt: &R,
+    alloc: Global,
+    registry: &Registry,
+    bytes: &[u8],
+) -> [Option<usize>; 4] {
     let ((first, second), (third, fourth)) = join(
-        &rt,
+        rt,
         || {
             join(
-                &rt,
-                || defined(&rt, alloc, &registry, &bytes),
-                || defined(&rt, alloc, &registry, &bytes),
+                rt,
+                || defined(rt, alloc, registry, bytes),
+                || defined(rt, alloc, registry, bytes),
             )
         },
         || {
             join(
-                &rt,
-                || defined(&rt, alloc, &registry, &bytes),
-                || defined(&rt, alloc, &registry, &bytes),
+                rt,
+                || defined(rt, alloc, registry, bytes),
+                || defined(rt, alloc, registry, bytes),
             )
         },
     );
-    let (Ok(first), Ok(second), Ok(third), Ok(fourth)) = (first, second, third, fourth) else {
-        panic!(rt; "a class is refused");
-    };
-    for ids in [&first, &second, &third, &fourth] {
-        assert_eq!(rt; of_steps(&registry, ids, 14), 50);
+    [
+        count_of(registry, first, 14),
+        count_of(registry, second, 14),
+        count_of(registry, third, 14),
+        count_of(registry, fourth, 14),
+    ]
+}
+
+#[test]
+fn four_threads_define(rt: HostRuntime) -> Result<(), Fail> {
+    let registry = Registry::new(rt.alloc())?;
+    let bytes = rows::plus(rt.alloc())?;
+    for count in counts_of_four(&rt, rt.alloc(), &registry, &bytes) {
+        assert_eq!(rt; count, Some(50));
     }
     Ok(())
 }

@@ -159,14 +159,14 @@ fn are_answers(told: &[Told; 5]) -> bool {
         .as_slice()
 }
 
-/// The same in a workspace of its own; none where there is no memory for it.
+/// Whether each kind of call on key 1 is told what it means, in a workspace of its own.
 fn asked_in_new<'a, R: Wait>(
     rt: &R,
     alloc: Global,
     cache: &Cache<'a, 'static, NoLoader>,
     seat: &mut Seat<'a>,
     plus: &ClassId,
-) -> Option<[Told; 5]>
+) -> bool
     requires seat { seat.old.table ≡ cache.now.table }
     requires class { IsOf cache.now.registry plus.now }
     ensures table { seat.new.table ≡ seat.old.table }
@@ -174,30 +174,8 @@ fn asked_in_new<'a, R: Wait>(
     ensures made { seat.new.made ≡ seat.old.made }
 {
     match Workspace::new(alloc) {
-        Ok(mut workspace) => Some(asked_all(rt, cache, seat, &mut workspace, plus, 1)),
-        Err(_) => None,
-    }
-}
-
-/// What a cache of two stripes hands out after these calls on key 1; none where one was told something else.
-fn called<'a, R: Wait>(
-    rt: &R,
-    alloc: Global,
-    registry: &'a Registry,
-    plus: &ClassId,
-) -> Option<Closed<'a>>
-    requires { IsOf registry.now plus.now }
-{
-    match opened(alloc, registry, 2, 16) {
-        Ok((cache, mut seat)) => {
-            let told = asked_in_new(rt, alloc, &cache, &mut seat, plus);
-            let closed = closed(alloc, cache, seat);
-            match told {
-                Some(told) if are_answers(&told) => closed.ok(),
-                _ => None,
-            }
-        }
-        Err(_) => None,
+        Ok(mut workspace) => are_answers(&asked_all(rt, cache, seat, &mut workspace, plus, 1)),
+        Err(_) => false,
     }
 }
 
@@ -278,13 +256,25 @@ fn counts_outside_are_refused(rt: HostRuntime) -> Result<(), Fail> {
     Ok(())
 }
 
-/// Whether the calls are told what they mean, and their receipts name the records, and no entry is left.
+/// Whether a cache was closed, the receipts name the records of its stripe 1, and no entry is left.
+fn is_left(closed: Result<Closed<'_>, AllocError>) -> bool {
+    match closed {
+        Ok(closed) => are_receipts(&closed) && closed.tables.entry(1) == None,
+        Err(_) => false,
+    }
+}
+
+/// Whether the calls on a cache of two stripes are told what they mean, and their receipts name the records, and no entry is left.
 fn one_key<R: Wait>(rt: &R, alloc: Global, registry: &Registry, plus: &ClassId) -> bool
     requires { IsOf registry.now plus.now }
 {
-    match called(rt, alloc, registry, plus) {
-        Some(closed) => are_receipts(&closed) && closed.tables.entry(1) == None,
-        None => false,
+    match opened(alloc, registry, 2, 16) {
+        Ok((cache, mut seat)) => {
+            let are_told = asked_in_new(rt, alloc, &cache, &mut seat, plus);
+            let is_left = is_left(closed(alloc, cache, seat));
+            are_told && is_left
+        }
+        Err(_) => false,
     }
 }
 
@@ -306,19 +296,23 @@ fn calls_on_one_key(rt: HostRuntime) -> Result<(), Fail> {
     Ok(())
 }
 
-/// What a put of 5 and a get on key 1 were told where a stripe may have one record, and what is left: the entry, and how many records and receipts there are.
-type Full = (Told, Told, Option<(Option<i64>, Option<(usize, usize)>)>);
+/// What is left: the entry of key 1, and how many records and receipts there are.
+type Left = (Option<i64>, Option<(usize, usize)>);
 
-fn full<R: Wait>(rt: &R, alloc: Global, registry: &Registry) -> Option<Full> {
+fn left_in(closed: Result<Closed<'_>, AllocError>) -> Option<Left> {
+    match closed {
+        Ok(closed) => Some((closed.tables.entry(1), counts(&closed, 0))),
+        Err(_) => None,
+    }
+}
+
+/// What a put of 5 and a get on key 1 were told where a stripe may have one record, and what is left.
+fn full<R: Wait>(rt: &R, alloc: Global, registry: &Registry) -> Option<(Told, Told, Option<Left>)> {
     match opened(alloc, registry, 1, 1) {
         Ok((cache, mut seat)) => {
             let put = asked(rt, &cache, &mut seat, 1, Plain::Put(5));
             let got = asked(rt, &cache, &mut seat, 1, Plain::Get);
-            let left = match closed(alloc, cache, seat) {
-                Ok(closed) => Some((closed.tables.entry(1), counts(&closed, 0))),
-                Err(_) => None,
-            };
-            Some((put, got, left))
+            Some((put, got, left_in(closed(alloc, cache, seat))))
         }
         Err(_) => None,
     }

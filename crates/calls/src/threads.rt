@@ -291,6 +291,25 @@ fn sums_of(alloc: Global, closed: &Closed<'_>, receipts: usize) -> Sums {
 }
 
 /// What is left of the work of callers, where each seat is to have so many receipts.
+fn summed_in<R: Threads + Wait + Sync>(
+    rt: &R,
+    alloc: Global,
+    registry: &Registry,
+    counter: &ClassId,
+    stripes: usize,
+    seats: usize,
+    work: Work,
+    receipts: usize,
+) -> Option<Sums>
+    requires { IsOf registry.now counter.now }
+{
+    match worked(rt, alloc, registry, counter, stripes, seats, work) {
+        Ok(closed) => Some(sums_of(alloc, &closed, receipts)),
+        Err(_) => None,
+    }
+}
+
+/// The same on a registry of its own.
 fn summed<R: Threads + Wait + Sync>(
     rt: &R,
     alloc: Global,
@@ -303,10 +322,9 @@ fn summed<R: Threads + Wait + Sync>(
     match Registry::new(alloc) {
         Ok(registry) => match registry.define(rt, alloc, bytes) {
             Ok(counter) => {
-                match worked(rt, alloc, &registry, &counter, stripes, seats, work) {
-                    Ok(closed) => Some(sums_of(alloc, &closed, receipts)),
-                    Err(_) => None,
-                }
+                summed_in(
+                    rt, alloc, &registry, &counter, stripes, seats, work, receipts,
+                )
             }
             Err(_) => None,
         },

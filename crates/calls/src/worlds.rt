@@ -138,6 +138,12 @@ type Ran = (
     (Option<i64>, Option<i64>),
 );
 
+/// What a run of these events tells, and the entries behind it.
+fn ran<'a>(world: &mut World<'a, NoLoader>, events: &[Event<'a>]) -> Ran {
+    let told = world.run(events);
+    (told, entries_of(world))
+}
+
 /// The events of the table by one run, and then others.
 fn stopped_run(alloc: Global, plus: &Verified) -> Option<[Ran; 2]> {
     let rest = [
@@ -145,12 +151,7 @@ fn stopped_run(alloc: Global, plus: &Verified) -> Option<[Ran; 2]> {
         Event::Finish { stripe: 0 },
     ];
     match opened(alloc, 2, 2) {
-        Some(mut world) => {
-            let first = world.run(&table(plus));
-            let stopped = (first, entries_of(&world));
-            let second = world.run(&rest);
-            Some([stopped, (second, entries_of(&world))])
-        }
+        Some(mut world) => Some([ran(&mut world, &table(plus)), ran(&mut world, &rest)]),
         None => None,
     }
 }
@@ -185,12 +186,17 @@ fn are_rows(records: &[Record<'_>], rows: &[Row]) -> bool {
 
 /// Whether no call runs in a world, and it has these records and, of these two keys, no entries when it is closed.
 fn closes_with(world: World<'_, NoLoader>, rows: &[Row], keys: (i64, i64)) -> bool {
-    if !world.is_idle() {
-        return false;
+    if world.is_idle() {
+        let (tables, records) = world.close();
+        are_rows(&records, rows) && has_neither(&tables, keys)
+    } else {
+        false
     }
-    let (tables, records) = world.close();
-    let entries = (tables.entry(keys.0), tables.entry(keys.1));
-    are_rows(&records, rows) && entries == (None, None)
+}
+
+/// Whether neither key has an entry.
+fn has_neither(tables: &Tables, keys: (i64, i64)) -> bool {
+    (tables.entry(keys.0), tables.entry(keys.1)) == (None, None)
 }
 
 /// Whether each of these calls, which aren't invocations, starts and finishes at once.
@@ -209,10 +215,9 @@ fn are_made<'a>(world: &mut World<'a, NoLoader>, stripes: usize, calls: &[Call<'
     true
 }
 
-/// Whether calls on a negative key of so many stripes do what they have to.
-fn one_key(alloc: Global, stripes: usize) -> bool {
-    let key = -7;
-    let calls = [
+/// Calls on a key.
+fn calls_on<'a>(key: i64) -> [Call<'a>; 7] {
+    [
         Call::Get { key },
         Call::Put { key, value: 5 },
         Call::Get { key },
@@ -220,20 +225,31 @@ fn one_key(alloc: Global, stripes: usize) -> bool {
         Call::Remove { key },
         Call::Remove { key },
         Call::Contains { key },
-    ];
-    let rows = [
-        (0, 0, Reply::Value(None), None),
-        (0, 1, Reply::Done, Some(5)),
-        (0, 2, Reply::Value(Some(5)), Some(5)),
-        (0, 3, Reply::Flag(true), Some(5)),
-        (0, 4, Reply::Flag(true), None),
-        (0, 5, Reply::Flag(false), None),
-        (0, 6, Reply::Flag(false), None),
-    ];
+    ]
+}
+
+/// Their records.
+static ROWS: [Row; 7] = [
+    (0, 0, Reply::Value(None), None),
+    (0, 1, Reply::Done, Some(5)),
+    (0, 2, Reply::Value(Some(5)), Some(5)),
+    (0, 3, Reply::Flag(true), Some(5)),
+    (0, 4, Reply::Flag(true), None),
+    (0, 5, Reply::Flag(false), None),
+    (0, 6, Reply::Flag(false), None),
+];
+
+/// Whether calls on a key of a world of so many empty stripes do what they have to.
+fn one_key_of(mut world: World<'_, NoLoader>, stripes: usize, key: i64) -> bool {
+    let are_made = are_made(&mut world, stripes, &calls_on(key));
+    let is_left = closes_with(world, &ROWS, (key, key));
+    are_made && is_left
+}
+
+/// The same of a negative key.
+fn one_key(alloc: Global, stripes: usize) -> bool {
     match opened(alloc, stripes, 7) {
-        Some(mut world) => {
-            are_made(&mut world, stripes, &calls) && closes_with(world, &rows, (key, key))
-        }
+        Some(world) => one_key_of(world, stripes, -7),
         None => false,
     }
 }
@@ -256,6 +272,26 @@ fn finish_all(world: &mut World<'_, NoLoader>) -> [Applied; 3] {
     told
 }
 
+/// Starts invocations of two classes on two stripes, by two callers.
+fn begun<'a>(
+    world: &mut World<'a, NoLoader>,
+    plus: &'a Verified,
+    set_remove: &'a Verified,
+) -> [Applied; 2] {
+    let other = Event::Start {
+        caller: 9,
+        call: invoke(set_remove, 4),
+    };
+    [world.apply(start(invoke(plus, -1))), world.apply(other)]
+}
+
+/// Whether the records of these two invocations are left, the latter first, and no entries.
+fn is_left(world: World<'_, NoLoader>) -> bool {
+    let null = Reply::Result(Outcome::Threw(JavaFault::NullPointer));
+    let two = Reply::Result(Outcome::Returned(Arg::Long(2)));
+    closes_with(world, &[(9, 0, two, None), (0, 0, null, None)], (-1, 4))
+}
+
 /// What became of a processor that throws on an absent key, and of one that sets and removes on another, by two callers on two stripes: of
 /// their starts and of the finishes, and whether the records are theirs, the latter first.
 fn turns(
@@ -263,19 +299,11 @@ fn turns(
     plus: &Verified,
     set_remove: &Verified,
 ) -> Option<([Applied; 2], [Applied; 3], bool)> {
-    let null = Reply::Result(Outcome::Threw(JavaFault::NullPointer));
-    let two = Reply::Result(Outcome::Returned(Arg::Long(2)));
-    let rows = [(9, 0, two, None), (0, 0, null, None)];
-    let other = Event::Start {
-        caller: 9,
-        call: invoke(set_remove, 4),
-    };
     match opened(alloc, 2, 4) {
         Some(mut world) => {
-            let begun = [world.apply(start(invoke(plus, -1))), world.apply(other)];
+            let begun = begun(&mut world, plus, set_remove);
             let ended = finish_all(&mut world);
-            let is_left = closes_with(world, &rows, (-1, 4));
-            Some((begun, ended, is_left))
+            Some((begun, ended, is_left(world)))
         }
         None => None,
     }
