@@ -37,3 +37,4 @@ pub mod Boxing
 pub mod EntryCalls
 pub mod Landing
 pub mod Leaping
+pub mod Tails

@@ -9,6 +9,7 @@ mod boxes;
 mod branches;
 mod calls;
 mod casts;
+mod cells;
 mod common;
 mod done;
 mod elements;

@@ -11,3 +11,4 @@ pub mod Shaping
 pub mod Owning
 pub mod Standing
 pub mod Staying
+pub mod Ahead
