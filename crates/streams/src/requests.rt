@@ -35,6 +35,18 @@ fn serve_all<T: Threads + Wait + Sync>(
     serve_beside(rt, alloc, input, settings, &NoGate)
 }
 
+/// Serves what a reader gives to a writer, without a loader.
+fn served<T: Threads + Wait + Sync, R: Read, W: Write, G: Gate + Sync>(
+    rt: &T,
+    alloc: Global,
+    reader: &mut Counted<R>,
+    writer: &mut Counted<W>,
+    settings: Settings,
+    gate: &G,
+) -> Result<(), ServeFault> {
+    serve(rt, alloc, reader, writer, settings, gate, &NoLoader)
+}
+
 fn serve_beside<T: Threads + Wait + Sync, G: Gate + Sync>(
     rt: &T,
     alloc: Global,
@@ -44,18 +56,7 @@ fn serve_beside<T: Threads + Wait + Sync, G: Gate + Sync>(
 ) -> Ended {
     let mut reader = Counted::new(input);
     let mut writer = Counted::new(Vec::new(alloc));
-    let fault = match serve(
-        rt,
-        alloc,
-        &mut reader,
-        &mut writer,
-        settings,
-        gate,
-        &NoLoader,
-    ) {
-        Ok(()) => None,
-        Err(fault) => Some(fault),
-    };
+    let fault = served(rt, alloc, &mut reader, &mut writer, settings, gate).err();
     Ended {
         fault,
         output: writer.into_inner(),
@@ -174,15 +175,7 @@ fn dropped<T: Threads + Wait + Sync>(
         rest: &ROUND_END[..end],
     });
     let mut writer = Counted::new(Vec::new(alloc));
-    let result = serve(
-        rt,
-        alloc,
-        &mut reader,
-        &mut writer,
-        SETTINGS,
-        &NoGate,
-        &NoLoader,
-    );
+    let result = served(rt, alloc, &mut reader, &mut writer, SETTINGS, &NoGate);
     (result, reader.failures(), writer.into_inner().len())
 }
 
@@ -211,15 +204,7 @@ fn sunk<T: Threads + Wait + Sync>(
         most,
         fails,
     });
-    let result = serve(
-        rt,
-        alloc,
-        &mut reader,
-        &mut writer,
-        SETTINGS,
-        &NoGate,
-        &NoLoader,
-    );
+    let result = served(rt, alloc, &mut reader, &mut writer, SETTINGS, &NoGate);
     let (failures, idle) = (writer.failures(), writer.idle());
     let is_beginning = writer.into_inner().bytes.as_slice() == &[0, 0, 0, 1, 9][..most];
     (result, failures, idle, is_beginning)
@@ -227,7 +212,6 @@ fn sunk<T: Threads + Wait + Sync>(
 
 #[test]
 fn a_writer_that_fails_is_told(rt: HostRuntime) -> Result<(), Fail> {
-    let alloc = rt.alloc();
     for most in 0..5 {
         for fails in [false, true] {
             let wanted = (
@@ -236,10 +220,15 @@ fn a_writer_that_fails_is_told(rt: HostRuntime) -> Result<(), Fail> {
                 u64::from(!fails),
                 true,
             );
-            assert_eq!(rt; sunk(&rt, alloc, most, fails), wanted);
+            assert_eq!(rt; sunk(&rt, rt.alloc(), most, fails), wanted);
         }
     }
-    let (result, failures, _idle, is_whole) = sunk(&rt, alloc, 5, true);
+    Ok(())
+}
+
+#[test]
+fn a_writer_that_fails_to_flush_is_told(rt: HostRuntime) -> Result<(), Fail> {
+    let (result, failures, _idle, is_whole) = sunk(&rt, rt.alloc(), 5, true);
     assert_eq!(rt;
         (result, failures, is_whole),
         (Err(ServeFault::Write), 1, true)
@@ -247,29 +236,30 @@ fn a_writer_that_fails_is_told(rt: HostRuntime) -> Result<(), Fail> {
     Ok(())
 }
 
+/// The faults by their numbers from 1 on, and their names.
+static FAULTS: [(ServeFault, &str); 7] = [
+    (ServeFault::TooLong, "TooLong"),
+    (ServeFault::Truncated, "Truncated"),
+    (ServeFault::Malformed, "Malformed"),
+    (ServeFault::Read, "Read"),
+    (ServeFault::NoMemory, "NoMemory"),
+    (ServeFault::Write, "Write"),
+    (ServeFault::BadCount, "BadCount"),
+];
+
 #[test]
 fn faults_have_numbers_and_names(rt: HostRuntime) -> Result<(), Fail> {
-    let faults = [
-        (ServeFault::TooLong, "TooLong"),
-        (ServeFault::Truncated, "Truncated"),
-        (ServeFault::Malformed, "Malformed"),
-        (ServeFault::Read, "Read"),
-        (ServeFault::NoMemory, "NoMemory"),
-        (ServeFault::Write, "Write"),
-        (ServeFault::BadCount, "BadCount"),
-    ];
-    for (i, (fault, name)) in faults.iter().enumerate() {
+    for (i, (fault, name)) in FAULTS.iter().enumerate() {
         assert_eq!(rt; usize::from(fault.number()), i + 1);
         assert_eq!(rt; fault.name(), *name);
     }
     Ok(())
 }
 
-#[test]
-fn a_class_is_invoked_on_the_entry_of_the_round_before(rt: HostRuntime) -> Result<(), Fail> {
-    let alloc = rt.alloc();
+/// Plus is defined and key 7 put to 41, and in a second round Plus is invoked on it.
+fn put_and_invoke(alloc: Global) -> Result<Vec<u8>, AllocError> {
     let plus = rows::plus(alloc)?;
-    let input = defined(
+    defined(
         alloc,
         &plus,
         &[
@@ -278,8 +268,13 @@ fn a_class_is_invoked_on_the_entry_of_the_round_before(rt: HostRuntime) -> Resul
             0, 0, 0, 0x0E, 6, 0, 0, 0, 0, 0, 0, 0, 0, 0, 0, 0, 7, 0, //
             0, 0, 0, 1, 8,
         ],
-    )?;
-    assert!(rt; each_comes_to(&rt, alloc, &input, None, &[
+    )
+}
+
+#[test]
+fn a_class_is_invoked_on_the_entry_of_the_round_before(rt: HostRuntime) -> Result<(), Fail> {
+    let input = put_and_invoke(rt.alloc())?;
+    assert!(rt; each_comes_to(&rt, rt.alloc(), &input, None, &[
         0, 0, 0, 13, 1, 0, 0, 0, 0, 0, 0, 0, 14, 0, 0, 0, 0, //
         0, 0, 0, 1, 3, //
         0, 0, 0, 1, 9, //

@@ -48,9 +48,15 @@ impl<'s, R: Clock> Gate for Holding<'s, R> {
     }
 }
 
+/// The stream of Counter and a round's end.
+fn counter_defined(alloc: Global) -> Result<Vec<u8>, AllocError> {
+    let counter = rows::counter(alloc)?;
+    defined(alloc, &counter, &ROUND_END)
+}
+
 /// The stream of Counter, a round's end, two invocations on two stripes, and a round's end.
-fn two_calls(alloc: Global, counter: &[u8]) -> Result<Vec<u8>, AllocError> {
-    let mut input = defined(alloc, counter, &ROUND_END)?;
+fn two_calls(alloc: Global) -> Result<Vec<u8>, AllocError> {
+    let mut input = counter_defined(alloc)?;
     invoke(&mut input, 0, 0)?;
     invoke(&mut input, 0, 1)?;
     input.extend_from_slice(&ROUND_END)?;
@@ -90,10 +96,8 @@ fn met<R: Threads + Wait + Clock + Sync>(
 
 #[test]
 fn two_stripes_work_at_once(rt: HostRuntime) -> Result<(), Fail> {
-    let alloc = rt.alloc();
-    let counter = rows::counter(alloc)?;
-    let input = two_calls(alloc, &counter)?;
-    assert_eq!(rt; met(&rt, alloc, &input, 0), (None, true, true));
+    let input = two_calls(rt.alloc())?;
+    assert_eq!(rt; met(&rt, rt.alloc(), &input, 0), (None, true, true));
     Ok(())
 }
 
@@ -102,9 +106,7 @@ const FEW: u32 = 10;
 
 #[test]
 fn two_stripes_work_at_once_where_each_call_is_worth_a_worker(rt: HostRuntime) -> Result<(), Fail> {
-    let alloc = rt.alloc();
-    let counter = rows::counter(alloc)?;
-    let input = two_calls(alloc, &counter)?;
-    assert_eq!(rt; met(&rt, alloc, &input, FEW), (None, true, true));
+    let input = two_calls(rt.alloc())?;
+    assert_eq!(rt; met(&rt, rt.alloc(), &input, FEW), (None, true, true));
     Ok(())
 }
