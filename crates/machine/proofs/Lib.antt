@@ -33,7 +33,7 @@ pub mod Operating
 pub mod Placing
 pub mod Deciding
 pub mod Items
-pub mod Dividing
+pub mod Divisions
 pub mod Boxing
 pub mod EntryCalls
 pub mod Landing
