@@ -33,6 +33,7 @@ pub mod Operating
 pub mod Placing
 pub mod Deciding
 pub mod Items
+pub mod Divisions
 pub mod Boxing
 pub mod EntryCalls
 pub mod Landing

@@ -218,7 +218,8 @@ pub fn convert(window: &mut Window<'_>, conversion: Conversion)
 }
 
 /// Toward zero, and none where the divisor is 0; the least value divided by -1 is itself, with remainder 0.
-fn int_divided(division: Division, a: i32, b: i32) -> Option<i32>
+#[inline(always)]
+pub fn int_divided(division: Division, a: i32, b: i32) -> Option<i32>
     ensures none { result ≡ None → b ≡ pos 0 }
     ensures some { (n : ℤ) → result ≡ Some n → (b ≢ pos 0) × (n ≡ divide w32 division a b) }
 {
@@ -232,7 +233,8 @@ fn int_divided(division: Division, a: i32, b: i32) -> Option<i32>
 }
 
 /// Toward zero, and none where the divisor is 0; the least value divided by -1 is itself, with remainder 0.
-fn long_divided(division: Division, a: i64, b: i64) -> Option<i64>
+#[inline(always)]
+pub fn long_divided(division: Division, a: i64, b: i64) -> Option<i64>
     ensures none { result ≡ None → b ≡ pos 0 }
     ensures some { (n : ℤ) → result ≡ Some n → (b ≢ pos 0) × (n ≡ divide w64 division a b) }
 {

@@ -11,6 +11,7 @@ mod calls;
 mod casts;
 mod cells;
 mod common;
+mod dividing;
 mod done;
 mod elements;
 mod entries;

@@ -7,13 +7,14 @@ ghost use Rattle.invokeall.specs.Jobs.{IsCallable};
 use invokeall::Job;
 use registry::Registry;
 
-/// The instructions that make a worker more worth its thread: some two hundred microseconds of work or more. A thread that does
+/// The instructions that make a worker more worth its thread: some four hundred microseconds of work. A thread that does
 /// nothing takes some thirty to start and end, and rounds were seen to lose more by a further worker.
-pub const SHARE: u32 = 262_144;
+pub const SHARE: u32 = 524_288;
 
-/// The instructions that a call is reckoned to take beside those of its class: it takes a stripe, finds an entry, puts it and
-/// leaves a record, in half a microsecond.
-const CALL: u64 = 512;
+/// The instructions that a call is reckoned to take beside those of its class. To take a stripe, find an entry, put it and leave a
+/// record takes as long as some five hundred, but further workers hardly gain on it: stripes and records go from processor to
+/// processor.
+const CALL: u64 = 64;
 
 /// The instructions that a job takes at most: those of its call, and those that its class states.
 fn steps_of(registry: &Registry, job: &Job<'_>) -> u64
