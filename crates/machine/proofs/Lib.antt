@@ -12,6 +12,7 @@ pub mod DidCommon
 pub mod UnderWay
 pub mod Rows
 pub mod Counted
+pub mod Crossing
 pub mod Begun
 pub mod Castings
 pub mod Referred

@@ -1,6 +1,6 @@
 //! What asks a loader (JSR 107, `CacheLoader`): a getValue where there was no entry.
 
-ghost use Rattle.std.specs.Prelude.{ℕ};
+ghost use Rattle.std.specs.Prelude.{◌≡◌, ℕ};
 ghost use Rattle.machine.specs.Holds.{AreKept, at_spot};
 ghost use Rattle.machine.specs.Asking.{CanTurnWith, Informs, KeepsGiven, CanTell, Tells, TellsAsking};
 
@@ -50,6 +50,7 @@ pub fn ask<L: Loader>(
     requires { (steps : ℕ) × CanTurnWith L.ASKS class.now (at_spot machine.old place steps) }
     ensures told { (steps : ℕ) → Informs L.ASKS class.now (at_spot machine.old place steps) (at_spot machine.new place steps) result }
     ensures kept { AreKept machine.old machine.new }
+    ensures callers { machine.new.slots.callers ≡ machine.old.slots.callers }
     ensures given { KeepsGiven (L.gives loader.now) machine.old machine.new }
 {
     if is_asking::<L>(machine, class, place) {

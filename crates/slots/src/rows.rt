@@ -34,6 +34,7 @@ impl<T: Copy> Rows<T> {
     }
 
     /// Puts an item before the others.
+    #[inline(always)]
     pub fn push(&mut self, item: T)
         requires { 0 < self.old.1 }
         ensures items { self.new.0 ≡ item ∷ self.old.0 }
@@ -44,6 +45,7 @@ impl<T: Copy> Rows<T> {
     }
 
     /// Takes the latest.
+    #[inline(always)]
     pub fn pop(&mut self) -> Option<T>
         ensures items { MatchOption result ((self.old.0 ≡ []) × (self.new ≡ self.old)) (λ x. (self.old.0 ≡ x ∷ self.new.0) × (self.new.1 ≡ self.old.1 + 1)) }
     {
