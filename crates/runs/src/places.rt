@@ -10,11 +10,19 @@ fn call(slots: &mut Slots, n: i32) -> (Option<usize>, i32)
     requires { HasRows slots.old }
 {
     slots.begin(4);
-    slots.push_int(n);
-    slots.enter(40, 1, 2);
-    slots.push_int(n);
-    let place = slots.leave_int();
-    (place, slots.pop_int())
+    let words = slots.words.as_mut_slice();
+    let kinds = slots.kinds.as_mut_slice();
+    let mut window = Window {
+        words,
+        kinds,
+        base: slots.base,
+        top: slots.top,
+    };
+    window.push_int(n);
+    window.enter(&mut slots.callers, 40, 1, 2);
+    window.push_int(n);
+    let place = window.leave_int(&mut slots.callers);
+    (place, window.pop_int())
 }
 
 /// An int goes into a local and back.

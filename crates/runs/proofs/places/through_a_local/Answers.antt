@@ -1,32 +1,20 @@
-use Rattle.std.proofs.Common.{◌≡◌, ℕ, List, [], Option, Some, None, refl, sym, ap, subst, length, arith, w32, to_z, of_z}
+use Rattle.std.proofs.Common.{List, [], Option, refl, ap, length, arith, w32, to_z, of_z}
 use Rattle.std.specs.Prelude.{ℤ}
 use Rattle.jtypes.specs.declared.types.Value.{Value}
 use Rattle.jtypes.specs.declared.types.Value.TheVariants.{Int}
-use Rattle.jtypes.specs.Lists.{padded}
 use Rattle.verdict.specs.Machine.{store_value}
-use Rattle.slots.specs.declared.reference.Reference.{Reference}
-use Rattle.slots.specs.declared.slots.Slots.{Slots}
-use Rattle.slots.specs.Reads.{Reads, IsRead, given}
 use Rattle.slots.specs.Seen.{seen}
 use Rattle.slots.proofs.Arrays.{reads_top}
+use Rattle.runs.proofs.Begun.{own, begun}
 use Rattle.runs.proofs.places.through_a_local.Goals as goal
 
--- the locals, before and after the store
-abbrev before_store : List (Option Value)
-before_store = padded None 4 given
-
+-- the locals after the store
 abbrev after_store : ℤ → List (Option Value)
-after_store i = store_value before_store 3 (Int i)
-
--- what rows that say the same are read as
-read_in : (s : Slots) (words : List ℕ) (kinds : List Reference) → words ≡ s.words.items → kinds ≡ s.kinds.items → Reads [] s before_store [] [] → IsRead [] words kinds s.callers.0 s.base s.top before_store [] []
-read_in s words kinds e f r =
-    subst (λ ws. IsRead [] ws kinds s.callers.0 s.base s.top before_store [] []) (sym e)
-    (subst (λ ks. IsRead [] s.words.items ks s.callers.0 s.base s.top before_store [] []) (sym f) r)
+after_store i = store_value own 3 (Int i)
 
 pub push_int-requires : goal.push_int-requires
 push_int-requires c =
-    let top = reads_top [] c.begin.new.self before_store [] [] (c.begin.ensures.reads []) in
+    let top = reads_top [] c.begin.new.self own [] [] (c.begin.ensures.reads []) in
     let w0 = c.begin.ensures.rows.words in
     let w1 = ap length c.as_mut_slice-words.ensures.value in
     let b0 = c.begin.ensures.base in
@@ -36,26 +24,26 @@ pub store_int-requires : goal.store_int-requires
 store_int-requires c =
     let i : ℤ = to_z w32 (of_z w32 c.args.n) in
     let callers = c.begin.new.self.callers.0 in
-    let a = read_in c.begin.new.self c.as_mut_slice-words.result.now c.as_mut_slice-kinds.result.now c.as_mut_slice-words.ensures.value c.as_mut_slice-kinds.ensures.value (c.begin.ensures.reads []) in
-    let b = c.push_int.ensures.reads [] callers before_store [] [] a in
-    ([], callers, before_store, i, [], [], omega arith, b)
+    let a = begun c.begin.new.self c.as_mut_slice-words.result.now c.as_mut_slice-kinds.result.now c.as_mut_slice-words.ensures.value c.as_mut_slice-kinds.ensures.value (c.begin.ensures.reads []) in
+    let b = c.push_int.ensures.reads [] callers own [] [] a in
+    ([], callers, own, i, [], [], omega arith, b)
 
 pub load_int-requires-clause-local : goal.load_int-requires-clause-local
 load_int-requires-clause-local c =
     let i : ℤ = to_z w32 (of_z w32 c.args.n) in
     let callers = c.begin.new.self.callers.0 in
-    let a = read_in c.begin.new.self c.as_mut_slice-words.result.now c.as_mut_slice-kinds.result.now c.as_mut_slice-words.ensures.value c.as_mut_slice-kinds.ensures.value (c.begin.ensures.reads []) in
-    let b = c.push_int.ensures.reads [] callers before_store [] [] a in
-    let d = c.store_int.ensures.reads [] callers before_store i [] [] (omega arith) b in
+    let a = begun c.begin.new.self c.as_mut_slice-words.result.now c.as_mut_slice-kinds.result.now c.as_mut_slice-words.ensures.value c.as_mut_slice-kinds.ensures.value (c.begin.ensures.reads []) in
+    let b = c.push_int.ensures.reads [] callers own [] [] a in
+    let d = c.store_int.ensures.reads [] callers own i [] [] (omega arith) b in
     ([], callers, after_store i, i, [], [], refl, d)
 
 pub load_int-requires-clause-room : goal.load_int-requires-clause-room
 load_int-requires-clause-room c =
     let i : ℤ = to_z w32 (of_z w32 c.args.n) in
     let callers = c.begin.new.self.callers.0 in
-    let a = read_in c.begin.new.self c.as_mut_slice-words.result.now c.as_mut_slice-kinds.result.now c.as_mut_slice-words.ensures.value c.as_mut_slice-kinds.ensures.value (c.begin.ensures.reads []) in
-    let b = c.push_int.ensures.reads [] callers before_store [] [] a in
-    let d = c.store_int.ensures.reads [] callers before_store i [] [] (omega arith) b in
+    let a = begun c.begin.new.self c.as_mut_slice-words.result.now c.as_mut_slice-kinds.result.now c.as_mut_slice-words.ensures.value c.as_mut_slice-kinds.ensures.value (c.begin.ensures.reads []) in
+    let b = c.push_int.ensures.reads [] callers own [] [] a in
+    let d = c.store_int.ensures.reads [] callers own i [] [] (omega arith) b in
     let top = reads_top [] (seen c.begin.new.self c.store_int.new.self) (after_store i) [] [] d in
     let w0 = c.begin.ensures.rows.words in
     let w1 = ap length c.as_mut_slice-words.ensures.value in
@@ -70,8 +58,8 @@ pub pop_int-requires : goal.pop_int-requires
 pop_int-requires c =
     let i : ℤ = to_z w32 (of_z w32 c.args.n) in
     let callers = c.begin.new.self.callers.0 in
-    let a = read_in c.begin.new.self c.as_mut_slice-words.result.now c.as_mut_slice-kinds.result.now c.as_mut_slice-words.ensures.value c.as_mut_slice-kinds.ensures.value (c.begin.ensures.reads []) in
-    let b = c.push_int.ensures.reads [] callers before_store [] [] a in
-    let d = c.store_int.ensures.reads [] callers before_store i [] [] (omega arith) b in
+    let a = begun c.begin.new.self c.as_mut_slice-words.result.now c.as_mut_slice-kinds.result.now c.as_mut_slice-words.ensures.value c.as_mut_slice-kinds.ensures.value (c.begin.ensures.reads []) in
+    let b = c.push_int.ensures.reads [] callers own [] [] a in
+    let d = c.store_int.ensures.reads [] callers own i [] [] (omega arith) b in
     let e = c.load_int.ensures.reads [] callers (after_store i) i [] [] refl d in
     ([], callers, after_store i, i, [], [], e)
