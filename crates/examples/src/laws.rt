@@ -8,7 +8,8 @@ pub fn runs_mean()
     ensures { RunsMean }
 {}
 
-/// A call has one meaning at most: one outcome, one entry that it leaves, and one count of steps and of words.
+/// A call has one meaning at most, for what a loader answered if it was asked: one outcome, one entry that it leaves, and one
+/// count of steps and of words.
 pub fn one_meaning()
     ensures { OneMeaning }
 {}

@@ -9,7 +9,7 @@ use Rattle.serve.specs.declared.fault.ServeFault.TheVariants as fault
 abbrev pub TookAndGave : Option (List ℕ) → Option (List ℕ) → Option (List ℕ) → Option (List ℕ) → (List ℕ → List ℕ → Type 0) → Type 0
 TookAndGave left left_now held held_now P = (taken : List ℕ) × (given : List ℕ) × Consumes left left_now taken × Appends held held_now given × P taken given
 
--- a fault of the reader is told exactly where a read failed
+-- where a fault of the reader is told, a read is counted as failed, or the count is at its greatest; elsewhere the counts stay
 abbrev pub IsReadFailure : {R : Type 0} → ServeFault → Counting R → Counting R → Type 0
 IsReadFailure fault.Read old new = HasRisen old.failures new.failures
 IsReadFailure _ old new = StaysCounted old new
@@ -18,7 +18,7 @@ abbrev pub ReadsAreCounted : {A R : Type 0} → Result A ServeFault → Counting
 ReadsAreCounted (Ok x) old new = StaysCounted old new
 ReadsAreCounted (Err f) old new = IsReadFailure f old new
 
--- a fault of the writer is told exactly where a write or a flush failed, or a write took no byte
+-- where a fault of the writer is told, a write or a flush is counted as failed, or a write as one that took no byte, or a count is at its greatest; elsewhere the counts stay
 abbrev pub IsWriteFailure : {W : Type 0} → ServeFault → Counting W → Counting W → Type 0
 IsWriteFailure fault.Write old new = HasFailed old new
 IsWriteFailure _ old new = StaysCounted old new

@@ -25,7 +25,7 @@ Took remaining old new bytes = Consumes (remaining old.inner) (remaining new.inn
 abbrev pub TookSome : {R : Type 0} → (R → Option (List ℕ)) → Counting R → Counting R → (Option (List ℕ) → List ℕ → Type 0) → Type 0
 TookSome remaining old new P = (bytes : List ℕ) × Took remaining old new bytes × P (remaining new.inner) bytes
 
--- a fault of the reader is told exactly where a read failed
+-- where a fault of the reader is told, a read is counted as failed, or the count is at its greatest; elsewhere the counts stay
 abbrev pub FaultCounts : {R : Type 0} → WireFault → Counting R → Counting R → Type 0
 FaultCounts fault.Read old new = HasRisen old.failures new.failures
 FaultCounts _ old new = StaysCounted old new
