@@ -5,6 +5,15 @@ ghost use Rattle.slots.specs.Reads.{HasRows};
 use slots::{Slots, Window};
 use std::test::Fail;
 
+/// An int goes onto the operands and back.
+fn through_the_operands(slots: &mut Slots, n: i32) -> i32
+    requires { HasRows slots.old }
+{
+    slots.begin(4);
+    slots.push_int(n);
+    slots.pop_int()
+}
+
 /// An int goes to a method that is called and comes back; the caller's place, and the int.
 fn call(slots: &mut Slots, n: i32) -> (Option<usize>, i32)
     requires { HasRows slots.old }
@@ -42,6 +51,13 @@ fn through_a_local(slots: &mut Slots, n: i32) -> i32
     window.store_int(3);
     window.load_int(3);
     window.pop_int()
+}
+
+#[test]
+fn an_int_goes_through_the_operands(rt: HostRuntime) -> Result<(), Fail> {
+    let mut slots = Slots::new(rt.alloc())?;
+    assert_eq!(rt; through_the_operands(&mut slots, -7), -7);
+    Ok(())
 }
 
 #[test]
