@@ -391,6 +391,57 @@ class Waits(FrontTest):
             self.assertLess(self.processor_seconds(front) - before, 0.05)
 
 
+@unittest.skipIf(len(os.sched_getaffinity(0)) == 1, "there is one processor alone")
+class Processors(FrontTest):
+    """Where the front's thread and the server's may run."""
+
+    def places(self, front):
+        return os.sched_getaffinity(front.process.pid), os.sched_getaffinity(front.server())
+
+    def call(self, line, times):
+        for _ in range(times):
+            self.ask(line, get(1) + END, value(None) + ENDED)
+
+    def call_until(self, line, front, meant):
+        """Calls in a row until they may run where it is meant, and tells whether they did."""
+        until = time.monotonic() + PATIENCE
+        while time.monotonic() < until:
+            self.call(line, 100)
+            if meant(self.places(front)):
+                return True
+        return False
+
+    def is_one(self, places):
+        return places[0] == places[1] and len(places[0]) == 1
+
+    def test_who_calls_alone_has_both_on_one(self):
+        with Running() as front, front.open() as a:
+            before = self.places(front)
+            self.assertTrue(self.call_until(a, front, self.is_one))
+            with front.open() as b:
+                self.call(b, 1)
+                self.assertEqual(self.places(front), before)
+                self.assertTrue(self.call_until(b, front, self.is_one))
+
+    def test_long_rounds_have_all(self):
+        with Running() as front, front.open() as a:
+            before = self.places(front)
+            self.assertTrue(self.call_until(a, front, self.is_one))
+            self.ask(a, 100 * get(1) + END, 100 * value(None) + ENDED)
+            self.assertEqual(self.places(front), before)
+
+    def test_two_at_once_have_all(self):
+        with Running() as front, front.open() as a, front.open() as b:
+            before = self.places(front)
+            self.assertTrue(self.call_until(a, front, self.is_one))
+            for _ in range(100):
+                a.sendall(get(1) + END)
+                b.sendall(get(1) + END)
+                self.told(a, value(None) + ENDED)
+                self.told(b, value(None) + ENDED)
+            self.assertEqual(self.places(front), before)
+
+
 class ClassesRunOut(FrontTest):
     def test_64_classes_then_denied(self):
         with Running() as front, front.open() as a, front.open() as b:

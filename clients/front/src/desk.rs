@@ -1,14 +1,16 @@
 //! The desk before the server: the rounds of all connections wait here, are sent in pieces, and get their replies. One piece is at the
 //! server at most. What comes meanwhile waits for the next.
 
+use crate::near::Near;
 use crate::piece::{split, Part, Piece, Turn};
 use crate::request::frame_length;
+use crate::server::Server;
 use std::collections::VecDeque;
 use std::fs::File;
 use std::io::{self, Read, Write};
 use std::os::unix::io::OwnedFd;
 use std::os::unix::net::UnixStream;
-use std::process::{ChildStdin, ChildStdout};
+use std::process::ChildStdin;
 
 const ROUND_ENDED: u8 = 9;
 const LAST_REPLY: u8 = 8;
@@ -49,13 +51,15 @@ pub struct Desk {
     was_one: bool,
     waiting: VecDeque<Turn<Owner>>,
     steps: u64,
+    near: Near,
 }
 
 impl Desk {
     /// A desk before this server, with so many instructions for a piece.
-    pub fn new(into: ChildStdin, out: ChildStdout, steps: u64) -> io::Result<Desk> {
-        let out = never_waits(out.into())?;
-        Ok(Desk { into, out, buffer: vec![0; AT_A_TIME], replies: Replies::default(), sent: None, was_one: false, waiting: VecDeque::new(), steps })
+    pub fn new(server: Server, steps: u64) -> io::Result<Desk> {
+        let Server { into, out, process } = server;
+        let (out, near) = (never_waits(out.into())?, Near::new(process));
+        Ok(Desk { into, out, buffer: vec![0; AT_A_TIME], replies: Replies::default(), sent: None, was_one: false, waiting: VecDeque::new(), steps, near })
     }
 
     /// Where the replies come from.
@@ -73,6 +77,11 @@ impl Desk {
         self.was_one && self.waiting.is_empty()
     }
 
+    /// Whether the server has a piece and runs on this thread's processor: it goes on once this thread sleeps.
+    pub fn wants_sleep(&self) -> bool {
+        self.is_out() && self.near.is_near()
+    }
+
     /// Takes a part that isn't done yet.
     pub fn hand_in(&mut self, owner: Owner, part: Part) {
         self.waiting.push_back(Turn { owner, part });
@@ -85,6 +94,11 @@ impl Desk {
         }
         let mut turns: Vec<Turn<Owner>> = self.waiting.drain(..).collect();
         let piece = Piece::gather(&mut turns, self.steps);
+        let alone = match &turns[..] {
+            [turn] => Some(turn.owner.connection),
+            _ => None,
+        };
+        self.near.sends(alone, piece.replies());
         self.into.write_all(piece.text())?;
         self.was_one = turns.len() == 1;
         self.sent = Some(Sent { piece, turns });
@@ -110,6 +124,7 @@ impl Desk {
             return Err(io::ErrorKind::InvalidData.into());
         }
         self.replies.clear();
+        self.near.hears();
         let (done, first, others) = split(turns, |turn| piece.left_out(turn));
         first.into_iter().rev().for_each(|turn| self.waiting.push_front(turn));
         self.waiting.extend(others);

@@ -109,6 +109,9 @@ impl Front {
 
     /// Waits until there is something to do. It looks again and again before it sleeps.
     fn wait(&mut self) -> io::Result<Woken> {
+        if self.desk.wants_sleep() {
+            return self.sleep();
+        }
         let mut begun = None;
         loop {
             let found = self.look()?;
@@ -123,9 +126,13 @@ impl Front {
             match found {
                 Some(it) => return Ok(it),
                 None if goes_on => {}
-                None => return Ok(Woken::Files(self.poll.wait(self.idle.map(|_| SWEEP))?)),
+                None => return self.sleep(),
             }
         }
+    }
+
+    fn sleep(&mut self) -> io::Result<Woken> {
+        Ok(Woken::Files(self.poll.wait(self.idle.map(|_| SWEEP))?))
     }
 
     /// Looks for something to do. Where one connection alone calls it looks first where something is likeliest to come: at the server while

@@ -8,6 +8,7 @@ mod connection;
 mod desk;
 mod front;
 mod listen;
+mod near;
 mod options;
 mod piece;
 mod poll;
@@ -55,10 +56,10 @@ fn run(options: Options) -> Result<(), String> {
         let (listener, name) = listen::open(place).map_err(|e| format!("can't listen on {:?}: {}", place, e))?;
         listeners.push((listener, name));
     }
-    let (into, out) = server::start(&program, move || remove_sockets(&places)).map_err(|e| format!("can't start {}: {}", program[0], e))?;
+    let server = server::start(&program, move || remove_sockets(&places)).map_err(|e| format!("can't start {}: {}", program[0], e))?;
     let (gate, bell) = Gate::new(most).map_err(no_files)?;
     let gate = Arc::new(gate);
-    let desk = Desk::new(into, out, steps).map_err(no_files)?;
+    let desk = Desk::new(server, steps).map_err(no_files)?;
     let idle = if idle == 0 { None } else { Some(Duration::from_secs(idle)) };
     let front = Front::new(gate.clone(), bell, desk, Shared::new(classes, requests), idle).map_err(no_files)?;
     for (listener, name) in listeners {

@@ -17,8 +17,15 @@ const PATIENCE: Duration = Duration::from_secs(5);
 /// the calls.
 const KEEPS_MEMORY: [(&str, &str); 2] = [("MALLOC_MMAP_THRESHOLD_", "33554432"), ("MALLOC_TRIM_THRESHOLD_", "67108864")];
 
+/// A server that runs: its streams, and the number of its process.
+pub struct Server {
+    pub into: ChildStdin,
+    pub out: ChildStdout,
+    pub process: u32,
+}
+
 /// Starts the server, and a thread that ends the front with it. `last` is done right before.
-pub fn start(program: &[String], last: impl Fn() + Send + 'static) -> io::Result<(ChildStdin, ChildStdout)> {
+pub fn start(program: &[String], last: impl Fn() + Send + 'static) -> io::Result<Server> {
     let mut command = Command::new(&program[0]);
     command.args(&program[1..]).stdin(Stdio::piped()).stdout(Stdio::piped()).stderr(Stdio::piped());
     command.envs(KEEPS_MEMORY.iter().filter(|(name, _)| env::var_os(name).is_none()).copied());
@@ -26,8 +33,9 @@ pub fn start(program: &[String], last: impl Fn() + Send + 'static) -> io::Result
     match (child.stdin.take(), child.stdout.take(), child.stderr.take()) {
         (Some(into), Some(out), Some(words)) => {
             let words = pass_on(words);
+            let process = child.id();
             thread::spawn(move || watch(child, words, last));
-            Ok((into, out))
+            Ok(Server { into, out, process })
         }
         _ => Err(io::ErrorKind::BrokenPipe.into()),
     }
