@@ -14,11 +14,15 @@ const FEW: usize = 8;
 /// Where the replies to a round took so long, it is a long one, or others had that processor meanwhile.
 const LATE: Duration = Duration::from_millis(1);
 
-/// A round that is late weighs as much as so many that aren't. The two threads part where late ones outweigh the others by three.
-const WEIGHT: u32 = 16;
+/// A round that is late weighs as much as so many that aren't: that many gain less by the one processor than it loses. The two threads part
+/// where late ones outweigh the others by three.
+const WEIGHT: u32 = 256;
 
-/// How long they stay apart then.
-const REST: Duration = Duration::from_secs(1);
+/// How long they stay apart then: the shortest rest, and the longest. Each is twice as long as the one before, until so many rounds in a row
+/// were in time.
+const SHORT_REST: Duration = Duration::from_millis(100);
+const LONG_REST: Duration = Duration::from_secs(4);
+const GOOD: u32 = 4_096;
 
 /// A set of processors, a bit each: as many as the C library's own.
 type Set = [u64; 16];
@@ -65,8 +69,10 @@ pub struct Near {
     caller: u64,
     rounds: u32,
     sent: Instant,
-    /// What late rounds weigh beside the others.
+    /// What late rounds weigh beside the others, and how many rounds in a row were in time.
     late: u32,
+    in_time: u32,
+    rest: Duration,
     rests_until: Instant,
 }
 
@@ -76,7 +82,7 @@ impl Near {
         let server = server as c_int;
         let now = Instant::now();
         let rights = allowed(THIS).zip(allowed(server));
-        Near { server, rights, is_near: false, caller: 0, rounds: 0, sent: now, late: 0, rests_until: now }
+        Near { server, rights, is_near: false, caller: 0, rounds: 0, sent: now, late: 0, in_time: 0, rest: SHORT_REST, rests_until: now }
     }
 
     /// Whether both run on one processor. Who waits for the server then does well to sleep.
@@ -107,11 +113,21 @@ impl Near {
         if !self.is_near {
             return;
         }
-        self.late = if self.sent.elapsed() >= LATE { self.late + WEIGHT } else { self.late.saturating_sub(1) };
+        if self.sent.elapsed() < LATE {
+            self.late = self.late.saturating_sub(1);
+            self.in_time += 1;
+            if self.in_time >= GOOD {
+                (self.in_time, self.rest) = (0, SHORT_REST);
+            }
+            return;
+        }
+        self.in_time = 0;
+        self.late += WEIGHT;
         if self.late > 2 * WEIGHT {
             self.part();
             self.late = 0;
-            self.rests_until = Instant::now() + REST;
+            self.rests_until = Instant::now() + self.rest;
+            self.rest = (2 * self.rest).min(LONG_REST);
         }
     }
 
@@ -195,6 +211,11 @@ mod tests {
         assert_eq!(allowed(THIS), before);
         one_after_the_other(&mut near, 7, 2 * ENOUGH);
         assert!(!near.is_near());
+        assert_eq!(near.rest, 2 * SHORT_REST);
+        near.rests_until = Instant::now();
+        one_after_the_other(&mut near, 7, ENOUGH + GOOD);
+        assert!(near.is_near());
+        assert_eq!(near.rest, SHORT_REST);
     }
 
     #[test]
