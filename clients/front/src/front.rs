@@ -107,7 +107,7 @@ impl Front {
         self.desk.send()
     }
 
-    /// Waits until there is something to do. It looks again and again before it sleeps.
+    /// Waits until there is something to do. It looks again and again before it sleeps, but where the server runs on this processor.
     fn wait(&mut self) -> io::Result<Woken> {
         if self.desk.wants_sleep() {
             return self.sleep();
