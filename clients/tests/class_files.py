@@ -19,11 +19,11 @@ def ratio():
 
 
 def another(number):
-    """The same as `plus` by another name, one for each number below 1,000."""
+    """The same as `plus` by another name, one for each number below 10,000."""
     file = plus()
     if file.count(NAME) != 1:
         raise ValueError("the class has another name")
-    return file.replace(NAME, b"\1\0\6Row" + b"%03d" % number)
+    return file.replace(NAME, b"\1\0\7Row" + b"%04d" % number)
 
 
 class Pool:

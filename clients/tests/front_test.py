@@ -203,8 +203,8 @@ class ManyConnections(FrontTest):
             for _ in range(300):
                 good = [put(rng.randrange(9), 1), get(1), invoke(rng.randrange(3), 1), invoke_all(0, [1, 1]), define(plus()), END]
                 text = bytearray(b"".join(rng.choice(good) for _ in range(6)))
-                for _ in range(rng.randrange(3)):
-                    text[rng.randrange(len(text))] = rng.randrange(256)
+                for _ in range(rng.randrange(1, 4)):
+                    text[rng.randrange(len(text))] ^= rng.randrange(1, 256)
                 with front.open() as a:
                     self.send_all(a, text + END)
             self.ask(b, put(77, 5) + END, DONE + ENDED)
@@ -461,6 +461,15 @@ class ClassesRunOut(FrontTest):
             self.define(a, another(3), 64)
             self.define(b, another(64), 0)
             self.define(a, another(64), 65)
+
+    @unittest.skipUnless(PROGRAM, "the stand-in has no limit of classes")
+    def test_4096_classes_of_all_then_denied(self):
+        with Running("--classes", "4096") as front, front.open() as a, front.open() as b:
+            for n in range(4_096):
+                self.define(a, another(n), n)
+            self.ask(b, define(another(4_096)) + END, denied(4) + ENDED)
+            self.define(b, another(7), 0)
+            self.ask(b, define(another(4_096)) + END, denied(4) + ENDED)
 
     def test_a_connection_has_4096_numbers(self):
         with Running() as front, front.open() as a:

@@ -101,6 +101,12 @@ mod tests {
     }
 
     #[test]
+    fn limits_have_defaults() {
+        let it = read_line("--unix a jentry serve").expect("options");
+        assert_eq!((it.connections, it.classes, it.requests, it.steps, it.idle), (1_024, 64, 65_536, 1_000_000, 0));
+    }
+
+    #[test]
     fn wrong_words_are_named() {
         assert_eq!(read_line("jentry serve"), Err("there is no place to listen on".to_string()));
         assert_eq!(read_line("--unix a"), Err("there is no program".to_string()));

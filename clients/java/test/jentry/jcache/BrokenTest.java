@@ -26,8 +26,10 @@ import javax.cache.CacheManager;
 import javax.cache.Caching;
 import javax.cache.integration.CacheLoaderException;
 import javax.cache.processor.EntryProcessorException;
+import javax.cache.processor.EntryProcessorResult;
 import org.junit.jupiter.api.Test;
 import org.junit.jupiter.api.Timeout;
+import org.junit.jupiter.api.function.Executable;
 
 /** What a caller sees where a server ends, is silent or errs, by a stand-in. */
 @Timeout(60)
@@ -351,9 +353,20 @@ class BrokenTest {
         for (Map.Entry<Integer, Class<?>> it : wanted.entrySet()) {
             try (StandIn server = StandIn.unix(after(1, StandIn.join(StandIn.frame(6, 1, it.getKey()), StandIn.END)))) {
                 Cache<Long, Long> cache = server.cache();
-                assertEquals(it.getValue(), assertThrows(EntryProcessorException.class, () -> cache.invoke(1L, new Sample.Key())).getCause().getClass());
+                tellsThrown(it.getValue(), () -> cache.invoke(1L, new Sample.Key()));
+            }
+            byte[] results = StandIn.frame(7, 0, 1, 0, 0, 0, 0, 0, 0, 0, 1, 1, it.getKey());
+            try (StandIn server = StandIn.unix(after(1, StandIn.join(results, StandIn.END)))) {
+                EntryProcessorResult<Long> told = server.cache().invokeAll(Set.of(1L), new Sample.Key()).get(1L);
+                tellsThrown(it.getValue(), told::get);
             }
         }
+    }
+
+    private static void tellsThrown(Class<?> cause, Executable call) {
+        Throwable thrown = assertThrows(EntryProcessorException.class, call).getCause();
+        assertEquals(cause, thrown.getClass());
+        assertTrue(thrown.getMessage().contains(Sample.Key.class.getName()), thrown.getMessage());
     }
 
     @Test void interruptsOnSocketsLoseNothing() throws Exception {

@@ -32,8 +32,8 @@ class ClassFileTest extends OnServer {
     @Test void classesThatTheClientRefuses() {
         EntryProcessor<?, ?, ?> proxy = (EntryProcessor<?, ?, ?>) Proxy.newProxyInstance(getClass().getClassLoader(), new Class<?>[] {EntryProcessor.class}, (a, b, c) -> 1L);
         Map<EntryProcessor<Long, Long, Object>, String> refused = new HashMap<>();
-        refused.put((entry, arguments) -> 1L, "lambda or a method reference, which has no class file");
-        refused.put(ClassFileTest::answer, "lambda or a method reference, which has no class file");
+        refused.put((entry, arguments) -> 1L, "lambda or a method reference, which has no class file; write it as a class of its own, compiled with javac --release 8");
+        refused.put(ClassFileTest::answer, "lambda or a method reference, which has no class file; write it as a class of its own, compiled with javac --release 8");
         refused.put(Sample.inner(), "inner class, which holds its outer instance; make it static");
         refused.put(Sample.capturing(5), "is made with values from outside");
         long rounds = rounds();
