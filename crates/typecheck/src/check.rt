@@ -8,18 +8,19 @@ ghost use Rattle.frames.specs.Frames.{Frame, first_frame};
 ghost use Rattle.frames.specs.Seen.{AreInOrder, AreKept, declared_seen, frame_kept, frame_seen};
 ghost use Rattle.frames.specs.declared.frame.Environment.{Environment};
 ghost use Rattle.frames.specs.StackMap.{IsDeclared};
-ghost use Rattle.typecheck.specs.Calls.{AreCallsOf, call_at};
+ghost use Rattle.classfile.specs.View.{ClassView};
+ghost use Rattle.transfer.specs.Transfer.{IsCalleeOf};
+ghost use Rattle.typecheck.specs.Calls.{AreCallsOf, AreRising, callee_in, called_by};
 ghost use Rattle.typecheck.specs.DeclaredPlaces.{ArePlacesOf};
 ghost use Rattle.typecheck.specs.Typing.{IsWellTyped};
-ghost use Rattle.typecheck.specs.Mismatch.{CallsUnknown, CheckRefuses, LacksFrame};
+ghost use Rattle.typecheck.specs.Mismatch.{CheckRefuses, LacksFrame};
 ghost use Rattle.typecheck.specs.Seen.{advanced, branched, branched_cases, declared_row, entered, flowing, flows, lacks_cases_row, lacks_targets_row, lacks_row_at, method_of, mismatch_at, passed, target_row, IsMet, IsUnmet};
 
 use crate::assign::frame_assignable;
+use crate::typed::callee_of;
 use crate::{Called, Typed};
 use decode::{Code, Instruction, Placed};
-use frames::{
-    Declared, Environment, Flow, Frames, MemberView, MethodStart, callee_at, read_frames,
-};
+use frames::{Callee, Declared, Environment, Flow, Frames, MemberView, MethodStart, read_frames};
 use jtypes::Refusal;
 use std::alloc::{AllocError, Global};
 use transfer::apply;
@@ -238,12 +239,23 @@ fn leave(declared: &[Declared], p: &Placed, outcome: &mut Flow) -> Result<bool, 
     Ok(p.instruction.falls_through())
 }
 
+/// What an instruction calls, if it is a call.
+fn called_by<'c>(calls: &'c [Called], p: &Placed) -> Option<&'c Callee>
+    ensures { (v : ClassView) → AreRising calls.now → callee_in calls.now p.now.place ≡ called_by v p.now.instruction → IsCalleeOf v p.now.instruction (option_copied result) }
+{
+    match p.instruction {
+        Instruction::Invoke(..) => callee_of(calls, p.place),
+        _ => None,
+    }
+}
+
 /// Makes what flows in from a place, if anything does, what flows on after one instruction, if anything does.
 fn advance(
     alloc: Global,
     environment: &Environment,
     view: &MemberView<'_>,
     declared: &[Declared],
+    callee: Option<&Callee>,
     p: &Placed,
     from: usize,
     flows: bool,
@@ -251,12 +263,13 @@ fn advance(
 ) -> Result<bool, Refusal>
     requires order { AreInOrder declared.now }
     requires rows { AreKept flow.old.locals.kept declared.now }
+    requires callee { IsCalleeOf view.now p.now.instruction (option_copied callee) }
     ensures ok { IfOk result (λ next. advanced view.now environment.now (declared_seen flow.old.locals.kept declared.now) p.now from (flowing flows flow.old) ≡ Ok (flowing next flow.new)) }
     ensures err { IfErr result (λ r. r ≢ Refusal.NoMemory → advanced view.now environment.now (declared_seen flow.old.locals.kept declared.now) p.now from (flowing flows flow.old) ≡ Err r) }
     ensures kept { flow.new.locals.kept ≡ flow.old.locals.kept }
 {
     enter(alloc, from, flows, flow, declared_at(declared, p.place))?;
-    if apply(alloc, &p.instruction, environment, view, flow)? {
+    if apply(&p.instruction, environment, view, callee, flow)? {
         leave(declared, p, flow)
     } else {
         Err(mismatch(p.place))
@@ -270,10 +283,12 @@ fn pass(
     view: &MemberView<'_>,
     code: &Code,
     declared: &[Declared],
+    calls: &[Called],
     flow: &mut Flow,
 ) -> Result<(), Refusal>
     requires order { AreInOrder declared.now }
     requires rows { AreKept flow.old.locals.kept declared.now }
+    requires calls { AreCallsOf view.now code.now calls.now }
     requires first { frame_seen flow.old ≡ first_frame environment.now }
     ensures ok { IfOk result (λ _. passed view.now environment.now (declared_seen flow.old.locals.kept declared.now) 0 (Some (first_frame environment.now)) code.now ≡ Ok tt) }
     ensures err { IfErr result (λ r. r ≢ Refusal.NoMemory → passed view.now environment.now (declared_seen flow.old.locals.kept declared.now) 0 (Some (first_frame environment.now)) code.now ≡ Err r) }
@@ -282,7 +297,18 @@ fn pass(
     let mut from = 0;
     let mut flows = true;
     for p in code.as_slice() {
-        flows = advance(alloc, environment, view, declared, p, from, flows, flow)?;
+        let callee = called_by(calls, p);
+        flows = advance(
+            alloc,
+            environment,
+            view,
+            declared,
+            callee,
+            p,
+            from,
+            flows,
+            flow,
+        )?;
         from = p.place;
     }
     if flows {
@@ -290,37 +316,6 @@ fn pass(
     } else {
         Ok(())
     }
-}
-
-/// The call of an instruction that is one, with what it reaches.
-fn called_at(alloc: Global, view: &MemberView<'_>, p: &Placed) -> Result<Option<Called>, Refusal>
-    ensures ok { IfOk result (λ call. call ≡ call_at view.now p.now) }
-    ensures err { IfErr result (λ r. (r ≡ Refusal.NoMemory) ⊎ ((r ≡ Refusal.UnknownMember) × CallsUnknown view.now p.now.instruction)) }
-{
-    let Instruction::Invoke(kind, i) = p.instruction else {
-        return Ok(None);
-    };
-    match callee_at(alloc, view, kind, i)? {
-        None => Err(Refusal::UnknownMember),
-        Some(callee) => Ok(Some(Called {
-            place: p.place,
-            callee,
-        })),
-    }
-}
-
-/// The calls of a code, with what they reach.
-fn calls_of(alloc: Global, view: &MemberView<'_>, code: &Code) -> Result<Vec<Called>, Refusal>
-    ensures ok { IfOk result (λ calls. AreCallsOf view.now code.now calls.items) }
-    ensures err { IfErr result (λ r. (r ≡ Refusal.NoMemory) ⊎ ((r ≡ Refusal.UnknownMember) × Any (λ p. CallsUnknown view.now p.instruction) code.now)) }
-{
-    let mut calls = Vec::new(alloc);
-    for p in code.as_slice() {
-        if let Some(called) = called_at(alloc, view, p)? {
-            calls.push(called)?;
-        }
-    }
-    Ok(calls)
 }
 
 fn places_of(alloc: Global, declared: &[Declared]) -> Result<Vec<usize>, AllocError>
@@ -334,8 +329,8 @@ fn places_of(alloc: Global, declared: &[Declared]) -> Result<Vec<usize>, AllocEr
     Ok(places)
 }
 
-/// Checks the types of one method, whose members are known: with its environment, its StackMapTable attributes and its
-/// instructions.
+/// Checks the types of one method, whose members are known: with its environment, its StackMapTable attributes, its
+/// instructions and their calls.
 pub fn check_method(
     alloc: Global,
     number: usize,
@@ -343,18 +338,21 @@ pub fn check_method(
     start: MethodStart,
     tables: &[&[u8]],
     code: Code,
+    calls: Vec<Called>,
     view: &MemberView<'_>,
 ) -> Result<Typed, Refusal>
+    requires calls { AreCallsOf view.now code calls.items }
+
     // What is answered is the method that was given.
     ensures method { IfOk result (λ t. (t.number ≡ number) × (t.is_process ≡ is_process)) }
     ensures body { IfOk result (λ t. (t.environment ≡ start) × (t.code ≡ code)) }
 
     // The method with the frames that its tables declare is well typed; and what is refused stands: its frames are bad, or
-    // they are not and the first place that fails is named, or it falls off its end, or it calls an unknown member.
+    // they are not and the first place that fails is named, or it falls off its end.
     ensures typed { IfOk result (λ _. (ds : List (ℕ × Frame)) × IsDeclared view.now start code (map (λ t. t.now) tables.now) ds × IsWellTyped view.now (record { environment = start; code = code; declared = ds })) }
     ensures refused { IfErr result (CheckRefuses view.now start code (map (λ t. t.now) tables.now)) }
 
-    // An instruction stands at its start; its calls are answered, and the places of the frames that its tables declare.
+    // An instruction stands at its start; the calls are answered, and the places of the frames that its tables declare.
     ensures starts { IfOk result (λ t. IsSome (at_place t.code 0)) }
     ensures calls { IfOk result (λ t. AreCallsOf view.now t.code t.calls.items) }
     ensures declared { IfOk result (λ t. (ds : List (ℕ × Frame)) × IsDeclared view.now start code (map (λ t. t.now) tables.now) ds × ArePlacesOf ds t.declared.items) }
@@ -373,9 +371,9 @@ pub fn check_method(
         view,
         &code,
         &declared,
+        &calls,
         &mut flow,
     )?;
-    let calls = calls_of(alloc, view, &code)?;
     let declared = places_of(alloc, &declared)?;
     Ok(Typed {
         number,

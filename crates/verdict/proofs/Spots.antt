@@ -17,6 +17,9 @@ use Rattle.classfile.specs.declared.class_file.Parts.{Parts}
 use Rattle.classfile.specs.declared.class_file.CodeParts.{CodeParts}
 use Rattle.classfile.specs.View.{ClassView, method_view, text_at, view_of}
 use Rattle.decode.specs.declared.fault.Fault.{Fault}
+use Rattle.decode.specs.declared.instruction.Placed.{Placed}
+use Rattle.decode.specs.Code.{IsSequence}
+use Rattle.decode.specs.Places.{at_place}
 use Rattle.decode.specs.Faults.{CodeStandsAt}
 use Rattle.decode.proofs.Faults as faults
 use Rattle.decode.proofs.Unrefused.{members_unread}
@@ -27,9 +30,9 @@ use Rattle.verdict.specs.declared.instructions.Found.{Found}
 use Rattle.verdict.specs.Shape.{HasCode, IsInitialiser, ShapeStands, is_constructor}
 use Rattle.verdict.specs.Shaping.{HasGoodShape, MethodStands}
 use Rattle.verdict.specs.ShapeSpots.{AreGoodUpTo, IsBadAt, IsNamedAt, AreDoublesAt}
-use Rattle.verdict.specs.Spots.{InstructionStandsAt, StandsIn, StandsInMethod, IsAtSpot, IsLocated, IsToldOf}
+use Rattle.verdict.specs.Spots.{InstructionStandsAt, NamesUnknownAt, StandsIn, StandsInMethod, IsAtSpot, IsLocated, IsToldOf}
 use Rattle.verdict.specs.Verdict.{InstructionStands, InstructionsStand, TypesStand, IsClassFile, IsRefused, by_shape, by_instructions, by_types}
-use Rattle.verdict.specs.Judging.{AreFound}
+use Rattle.verdict.specs.Judging.{AreFound, IsUnknownAt}
 use Rattle.verdict.proofs.Methods.{any_at, any_from, zip_back}
 use Rattle.verdict.proofs.Texts.{same_is, is_same}
 use Rattle.verdict.proofs.Verdicts.{instructions_stand}
@@ -95,6 +98,13 @@ pub code_located : (v : ClassView) (bytes : List ℕ) (place : ℕ) (r : Refusal
 code_located v bytes place NoMemory h = inl refl
 code_located v bytes place UnknownMember h = absurd (members_unread Second v.pool bytes (faults.code_stands Second v.pool bytes place UnknownMember (h (λ e. cc e))))
 code_located v bytes place r h = inr (h (λ e. cc e))
+
+-- what an instruction names is unknown
+pub unknown_stands : (v : ClassView) (bytes : List ℕ) (code : List Placed) → IsSequence Second v.pool 0 bytes code → (p : Placed) → at_place code p.place ≡ Some p → (f : Fault) → (f.refusal ≡ NoMemory) ⊎ IsUnknownAt v p f
+    → (f.refusal ≡ NoMemory) ⊎ InstructionStandsAt Second v bytes f.place f.refusal
+unknown_stands v bytes code sequence p at f (inl none) = inl none
+unknown_stands v bytes code sequence p at f (inr u) =
+    inr (subst (λ (r : Refusal). InstructionStandsAt Second v bytes f.place r) (sym u.refusal) (subst (λ (n : ℕ). NamesUnknownAt Second v bytes n) (sym u.place) (code, sequence, p, at, u.unknown)))
 
 pub instruction_located : (pool : List Slot) (p : Parts) (n : ℕ) (codes : List CodeParts) → HasGoodShape pool p codes n → (k : ℕ) (parts : CodeParts) → slice_get codes k ≡ Some parts → (k ≡ n → ⊥)
     → (f : Fault) → (f.refusal ≡ NoMemory) ⊎ InstructionStandsAt Second (view_of pool p) parts.code f.place f.refusal → (l : Located) → l.refusal ≡ f.refusal → l.spot ≡ AtInstruction k f.place → IsLocated (InstructionsStand Second pool p) pool p l

@@ -3,14 +3,12 @@ use Rattle.std.proofs.Common.{◌≡◌, ℕ, ◌+◌, ◌<◌, ◌≤◌, Bool,
 use Rattle.std.specs.Prelude.{slice_get, min, ◌==◌, is_some, IsSome}
 use Rattle.std.proofs.lemmas.Bool.{eqb-true, eq-eqb, cases_lt}
 use Rattle.jtypes.specs.declared.refusal.Refusal.{Refusal}
-use Rattle.jtypes.specs.declared.refusal.Refusal.TheVariants.{NoMemory, UnknownMember, BadDescriptor, BadCode, BadStackMap, TypeMismatch, FallsOff}
+use Rattle.jtypes.specs.declared.refusal.Refusal.TheVariants.{NoMemory, BadDescriptor, BadCode, BadStackMap, TypeMismatch, FallsOff}
 use Rattle.constpool.specs.Lookup.{Slot}
 use Rattle.classfile.specs.declared.class_file.Member.{Member}
 use Rattle.classfile.specs.declared.class_file.Parts.{Parts}
 use Rattle.classfile.specs.declared.class_file.CodeParts.{CodeParts}
 use Rattle.classfile.specs.View.{ClassView, MethodView, method_view, view_of}
-use Rattle.decode.specs.declared.instruction.Instruction.{Instruction}
-use Rattle.decode.specs.declared.instruction.Instruction.TheVariants.{Invoke}
 use Rattle.decode.specs.declared.instruction.Placed.{Placed}
 use Rattle.decode.specs.Code.{IsSequence}
 use Rattle.decode.specs.Places.{at_place}
@@ -19,10 +17,10 @@ use Rattle.frames.specs.declared.frame.Environment.{Environment}
 use Rattle.frames.specs.declared.signatures.Signature.{Signature}
 use Rattle.frames.specs.Signatures.{method_signature}
 use Rattle.typecheck.specs.Typing.{Method, instruction_at}
-use Rattle.typecheck.specs.Mismatch.{CallsUnknown, CheckRefuses, HasMismatch, IsMismatch, at_start, at_place_of}
+use Rattle.typecheck.specs.Mismatch.{CheckRefuses, HasMismatch, IsMismatch, at_start, at_place_of}
 use Rattle.verdict.specs.declared.spot.Located.{Located}
 use Rattle.verdict.specs.Shape.{is_constructor, HasBadCode, empty, long}
-use Rattle.verdict.specs.Verdict.{is_known, IsBody, TypesStand}
+use Rattle.verdict.specs.Verdict.{IsBody, TypesStand}
 use Rattle.verdict.specs.Judging.{HasInstructionsOf}
 use Rattle.verdict.specs.Spots.{StandsIn, IsLocated}
 use Rattle.verdict.specs.TypedClasses.{type_spot}
@@ -61,10 +59,6 @@ itself q l = omega (arith, l)
 begins : (pool : List Slot) (bytes : List ℕ) (code : List Placed) → IsSequence Second pool 0 bytes code → (code ≡ [] → ⊥) → IsSome (at_place code 0)
 begins pool bytes [] s some = absurd (some refl)
 begins pool bytes (p ∷ code) s some = ap (λ b. is_some (cond b (Some p) (at_place code 0))) (eq-eqb p.place 0 s.0)
-
-not_known : (v : ClassView) (i : Instruction) → CallsUnknown v i → is_known v i ≡ false
-not_known v (Invoke kind i) h = h
-not_known v _ h = absurd h
 
 -- ---- a method
 
@@ -121,7 +115,6 @@ module _ (pool : List Slot) (p : Parts) (number : ℕ) (parts : CodeParts) (code
   -- what is refused of a method stands where it is told to
   pub types_located : (r : Refusal) → CheckRefuses (view_of pool p) e code tables r → (l : Located) → l.refusal ≡ r → l.spot ≡ type_spot number r → IsLocated (TypesStand Second pool p) pool p l
   types_located NoMemory s l is spot = inl is
-  types_located UnknownMember s l is spot = absurd (h.good.none_stands UnknownMember (code, h.good.sequence, (s.0, s.1, s.2, s.3, not_known (view_of pool p) s.1.instruction s.4)))
   types_located BadStackMap s l is spot = located BadStackMap (any_from _ p.methods number m there (other, (e, code, tables, body, s))) (m, there, (other, e, code, tables, body, s)) l is spot
   types_located (TypeMismatch place) s l is spot =
       let at : s.0 ≡ place = sym (place_is s.0 s.1) ∙ sym s.2 in

@@ -1,11 +1,13 @@
 -- What the functions that judge instructions and types answer.
 use Rattle.std.specs.Prelude.{◌≡◌, ℕ, false, zero, suc, ◌==◌, List, [], ◌∷◌, ◌++◌, map, All, Some, IsSome, slice_get, if◌then◌else◌}
 use Rattle.jtypes.specs.declared.refusal.Refusal.{Refusal}
+use Rattle.jtypes.specs.declared.refusal.Refusal.TheVariants.{UnknownMember}
 use Rattle.constpool.specs.Lookup.{Slot}
 use Rattle.classfile.specs.declared.class_file.Member.{Member}
 use Rattle.classfile.specs.declared.class_file.Parts.{Parts}
 use Rattle.classfile.specs.declared.class_file.CodeParts.{CodeParts}
 use Rattle.classfile.specs.View.{ClassView, view_of}
+use Rattle.decode.specs.declared.fault.Fault.{Fault}
 use Rattle.decode.specs.declared.instruction.Placed.{Placed}
 use Rattle.decode.specs.Code.{IsSequence}
 use Rattle.decode.specs.Places.{at_place}
@@ -18,7 +20,7 @@ use Rattle.typecheck.specs.declared.typed.Typed.{Typed}
 use Rattle.verdict.specs.declared.instructions.Found.{Found}
 use Rattle.verdict.specs.Shape.{is_constructor}
 use Rattle.verdict.specs.Shaping.{is_named_process, HasGoodMethod}
-use Rattle.verdict.specs.Verdict.{InstructionStands, IsBody}
+use Rattle.verdict.specs.Verdict.{InstructionStands, IsBody, is_known}
 use Rattle.jtypes.specs.Profile.{Second}
 
 -- ---- elements by the numbers of methods
@@ -45,6 +47,13 @@ pub record IsFoundIn (v : ClassView) (codes : List CodeParts) (f : Found) : Type
   pub parts : CodeParts
   pub there : slice_get codes f.number ≡ Some parts
   pub good : IsGoodCode v parts.code f.code
+  pub calls : AreCallsOf v f.code f.calls.items
+
+-- what an instruction names is unknown, and the fault says so
+pub record IsUnknownAt (v : ClassView) (p : Placed) (f : Fault) : Type 0 where
+  pub refusal : f.refusal ≡ UnknownMember
+  pub place : f.place ≡ p.place
+  pub unknown : is_known v p.instruction ≡ false
 
 abbrev pub AreFound : ClassView → List CodeParts → (c n : ℕ) → List Found → Type 0
 AreFound v codes c n found = AreNumbered (λ f. f.number) (IsFoundIn v codes) c n found

@@ -5,57 +5,81 @@ ghost use Rattle.jtypes.specs.declared.refusal.Refusal.{Refusal};
 ghost use Rattle.verdict.specs.declared.spot.Spot.{Spot};
 ghost use Rattle.verdict.specs.Verdict.{InstructionsStand, is_known};
 ghost use Rattle.verdict.specs.Spots.{InstructionStandsAt, IsLocated};
-ghost use Rattle.verdict.specs.Judging.{AreFound, IsGoodCode};
+ghost use Rattle.verdict.specs.Judging.{AreFound, IsGoodCode, IsUnknownAt};
+ghost use Rattle.typecheck.specs.Calls.{AreCallsOf, call_at};
 ghost use Rattle.verdict.specs.Shaping.{HasGoodShape};
 ghost use Rattle.classfile.specs.View.{view_of};
 ghost use Rattle.jtypes.specs.Profile.{Second};
 
 use crate::spot::{Located, Spot};
 use classfile::{ClassFile, CodeParts};
-use decode::{Code, Fault, Instruction, decode_at};
+use decode::{Code, Fault, Instruction, Placed, decode_at};
 use frames::{MemberView, callee_at, constant_type};
 use jtypes::Refusal;
-use std::alloc::{AllocError, Global};
+use std::alloc::Global;
+use typecheck::Called;
 
-/// The instructions of the method with a number.
+/// The instructions of the method with a number, and their calls.
 #[derive(Drop)]
 pub struct Found {
     pub number: usize,
     pub code: Code,
+    pub calls: Vec<Called>,
 }
 
-/// Whether the member that an instruction names is known.
-fn is_known(
-    alloc: Global,
-    view: &MemberView<'_>,
-    instruction: &Instruction,
-) -> Result<bool, AllocError>
-    ensures { IfOk result (λ b. b ≡ is_known view.now instruction.now) }
+/// The refusal of an instruction that names something unknown.
+fn unknown(p: &Placed) -> Fault
+    ensures refusal { result.refusal ≡ Refusal.UnknownMember }
+    ensures place { result.place ≡ p.now.place }
 {
-    match *instruction {
-        Instruction::Invoke(kind, i) => Ok(callee_at(alloc, view, kind, i)?.is_some()),
-        Instruction::CheckCast(i) | Instruction::InstanceOf(i) => {
-            Ok(constant_type(view.class(), i).is_some())
-        }
-        _ => Ok(true),
+    Fault {
+        refusal: Refusal::UnknownMember,
+        place: p.place,
     }
 }
 
-/// The instructions of one method.
-fn judge_code(alloc: Global, view: &MemberView<'_>, bytes: &[u8]) -> Result<Code, Fault>
-    ensures ok { IfOk result (λ code. IsGoodCode view.now bytes.now code) }
+/// The call of an instruction, if it is one. What an instruction names has to be known.
+fn call_of(alloc: Global, view: &MemberView<'_>, p: &Placed) -> Result<Option<Called>, Fault>
+    ensures call { IfOk result (λ call. call ≡ call_at view.now p.now) }
+    ensures known { IfOk result (λ _. is_known view.now p.now.instruction ≡ true) }
+    ensures err { IfErr result (λ f. (f.refusal ≡ Refusal.NoMemory) ⊎ IsUnknownAt view.now p.now f) }
+{
+    match p.instruction {
+        Instruction::Invoke(kind, i) => match callee_at(alloc, view, kind, i)? {
+            Some(callee) => {
+                let place = p.place;
+                Ok(Some(Called { place, callee }))
+            }
+            None => Err(unknown(p)),
+        },
+        Instruction::CheckCast(i) | Instruction::InstanceOf(i) => {
+            match constant_type(view.class(), i) {
+                Some(_) => Ok(None),
+                None => Err(unknown(p)),
+            }
+        }
+        _ => Ok(None),
+    }
+}
+
+/// The instructions of one method, and their calls.
+fn judge_code(
+    alloc: Global,
+    view: &MemberView<'_>,
+    bytes: &[u8],
+) -> Result<(Code, Vec<Called>), Fault>
+    ensures code { IfOk result (λ found. IsGoodCode view.now bytes.now found.0) }
+    ensures calls { IfOk result (λ found. AreCallsOf view.now found.0 found.1.items) }
     ensures err { IfErr result (λ f. (f.refusal ≡ Refusal.NoMemory) ⊎ InstructionStandsAt Second view.now bytes.now f.place f.refusal) }
 {
     let code = decode_at(alloc, bytes, view.pool())?;
+    let mut calls = Vec::new(alloc);
     for p in code.as_slice() {
-        if !is_known(alloc, view, &p.instruction)? {
-            return Err(Fault {
-                refusal: Refusal::UnknownMember,
-                place: p.place,
-            });
+        if let Some(called) = call_of(alloc, view, p)? {
+            calls.push(called)?;
         }
     }
-    Ok(code)
+    Ok((code, calls))
 }
 
 /// A refusal at the place of an instruction of the method with a number.
@@ -89,7 +113,11 @@ pub fn judge_instructions(
     for number in 0..codes.len() {
         if number != constructor {
             match judge_code(alloc, view, codes[number].code.as_slice()) {
-                Ok(code) => found.push(Found { number, code })?,
+                Ok((code, calls)) => found.push(Found {
+                    number,
+                    code,
+                    calls,
+                })?,
                 Err(fault) => return Err(located(fault, number)),
             }
         }

@@ -4,6 +4,7 @@ ghost use Rattle.std.specs.Prelude.{◌≡◌, length, IfOk, IfErr};
 ghost use Rattle.classfile.specs.View.{view_of};
 ghost use Rattle.jtypes.specs.Profile.{Second};
 ghost use Rattle.verdict.specs.Shaping.{HasGoodShape};
+ghost use Rattle.typecheck.specs.Calls.{AreCallsOf};
 ghost use Rattle.verdict.specs.Judging.{AreFound, AreTyped, HasInstructionsOf, IsTypedRow};
 ghost use Rattle.verdict.specs.Spots.{IsLocated, IsToldOf};
 ghost use Rattle.verdict.specs.TypedClasses.{IsTypedClass, type_spot};
@@ -19,7 +20,7 @@ use decode::Code;
 use frames::{Environment, MemberView, MethodStart, method_signature};
 use jtypes::Refusal;
 use std::alloc::Global;
-use typecheck::{Typed, check_method};
+use typecheck::{Called, Typed, check_method};
 
 /// A class whose methods are well typed: its file, and the rows of its methods but the constructor, by rising numbers.
 #[derive(Debug, Drop)]
@@ -51,9 +52,11 @@ fn judge_method(
     number: usize,
     parts: &CodeParts,
     code: Code,
+    calls: Vec<Called>,
 ) -> Result<Typed, Located>
     requires members { members.now ≡ view_of class.now.pool class.now.parts }
     requires code { HasInstructionsOf class.now.pool class.now.parts number parts.now code }
+    requires calls { AreCallsOf members.now code calls.items }
     ensures number { IfOk result (λ t. t.number ≡ number) }
     ensures row { IfOk result (λ t. IsTypedRow class.now.pool class.now.parts t) }
     ensures err { IfErr result (IsLocated (TypesStand Second class.now.pool class.now.parts) class.now.pool class.now.parts) }
@@ -84,7 +87,9 @@ fn judge_method(
         parts.attributes.as_slice(),
     )?;
     let is_process = is_process(class, member);
-    match check_method(alloc, number, is_process, start, &tables, code, members) {
+    match check_method(
+        alloc, number, is_process, start, &tables, code, calls, members,
+    ) {
         Ok(typed) => Ok(typed),
         Err(refusal) => Err(located(refusal, number)),
     }
@@ -106,8 +111,12 @@ fn judge_types(
     ensures err { IfErr result (IsLocated (TypesStand Second class.now.pool class.now.parts) class.now.pool class.now.parts) }
 {
     let mut methods = Vec::new(alloc);
-    for Found { number, code } in found {
-        methods.push(judge_method(alloc, class, members, number, &codes[number], code)?)?;
+    for Found {
+        number,
+        code,
+        calls,
+    } in found {
+        methods.push(judge_method(alloc, class, members, number, &codes[number], code, calls)?)?;
     }
     Ok(methods)
 }

@@ -4,6 +4,7 @@ use Rattle.classfile.specs.View.{view_of, ClassView}
 use Rattle.classfile.specs.declared.class_file.CodeParts.{CodeParts}
 use Rattle.decode.specs.declared.fault.Fault.{Fault}
 use Rattle.jtypes.specs.declared.refusal.Refusal.TheVariants.{NoMemory}
+use Rattle.typecheck.specs.Calls.{AreCallsOf}
 use Rattle.verdict.specs.Spots.{InstructionStandsAt}
 use Rattle.verdict.specs.Judging.{IsFoundIn, IsGoodCode}
 use Rattle.verdict.proofs.Spots.{instruction_located}
@@ -23,10 +24,11 @@ loop-number-preserved c =
     elim c.if-number-constructor.branch [
       | then-number-constructor+in-Ok+in_ok-push-in-Ok w ↦
           let parts : CodeParts = w.index-codes-number.result in
-          let one : Found = record { number = n; code = w.in-Ok.code } in
-          let good : IsGoodCode v parts.code w.in-Ok.code = subst (λ (x : ClassView). IsGoodCode x parts.code w.in-Ok.code) c.requires.view (subst (λ (b : List ℕ). IsGoodCode c.args.view.now b w.in-Ok.code) (w.as_slice.ensures ∙ ap (λ (x : CodeParts). x.code) (sym w.index-codes-number.is)) w.in-Ok.ensures.ok) in
+          let one : Found = record { number = n; code = w.in-Ok.code; calls = w.in-Ok.calls } in
+          let good : IsGoodCode v parts.code w.in-Ok.code = subst (λ (x : ClassView). IsGoodCode x parts.code w.in-Ok.code) c.requires.view (subst (λ (b : List ℕ). IsGoodCode c.args.view.now b w.in-Ok.code) (w.as_slice.ensures ∙ ap (λ (x : CodeParts). x.code) (sym w.index-codes-number.is)) w.in-Ok.ensures.code) in
+          let calls : AreCallsOf v w.in-Ok.code w.in-Ok.calls.items = subst (λ (x : ClassView). AreCallsOf x w.in-Ok.code w.in-Ok.calls.items) c.requires.view w.in-Ok.ensures.calls in
           let there = slice_get-get_or codes n parts c.loop-number-test.true ∙ ap (λ (x : CodeParts). Some x) (sym w.index-codes-number.is) in
-          rw w.found-is (rw w.in_ok-push-in-Ok.ensures.items (next_numbered (λ (f : Found). f.number) (IsFoundIn v codes) constructor n c.loop-number.found.items one so_far w.if-number-constructor.true refl (record { parts = parts; there = there; good = good })))
+          rw w.found-is (rw w.in_ok-push-in-Ok.ensures.items (next_numbered (λ (f : Found). f.number) (IsFoundIn v codes) constructor n c.loop-number.found.items one so_far w.if-number-constructor.true refl (record { parts = parts; there = there; good = good; calls = calls })))
       | else-number-constructor w ↦ rw w.found-is (skip_numbered (λ (f : Found). f.number) (IsFoundIn v codes) constructor n c.loop-number.found.items so_far (search rules))
     ]
 

@@ -1,8 +1,9 @@
-use Rattle.std.proofs.Common.{List, map, ◌++◌, sym, ap, ◌∙◌, ◌∷◌, [], Some, length, arith}
+use Rattle.std.proofs.Common.{List, map, ◌++◌, sym, ap, subst, ◌∙◌, ◌∷◌, [], Some, length, arith}
 use Rattle.std.specs.Vec.Iter.{into_iter_items}
 use Rattle.std.proofs.lemmas.Option.{slice_get-get_or, slice_get_within}
 use Rattle.std.proofs.lemmas.List.Elements.{All-append}
-use Rattle.classfile.specs.View.{view_of}
+use Rattle.classfile.specs.View.{ClassView, view_of}
+use Rattle.typecheck.specs.Calls.{AreCallsOf}
 use Rattle.classfile.specs.declared.class_file.CodeParts.{CodeParts}
 use Rattle.verdict.specs.Judging.{IsFoundIn, IsTypedRow, numbers_but}
 use Rattle.verdict.proofs.Judged.{has_instructions, first_of, rest_of, row_added, nothing_left, all_rows}
@@ -21,6 +22,14 @@ judge_method-requires-clause-code c =
     let numbers = ap (λ (l : List Found). map (λ (t : Typed). t.number) c.loop-number.methods.items ++ map (λ (f : Found). f.number) l) (sym c.in-Some.ensures.steps.0) ∙ c.loop-number.invariant.numbers in
     let other = rest_other c.args.constructor (length c.args.codes.now) (map (λ (t : Typed). t.number) c.loop-number.methods.items) f.number _ numbers in
     has_instructions pool p c.args.constructor c.args.codes.now f parts c.requires.shape found (slice_get-get_or c.args.codes.now f.number parts (slice_get_within c.args.codes.now f.number found.parts found.there) ∙ ap (λ (x : CodeParts). Some x) (sym c.index-codes-number.is)) other
+
+pub judge_method-requires-clause-calls : goal.judge_method-requires-clause-calls
+judge_method-requires-clause-calls c =
+    let pool = c.args.class.now.pool in
+    let p = c.args.class.now.parts in
+    let f = c.in-Some.field-0 in
+    let found = first_of (IsFoundIn (view_of pool p) c.args.codes.now) (into_iter_items c.loop-number.number-iterator) _ f c.loop-number.invariant.rest c.in-Some.ensures.steps.0 in
+    subst (λ (v : ClassView). AreCallsOf v f.code f.calls.items) (sym c.requires.members) found.calls
 
 pub loop-number-preserved : goal.loop-number-preserved
 loop-number-preserved c =
