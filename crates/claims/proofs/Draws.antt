@@ -6,7 +6,7 @@ use lib.ListN.{get_elem?}
 use Rattle.atomic_table.specs.Table.{State, Me, Allows, Splits, Joins, opening, step, keeps}
 use Rattle.atomic_table.proofs.Lists.{at_set, at_snoc}
 use Rattle.claims.specs.declared.known.Terms.{Terms}
-use Rattle.claims.specs.Counters.{total, one_if, times}
+use Rattle.claims.specs.Counters.{total, one_if, times, IsAbove}
 use Rattle.claims.specs.Views.{View, hand, without_one, one_alone, together, spent}
 use Rattle.claims.specs.Rule.{IsFair, IsOnce, with_drawn, with_end, on_next}
 use Rattle.claims.proofs.Totals.{total_append, total_set, total_has, total_most, total_alone}
@@ -19,6 +19,9 @@ either_way a b = grind (arith, nat_tests)
 
 one_more : (x n : ℕ) → one_if (ltb x (n + 1)) ≡ one_if (ltb x n) + one_if (x == n)
 one_more x n = grind (arith, nat_tests)
+
+one_below : (x n : ℕ) → 0 < one_if (ltb x n) → x < n
+one_below x n h = grind (arith, nat_tests)
 
 none_yet : (x : ℕ) → 0 ≡ one_if (ltb x 0)
 none_yet x = grind (arith, nat_tests)
@@ -83,6 +86,13 @@ module _ (k : Terms) (n id : ℕ) (drawn : List ℕ) (s : S) (g : IsOnce k s) (a
   long : length drawn ≤ found
   long = let a = total_has (λ (v : View). length v.drawn) s.views id mine at in let b = g.count in let c = g.word in omega arith
 
+  above : IsAbove drawn found
+  above x h =
+      let a = total_has (λ (v : View). times x v.drawn) s.views id mine at in
+      let b = g.once x in
+      let c : x < g.given = one_below x g.given (omega arith) in
+      let d = g.word in omega arith
+
   draws : found < k.jobs → IsOnce k (after (with_drawn mine found))
   draws below =
       let w : View = with_drawn mine found in
@@ -133,9 +143,10 @@ may_draw k n id drawn s g homes at small =
     let v : View = hand k.jobs k.workers 1 0 drawn in
     let m : ℕ = get_or s.words 0 0 in
     let long : length drawn ≤ m = long k n id drawn s g at in
+    let above : IsAbove drawn m = above k n id drawn s g at in
     ⊎_elim
-    (λ (h : m < k.jobs). (with_drawn v m, keeps, tt, draws k n id drawn s g at h, (((λ _. refl), (λ e. absurd (omega arith)), long), refl)))
-    (λ (h : k.jobs ≤ m). (with_end v, keeps, tt, ends k n id drawn s g at h, (((λ e. absurd (omega arith)), (λ _. refl), long), refl)))
+    (λ (h : m < k.jobs). (with_drawn v m, keeps, tt, draws k n id drawn s g at h, (((λ _. refl), (λ e. absurd (omega arith)), long, above), refl)))
+    (λ (h : k.jobs ≤ m). (with_end v, keeps, tt, ends k n id drawn s g at h, (((λ e. absurd (omega arith)), (λ _. refl), long, above), refl)))
     (either_way m k.jobs)
 
 pub may_draw_as : (k : Terms) (n id : ℕ) (drawn : List ℕ) (m : Me ℕ View) → m ≡ (hand k.jobs k.workers 1 0 drawn, []) → Allows (IsOnce k) n id m 0 (λ x. (x + 1) % 2 ^ 64) (on_next (step n 0 1 0 none) m)

@@ -60,6 +60,10 @@ one_if b = if b then 1 else 0
 abbrev pub times : ℕ → List ℕ → ℕ
 times x xs = total (λ (y : ℕ). one_if (x == y)) xs
 
+-- each number of a list is below this one
+abbrev pub IsAbove : List ℕ → ℕ → Type 0
+IsAbove xs n = (x : ℕ) → 0 < times x xs → x < n
+
 -- how often these claimers drew it
 abbrev pub times_drawn : ℕ → List Share → ℕ
 times_drawn x claimers = total (λ (s : Share). times x s.drawn) claimers

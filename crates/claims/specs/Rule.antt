@@ -4,7 +4,7 @@ use mathlib.Core.Option.{some}
 use lib.ListN.{get_elem?}
 use Rattle.atomic_table.specs.Table.{State, Me, Step}
 use Rattle.claims.specs.declared.known.Terms.{Terms}
-use Rattle.claims.specs.Counters.{total, one_if, times}
+use Rattle.claims.specs.Counters.{total, one_if, times, IsAbove}
 use Rattle.claims.specs.Views.{View, hand}
 
 -- who stands for no claimer has drawn nothing
@@ -30,9 +30,9 @@ with_drawn v n = hand v.jobs v.workers v.parts v.ended (v.drawn ++ n ∷ [])
 abbrev pub with_end : View → View
 with_end v = hand v.jobs v.workers v.parts (v.ended + 1) v.drawn
 
--- a number that is a job's is drawn; another tells that no number is left
+-- a number that is a job's is drawn, and is above those that were drawn before; another tells that no number is left
 abbrev pub HasNext : View → ℕ → View → Type 0
-HasNext v n w = (n < v.jobs → w ≡ with_drawn v n) × (v.jobs ≤ n → w ≡ with_end v) × (length v.drawn ≤ n)
+HasNext v n w = (n < v.jobs → w ≡ with_drawn v n) × (v.jobs ≤ n → w ≡ with_end v) × (length v.drawn ≤ n) × IsAbove v.drawn n
 
 abbrev pub on_next : Step ℕ → Me ℕ View → ℕ → Me ℕ View → Type 0
 on_next st m found m' = HasNext m.0 found m'.0 × (m'.1 ≡ m.1)

@@ -36,7 +36,7 @@ impl Model for Claimer {
 
 impl Claimer {
     ghost use Rattle.std.specs.Prelude.{◌≡◌, ◌<◌, ◌≤◌, false, length, IfSome, IfNone};
-    ghost use Rattle.claims.specs.Counters.{with_number, at_end};
+    ghost use Rattle.claims.specs.Counters.{with_number, at_end, IsAbove};
 
     /// The next number, which no other claimer gets; none where all are given, from then on.
     pub fn claim(&mut self, counter: &Counter) -> Option<usize>
@@ -44,6 +44,7 @@ impl Claimer {
         ensures counter { self.new.counter ≡ self.old.counter }
         ensures job { IfSome result (λ n. n < counter.now.jobs) }
         ensures later { IfSome result (λ n. length self.old.drawn ≤ n) }
+        ensures rising { IfSome result (IsAbove self.old.drawn) }
         ensures some { IfSome result (λ n. (self.old.done ≡ false) × (self.new ≡ with_number self.old n)) }
         ensures none { IfNone result (self.new ≡ at_end self.old) }
     {
