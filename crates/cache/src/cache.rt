@@ -75,8 +75,9 @@ fn room_for<'a>(alloc: Global, seats: usize) -> Result<SeatRoom<'a>, AllocError>
 }
 
 impl<'a, 'l, L: Loader> Cache<'a, 'l, L> {
-    ghost use Rattle.std.specs.Prelude.{◌≡◌, ◌↔◌, IfOk, IfErr, OnOk};
+    ghost use Rattle.std.specs.Prelude.{◌≡◌, ◌↔◌, length, IfOk, IfErr, OnOk};
     ghost use Rattle.stripe.specs.declared.refusal.OpenRefusal.TheVariants.{BadCount};
+    ghost use Rattle.stripe.specs.Tables.{IsCount};
     ghost use Rattle.cache.specs.Opened.{IsOpened, AreFresh, AreCounts, AreSeats};
     ghost use Rattle.cache.specs.Closing.{Settles, histories_seen, receipts_seen, receipts_in};
 
@@ -126,6 +127,14 @@ impl<'a, 'l, L: Loader> Cache<'a, 'l, L> {
             }
             Err(stripes) => Err((OpenRefusal::NoMemory, rejoined(stripes, rest))),
         }
+    }
+
+    /// How many stripes there are.
+    pub fn stripes(&self) -> usize
+        ensures stripes { result ≡ length self.now.tables }
+        ensures count { IsCount result }
+    {
+        self.stripes
     }
 
     /// Ends the cache, by all the seats that `open` gave, in their order.
