@@ -1,3 +1,4 @@
+pub mod Members
 pub mod Turns
 pub mod Rows
 pub mod Worked

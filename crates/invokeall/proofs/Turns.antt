@@ -1,5 +1,5 @@
 -- One call more, and one answer more.
-use Rattle.std.proofs.Common.{◌≡◌, ℕ, zero, suc, List, [], ◌∷◌, ◌++◌, length, get_or, set, Ok, Err, IfOk, IfErr, Bool, true, false, refl, sym, ap, ◌∙◌, subst, ⊎_elim, append_assoc}
+use Rattle.std.proofs.Common.{◌≡◌, ℕ, zero, suc, ◌≤◌, List, [], ◌∷◌, ◌++◌, length, get_or, set, Ok, Err, IfOk, IfErr, Bool, true, false, refl, sym, ap, ◌∙◌, subst, ⊎_elim, append_assoc, arith, vec_capacity}
 use Rattle.std.proofs.lemmas.List.{append-nil, map-append}
 use Rattle.std.proofs.lemmas.List.Concat.{flat_map-append}
 use Rattle.std.proofs.lemmas.List.Elements.{All-head, All-tail}
@@ -8,6 +8,7 @@ use mathlib.Core.Option.{some, some-injective, some-ne-none}
 use lib.ListN.{get_elem?}
 use Rattle.atomic_table.proofs.Lists.{at_snoc}
 use Rattle.boxcar.specs.Table.{Shelves}
+use Rattle.claims.specs.Counters.{Share}
 use Rattle.stripe.specs.declared.call.Reply.{Reply}
 use Rattle.stripe.specs.History.{Call}
 use Rattle.cache.specs.Receipts.{Receipt}
@@ -16,9 +17,10 @@ use Rattle.cache.specs.Opened.{Opened, Sitting, IsAnswered, IsTurnedAway, stripe
 use Rattle.outcome.specs.Closed.{calls_told, AreFiled}
 use Rattle.outcome.proofs.Handed.{filed_by_calls, filed_by_refusals}
 use Rattle.invokeall.specs.declared.job.Job.{Job}
+use Rattle.invokeall.specs.declared.work.Worker.{Worker}
 use Rattle.invokeall.specs.Jobs.{call_of, calls_of, IsCallable}
 use Rattle.invokeall.specs.Rounds.{Answer, IsLaterSeat, IsFull}
-use Rattle.invokeall.specs.Crews.{told_answer, told_at, told_row, numbers, ShowsFull}
+use Rattle.invokeall.specs.Crews.{told_answer, told_at, told_row, numbers, ShowsFull, HasAnswered}
 
 abbrev pub told_seat : Sitting → List (Call × Reply)
 told_seat s = calls_told s.receipts
@@ -107,3 +109,36 @@ numbers_more (y ∷ ys) k x = ap (λ (l : List ℕ). y.0 ∷ l) (numbers_more ys
 pub numbers_long : (xs : List (ℕ × Answer)) → length (numbers xs) ≡ length xs
 numbers_long [] = refl
 numbers_long (y ∷ ys) = ap suc (numbers_long ys)
+
+-- a worker that has no answer yet
+pub none_answered : {L : Type 0} (d : Opened L) (jobs : List Job) (v : Worker) → v.answers.items ≡ [] → HasAnswered d jobs v v []
+none_answered d jobs v none = record {
+  seat = same_seat v.seat v.seat refl;
+  numbers_are = ap numbers none;
+  receipts = sym (ap (λ l. told_seat v.seat ++ told_row (calls_of jobs) l) none ∙ append-nil (told_seat v.seat));
+  filed = λ h. h;
+  full = subst (ShowsFull d (calls_of jobs) v.seat) (sym none) (λ j k c e. absurd (some-ne-none (k, Err JournalFull) (sym e)));
+  room = omega arith;
+}
+
+-- one job more is answered
+pub one_answered : {L : Type 0} (d : Opened L) (jobs : List Job) (v w next : Worker) (before : List ℕ) (k : ℕ) (j : Job) (x : Answer) → get_elem? jobs k ≡ some j → OneCall d (call_of j) w.seat next.seat x
+    → next.answers.items ≡ w.answers.items ++ (k, x) ∷ [] → vec_capacity w.answers ≤ vec_capacity next.answers → HasAnswered d jobs v w before → HasAnswered d jobs v next (before ++ k ∷ [])
+one_answered d jobs v w next before k j x there one items room old =
+    let calls : List Call = calls_of jobs in
+    let xs : List (ℕ × Answer) = w.answers.items in
+    let at : get_elem? calls k ≡ some (call_of j) = called_at jobs k j there in
+    record {
+      seat = later_seat v.seat w.seat next.seat old.seat one.later;
+      numbers_are = ap numbers items ∙ numbers_more xs k x ∙ ap (λ (l : List ℕ). l ++ k ∷ []) old.numbers_are;
+      receipts = one.receipts ∙ ap (λ l. l ++ told_answer (call_of j) x) old.receipts ∙ append_assoc (told_seat v.seat) (told_row calls xs) (told_answer (call_of j) x)
+          ∙ ap (λ l. told_seat v.seat ++ l) (sym (row_more calls xs k (call_of j) x at) ∙ ap (told_row calls) (sym items));
+      filed = λ h. one.filed (old.filed h);
+      full = subst (ShowsFull d calls next.seat) (sym items) (full_more d calls w.seat next.seat xs k (call_of j) x at one old.full);
+      room = let more = old.room in omega arith;
+    }
+
+-- which claimer a worker has is another thing
+pub same_answered : {L : Type 0} (d : Opened L) (jobs : List Job) (v w : Worker) (claimer : Share) (before : List ℕ) → HasAnswered d jobs v w before
+    → HasAnswered d jobs v (record { seat = w.seat; workspace = w.workspace; claimer = claimer; answers = w.answers }) before
+same_answered d jobs v w claimer before h = record { seat = h.seat; numbers_are = h.numbers_are; receipts = h.receipts; filed = h.filed; full = h.full; room = h.room }

@@ -1,9 +1,9 @@
 -- What all workers did.
-use Rattle.std.proofs.Common.{◌≡◌, ◌⊎◌, ℕ, zero, suc, ◌+◌, ◌<◌, ◌≤◌, ◌==◌, List, [], ◌∷◌, ◌++◌, length, map, get_or, Option, Some, None, Err, true, refl, sym, ap, ◌∙◌, subst, inl, inr, ⊎_elim, arith, append_assoc}
+use Rattle.std.proofs.Common.{◌≡◌, ◌⊎◌, ℕ, zero, suc, ◌+◌, ◌<◌, ◌≤◌, ◌==◌, ltb, List, [], ◌∷◌, ◌++◌, length, map, get_or, if◌then◌else◌, Option, Some, None, Err, true, refl, sym, ap, ◌∙◌, subst, inl, inr, ⊎_elim, arith, append_assoc}
 use Rattle.std.specs.Prelude.{flat_map}
 use Rattle.std.specs.List.{All}
 use Rattle.std.specs.List.Sorted.{IsPermutation}
-use Rattle.std.proofs.lemmas.List.{map-append}
+use Rattle.std.proofs.lemmas.List.{map-append, length-map}
 use Rattle.std.proofs.lemmas.List.Elements.{All-nil, All-cons, All-head, All-tail, All-same}
 use Rattle.std.proofs.lemmas.List.Concat.{flat_map-append}
 use Rattle.std.proofs.lemmas.List.Sorted.{IsPermutation-refl, IsPermutation-sym, IsPermutation-trans, IsPermutation-append_left, IsPermutation-append_right, IsPermutation-append_comm}
@@ -18,12 +18,15 @@ use Rattle.cache.specs.declared.refusal.InvokeRefusal.TheVariants.{JournalFull}
 use Rattle.cache.specs.Opened.{Opened, Sitting}
 use Rattle.outcome.specs.Outcome.{answered}
 use Rattle.outcome.specs.Closed.{all_receipts, calls_told, calls_at, AreFiled, AllAreFiled}
+use Rattle.invokeall.specs.declared.groups.Groups.{Groups}
 use Rattle.invokeall.specs.declared.job.Job.{Job}
 use Rattle.invokeall.specs.declared.work.Worker.{Worker}
 use Rattle.invokeall.specs.Jobs.{calls_of}
+use Rattle.invokeall.specs.Groups.{group_of, groups_in, AreGroups}
 use Rattle.invokeall.specs.Rounds.{Answer, reply_of, IsLaterSeat, IsFull, IsRound, IsAtHome}
 use Rattle.invokeall.specs.Crews.{IsReady, HasWorked, told_row, told_at, numbers}
 use Rattle.invokeall.specs.Rooms.{Row, Places, HasRoom, blanks, placed, entries_of, seats_of, claimers_of, rows_of, IsThere}
+use Rattle.invokeall.proofs.Members.{times_all_members, sum_if, same_if, if_one, if_below}
 use Rattle.invokeall.proofs.Rows.{told_all, reply_in, AreOnce, told_rows, from_entry, blank_at, length_placed, length_blanks, all_filled}
 
 pub length_calls : (jobs : List Job) → length (calls_of jobs) ≡ length jobs
@@ -50,13 +53,13 @@ some_same a b e = ap (λ (p : Option Answer). value p a) e
     value (Some x) d = x
     value None d = d
 
-module _ {L : Type 0} (d : Opened L) (counter : Numbering) (jobs : List Job) where
+module _ {L : Type 0} (d : Opened L) (counter : Numbering) (groups : Groups) (jobs : List Job) where
   abbrev pub AllWorked : List Worker → List Worker → Type 0
   AllWorked [] [] = Unit {0}
-  AllWorked (v ∷ vs) (w ∷ ws) = HasWorked d counter jobs v w × AllWorked vs ws
+  AllWorked (v ∷ vs) (w ∷ ws) = HasWorked d counter groups jobs v w × AllWorked vs ws
   AllWorked _ _ = ⊥
 
-  pub all_worked : (vs ws : List Worker) → length ws ≡ length vs → ((i : ℕ) (e : Worker) → i < length vs → HasWorked d counter jobs (get_or vs i e) (get_or ws i e)) → AllWorked vs ws
+  pub all_worked : (vs ws : List Worker) → length ws ≡ length vs → ((i : ℕ) (e : Worker) → i < length vs → HasWorked d counter groups jobs (get_or vs i e) (get_or ws i e)) → AllWorked vs ws
   all_worked [] [] same each = tt
   all_worked [] (w ∷ ws) same each = absurd (omega arith)
   all_worked (v ∷ vs) [] same each = absurd (omega arith)
@@ -71,14 +74,14 @@ module _ {L : Type 0} (d : Opened L) (counter : Numbering) (jobs : List Job) whe
   pub all_later : (vs ws : List Worker) → AllWorked vs ws → (i : ℕ) (x y : Sitting) → get_elem? (seats_of vs) i ≡ some x → get_elem? (seats_of ws) i ≡ some y → IsLaterSeat x y
   all_later [] ws a i x y e f = absurd (some-ne-none x (sym e))
   all_later (v ∷ vs) [] a i x y e f = absurd a
-  all_later (v ∷ vs) (w ∷ ws) a zero x y e f = subst (λ (z : Sitting). IsLaterSeat z y) (some-injective v.seat x e) (subst (λ (z : Sitting). IsLaterSeat v.seat z) (some-injective w.seat y f) a.0.seat)
+  all_later (v ∷ vs) (w ∷ ws) a zero x y e f = subst (λ (z : Sitting). IsLaterSeat z y) (some-injective v.seat x e) (subst (λ (z : Sitting). IsLaterSeat v.seat z) (some-injective w.seat y f) a.0.answered.seat)
   all_later (v ∷ vs) (w ∷ ws) a (suc i) x y e f = all_later vs ws a.1 i x y e f
 
   pub all_filed : (vs ws : List Worker) → AllWorked vs ws → AllAreFiled (length d.tables) (seats_of vs) → AllAreFiled (length d.tables) (seats_of ws)
   all_filed [] [] a h i y f = absurd (some-ne-none y (sym f))
   all_filed [] (w ∷ ws) a h i y f = absurd a
   all_filed (v ∷ vs) [] a h i y f = absurd a
-  all_filed (v ∷ vs) (w ∷ ws) a h zero y f = subst (λ (z : Sitting). AreFiled (length d.tables) z.receipts) (some-injective w.seat y f) (a.0.filed (h 0 v.seat refl))
+  all_filed (v ∷ vs) (w ∷ ws) a h zero y f = subst (λ (z : Sitting). AreFiled (length d.tables) z.receipts) (some-injective w.seat y f) (a.0.answered.filed (h 0 v.seat refl))
   all_filed (v ∷ vs) (w ∷ ws) a h (suc i) y f = all_filed vs ws a.1 (λ j x e. h (suc j) x e) i y f
 
   abbrev row_told : Worker → List (Call × Reply)
@@ -108,7 +111,7 @@ module _ {L : Type 0} (d : Opened L) (counter : Numbering) (jobs : List Job) whe
       let rest : IsPermutation ((p ++ q) ++ (r ++ s)) ((p ++ q) ++ calls_at (seats_of ws)) = IsPermutation-append_right (p ++ q) (r ++ s) (calls_at (seats_of ws)) (told_worked vs ws a.1) in
       let all : IsPermutation ((p ++ r) ++ (q ++ s)) ((p ++ q) ++ calls_at (seats_of ws)) =
       IsPermutation-trans ((p ++ r) ++ (q ++ s)) ((p ++ q) ++ (r ++ s)) ((p ++ q) ++ calls_at (seats_of ws)) (crossed p q r s) rest in
-      let new : (p ++ q) ++ calls_at (seats_of ws) ≡ calls_at (seats_of (w ∷ ws)) = ap (λ l. l ++ calls_at (seats_of ws)) (sym a.0.receipts) ∙ sym (seat_more w.seat (seats_of ws)) in
+      let new : (p ++ q) ++ calls_at (seats_of ws) ≡ calls_at (seats_of (w ∷ ws)) = ap (λ l. l ++ calls_at (seats_of ws)) (sym a.0.answered.receipts) ∙ sym (seat_more w.seat (seats_of ws)) in
       subst (λ l. IsPermutation (l ++ (q ++ s)) (calls_at (seats_of (w ∷ ws)))) (sym (seat_more v.seat (seats_of vs))) (subst (λ l. IsPermutation ((p ++ r) ++ (q ++ s)) l) new all)
 
   pub told_entries : (ws : List Worker) → told_row (calls_of jobs) (entries_of (rows_of ws)) ≡ flat_map row_told ws
@@ -121,27 +124,41 @@ module _ {L : Type 0} (d : Opened L) (counter : Numbering) (jobs : List Job) whe
   more_entries : (x : ℕ) (w : Worker) (ws : List Worker) → times x (numbers (entries_of (rows_of (w ∷ ws)))) ≡ times x (numbers w.answers.items) + times x (numbers (entries_of (rows_of ws)))
   more_entries x w ws = ap (λ l. times x l) (numbers_append w.answers.items (entries_of (rows_of ws))) ∙ total_append (λ (y : ℕ). one_if (x == y)) (numbers w.answers.items) (numbers (entries_of (rows_of ws)))
 
-  -- the numbers of all answers are those that the claimers drew
-  drawn_entries : (vs ws : List Worker) → AllWorked vs ws → (x : ℕ) → times_drawn x (claimers_of ws) ≡ times x (numbers (entries_of (rows_of ws)))
-  drawn_entries [] [] a x = refl
+  -- the group of each job
+  abbrev of : List ℕ
+  of = groups_in groups jobs
+
+  -- a job has as many answers as its group was claimed by claimers
+  drawn_entries : (vs ws : List Worker) → AllWorked vs ws → (x : ℕ) → times x (numbers (entries_of (rows_of ws))) ≡ (if ltb x (length jobs) then times_drawn (get_or of x 0) (claimers_of ws) else 0)
+  drawn_entries [] [] a x = same_if (ltb x (length jobs)) 0
   drawn_entries [] (w ∷ ws) a x = absurd a
   drawn_entries (v ∷ vs) [] a x = absurd a
   drawn_entries (v ∷ vs) (w ∷ ws) a x =
-      let e = ap (times x) a.0.drawn in
-      let f = drawn_entries vs ws a.1 x in
-      let g = more_entries x w ws in omega arith
+      let e = ap (times x) a.0.answered.numbers_are in
+      let f = times_all_members of w.claimer.drawn (length jobs) x in
+      let g = drawn_entries vs ws a.1 x in
+      let h = more_entries x w ws in
+      let i = sum_if (ltb x (length jobs)) (times (get_or of x 0) w.claimer.drawn) (times_drawn (get_or of x 0) (claimers_of ws)) in omega arith
 
-  -- no number was drawn twice, and each of a job once
+  -- no group was claimed twice, and each once
   pub record IsEachOnce (ws : List Worker) : Type 0 where
     pub most : (x : ℕ) → times_drawn x (claimers_of ws) ≤ 1
-    pub jobs_are : (x : ℕ) → x < length jobs → times_drawn x (claimers_of ws) ≡ 1
+    pub groups_are : (x : ℕ) → x < counter.jobs → times_drawn x (claimers_of ws) ≡ 1
 
   entries_once : (vs ws : List Worker) → AllWorked vs ws → IsEachOnce ws → AreOnce (entries_of (rows_of ws))
-  entries_once vs ws a each = record { once = λ x. let e = drawn_entries vs ws a x in let f = each.most x in omega arith }
+  entries_once vs ws a each = record {
+    once = λ x. let e = drawn_entries vs ws a x in let f = if_one (ltb x (length jobs)) (times_drawn (get_or of x 0) (claimers_of ws)) (each.most (get_or of x 0)) in omega arith;
+  }
 
-  -- so each has its answer
-  pub are_filled : (vs ws : List Worker) → AllWorked vs ws → IsEachOnce ws → All IsThere (placed (blanks (length jobs)) (entries_of (rows_of ws)))
-  are_filled vs ws a each = all_filled (length jobs) (entries_of (rows_of ws)) (λ k below. let e = drawn_entries vs ws a k in let f = each.jobs_are k below in omega arith)
+  -- so each job has its answer
+  pub are_filled : (vs ws : List Worker) → AllWorked vs ws → IsEachOnce ws → AreGroups jobs groups → counter.jobs ≡ length groups.firsts.items → All IsThere (placed (blanks (length jobs)) (entries_of (rows_of ws)))
+  are_filled vs ws a each linked same = all_filled (length jobs) (entries_of (rows_of ws)) (λ k below.
+      let long : length of ≡ length jobs = length-map jobs (group_of (length groups.firsts.items)) in
+      let group : ℕ = get_or of k 0 in
+      let some_group : group < length groups.firsts.items = linked.within k (omega arith) (omega arith) in
+      let once = each.groups_are group (omega arith) in
+      let e = drawn_entries vs ws a k in
+      let f = if_below k (length jobs) (times_drawn group (claimers_of ws)) below in omega arith)
 
   -- where a worker worked, a claimer is done
   pub first_done : (vs ws : List Worker) → AllWorked vs ws → 0 < length vs → (s : Share) × (get_elem? (claimers_of ws) 0 ≡ some s) × (s.done ≡ true)
@@ -171,7 +188,7 @@ module _ {L : Type 0} (d : Opened L) (counter : Numbering) (jobs : List Job) whe
   full_shown [] (w ∷ ws) a k c there j e = absurd a
   full_shown (v ∷ vs) [] a k c there j e = absurd a
   full_shown (v ∷ vs) (w ∷ ws) a k c there j e = ⊎_elim
-      (λ (g : (m : ℕ) × (get_elem? w.answers.items m ≡ some (k, Err JournalFull))). (0, w.seat, refl, a.0.full g.0 k c g.1 there))
+      (λ (g : (m : ℕ) × (get_elem? w.answers.items m ≡ some (k, Err JournalFull))). (0, w.seat, refl, a.0.answered.full g.0 k c g.1 there))
       (λ (g : (m : ℕ) × (get_elem? (entries_of (rows_of ws)) m ≡ some (k, Err JournalFull))). let f = full_shown vs ws a.1 k c there g.0 g.1 in (suc f.0, f.1, f.2, f.3))
       (at_append w.answers.items (entries_of (rows_of ws)) j (k, Err JournalFull) e)
 
@@ -236,14 +253,14 @@ module _ {L : Type 0} (d : Opened L) (counter : Numbering) (jobs : List Job) whe
   all_claimers vs ws a long = record { count = length_claimers ws ∙ long; each = claimers_at vs ws a }
 
   -- what the counter's close says of them
-  pub each_once : (vs ws : List Worker) (shares : List Share) → AllWorked vs ws → 0 < length vs → counter.jobs ≡ length jobs → shares ≡ claimers_of ws → ((x : ℕ) → times_drawn x shares ≤ 1)
+  pub each_once : (vs ws : List Worker) (shares : List Share) → AllWorked vs ws → 0 < length vs → shares ≡ claimers_of ws → ((x : ℕ) → times_drawn x shares ≤ 1)
       → ((c : ℕ) (s : Share) → get_elem? shares c ≡ some s → s.done ≡ true → (x : ℕ) → x < counter.jobs → times_drawn x shares ≡ 1) → IsEachOnce ws
-  each_once vs ws shares a some_worker same are most done =
+  each_once vs ws shares a some_worker are most done =
       let first = first_done vs ws a some_worker in
       let there : get_elem? shares 0 ≡ some first.0 = ap (λ (l : List Share). get_elem? l 0) are ∙ first.1 in
       record {
         most = λ x. subst (λ (l : List Share). times_drawn x l ≤ 1) are (most x);
-        jobs_are = λ x below. subst (λ (l : List Share). times_drawn x l ≡ 1) are (done 0 first.0 there first.2 x (omega arith));
+        groups_are = λ x below. subst (λ (l : List Share). times_drawn x l ≡ 1) are (done 0 first.0 there first.2 x below);
       }
 
 pub length_seats : (ws : List Worker) → length (seats_of ws) ≡ length ws

@@ -8,9 +8,11 @@ use Rattle.claims.specs.Counters.{Numbering, fresh}
 use Rattle.cache.specs.declared.refusal.InvokeRefusal.TheVariants.{JournalFull}
 use Rattle.cache.specs.Opened.{Opened, Sitting}
 use Rattle.outcome.specs.Closed.{calls_told, AreFiled}
+use Rattle.invokeall.specs.declared.groups.Groups.{Groups}
 use Rattle.invokeall.specs.declared.job.Job.{Job}
 use Rattle.invokeall.specs.declared.work.Worker.{Worker}
 use Rattle.invokeall.specs.Jobs.{calls_of}
+use Rattle.invokeall.specs.Groups.{groups_in, members_of_all}
 use Rattle.invokeall.specs.Rounds.{Answer, IsLaterSeat, IsFull}
 
 -- what an answer to a call tells: the call with its reply, or nothing
@@ -41,12 +43,17 @@ pub record IsReady {L : Type 0} (d : Opened L) (counter : Numbering) (jobs : Lis
   pub answers : w.answers.items ≡ []
   pub room : length jobs ≤ vec_capacity w.answers
 
--- a worker that found no job left: it has an answer to each job that it claimed, and what these tell is what its new receipts tell
-pub record HasWorked {L : Type 0} (d : Opened L) (counter : Numbering) (jobs : List Job) (v w : Worker) : Type 0 where
+-- what a worker did since: it has an answer to each of these jobs, in their order, and what these tell is what its new receipts tell
+pub record HasAnswered {L : Type 0} (d : Opened L) (jobs : List Job) (v w : Worker) (answered : List ℕ) : Type 0 where
   pub seat : IsLaterSeat v.seat w.seat
-  pub at : w.claimer.counter ≡ counter
-  pub done : w.claimer.done ≡ true
-  pub drawn : w.claimer.drawn ≡ numbers w.answers.items
+  pub numbers_are : numbers w.answers.items ≡ answered
   pub receipts : calls_told w.seat.receipts ≡ calls_told v.seat.receipts ++ told_row (calls_of jobs) w.answers.items
   pub filed : AreFiled (length d.tables) v.seat.receipts → AreFiled (length d.tables) w.seat.receipts
   pub full : ShowsFull d (calls_of jobs) w.seat w.answers.items
+  pub room : vec_capacity v.answers ≤ vec_capacity w.answers
+
+-- a worker that found no group left: it has an answer to each job of the groups that it claimed
+pub record HasWorked {L : Type 0} (d : Opened L) (counter : Numbering) (groups : Groups) (jobs : List Job) (v w : Worker) : Type 0 where
+  pub at : w.claimer.counter ≡ counter
+  pub done : w.claimer.done ≡ true
+  pub answered : HasAnswered d jobs v w (members_of_all (groups_in groups jobs) (length jobs) w.claimer.drawn)

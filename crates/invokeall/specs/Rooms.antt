@@ -2,10 +2,12 @@
 use Rattle.std.specs.Prelude.{◌≡◌, ℕ, ◌≤◌, List, [], ◌∷◌, map, flat_map, length, replicate, slice_set, vec_capacity, Option, Some, None, Vec}
 use Rattle.std.specs.Global.{Global}
 use Rattle.std.specs.List.{All}
+use Rattle.stripe.specs.Tables.{IsCount}
 use Rattle.claims.specs.Counters.{Share, AreFresh}
 use Rattle.cache.specs.Opened.{Sitting}
 use Rattle.invokeall.specs.declared.work.Worker.{Worker}
 use Rattle.invokeall.specs.declared.room.RoundRoom.{RoundRoom}
+use Rattle.invokeall.specs.Groups.{AreBlank}
 use Rattle.invokeall.specs.Rounds.{Answer}
 
 abbrev pub Row : Type 0
@@ -44,10 +46,12 @@ rows_of ws = map (λ (w : Worker). w.answers) ws
 abbrev pub HasRoom : {A : Type 0} → ℕ → Vec A Global → Type 0
 HasRoom n v = (v.items ≡ []) × (n ≤ vec_capacity v)
 
--- room for a round of so many jobs by so many workers
-pub record IsRoom (jobs count : ℕ) (r : RoundRoom) : Type 0 where
-  pub jobs_are : r.counter.jobs ≡ jobs
+-- room for a round of so many jobs in so many groups, by so many workers
+pub record IsRoom (jobs groups count : ℕ) (r : RoundRoom) : Type 0 where
+  pub some_groups : IsCount groups
+  pub groups_are : r.counter.jobs ≡ groups
   pub workers_are : r.counter.workers ≡ count
+  pub blank : AreBlank jobs groups r.groups
   pub claimers : AreFresh r.counter r.claimers.items
   pub lists : (length r.lists.items ≡ count) × All (HasRoom jobs) r.lists.items
   pub workers : HasRoom count r.workers

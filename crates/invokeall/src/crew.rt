@@ -5,8 +5,10 @@ ghost use Rattle.std.specs.List.{All};
 ghost use Rattle.invokeall.specs.declared.work.Worker.{Worker};
 ghost use Rattle.invokeall.specs.declared.job.Job.{Job};
 ghost use Rattle.invokeall.specs.Jobs.{IsCallable};
+ghost use Rattle.invokeall.specs.Groups.{AreGroups};
 ghost use Rattle.invokeall.specs.Crews.{IsReady, HasWorked};
 
+use crate::groups::Groups;
 use crate::job::Job;
 use crate::shift::{Shift, serve_all};
 use crate::work::{Worker, work};
@@ -22,6 +24,7 @@ pub struct Day<'s, 'a, 'l, 'j, R, G, L: Loader> {
     pub rt: &'s R,
     pub cache: &'s Cache<'a, 'l, L>,
     pub counter: &'s Counter,
+    pub groups: &'s Groups,
     pub jobs: &'s [Job<'j>],
     pub gate: &'s G,
 }
@@ -31,17 +34,19 @@ impl<'s, 'a, 'l, 'j, R: Wait, G: Gate, L: Loader> Shift<Worker<'a>>
     ghost use Rattle.std.specs.Prelude.{◌≡◌, length};
     ghost use Rattle.std.specs.List.{All};
     ghost use Rattle.invokeall.specs.Jobs.{IsCallable};
+    ghost use Rattle.invokeall.specs.Groups.{AreGroups};
     ghost use Rattle.invokeall.specs.Crews.{IsReady, HasWorked};
 
-    ghost accepts = { λ s w. IsReady s.cache.now s.counter.now s.jobs.now w × ((s.counter.now.jobs ≡ length s.jobs.now) × All (IsCallable s.cache.now.registry) s.jobs.now) };
+    ghost accepts = { λ s w. IsReady s.cache.now s.counter.now s.jobs.now w × ((s.counter.now.jobs ≡ length s.groups.now.firsts.items) × AreGroups s.jobs.now s.groups.now × All (IsCallable s.cache.now.registry) s.jobs.now) };
 
-    ghost leaves = { λ s v w. HasWorked s.cache.now s.counter.now s.jobs.now v w };
+    ghost leaves = { λ s v w. HasWorked s.cache.now s.counter.now s.groups.now s.jobs.now v w };
 
     fn serve(&self, worker: &mut Worker<'a>) {
         work(
             self.rt,
             self.cache,
             self.counter,
+            self.groups,
             self.jobs,
             worker,
             self.gate,
@@ -49,11 +54,11 @@ impl<'s, 'a, 'l, 'j, R: Wait, G: Gate, L: Loader> Shift<Worker<'a>>
     }
 }
 
-/// How many threads serve: one a worker, but no more than there are jobs.
-fn threads_for(jobs: usize, workers: usize) -> usize
+/// How many threads serve: one a worker, but no more than there are jobs or groups of them.
+fn threads_for(jobs: usize, groups: usize, workers: usize) -> usize
     ensures { 0 < result }
 {
-    jobs.min(workers).max(1)
+    jobs.min(groups).min(workers).max(1)
 }
 
 /// Has all workers work.
@@ -61,22 +66,25 @@ pub fn run_all<'a, 'j, R: Threads + Wait + Sync, G: Gate + Sync, L: Loader + Syn
     rt: &R,
     cache: &Cache<'a, '_, L>,
     counter: &Counter,
+    groups: &Groups,
     jobs: &[Job<'j>],
     workers: &mut [Worker<'a>],
     gate: &G,
 )
-    requires counter { counter.now.jobs ≡ length jobs.now }
+    requires counter { counter.now.jobs ≡ length groups.now.firsts.items }
+    requires groups { AreGroups jobs.now groups.now }
     requires callable { All (IsCallable cache.now.registry) jobs.now }
     requires ready { All (IsReady cache.now counter.now jobs.now) workers.old }
-    ensures { (i : ℕ) (d : Worker) → i < length workers.old → HasWorked cache.now counter.now jobs.now (slice_index_or workers.old i d) (slice_index_or workers.new i d) }
+    ensures { (i : ℕ) (d : Worker) → i < length workers.old → HasWorked cache.now counter.now groups.now jobs.now (slice_index_or workers.old i d) (slice_index_or workers.new i d) }
 {
     let day = Day {
         rt,
         cache,
         counter,
+        groups,
         jobs,
         gate,
     };
-    let threads = threads_for(jobs.len(), workers.len());
+    let threads = threads_for(jobs.len(), groups.firsts.len(), workers.len());
     serve_all(rt, workers, threads, &day);
 }

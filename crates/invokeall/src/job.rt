@@ -45,8 +45,22 @@ pub type JobReply = Result<Reply, InvokeRefusal>;
 
 impl<'j> Job<'j> {
     ghost use Rattle.std.specs.Prelude.{◌≡◌, IfOk, IfErr};
+    ghost use Rattle.stripe.specs.History.{key_of};
     ghost use Rattle.cache.specs.Opened.{IsAnswered, IsTurnedAway};
     ghost use Rattle.invokeall.specs.Jobs.{call_of, IsCallable};
+
+    /// The key that the job's call names.
+    pub(crate) fn key(&self) -> i64
+        ensures { result ≡ key_of (call_of self.now) }
+    {
+        match *self {
+            Job::Invoke { key, .. } => key,
+            Job::Get { key } => key,
+            Job::Put { key, .. } => key,
+            Job::Remove { key } => key,
+            Job::Contains { key } => key,
+        }
+    }
 
     /// Makes the call, as the job of this number.
     pub(crate) fn call<'a, R: Wait, G: Gate, L: Loader>(

@@ -3,6 +3,7 @@
 
 mod all;
 mod crew;
+mod groups;
 mod job;
 mod room;
 mod round;

@@ -2,9 +2,11 @@
 
 ghost use Rattle.std.specs.Prelude.{◌≡◌, ◌≤◌, length, map, IfOk, Some, vec_capacity};
 ghost use Rattle.std.specs.List.{All};
+ghost use Rattle.stripe.specs.Tables.{IsCount};
 ghost use Rattle.claims.specs.Counters.{IsJobCount, IsWorkerCount};
 ghost use Rattle.invokeall.specs.Rooms.{blanks, placed, entries_of, seats_of, claimers_of, rows_of, HasRoom, IsThere, IsRoom};
 
+use crate::groups::{Groups, no_groups};
 use crate::job::JobReply;
 use crate::work::Worker;
 use cache::Seat;
@@ -19,6 +21,7 @@ pub type Row = Vec<(usize, JobReply)>;
 #[derive(Drop)]
 pub struct RoundRoom<'a> {
     pub counter: Counter,
+    pub groups: Groups,
     pub claimers: Vec<Claimer>,
     pub lists: Vec<Row>,
     pub workers: Vec<Worker<'a>>,
@@ -30,12 +33,19 @@ pub struct RoundRoom<'a> {
     pub answers: Vec<JobReply>,
 }
 
-/// Room for a round of so many jobs and workers, which `run_in` uses.
-pub fn room_for<'a>(alloc: Global, jobs: usize, count: usize) -> Result<RoundRoom<'a>, AllocError>
+/// Room for a round of so many jobs, on a cache of so many stripes, by so many workers. `run_in` uses it.
+pub fn room_for<'a>(
+    alloc: Global,
+    jobs: usize,
+    stripes: usize,
+    count: usize,
+) -> Result<RoundRoom<'a>, AllocError>
     requires jobs { IsJobCount jobs }
+    requires stripes { IsCount stripes }
     requires workers { IsWorkerCount count }
-    ensures { IfOk result (IsRoom jobs count) }
+    ensures { IfOk result (IsRoom jobs stripes count) }
 {
+    let groups = no_groups(alloc, jobs, stripes)?;
     let lists = empty_rows(alloc, jobs, count)?;
     let workers = Vec::with_capacity(alloc, count)?;
     let rows = Vec::with_capacity(alloc, count)?;
@@ -44,9 +54,10 @@ pub fn room_for<'a>(alloc: Global, jobs: usize, count: usize) -> Result<RoundRoo
     let spent = Vec::with_capacity(alloc, count)?;
     let places = no_answers(alloc, jobs)?;
     let answers = Vec::with_capacity(alloc, jobs)?;
-    let (counter, claimers) = open(alloc, jobs, count)?;
+    let (counter, claimers) = open(alloc, stripes, count)?;
     Ok(RoundRoom {
         counter,
+        groups,
         claimers,
         lists,
         workers,

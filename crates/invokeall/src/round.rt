@@ -18,8 +18,9 @@ use std::mem;
 use std::sync::Wait;
 use std::thread::Threads;
 
-/// Runs the jobs, by a worker at each seat, each with a workspace. A worker claims one job after the other, until there is none left; the answers stand in the
-/// order of the jobs. There are as many threads as workers or jobs, whichever is fewer, the caller's own among them.
+/// Runs the jobs, by a worker at each seat, each with a workspace. A group is all jobs whose keys are of one stripe. A worker claims one group after the other and
+/// makes the calls of its jobs in their order, until there is no group left; the answers stand in the order of the jobs. There are as many threads as workers,
+/// jobs or stripes, whichever are fewest, the caller's own among them.
 ///
 /// All memory of the round itself is taken before the first claim. After that a job may be refused, by its answer.
 pub fn run_round<'a, 'j, R: Threads + Wait + Sync, G: Gate + Sync, L: Loader + Sync>(
@@ -40,7 +41,7 @@ pub fn run_round<'a, 'j, R: Threads + Wait + Sync, G: Gate + Sync, L: Loader + S
     ensures workspaces { OnOk result (length workspaces.new.items ≡ length workspaces.old.items) }
     ensures err { OnErr result ((seats.new.items ≡ seats.old.items) × (workspaces.new.items ≡ workspaces.old.items)) }
 {
-    let room = room_for(alloc, jobs.len(), seats.len())?;
+    let room = room_for(alloc, jobs.len(), cache.stripes(), seats.len())?;
     Ok(run_in(rt, cache, jobs, seats, workspaces, room, gate))
 }
 
@@ -58,12 +59,13 @@ pub fn run_in<'a, 'j, R: Threads + Wait + Sync, G: Gate + Sync, L: Loader + Sync
     requires workspaces { length workspaces.old.items ≡ length seats.old.items }
     requires home { All (IsAtHome cache.now) seats.old.items }
     requires callable { All (IsCallable cache.now.registry) jobs.now }
-    requires room { IsRoom (length jobs.now) (length seats.old.items) room }
+    requires room { IsRoom (length jobs.now) (length cache.now.tables) (length seats.old.items) room }
     ensures round { IsRound cache.now (calls_of jobs.now) seats.old.items seats.new.items result.items }
     ensures workspaces { length workspaces.new.items ≡ length workspaces.old.items }
 {
     let RoundRoom {
         counter,
+        groups,
         claimers,
         lists,
         mut workers,
@@ -74,10 +76,19 @@ pub fn run_in<'a, 'j, R: Threads + Wait + Sync, G: Gate + Sync, L: Loader + Sync
         mut places,
         answers,
     } = room;
+    let groups = groups.of(jobs);
     let old = mem::replace(seats, back);
     let used = mem::replace(workspaces, spaces);
     hire(old, used, claimers, lists, &mut workers);
-    run_all(rt, cache, &counter, jobs, workers.as_mut_slice(), gate);
+    run_all(
+        rt,
+        cache,
+        &counter,
+        &groups,
+        jobs,
+        workers.as_mut_slice(),
+        gate,
+    );
     gather(workers, seats, workspaces, &mut spent, &mut rows);
     counter.close(spent);
     collect(rows, places.as_mut_slice());

@@ -1,8 +1,10 @@
 use Rattle.std.proofs.Common.{◌≡◌, ℕ, ◌<◌, List, ◌++◌, length, take, drop, get_or, arith, sym, ap, ◌∙◌, subst, take_all}
+use Rattle.std.proofs.lemmas.List.{length-replicate}
 use Rattle.std.proofs.lemmas.List.Elements.{All-same}
 use lib.Seq.{take-append-le}
 use Rattle.cache.specs.Opened.{Opened, Sitting}
 use Rattle.claims.specs.Counters.{Numbering, AreAll}
+use Rattle.invokeall.specs.declared.groups.Groups.{Groups}
 use Rattle.invokeall.specs.declared.job.Job.{Job}
 use Rattle.invokeall.specs.declared.work.Worker.{Worker}
 use Rattle.invokeall.specs.Crews.{IsReady, HasWorked}
@@ -19,7 +21,8 @@ run_all-requires-clause-ready g c =
     let vs : List Worker = c.hire.new.workers.items in
     let before : seats_of vs ≡ c.args.seats.now.items = c.hire.ensures.seats ∙ ap (λ v. v.items) c.replace-old.ensures.value in
     let room = c.requires.room in
-    let all = all_ready c.args.cache.now c.args.room.counter c.args.jobs.now vs c.args.seats.now.items c.args.room.claimers.items c.args.room.lists.items before c.hire.ensures.claimers c.hire.ensures.lists c.requires.home room.claimers.each room.lists.1 in
+    let groups : Groups = c.of-groups.result in
+    let all = all_ready c.args.cache.now c.args.room.counter groups c.args.jobs.now vs c.args.seats.now.items c.args.room.claimers.items c.args.room.lists.items before c.hire.ensures.claimers c.hire.ensures.lists c.requires.home room.claimers.each room.lists.1 in
     let is : c.as_mut_slice.result.now ≡ vs = c.as_mut_slice.ensures.value in
     λ lifetimes lives. All-same (IsReady c.args.cache.now c.args.room.counter c.args.jobs.now) c.as_mut_slice.result.now vs is all
 
@@ -27,6 +30,7 @@ pub close-requires : goal.close-requires
 close-requires g c =
     let d : Opened _ = c.args.cache.now in
     let counter : Numbering = c.args.room.counter in
+    let groups : Groups = c.of-groups.result in
     let jobs : List Job = c.args.jobs.now in
     let vs : List Worker = c.hire.new.workers.items in
     let ws : List Worker = c.run_all.new.workers in
@@ -35,14 +39,15 @@ close-requires g c =
     let same : length ws ≡ length vs = omega (arith, c.run_all.auto.workers) in
     let seats : length vs ≡ length c.args.seats.now.items = sym (length_seats vs) ∙ ap (λ (l : List Sitting). length l) before in
     let whole = written c.hire.new.workers.len ws vs (drop (length ws) vs) (omega (arith, c.hire.new.workers.ok.0)) same in
-    let worked = all_worked d counter jobs vs ws same (λ i e below. subst (λ (l : List Worker). HasWorked d counter jobs (get_or l i e) (get_or ws i e)) c.as_mut_slice.ensures.value (c.run_all.ensures i e (omega arith))) in
+    let worked = all_worked d counter groups jobs vs ws same (λ i e below. subst (λ (l : List Worker). HasWorked d counter groups jobs (get_or l i e) (get_or ws i e)) c.as_mut_slice.ensures.value (c.run_all.ensures i e (omega arith))) in
     let shares : c.gather.new.claimers.items ≡ claimers_of ws = c.gather.ensures.claimers ∙ ap claimers_of whole in
-    subst (AreAll counter) (sym shares) (all_claimers d counter jobs vs ws worked (same ∙ seats ∙ sym c.requires.room.workers_are))
+    subst (AreAll counter) (sym shares) (all_claimers d counter groups jobs vs ws worked (same ∙ seats ∙ sym c.requires.room.workers_are))
 
 pub filled-requires-clause-there : goal.filled-requires-clause-there
 filled-requires-clause-there g c =
     let d : Opened _ = c.args.cache.now in
     let counter : Numbering = c.args.room.counter in
+    let groups : Groups = c.of-groups.result in
     let jobs : List Job = c.args.jobs.now in
     let vs : List Worker = c.hire.new.workers.items in
     let ws : List Worker = c.run_all.new.workers in
@@ -51,21 +56,23 @@ filled-requires-clause-there g c =
     let same : length ws ≡ length vs = omega (arith, c.run_all.auto.workers) in
     let seats : length vs ≡ length c.args.seats.now.items = sym (length_seats vs) ∙ ap (λ (l : List Sitting). length l) before in
     let whole = written c.hire.new.workers.len ws vs (drop (length ws) vs) (omega (arith, c.hire.new.workers.ok.0)) same in
-    let worked = all_worked d counter jobs vs ws same (λ i e below. subst (λ (l : List Worker). HasWorked d counter jobs (get_or l i e) (get_or ws i e)) c.as_mut_slice.ensures.value (c.run_all.ensures i e (omega arith))) in
+    let worked = all_worked d counter groups jobs vs ws same (λ i e below. subst (λ (l : List Worker). HasWorked d counter groups jobs (get_or l i e) (get_or ws i e)) c.as_mut_slice.ensures.value (c.run_all.ensures i e (omega arith))) in
     let shares : c.gather.new.claimers.items ≡ claimers_of ws = c.gather.ensures.claimers ∙ ap claimers_of whole in
     let some_worker : 0 < length vs = omega (arith, c.requires.some_seat) in
-    let each = each_once d counter jobs vs ws c.gather.new.claimers.items worked some_worker c.requires.room.jobs_are shares c.close.ensures.once c.close.ensures.done in
+    let counted : counter.jobs ≡ length groups.firsts.items = c.requires.room.groups_are ∙ sym (c.of-groups.ensures.groups ∙ ap (λ (l : List ℕ). length l) c.requires.room.blank.0 ∙ length-replicate _ _) in
+    let each = each_once d counter groups jobs vs ws c.gather.new.claimers.items worked some_worker shares c.close.ensures.once c.close.ensures.done in
     let start : c.as_mut_slice-2.result.now ≡ c.args.room.places.items = c.as_mut_slice-2.ensures.value in
     let covered : length c.collect.new.places ≡ length c.args.room.places.items = c.collect.auto.places ∙ ap (λ (l : Places). length l) start in
     let rows : entries_of c.gather.new.rows.items ≡ entries_of (rows_of ws) = ap entries_of c.gather.ensures.rows ∙ ap (λ (l : List Worker). entries_of (rows_of l)) whole in
     let places = written c.args.room.places.len c.collect.new.places c.args.room.places.items (drop (length c.collect.new.places) c.args.room.places.items) (omega (arith, c.args.room.places.ok.0)) covered
     ∙ c.collect.ensures ∙ (λ k. placed ((start ∙ c.requires.room.places) k) (rows k)) in
-    All-same IsThere _ (placed (blanks (length jobs)) (entries_of (rows_of ws))) places (are_filled d counter jobs vs ws worked each)
+    All-same IsThere _ (placed (blanks (length jobs)) (entries_of (rows_of ws))) places (are_filled d counter groups jobs vs ws worked each c.of-groups.ensures.jobs counted)
 
 pub returns-clause-round : goal.returns-clause-round
 returns-clause-round g c =
     let d : Opened _ = c.args.cache.now in
     let counter : Numbering = c.args.room.counter in
+    let groups : Groups = c.of-groups.result in
     let jobs : List Job = c.args.jobs.now in
     let vs : List Worker = c.hire.new.workers.items in
     let ws : List Worker = c.run_all.new.workers in
@@ -74,13 +81,13 @@ returns-clause-round g c =
     let same : length ws ≡ length vs = omega (arith, c.run_all.auto.workers) in
     let seats : length vs ≡ length c.args.seats.now.items = sym (length_seats vs) ∙ ap (λ (l : List Sitting). length l) before in
     let whole = written c.hire.new.workers.len ws vs (drop (length ws) vs) (omega (arith, c.hire.new.workers.ok.0)) same in
-    let worked = all_worked d counter jobs vs ws same (λ i e below. subst (λ (l : List Worker). HasWorked d counter jobs (get_or l i e) (get_or ws i e)) c.as_mut_slice.ensures.value (c.run_all.ensures i e (omega arith))) in
+    let worked = all_worked d counter groups jobs vs ws same (λ i e below. subst (λ (l : List Worker). HasWorked d counter groups jobs (get_or l i e) (get_or ws i e)) c.as_mut_slice.ensures.value (c.run_all.ensures i e (omega arith))) in
     let shares : c.gather.new.claimers.items ≡ claimers_of ws = c.gather.ensures.claimers ∙ ap claimers_of whole in
     let some_worker : 0 < length vs = omega (arith, c.requires.some_seat) in
-    let each = each_once d counter jobs vs ws c.gather.new.claimers.items worked some_worker c.requires.room.jobs_are shares c.close.ensures.once c.close.ensures.done in
+    let each = each_once d counter groups jobs vs ws c.gather.new.claimers.items worked some_worker shares c.close.ensures.once c.close.ensures.done in
     let start : c.as_mut_slice-2.result.now ≡ c.args.room.places.items = c.as_mut_slice-2.ensures.value in
     let covered : length c.collect.new.places ≡ length c.args.room.places.items = c.collect.auto.places ∙ ap (λ (l : Places). length l) start in
     let rows : entries_of c.gather.new.rows.items ≡ entries_of (rows_of ws) = ap entries_of c.gather.ensures.rows ∙ ap (λ (l : List Worker). entries_of (rows_of l)) whole in
     let places = written c.args.room.places.len c.collect.new.places c.args.room.places.items (drop (length c.collect.new.places) c.args.room.places.items) (omega (arith, c.args.room.places.ok.0)) covered
     ∙ c.collect.ensures ∙ (λ k. placed ((start ∙ c.requires.room.places) k) (rows k)) in
-    is_round d counter jobs vs ws c.args.seats.now.items c.gather.new.seats.items c.filled.result.items worked (sym before) (c.gather.ensures.seats ∙ ap seats_of whole) (c.filled.ensures ∙ places) each
+    is_round d counter groups jobs vs ws c.args.seats.now.items c.gather.new.seats.items c.filled.result.items worked (sym before) (c.gather.ensures.seats ∙ ap seats_of whole) (c.filled.ensures ∙ places) each

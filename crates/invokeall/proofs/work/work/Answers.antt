@@ -1,41 +1,59 @@
-use Rattle.std.proofs.Common.{◌≡◌, ℕ, ◌++◌, ◌∷◌, [], List, arith, sym, ap, ◌∙◌, subst, append_assoc}
-use mathlib.Core.Option.{some}
-use lib.ListN.{get_elem?}
-use Rattle.stripe.specs.History.{Call}
-use Rattle.cache.specs.Opened.{Sitting}
-use Rattle.claims.specs.Counters.{Share}
-use Rattle.invokeall.specs.Jobs.{call_of, calls_of}
-use Rattle.invokeall.specs.Rounds.{Answer}
-use Rattle.invokeall.specs.Crews.{told_row, told_answer, numbers, ShowsFull}
-use Rattle.invokeall.proofs.Turns.{told_seat, one_call, later_seat, called_at, callable_at, row_more, full_more, numbers_more}
+use Rattle.std.proofs.Common.{◌≡◌, ℕ, ◌++◌, ◌∷◌, [], List, length, arith, sym, ap, ◌∙◌, subst}
+use Rattle.cache.specs.Opened.{Opened}
+use Rattle.claims.specs.Counters.{Share, times, with_number}
+use Rattle.invokeall.specs.declared.job.Job.{Job}
+use Rattle.invokeall.specs.declared.work.Worker.{Worker}
+use Rattle.invokeall.specs.Groups.{groups_in, members, members_of_all, AreDifferent}
+use Rattle.invokeall.specs.Crews.{HasAnswered}
+use Rattle.invokeall.proofs.Members.{claimed_once, different_members, members_more}
+use Rattle.invokeall.proofs.Turns.{none_answered, same_answered}
 use Rattle.invokeall.proofs.work.work.Goals as goal
 
-pub call-answer-requires-clause-callable : goal.call-answer-requires-clause-callable
-call-answer-requires-clause-callable g c = callable_at c.args.cache.now.registry c.args.jobs.now c.in-Some.job c.job_at.result c.requires.callable c.job_at.ensures
-
-pub loop-job-preserved : goal.loop-job-preserved
-loop-job-preserved g c =
-    let i = c.loop-job.invariant in
-    let before : Sitting = c.loop-job.worker.seat in
-    let after : Sitting = c.call-answer.new.seat in
-    let first : Sitting = c.args.worker.now.seat in
-    let xs : List (ℕ × Answer) = c.loop-job.worker.answers.items in
-    let n : ℕ = c.in-Some.job in
-    let x : Answer = c.call-answer.result in
-    let calls : List Call = calls_of c.args.jobs.now in
-    let call : Call = call_of c.job_at.result in
-    let at : get_elem? calls n ≡ some call = called_at c.args.jobs.now n c.job_at.result c.job_at.ensures in
-    let one = one_call c.args.cache.now call before after x c.call-answer.ensures.ok c.call-answer.ensures.err in
-    let items : c.push_reserved.new.self.items ≡ xs ++ (n, x) ∷ [] = c.push_reserved.ensures.items in
-    let more = c.in-Some.ensures.some.1 in
+pub loop-group-init : goal.loop-group-init
+loop-group-init g c =
+    let ready = c.requires.ready in
+    let drawn : c.args.worker.now.claimer.drawn ≡ [] = ap (λ (s : Share). s.drawn) ready.claimer in
+    let jobs : List Job = c.args.jobs.now in
+    let of : List ℕ = groups_in c.args.groups.now jobs in
     record {
-      home = one.later.table ∙ i.home;
-      at = ap (λ (s : Share). s.counter) more ∙ i.at;
-      drawn = ap (λ (s : Share). s.drawn) more ∙ ap (λ (l : List ℕ). l ++ n ∷ []) i.drawn ∙ sym (numbers_more xs n x) ∙ ap numbers (sym items);
-      room = omega (arith, c.push_reserved.ensures.capacity, i.room);
-      seat = later_seat first before after i.seat one.later;
-      receipts = one.receipts ∙ ap (λ l. l ++ told_answer call x) i.receipts ∙ append_assoc (told_seat first) (told_row calls xs) (told_answer call x)
-          ∙ ap (λ l. told_seat first ++ l) (sym (row_more calls xs n call x at) ∙ ap (told_row calls) (sym items));
-      filed = λ h. one.filed (i.filed h);
-      full = subst (ShowsFull c.args.cache.now calls after) (sym items) (full_more c.args.cache.now calls before after xs n call x at one i.full);
+      at = ap (λ (s : Share). s.counter) ready.claimer;
+      once = λ x. let none = ap (times x) drawn in omega arith;
+      answered = subst (HasAnswered c.args.cache.now jobs c.args.worker.now c.args.worker.now) (ap (members_of_all of (length jobs)) (sym drawn)) (none_answered c.args.cache.now jobs c.args.worker.now ready.answers);
+    }
+
+pub work_on-requires-clause-home : goal.work_on-requires-clause-home
+work_on-requires-clause-home g c = c.loop-group.invariant.answered.seat.table ∙ c.requires.ready.home
+
+pub work_on-requires-clause-free : goal.work_on-requires-clause-free
+work_on-requires-clause-free g c =
+    let i = c.loop-group.invariant in
+    let n : ℕ = length c.args.jobs.now in
+    let of : List ℕ = groups_in c.args.groups.now c.args.jobs.now in
+    let drawn : List ℕ = c.loop-group.worker.claimer.drawn in
+    let group : ℕ = c.in-Some.group in
+    subst (AreDifferent n) (members_more of drawn n group ∙ ap (λ (l : List ℕ). l ++ members of group n) (sym i.answered.numbers_are))
+    (different_members of (drawn ++ group ∷ []) n (claimed_once drawn group c.in-Some.ensures.rising i.once))
+
+pub work_on-requires-clause-room : goal.work_on-requires-clause-room
+work_on-requires-clause-room g c = omega (arith, c.loop-group.invariant.answered.room, c.requires.ready.room)
+
+pub loop-group-preserved : goal.loop-group-preserved
+loop-group-preserved g c =
+    let i = c.loop-group.invariant in
+    let d : Opened _ = c.args.cache.now in
+    let jobs : List Job = c.args.jobs.now in
+    let n : ℕ = length jobs in
+    let of : List ℕ = groups_in c.args.groups.now jobs in
+    let drawn : List ℕ = c.loop-group.worker.claimer.drawn in
+    let group : ℕ = c.in-Some.group in
+    let first : Worker = c.args.worker.now in
+    let next : Worker = c.work_on.new.worker in
+    let before : List ℕ = members_of_all of n drawn in
+    let claimer : next.claimer ≡ with_number c.loop-group.worker.claimer group = c.work_on.ensures.claimer ∙ c.in-Some.ensures.some.1 in
+    let more : next.claimer.drawn ≡ drawn ++ group ∷ [] = ap (λ (s : Share). s.drawn) claimer in
+    record {
+      at = ap (λ (s : Share). s.counter) claimer ∙ i.at;
+      once = λ x. let a = claimed_once drawn group c.in-Some.ensures.rising i.once x in let b = ap (times x) more in omega arith;
+      answered = subst (HasAnswered d jobs first next) (sym (ap (members_of_all of n) more ∙ members_more of drawn n group))
+          (c.work_on.ensures.answered first before (same_answered d jobs first c.loop-group.worker c.claim.new.self before i.answered));
     }

@@ -1,21 +1,15 @@
-use Rattle.std.proofs.Common.{◌≡◌, ◌-◌, ◌≤◌, ◌++◌, length, vec_capacity}
-use Rattle.invokeall.specs.Jobs.{calls_of}
-use Rattle.outcome.specs.Closed.{calls_told, AreFiled}
-use Rattle.invokeall.specs.Rounds.{IsLaterSeat}
-use Rattle.invokeall.specs.Crews.{told_row, numbers, ShowsFull}
+use Rattle.std.proofs.Common.{◌≡◌, ℕ, ◌-◌, ◌≤◌, length}
+use Rattle.claims.specs.Counters.{times}
+use Rattle.invokeall.specs.Groups.{groups_in, members_of_all}
+use Rattle.invokeall.specs.Crews.{HasAnswered}
 use Rattle.invokeall.proofs.work.work.Given as goal
 
-abbrev pub invariant-loop-job : goal.invariant-loop-job
-invariant-loop-job g l = record {
-  home : l.worker.seat.table ≡ l.cache.table;
+abbrev pub invariant-loop-group : goal.invariant-loop-group
+invariant-loop-group g l = record {
   at : l.worker.claimer.counter ≡ l.counter;
-  drawn : l.worker.claimer.drawn ≡ numbers l.worker.answers.items;
-  room : vec_capacity l.initial.worker.answers ≤ vec_capacity l.worker.answers;
-  seat : IsLaterSeat l.initial.worker.seat l.worker.seat;
-  receipts : calls_told l.worker.seat.receipts ≡ calls_told l.initial.worker.seat.receipts ++ told_row (calls_of l.jobs) l.worker.answers.items;
-  filed : AreFiled (length l.cache.tables) l.initial.worker.seat.receipts → AreFiled (length l.cache.tables) l.worker.seat.receipts;
-  full : ShowsFull l.cache (calls_of l.jobs) l.worker.seat l.worker.answers.items;
+  once : (x : ℕ) → times x l.worker.claimer.drawn ≤ 1;
+  answered : HasAnswered l.cache l.jobs l.initial.worker l.worker (members_of_all (groups_in l.groups l.jobs) (length l.jobs) l.worker.claimer.drawn);
 }
 
-abbrev pub decreases-loop-job : goal.decreases-loop-job
-decreases-loop-job g l = l.counter.jobs - length l.worker.claimer.drawn
+abbrev pub decreases-loop-group : goal.decreases-loop-group
+decreases-loop-group g l = l.counter.jobs - length l.worker.claimer.drawn
