@@ -68,7 +68,7 @@ pub fn run_by_workers<R: Threads + Wait + Sync, G: Gate + Sync, L: Loader + Sync
 {
     let seats = needed(jobs.len(), workers);
     let records = needed(jobs.len(), MOST_RECORDS);
-    let Ok(room) = room_for(alloc, jobs.len(), seats) else {
+    let Ok(room) = room_for(alloc, jobs.len(), tables.stripes(), seats) else {
         return Err(tables);
     };
     match Cache::open(alloc, registry, tables, records, seats, loader) {
@@ -90,7 +90,7 @@ fn run_on<'a, R: Threads + Wait + Sync, G: Gate + Sync, L: Loader + Sync>(
     requires journal { length jobs.now ≤ cache.journal }
     requires seats { AreFresh cache.table cache.seats seats.items }
     requires callable { All (IsCallable cache.registry) jobs.now }
-    requires room { IsRoom (length jobs.now) cache.seats room }
+    requires room { IsRoom (length jobs.now) (length cache.tables) cache.seats room }
     ensures done { IsDone L.ASKS (L.gives cache.entry.loader) (entry_among cache.entry.tables) (calls_of jobs.now) result.replies.items (entry_among result.tables) }
     ensures stripes { length result.tables ≡ length cache.entry.tables }
 {

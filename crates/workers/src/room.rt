@@ -2,6 +2,7 @@
 
 ghost use Rattle.std.specs.Prelude.{◌≡◌, length, IfOk};
 ghost use Rattle.claims.specs.Counters.{IsJobCount};
+ghost use Rattle.stripe.specs.Tables.{IsCount};
 ghost use Rattle.cache.specs.Opened.{IsSeatCount};
 ghost use Rattle.workers.specs.Rooms.{IsRoom};
 
@@ -18,13 +19,19 @@ pub struct CrewRoom<'a> {
     pub replies: Vec<Option<Reply>>,
 }
 
-/// Room for so many jobs and workers.
-pub fn room_for<'a>(alloc: Global, jobs: usize, workers: usize) -> Result<CrewRoom<'a>, AllocError>
+/// Room for so many jobs, stripes and workers.
+pub fn room_for<'a>(
+    alloc: Global,
+    jobs: usize,
+    stripes: usize,
+    workers: usize,
+) -> Result<CrewRoom<'a>, AllocError>
     requires jobs { IsJobCount jobs }
+    requires stripes { IsCount stripes }
     requires workers { IsSeatCount workers }
-    ensures { IfOk result (IsRoom jobs workers) }
+    ensures { IfOk result (IsRoom jobs stripes workers) }
 {
-    let round = invokeall::room_for(alloc, jobs, workers)?;
+    let round = invokeall::room_for(alloc, jobs, stripes, workers)?;
     let workspaces = workspaces(alloc, workers)?;
     let replies = Vec::with_capacity(alloc, jobs)?;
     Ok(CrewRoom {
