@@ -71,6 +71,37 @@ pub struct Plan {
     pub asks: Vec<Ask>,
 }
 
+/// For how many requests and jobs a round has room before it grows: as many as the round before had.
+#[derive(Clone, Copy)]
+pub struct Room {
+    pub works: usize,
+    pub asks: usize,
+}
+
+/// No request yet. Where there is no memory for the room it grows as it is filled.
+pub fn no_requests(alloc: Global, room: Room) -> Plan
+    ensures works { result.works.items ≡ [] }
+    ensures asks { result.asks.items ≡ [] }
+{
+    let works = match Vec::with_capacity(alloc, room.works) {
+        Ok(works) => works,
+        Err(AllocError) => Vec::new(alloc),
+    };
+    let asks = match Vec::with_capacity(alloc, room.asks) {
+        Ok(asks) => asks,
+        Err(AllocError) => Vec::new(alloc),
+    };
+    Plan { works, asks }
+}
+
+/// As much room as these requests and jobs take.
+pub fn room_of(plan: &Plan) -> Room {
+    Room {
+        works: plan.works.len(),
+        asks: plan.asks.len(),
+    }
+}
+
 pub fn get(key: &i64) -> Ask
     ensures { result ≡ Ask.Get key.now }
 {

@@ -8,7 +8,7 @@ ghost use Rattle.serve.specs.Kept.{AreOf, classes_of, RoundRead, IsBroken};
 
 use crate::adding::add;
 use crate::fault::{ServeFault, of_wire};
-use crate::plan::Plan;
+use crate::plan::{Plan, Room, no_requests, room_of};
 use registry::{ClassId, Registry};
 use std::alloc::Global;
 use std::io::Read;
@@ -22,12 +22,14 @@ fn is_end(request: &Request) -> bool
     matches!(request, Request::RoundEnd)
 }
 
-/// Reads the requests of a round, up to its end; at the end of the input there is none. Classes are defined as they are read.
+/// Reads the requests of a round, up to its end; at the end of the input there is none. Classes are defined as they are read. The
+/// room is what the round before took, and then what this one takes.
 pub fn read_round<T: Wait, R: Read>(
     rt: &T,
     alloc: Global,
     registry: &Registry,
     ids: &mut Vec<ClassId>,
+    room: &mut Room,
     reader: &mut Counted<R>,
 ) -> Result<Option<Plan>, ServeFault>
     requires { AreOf registry.now ids.old.items }
@@ -37,14 +39,12 @@ pub fn read_round<T: Wait, R: Read>(
     ensures counted { ReadsAreCounted result reader.old reader.new }
     ensures known { AreOf registry.now ids.new.items }
 {
-    let mut plan = Plan {
-        works: Vec::new(alloc),
-        asks: Vec::new(alloc),
-    };
+    let mut plan = no_requests(alloc, *room);
     for _ in rt.forever() {
         match read_request(alloc, reader) {
             Ok(Some(request)) => {
                 if is_end(&request) {
+                    *room = room_of(&plan);
                     return Ok(Some(plan));
                 }
                 let Ok(()) = add(rt, alloc, registry, ids, &mut plan, request) else {

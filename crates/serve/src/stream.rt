@@ -8,6 +8,7 @@ ghost use Rattle.serve.specs.Settings.{CanServe};
 ghost use Rattle.serve.specs.Devices.{TookAndGave, ReadsAreCounted, WritesAreCounted};
 
 use crate::fault::ServeFault;
+use crate::plan::Room;
 use crate::settings::Settings;
 use crate::turn::one_round;
 use cache::Gate;
@@ -82,10 +83,12 @@ fn stream<T: Threads + Wait + Sync, R: Read, W: Write, G: Gate + Sync, L: Loader
     ensures writes { WritesAreCounted result writer.old writer.new }
 {
     let mut ids = Vec::new(alloc);
+    let mut room = Room { works: 0, asks: 0 };
     let mut tables = tables;
     for _ in rt.forever() {
         match one_round(
-            rt, alloc, registry, &mut ids, tables, settings, reader, writer, gate, loader,
+            rt, alloc, registry, &mut ids, &mut room, tables, settings, reader, writer, gate,
+            loader,
         ) {
             Ok(Some(left)) => tables = left,
             Ok(None) => return Ok(()),

@@ -11,7 +11,7 @@ ghost use Rattle.serve.specs.Kept.{AreOf, AreCalls, HasCalls, IsRun, classes_of,
 
 use crate::fault::ServeFault;
 use crate::jobs::{RoundLeft, jobs_of, run_jobs};
-use crate::plan::Plan;
+use crate::plan::{Plan, Room};
 use crate::reading::read_round;
 use crate::settings::Settings;
 use crate::telling::text_of;
@@ -79,6 +79,7 @@ pub fn one_round<T: Threads + Wait + Sync, R: Read, W: Write, G: Gate + Sync, L:
     alloc: Global,
     registry: &Registry,
     ids: &mut Vec<ClassId>,
+    room: &mut Room,
     tables: Tables,
     settings: Settings,
     reader: &mut Counted<R>,
@@ -95,7 +96,7 @@ pub fn one_round<T: Threads + Wait + Sync, R: Read, W: Write, G: Gate + Sync, L:
     ensures writes { WritesAreCounted result writer.old writer.new }
     ensures known { AreOf registry.now ids.new.items }
 {
-    let plan = match read_round(rt, alloc, registry, ids, reader) {
+    let plan = match read_round(rt, alloc, registry, ids, room, reader) {
         Ok(Some(plan)) => plan,
         Ok(None) => return Ok(None),
         Err(e) => return Err(e),

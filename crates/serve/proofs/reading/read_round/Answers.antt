@@ -27,8 +27,8 @@ loop-init g c = record {
   calls = [];
   are = tt;
   took = Consumes-nil (g.R.Read.remaining c.args.reader.now.inner);
-  gathered = begun (classes_of c.args.ids.now.items) c.new.result.items c.new.ensures.items;
-  called = ap (calls_in (classes_of c.args.ids.now.items)) c.new-2.ensures.items;
+  gathered = begun (classes_of c.args.ids.now.items) c.no_requests-plan.result.works.items c.no_requests-plan.ensures.works;
+  called = ap (calls_in (classes_of c.args.ids.now.items)) c.no_requests-plan.ensures.asks;
 }
 
 pub loop-preserved : goal.loop-preserved
