@@ -19,7 +19,7 @@ pub const MOST_JOBS: usize = 4096;
 /// Different keys, at most as many as a round may have jobs.
 #[derive(Drop)]
 pub struct Keys {
-    set: IndexSet<i64>,
+    keys: Vec<i64>,
 }
 
 impl Model for Keys {
@@ -28,9 +28,9 @@ impl Model for Keys {
 
     ghost Value = { List ℤ };
 
-    ghost view = { λ k. k.set.keys };
+    ghost view = { λ k. k.keys.items };
 
-    ghost invariant = { λ k. length k.set.keys ≤ most_jobs };
+    ghost invariant = { λ k. length k.keys.items ≤ most_jobs };
 }
 
 impl Keys {
@@ -38,7 +38,7 @@ impl Keys {
         ensures keys { result.now ≡ self.now }
         ensures few { length self.now ≤ most_jobs }
     {
-        self.set.as_slice()
+        self.keys.as_slice()
     }
 }
 
@@ -165,8 +165,9 @@ pub fn many_jobs(
     if at > MOST_JOBS || set.len() > MOST_JOBS - at {
         return tell(plan, Work::Denied(Denial::TooManyJobs));
     }
-    push_jobs(&mut plan.asks, class, set.as_slice(), args)?;
-    tell(plan, Work::JobForEach(at, Keys { set }))
+    let different = Vec::from_slice(alloc, set.as_slice())?;
+    push_jobs(&mut plan.asks, class, different.as_slice(), args)?;
+    tell(plan, Work::JobForEach(at, Keys { keys: different }))
 }
 
 /// An invocation.

@@ -34,7 +34,8 @@ returns c classes x e =
     let many : length c.in_ok-set.set.keys ≡ length keys = ap (λ (l : List ℤ). length l) same in
     let here : c.len-at.result ≡ at = omega (arith, c.len-at.ensures, c.args.plan.now.asks.ok.0) in
     let fits : at + length q.calls ≤ most_jobs = omega (arith, c.if-at-gt-MOST_JOBS.false, c.if-len-at.false, c.len.ensures.len, here, calls, many) in
+    let listed : c.in_ok-different.different.items ≡ keys = c.in_ok-different.ensures.items ∙ c.as_slice.ensures.keys ∙ same in
     let told = of_ok c.push_jobs.result c.in_ok-push_jobs.field-0 c.in_ok-push_jobs.was (c.push_jobs.ensures classes x e) in
-    let pushed = ap (λ v. calls_in classes v.items) c.tell-2.ensures.asks ∙ told ∙ ap (λ l. calls_in classes c.args.plan.now.asks.items ++ map Some (invocations x c.args.args l)) (c.as_slice.ensures.keys ∙ same) in
+    let pushed = ap (λ v. calls_in classes v.items) c.tell-2.ensures.asks ∙ told ∙ ap (λ l. calls_in classes c.args.plan.now.asks.items ++ map Some (invocations x c.args.args l)) (c.as_slice-2.ensures.value ∙ listed) in
     subst (λ (p : Part). OnOk c.tell-2.result (Grows classes c.args.plan.now c.tell-2.new.plan p)) (sym (has_room at q fits))
-    (grows_jobs c.tell-2.result classes c.args.plan.now c.tell-2.new.plan (planned.JobForEach c.len-at.result c.in_ok-set.set.keys) q c.tell-2.ensures.works (ap (λ n. JobForEach n c.in_ok-set.set.keys) here ∙ ap (λ l. JobForEach at l) same) pushed)
+    (grows_jobs c.tell-2.result classes c.args.plan.now c.tell-2.new.plan (planned.JobForEach c.len-at.result c.in_ok-different.different.items) q c.tell-2.ensures.works (ap (λ n. JobForEach n c.in_ok-different.different.items) here ∙ ap (λ l. JobForEach at l) listed) pushed)
