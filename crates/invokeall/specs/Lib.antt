@@ -4,3 +4,4 @@ pub mod Groups
 pub mod Jobs
 pub mod Rooms
 pub mod Rounds
+pub mod Shifts

@@ -86,5 +86,5 @@ pub fn run_all<'a, 'j, R: Threads + Wait + Sync, G: Gate + Sync, L: Loader + Syn
         gate,
     };
     let threads = threads_for(jobs.len(), groups.firsts.len(), workers.len());
-    serve_all(rt, workers, threads, &day);
+    serve_all(rt, &day, threads, workers);
 }

@@ -1,0 +1,6 @@
+-- What several workers do.
+use Rattle.std.specs.Prelude.{ℕ, ◌<◌, List, length, slice_index_or}
+
+-- each worker was left so
+abbrev pub AreServed : {W : Type 0} → (W → W → Type 0) → List W → List W → Type 0
+AreServed {W} leaves old new = (i : ℕ) (d : W) → i < length old → leaves (slice_index_or old i d) (slice_index_or new i d)
