@@ -246,14 +246,14 @@ fn no_jobs_leave_the_entries(rt: HostRuntime) -> Result<(), Fail> {
     Ok(())
 }
 
-/// How many of four workers a round is worth that has five calls and runs 14 instructions at most: reckoned as 334 of them.
+/// How many of four workers a round is worth that has five calls and runs 14 instructions at most: reckoned as 2,574 of them.
 fn worths(registry: &Registry, class: &ClassId) -> [usize; 8]
     requires { IsOf registry.now class.now }
 {
     let args = Args::none();
     let jobs = on_own_keys(class, &args);
     let mut worths = [0; 8];
-    let shares = [0, 1, 83, 84, 111, 112, 167, 168];
+    let shares = [0, 1, 643, 644, 858, 859, 1287, 1288];
     for (worth_of, share) in worths.iter_mut().zip(shares) {
         *worth_of = worth(registry, &jobs, 4, share);
     }

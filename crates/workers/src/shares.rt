@@ -11,10 +11,9 @@ use registry::Registry;
 /// nothing takes some thirty to start and end, and rounds were seen to lose more by a further worker.
 pub const SHARE: u32 = 524_288;
 
-/// The instructions that a call is reckoned to take beside those of its class. To take a stripe, find an entry, put it and leave a
-/// record takes as long as some five hundred, but further workers hardly gain on it: stripes and records go from processor to
-/// processor.
-const CALL: u64 = 64;
+/// The instructions that a call is reckoned to take beside those of its class: to take a stripe, find an entry, put it and leave a
+/// record takes as long.
+const CALL: u64 = 512;
 
 /// The instructions that a job takes at most: those of its call, and those that its class states.
 fn steps_of(registry: &Registry, job: &Job<'_>) -> u64
