@@ -1,9 +1,15 @@
 //! The frame with which an instruction is checked (JVMS §4.10.1).
 
+ghost use Rattle.std.specs.Prelude.{IfOk};
+ghost use Rattle.transfer.specs.Transfer.{IsCalleeOf};
+
 use classfile::{ClassFile, CodeParts, contents_named};
 use constpool::names;
-use decode::decode;
-use frames::{Environment, Flow, Frames, MemberView, MethodStart, method_signature, read_frames};
+use decode::{Instruction, decode};
+use frames::{
+    Callee, Environment, Flow, Frames, MemberView, MethodStart, callee_at, method_signature,
+    read_frames,
+};
 use jtypes::{JType, RefType, Refusal};
 use std::alloc::{AllocError, Global};
 use transfer::apply;
@@ -110,6 +116,20 @@ fn start_of(
     }))
 }
 
+/// What an instruction calls, if it is a call.
+fn callee_of(
+    alloc: Global,
+    view: &MemberView<'_>,
+    instruction: &Instruction,
+) -> Result<Option<Callee>, AllocError>
+    ensures { IfOk result (IsCalleeOf view.now instruction.now) }
+{
+    match *instruction {
+        Instruction::Invoke(kind, i) => callee_at(alloc, view, kind, i),
+        _ => Ok(None),
+    }
+}
+
 /// The flow into the instruction at a place of a method; none where none leads there.
 fn flow_at(
     alloc: Global,
@@ -146,11 +166,12 @@ fn flow_at(
         if p.place == place {
             return Ok(Some(flow));
         }
+        let callee = callee_of(alloc, &members, &p.instruction)?;
         if !apply(
-            alloc,
             &p.instruction,
             start.environment(),
             &members,
+            callee.as_ref(),
             &mut flow,
         )? {
             return Ok(None);
