@@ -12,7 +12,7 @@ use crate::calls::{defined, filled, now, sum_of};
 use crate::measure::{Times, tenths, times_of};
 use crate::report::Failure;
 use cache::NoGate;
-use invokeall::Job;
+use invokeall::{ArgSlice, Job};
 use jtypes::{Args, NoLoader};
 use registry::{ClassId, Registry};
 use std::alloc::{AllocError, Global};
@@ -38,7 +38,11 @@ pub fn jobs_of<'j>(
     let mut jobs = Vec::new(alloc);
     for key in 0..count {
         let key = i64::from(key);
-        jobs.push(Job::Invoke { class, key, args })?;
+        jobs.push(Job::Invoke {
+            class,
+            key,
+            args: ArgSlice::of(args),
+        })?;
     }
     Ok(jobs)
 }

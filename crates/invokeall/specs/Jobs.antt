@@ -7,7 +7,7 @@ use Rattle.invokeall.specs.declared.job.Job.{Job}
 use Rattle.invokeall.specs.declared.job.Job.TheVariants as job
 
 abbrev pub call_of : Job → Call
-call_of (job.Invoke class key args) = Invoke (class_of class.now) key args.now
+call_of (job.Invoke class key args) = Invoke (class_of class.now) key args.items.now
 call_of (job.Get key) = Get key
 call_of (job.Put key value) = Put key value
 call_of (job.Remove key) = Remove key

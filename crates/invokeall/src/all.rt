@@ -10,6 +10,7 @@ ghost use Rattle.invokeall.specs.Rooms.{HasRoom};
 ghost use Rattle.invokeall.specs.Collected.{IsInvokedAll, different, invocations, is_null as is_null_answer, listed};
 ghost use Rattle.boxcar.specs.Table.{Shelves};
 
+use crate::args::ArgSlice;
 use crate::job::{Job, JobReply};
 use crate::round::run_round;
 use cache::{Cache, Gate, Seat};
@@ -50,7 +51,7 @@ fn jobs_for<'j>(
         jobs.push_reserved(Job::Invoke {
             class,
             key: *key,
-            args,
+            args: ArgSlice::of(args),
         });
     }
     Ok(jobs)

@@ -5,8 +5,9 @@ ghost use Rattle.registry.specs.Ids.{IsOf};
 ghost use Rattle.cache.specs.Opened.{IsAnswered, IsTurnedAway};
 ghost use Rattle.invokeall.specs.Jobs.{call_of, IsCallable};
 
+use crate::args::ArgSlice;
 use cache::{Cache, Gate, InvokeRefusal, Seat};
-use jtypes::{Args, Loader};
+use jtypes::Loader;
 use machine::Workspace;
 use registry::ClassId;
 use std::sync::Wait;
@@ -19,7 +20,7 @@ pub enum Job<'j> {
     Invoke {
         class: &'j ClassId,
         key: i64,
-        args: &'j Args,
+        args: ArgSlice<'j>,
     },
     /// `get`
     Get {
@@ -79,7 +80,7 @@ impl<'j> Job<'j> {
     {
         match self {
             Job::Invoke { class, key, args } => {
-                cache.invoke_at(rt, seat, workspace, class, key, *args, number, gate)
+                cache.invoke_at(rt, seat, workspace, class, key, args.args(), number, gate)
             }
             Job::Get { key } => cache.get_at(rt, seat, key, number, gate),
             Job::Put { key, value } => cache.put_at(rt, seat, key, value, number, gate),

@@ -52,7 +52,7 @@ pub fn room_for<'a>(
     let seats = Vec::with_capacity(alloc, count)?;
     let workspaces = Vec::with_capacity(alloc, count)?;
     let spent = Vec::with_capacity(alloc, count)?;
-    let places = no_answers(alloc, jobs)?;
+    let places = vec![in alloc; None; jobs]?;
     let answers = Vec::with_capacity(alloc, jobs)?;
     let (counter, claimers) = open(alloc, stripes, count)?;
     Ok(RoundRoom {
@@ -68,17 +68,6 @@ pub fn room_for<'a>(
         places,
         answers,
     })
-}
-
-/// A place for the answer to each job.
-fn no_answers(alloc: Global, jobs: usize) -> Result<Vec<Option<JobReply>>, AllocError>
-    ensures { IfOk result (λ v. v.items ≡ blanks jobs) }
-{
-    let mut places = Vec::with_capacity(alloc, jobs)?;
-    for _ in 0..jobs {
-        places.push(None)?;
-    }
-    Ok(places)
 }
 
 /// A list for each worker, which has room for answers to all jobs.

@@ -10,7 +10,7 @@ ghost use Rattle.invokeall.specs.Jobs.{IsCallable};
 ghost use Rattle.invokeall.specs.Rounds.{IsAtHome};
 
 use cache::{Cache, InvokeRefusal, NoGate, Seat};
-use invokeall::{Job, JobReply, invoke_all, run_round};
+use invokeall::{ArgSlice, Job, JobReply, invoke_all, run_round};
 use jtypes::{Arg, Args, JavaFault, NoLoader, Outcome};
 use machine::Workspace;
 use registry::{ClassId, Registry};
@@ -108,7 +108,11 @@ fn jobs_for<'j>(
         let key = place as i64;
         jobs.push(match work {
             Work::Put => Job::Put { key, value: key },
-            Work::Plus => Job::Invoke { class, key, args },
+            Work::Plus => Job::Invoke {
+                class,
+                key,
+                args: ArgSlice::of(args),
+            },
         })?;
     }
     Ok(jobs)

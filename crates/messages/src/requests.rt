@@ -37,11 +37,20 @@ fn front_of(answer: &Answer) -> Told {
 
 /// What a reader tells next.
 fn next(alloc: Global, reader: &mut Counted<&[u8]>) -> Told {
-    front_of(&read_request(alloc, reader))
+    front_of(&read_request(alloc, reader, &mut Vec::new(alloc)))
 }
 
+/// What is read of these bytes.
 fn read(alloc: Global, bytes: &[u8]) -> Answer {
-    read_request(alloc, &mut Counted::new(bytes))
+    read_request(alloc, &mut Counted::new(bytes), &mut Vec::new(alloc))
+}
+
+/// What is read of these bytes, with its arguments. Others stood in their row before.
+fn read_with_args(alloc: Global, bytes: &[u8]) -> Result<(Answer, Vec<Arg>), AllocError> {
+    let mut args = Vec::new(alloc);
+    args.push(Arg::Integer(77))?;
+    let answer = read_request(alloc, &mut Counted::new(bytes), &mut args);
+    Ok((answer, args))
 }
 
 /// Six requests, and the end.
@@ -88,8 +97,8 @@ fn a_class_is_read_whole(rt: HostRuntime) {
 
 /// Whether an invocation of this class is read, on this key with these arguments.
 fn is_invocation(alloc: Global, frame: &[u8], of: u32, on: i64, arguments: &[Arg]) -> bool {
-    match &read(alloc, frame) {
-        Ok(Some(Request::Invoke { class, key, args })) => {
+    match &read_with_args(alloc, frame) {
+        Ok((Ok(Some(Request::Invoke { class, key })), args)) => {
             *class == of && *key == on && args.as_slice() == arguments
         }
         _ => false,
@@ -98,8 +107,8 @@ fn is_invocation(alloc: Global, frame: &[u8], of: u32, on: i64, arguments: &[Arg
 
 /// The same, on these keys.
 fn is_on_all(alloc: Global, frame: &[u8], of: u32, on: &[i64], arguments: &[Arg]) -> bool {
-    match &read(alloc, frame) {
-        Ok(Some(Request::InvokeAll { class, keys, args })) => {
+    match &read_with_args(alloc, frame) {
+        Ok((Ok(Some(Request::InvokeAll { class, keys })), args)) => {
             *class == of && keys.as_slice() == on && args.as_slice() == arguments
         }
         _ => false,
@@ -207,7 +216,7 @@ fn each_front_of_a_frame_is_cut(rt: HostRuntime) {
 /// How many bytes the class has, and what is read behind it.
 fn class_and_next(alloc: Global, bytes: &[u8]) -> Option<(usize, Told)> {
     let mut reader = Counted::new(bytes);
-    let class = read_request(alloc, &mut reader);
+    let class = read_request(alloc, &mut reader, &mut Vec::new(alloc));
     let Ok(Some(Request::Define(class))) = class else {
         return None;
     };
@@ -216,16 +225,10 @@ fn class_and_next(alloc: Global, bytes: &[u8]) -> Option<(usize, Told)> {
 
 /// How many keys and arguments an invocation of class 0 has.
 fn counts_of_all(alloc: Global, bytes: &[u8]) -> Option<(usize, usize)> {
-    match read(alloc, bytes) {
-        Ok(
-            Some(
-                Request::InvokeAll {
-                    class: 0,
-                    keys,
-                    args,
-                },
-            ),
-        ) => Some((keys.as_slice().len(), args.as_slice().len())),
+    match read_with_args(alloc, bytes) {
+        Ok((Ok(Some(Request::InvokeAll { class: 0, keys })), args)) => {
+            Some((keys.as_slice().len(), args.len()))
+        }
         _ => None,
     }
 }

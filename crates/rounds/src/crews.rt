@@ -7,7 +7,7 @@ ghost use Rattle.registry.specs.Ids.{IsOf};
 ghost use Rattle.invokeall.specs.Jobs.{IsCallable};
 
 use cache::NoGate;
-use invokeall::Job;
+use invokeall::{ArgSlice, Job};
 use jtypes::{Arg, Args, NoLoader, Outcome};
 use registry::{ClassId, Registry};
 use rowclasses as rows;
@@ -65,7 +65,7 @@ fn on_own_keys<'j>(class: &'j ClassId, args: &'j Args) -> [Job<'j>; 5]
         Job::Invoke {
             class,
             key: 2,
-            args,
+            args: ArgSlice::of(args),
         },
         Job::Get { key: 3 },
         Job::Contains { key: 4 },
@@ -82,7 +82,7 @@ fn on_two_keys<'j>(class: &'j ClassId, args: &'j Args) -> [Job<'j>; 5]
         Job::Invoke {
             class,
             key: 1,
-            args,
+            args: ArgSlice::of(args),
         },
         Job::Get { key: 1 },
         Job::Remove { key: 3 },

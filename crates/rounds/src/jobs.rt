@@ -10,7 +10,7 @@ ghost use Rattle.invokeall.specs.Jobs.{IsCallable};
 ghost use Rattle.invokeall.specs.Rounds.{IsAtHome};
 
 use cache::{Cache, Gate, NoGate, Seat};
-use invokeall::{Job, JobReply, invoke_all, run_round};
+use invokeall::{ArgSlice, Job, JobReply, invoke_all, run_round};
 use jtypes::{Arg, Args, JavaFault, NoLoader, Outcome};
 use machine::Workspace;
 use registry::{ClassId, Registry};
@@ -49,7 +49,11 @@ fn job_of<'j>(class: &'j ClassId, args: &'j Args, ask: &Ask) -> Job<'j>
 {
     match *ask {
         Ask::Put(key, value) => Job::Put { key, value },
-        Ask::Run(key) => Job::Invoke { class, key, args },
+        Ask::Run(key) => Job::Invoke {
+            class,
+            key,
+            args: ArgSlice::of(args),
+        },
     }
 }
 

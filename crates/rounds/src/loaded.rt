@@ -7,7 +7,7 @@ ghost use Rattle.registry.specs.Ids.{IsOf};
 ghost use Rattle.invokeall.specs.Jobs.{IsCallable};
 
 use cache::NoGate;
-use invokeall::Job;
+use invokeall::{ArgSlice, Job};
 use jtypes::{Arg, Args, JavaFault, LoadFailed, Loader, Outcome};
 use registry::{ClassId, Registry};
 use rowclasses as rows;
@@ -156,7 +156,11 @@ fn by_turns(alloc: Global, calls: &[Call<'_>], replies: &[Option<Reply>], key: i
 fn one_job<'j>(class: &'j ClassId, key: i64, args: &'j Args) -> [Job<'j>; 1]
     ensures { (registry : Shelves) → IsOf registry class.now → All (IsCallable registry) result }
 {
-    [Job::Invoke { class, key, args }]
+    [Job::Invoke {
+        class,
+        key,
+        args: ArgSlice::of(args),
+    }]
 }
 
 /// What the invocation of a row leaves, in turn and by four workers.

@@ -1,5 +1,5 @@
 -- At first there are no entries.
-use Rattle.std.proofs.Common.{◌≡◌, ◌≢◌, ◌==◌, [], ◌∷◌, Bool, true, false, arith, subst, ℕ, ℤ, List, Option, None, length, slice_get, replicate, zero, suc, refl, sym, ap, ◌∙◌}
+use Rattle.std.proofs.Common.{◌≡◌, ◌≢◌, ◌==◌, [], ◌∷◌, Bool, true, false, arith, ℕ, ℤ, List, None, length, slice_get, replicate, zero, suc, refl, ap, ◌∙◌}
 use Rattle.std.specs.FinMap as map
 use Rattle.std.specs.Prelude.{option_and_then}
 use Rattle.std.specs.Option.{option_flatten}

@@ -1,7 +1,7 @@
 -- Streams that end early.
 use Rattle.std.proofs.Common.{◌≡◌, ◌≢◌, ℕ, ℤ, Bool, List, Option, Result, Ok, Err, IfOk, IfErr, refl, subst}
 use Rattle.jtypes.specs.declared.loader.LoadAnswer.{LoadAnswer}
-use Rattle.wire.specs.declared.request.Request.{Request}
+use Rattle.wire.specs.Requests.{Request}
 use Rattle.serve.specs.declared.fault.ServeFault.{ServeFault}
 use Rattle.serve.specs.declared.fault.ServeFault.TheVariants as fault
 use Rattle.serve.specs.Served.{Stand, Stops, Fails, IsCutShort, EndsEarly, too_long, cut, input_ended, malformed, reader, frame_memory, memory, unread, no_memory, writer}

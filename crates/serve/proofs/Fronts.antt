@@ -1,7 +1,7 @@
 -- Two readings of the same bytes as frames.
 use Rattle.std.proofs.Common.{◌≡◌, ℕ, List, [], ◌∷◌, ◌++◌, refl, sym, ap, ◌∙◌, append_assoc}
 use Rattle.std.specs.List.{AllByRecursion}
-use Rattle.wire.specs.declared.request.Request.{Request}
+use Rattle.wire.specs.Requests.{Request}
 use Rattle.wire.specs.Frames.{request_frame, IsRequest, IsRead, IsFaulty, ReadFault, Front, AtEnd, Whole, Faulty, IsFront}
 use Rattle.serve.specs.Served.{requests_text}
 

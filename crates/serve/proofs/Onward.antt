@@ -11,8 +11,7 @@ use Rattle.typecheck.specs.Typing.{Class}
 use Rattle.stripe.specs.History.{Call, Entries, Record, key_of}
 use Rattle.stripe.specs.declared.call.Reply.{Reply as Answer}
 use Rattle.outcome.specs.Outcome.{IsDone, IsHistoryOf, answered}
-use Rattle.wire.specs.declared.request.Request.{Request}
-use Rattle.wire.specs.declared.request.Request.TheVariants.{Define, Put, Get, Remove, Contains, Invoke, InvokeAll, RoundEnd}
+use Rattle.wire.specs.Requests.{Request, Define, Put, Get, Remove, Contains, Invoke, InvokeAll, RoundEnd}
 use Rattle.wire.specs.declared.reply.Denial.TheVariants.{TooManyClasses}
 use Rattle.wire.specs.declared.reply.Reply.{Reply}
 use Rattle.wire.specs.declared.reply.Reply.TheVariants as reply

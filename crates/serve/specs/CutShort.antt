@@ -2,8 +2,7 @@
 use Rattle.std.specs.Prelude.{Bool, ℤ, ◌≡◌, ℕ, suc, ◌≤◌, List, [], ◌∷◌, ◌++◌}
 use Rattle.std.specs.List.{AllByRecursion}
 use Rattle.jtypes.specs.declared.loader.LoadAnswer.{LoadAnswer}
-use Rattle.wire.specs.declared.request.Request.{Request}
-use Rattle.wire.specs.declared.request.Request.TheVariants.{RoundEnd}
+use Rattle.wire.specs.Requests.{Request, RoundEnd}
 use Rattle.wire.specs.Frames.{IsRequest}
 use Rattle.serve.specs.declared.fault.ServeFault.{ServeFault}
 use Rattle.serve.specs.declared.fault.ServeFault.TheVariants as fault

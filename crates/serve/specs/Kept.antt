@@ -1,9 +1,9 @@
 -- What the code keeps, as the definitions see it.
-use Rattle.std.specs.Prelude.{Bool, ℤ, ◌≡◌, ◌<◌, ◌≤◌, ℕ, List, [], ◌∷◌, ◌++◌, length, map, Option, Some, None, slice_get, All}
-use Rattle.std.specs.Option.{option_map}
+use Rattle.std.specs.Prelude.{Bool, ℤ, ◌≡◌, ◌+◌, ◌<◌, ◌≤◌, nat_le, if◌then◌else◌, ℕ, List, [], ◌∷◌, ◌++◌, length, take, drop, map, Option, Some, None, slice_get, All}
 use Rattle.std.specs.Io.KnownBytes.{Consumes, Appends, IsAtEnd}
 use Rattle.boxcar.specs.Table.{Shelves, Where}
 use Rattle.jtypes.specs.declared.loader.LoadAnswer.{LoadAnswer}
+use Rattle.jtypes.specs.declared.types.Arg.{Arg}
 use Rattle.typecheck.specs.Typing.{Class}
 use Rattle.registry.specs.Ids.{IsOf, class_of}
 use Rattle.stripe.specs.History.{Call, Entries}
@@ -11,7 +11,7 @@ use Rattle.stripe.specs.History as call
 use Rattle.stripe.specs.Stored.{Stored, entry_among}
 use Rattle.stripe.specs.declared.call.Reply.{Reply as Answer}
 use Rattle.outcome.specs.Outcome.{IsDone}
-use Rattle.wire.specs.declared.request.Request.{Request}
+use Rattle.wire.specs.Requests.{Request, Invoke, InvokeAll}
 use Rattle.wire.specs.declared.reply.Reply.{Reply}
 use Rattle.wire.specs.declared.reply.Reply.TheVariants as reply
 use Rattle.wire.specs.declared.fault.WireFault.{WireFault}
@@ -47,6 +47,12 @@ AreOf registry ids = All (IsOf registry) ids
 
 -- ---- plans
 
+-- an invocation has at most eight arguments
+abbrev pub HasFew : Request → Type 0
+HasFew (Invoke class key args) = length args ≤ 8
+HasFew (InvokeAll class keys args) = length args ≤ 8
+HasFew _ = Unit {0}
+
 abbrev pub work_of : Planned → Work
 work_of (planned.Defined class steps words) = Told (reply.Defined class steps words)
 work_of (planned.Refused refusal) = Told (reply.Refused refusal)
@@ -57,41 +63,50 @@ work_of (planned.JobForEach at keys) = JobForEach at keys
 abbrev pub works_of : Plan → List Work
 works_of p = map work_of p.works.items
 
--- the call of a job, if its class is one of these
-abbrev pub call_in : List Class → Ask → Option Call
-call_in classes (ask.Invoke n key args) = option_map (λ c. call.Invoke c key args) (slice_get classes n)
-call_in classes (ask.Get key) = Some (call.Get key)
-call_in classes (ask.Put key value) = Some (call.Put key value)
-call_in classes (ask.Remove key) = Some (call.Remove key)
-call_in classes (ask.Contains key) = Some (call.Contains key)
+-- so many arguments from a place on, if they are there
+abbrev pub args_at : List Arg → ℕ → ℕ → Option (List Arg)
+args_at row at count = if nat_le (at + count) (length row) then Some (take count (drop at row)) else None
 
-abbrev pub calls_in : List Class → List Ask → List (Option Call)
-calls_in classes asks = map (call_in classes) asks
+abbrev pub invocation_of : Option Class → ℤ → Option (List Arg) → Option Call
+invocation_of (Some c) key (Some args) = Some (call.Invoke c key args)
+invocation_of (Some c) key None = None
+invocation_of None key args = None
+
+-- the call of a job, if its class is one of these and its arguments are in the row
+abbrev pub call_in : List Class → List Arg → Ask → Option Call
+call_in classes row (ask.Invoke n key span) = invocation_of (slice_get classes n) key (args_at row span.at span.count)
+call_in classes row (ask.Get key) = Some (call.Get key)
+call_in classes row (ask.Put key value) = Some (call.Put key value)
+call_in classes row (ask.Remove key) = Some (call.Remove key)
+call_in classes row (ask.Contains key) = Some (call.Contains key)
+
+abbrev pub calls_in : List Class → List Arg → List Ask → List (Option Call)
+calls_in classes row asks = map (call_in classes row) asks
 
 -- the jobs are these calls
-abbrev pub AreCalls : List Class → List Ask → List Call → Type 0
-AreCalls classes asks calls = calls_in classes asks ≡ map Some calls
+abbrev pub AreCalls : List Class → List Arg → List Ask → List Call → Type 0
+AreCalls classes row asks calls = calls_in classes row asks ≡ map Some calls
 
 -- the jobs are calls, as many as a round may have at most
 abbrev pub HasCalls : List Class → Plan → Type 0
-HasCalls classes plan = (calls : List Call) × AreCalls classes plan.asks.items calls × (length calls ≤ most_jobs)
+HasCalls classes plan = (calls : List Call) × AreCalls classes plan.args.items plan.asks.items calls × (length calls ≤ most_jobs)
 
--- the class of a job is one of so many
-abbrev pub IsKnown : ℕ → Ask → Type 0
-IsKnown count (ask.Invoke n key args) = n < count
-IsKnown count _ = Unit {0}
+-- the class of a job is one of so many, and its arguments are among so many
+abbrev pub IsKnown : ℕ → ℕ → Ask → Type 0
+IsKnown count long (ask.Invoke n key span) = (n < count) × (span.at + span.count ≤ long)
+IsKnown count long _ = Unit {0}
 
 -- a part was added to the plan
 pub record Grows (classes : List Class) (old new : Plan) (p : Part) : Type 0 where
   pub works : works_of new ≡ works_of old ++ p.work ∷ []
-  pub calls : calls_in classes new.asks.items ≡ calls_in classes old.asks.items ++ map Some p.calls
+  pub calls : (calls : List Call) → AreCalls classes old.args.items old.asks.items calls → AreCalls classes new.args.items new.asks.items (calls ++ p.calls)
 
 -- a request was added to the plan
 pub record Adding (classes : List Class) (old : Plan) (r : Request) (new : Plan) (later : List Class) : Type 0 where
   pub part : Part
   pub adds : Adds classes (length old.asks.items) r part later
   pub works : works_of new ≡ works_of old ++ part.work ∷ []
-  pub calls : (calls : List Call) → AreCalls classes old.asks.items calls → AreCalls later new.asks.items (calls ++ part.calls)
+  pub calls : (calls : List Call) → AreCalls classes old.args.items old.asks.items calls → AreCalls later new.args.items new.asks.items (calls ++ part.calls)
 
 -- ---- rounds
 
@@ -102,7 +117,7 @@ pub record IsWhole (old new : Option (List ℕ)) (first : List Class) (plan : Pl
   pub are : AreOpen requests
   pub took : Consumes old new (requests_text (ended requests))
   pub gathered : Gathers first requests (works_of plan) calls later
-  pub called : AreCalls later plan.asks.items calls
+  pub called : AreCalls later plan.args.items plan.asks.items calls
 
 -- a round was read to its end, or the input ended before one
 abbrev pub RoundRead : Option (List ℕ) → Option (List ℕ) → List Class → List Class → Option Plan → Type 0

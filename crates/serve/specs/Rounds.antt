@@ -13,8 +13,7 @@ use Rattle.stripe.specs.History as call
 use Rattle.stripe.specs.declared.call.Reply.{Reply as Answer}
 use Rattle.stripe.specs.declared.call.Reply.TheVariants as answer
 use Rattle.invokeall.specs.Collected.{different, invocations}
-use Rattle.wire.specs.declared.request.Request.{Request}
-use Rattle.wire.specs.declared.request.Request.TheVariants.{Define, Put, Get, Remove, Contains, Invoke, InvokeAll}
+use Rattle.wire.specs.Requests.{Request, Define, Put, Get, Remove, Contains, Invoke, InvokeAll}
 use Rattle.wire.specs.declared.reply.Denial.TheVariants.{UnknownClass, NoMemory, TooManyClasses, TooManyJobs}
 use Rattle.wire.specs.declared.reply.JobOutcome.{JobOutcome}
 use Rattle.wire.specs.declared.reply.JobOutcome.TheVariants as job

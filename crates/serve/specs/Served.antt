@@ -6,8 +6,7 @@ use Rattle.typecheck.specs.Typing.{Class}
 use Rattle.stripe.specs.History.{Call, Entries}
 use Rattle.stripe.specs.declared.call.Reply.{Reply as Answer}
 use Rattle.outcome.specs.Outcome.{IsDone}
-use Rattle.wire.specs.declared.request.Request.{Request}
-use Rattle.wire.specs.declared.request.Request.TheVariants.{RoundEnd}
+use Rattle.wire.specs.Requests.{Request, RoundEnd}
 use Rattle.wire.specs.declared.reply.Reply.{Reply}
 use Rattle.wire.specs.declared.reply.Reply.TheVariants as reply
 use Rattle.wire.specs.Frames.{texts, request_frame, reply_frame, IsRequest, IsFaulty, IsPart, IsBegun}

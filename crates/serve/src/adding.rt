@@ -1,12 +1,14 @@
 //! Requests are added to their round.
 
-ghost use Rattle.std.specs.Prelude.{◌≡◌, ◌≢◌, ◌<◌, ℕ, [], length, OnOk, None, slice_get, true, false};
-ghost use Rattle.wire.specs.declared.request.Request.TheVariants.{Define, Invoke, InvokeAll, RoundEnd};
+ghost use Rattle.std.specs.Prelude.{◌≡◌, ◌≢◌, ◌<◌, ◌≤◌, ℕ, [], length, OnOk, None, slice_get, true, false};
+ghost use Rattle.wire.specs.Requests.{with_args, Define, Invoke, InvokeAll, RoundEnd};
 ghost use Rattle.serve.specs.Rounds.{Adds, part};
-ghost use Rattle.serve.specs.Kept.{AreOf, classes_of, work_of, Adding};
+ghost use Rattle.serve.specs.Kept.{AreOf, HasFew, classes_of, work_of, Adding};
 
-use crate::plan::{Plan, Work, contains, get, invocation, many_jobs, one_job, put, remove, tell};
-use jtypes::{Args, Refusal};
+use crate::plan::{
+    Plan, Work, contains, get, many_jobs, one_invocation, one_job, put, remove, tell,
+};
+use jtypes::{Arg, Refusal};
 use registry::{ClassId, Registry};
 use std::alloc::{AllocError, Global};
 use std::sync::Wait;
@@ -61,12 +63,13 @@ fn add_invoke(
     plan: &mut Plan,
     class: usize,
     key: &i64,
-    args: &Args,
+    args: &[Arg],
 ) -> Result<(), AllocError>
+    requires { length args.now ≤ 8 }
     ensures { OnOk result (Adding (classes_of ids.now) plan.old (Invoke class key.now args.now) plan.new (classes_of ids.now)) }
 {
     if is_known(ids, class) {
-        one_job(plan, invocation(class, key, args))
+        one_invocation(plan, class, key, args)
     } else {
         tell(plan, Work::Denied(Denial::UnknownClass))
     }
@@ -78,9 +81,10 @@ fn add_invoke_all(
     plan: &mut Plan,
     class: usize,
     keys: &[i64],
-    args: Args,
+    args: &[Arg],
 ) -> Result<(), AllocError>
-    ensures { OnOk result (Adding (classes_of ids.now) plan.old (InvokeAll class keys.now args) plan.new (classes_of ids.now)) }
+    requires { length args.now ≤ 8 }
+    ensures { OnOk result (Adding (classes_of ids.now) plan.old (InvokeAll class keys.now args.now) plan.new (classes_of ids.now)) }
 {
     if is_known(ids, class) {
         many_jobs(alloc, plan, class, keys, args)
@@ -89,7 +93,7 @@ fn add_invoke_all(
     }
 }
 
-/// Adds a request to its round.
+/// Adds a request with these arguments to its round.
 pub fn add<T: Wait>(
     rt: &T,
     alloc: Global,
@@ -97,13 +101,15 @@ pub fn add<T: Wait>(
     ids: &mut Vec<ClassId>,
     plan: &mut Plan,
     request: Request,
+    args: &[Arg],
 ) -> Result<(), AllocError>
     requires known { AreOf registry.now ids.old.items }
-    requires inside { request ≢ RoundEnd }
-    ensures ok { OnOk result (Adding (classes_of ids.old.items) plan.old request plan.new (classes_of ids.new.items)) }
+    requires inside { with_args args.now request ≢ RoundEnd }
+    requires few { HasFew (with_args args.now request) }
+    ensures ok { OnOk result (Adding (classes_of ids.old.items) plan.old (with_args args.now request) plan.new (classes_of ids.new.items)) }
     ensures known { AreOf registry.now ids.new.items }
 {
-    add_behind(rt, alloc, registry, ids, plan, &request)
+    add_behind(rt, alloc, registry, ids, plan, &request, args)
 }
 
 fn add_behind<T: Wait>(
@@ -113,10 +119,12 @@ fn add_behind<T: Wait>(
     ids: &mut Vec<ClassId>,
     plan: &mut Plan,
     request: &Request,
+    args: &[Arg],
 ) -> Result<(), AllocError>
     requires known { AreOf registry.now ids.old.items }
-    requires inside { request.now ≢ RoundEnd }
-    ensures ok { OnOk result (Adding (classes_of ids.old.items) plan.old request.now plan.new (classes_of ids.new.items)) }
+    requires inside { with_args args.now request.now ≢ RoundEnd }
+    requires few { HasFew (with_args args.now request.now) }
+    ensures ok { OnOk result (Adding (classes_of ids.old.items) plan.old (with_args args.now request.now) plan.new (classes_of ids.new.items)) }
     ensures known { AreOf registry.now ids.new.items }
 {
     match request {
@@ -128,16 +136,16 @@ fn add_behind<T: Wait>(
         Request::Get { key } => one_job(plan, get(key)),
         Request::Remove { key } => one_job(plan, remove(key)),
         Request::Contains { key } => one_job(plan, contains(key)),
-        Request::Invoke { class, key, args } => {
+        Request::Invoke { class, key } => {
             add_invoke(ids.as_slice(), plan, *class as usize, key, args)
         }
-        Request::InvokeAll { class, keys, args } => add_invoke_all(
+        Request::InvokeAll { class, keys } => add_invoke_all(
             alloc,
             ids.as_slice(),
             plan,
             *class as usize,
             keys.as_slice(),
-            *args,
+            args,
         ),
         Request::RoundEnd => Ok(()),
     }

@@ -14,7 +14,7 @@ use crate::plan::Ask;
 use crate::settings::Settings;
 use cache::Gate;
 use invokeall::Job;
-use jtypes::Loader;
+use jtypes::{Arg, Loader};
 use registry::{ClassId, Registry};
 use std::alloc::{AllocError, Global};
 use std::sync::Wait;
@@ -30,17 +30,17 @@ pub struct RoundLeft {
     pub replies: Vec<Option<Reply>>,
 }
 
-/// The job with its class.
-fn job_of<'j>(ids: &'j [ClassId], ask: &'j Ask) -> Job<'j>
-    requires { IsKnown (length ids.now) ask.now }
-    ensures call { Some (call_of result) ≡ call_in (classes_of ids.now) ask.now }
+/// The job with its class and its arguments.
+fn job_of<'j>(ids: &'j [ClassId], row: &'j [Arg], ask: &'j Ask) -> Job<'j>
+    requires { IsKnown (length ids.now) (length row.now) ask.now }
+    ensures call { Some (call_of result) ≡ call_in (classes_of ids.now) row.now ask.now }
     ensures callable { (registry : Shelves) → AreOf registry ids.now → IsCallable registry result }
 {
     match ask {
         Ask::Invoke { class, key, args } => Job::Invoke {
             class: &ids[*class],
             key: *key,
-            args,
+            args: args.among(row),
         },
         Ask::Get { key } => Job::Get { key: *key },
         Ask::Put { key, value } => Job::Put {
@@ -52,19 +52,20 @@ fn job_of<'j>(ids: &'j [ClassId], ask: &'j Ask) -> Job<'j>
     }
 }
 
-/// The jobs with their classes.
+/// The jobs with their classes, and with their arguments among these.
 pub fn jobs_of<'j>(
     alloc: Global,
     ids: &'j [ClassId],
+    row: &'j [Arg],
     asks: &'j [Ask],
 ) -> Result<Vec<Job<'j>>, AllocError>
-    requires { All (IsKnown (length ids.now)) asks.now }
-    ensures calls { IfOk result (λ jobs. map Some (calls_of jobs.items) ≡ calls_in (classes_of ids.now) asks.now) }
+    requires { All (IsKnown (length ids.now) (length row.now)) asks.now }
+    ensures calls { IfOk result (λ jobs. map Some (calls_of jobs.items) ≡ calls_in (classes_of ids.now) row.now asks.now) }
     ensures callable { (registry : Shelves) → AreOf registry ids.now → IfOk result (λ jobs. All (IsCallable registry) jobs.items) }
 {
     let mut jobs = Vec::with_capacity(alloc, asks.len())?;
     for ask in asks {
-        jobs.push_reserved(job_of(ids, ask));
+        jobs.push_reserved(job_of(ids, row, ask));
     }
     Ok(jobs)
 }
@@ -78,7 +79,7 @@ fn call_for<'a>(registry: &'a Registry, job: &Job<'_>) -> Call<'a>
         Job::Invoke { class, key, args } => Call::Invoke {
             class: registry.class(class),
             key: *key,
-            args: ArgRow::of(args),
+            args: ArgRow::of(&args.args()),
         },
         Job::Get { key } => Call::Get { key: *key },
         Job::Put { key, value } => Call::Put {

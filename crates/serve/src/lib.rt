@@ -8,6 +8,7 @@ mod laws;
 mod plan;
 mod reading;
 mod settings;
+mod span;
 mod stream;
 mod telling;
 mod turn;

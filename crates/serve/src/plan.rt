@@ -1,14 +1,16 @@
 //! What a round has to do.
 
 ghost use Rattle.std.specs.Prelude.{◌≡◌, ◌≤◌, ◌++◌, ◌∷◌, [], List, Some, length, map, slice_get, OnOk, IfOk};
+ghost use Rattle.jtypes.specs.declared.types.Arg.{Arg};
 ghost use Rattle.typecheck.specs.Typing.{Class};
-ghost use Rattle.stripe.specs.History.{Call};
+ghost use Rattle.stripe.specs.History.{Call, Invoke};
 ghost use Rattle.invokeall.specs.Collected.{different, invocations};
 ghost use Rattle.serve.specs.Rounds.{one, each, most_jobs};
-ghost use Rattle.serve.specs.Kept.{call_in, calls_in, Grows};
+ghost use Rattle.serve.specs.Kept.{args_at, call_in, calls_in, Grows};
 
+use crate::span::Span;
 use indexmap::IndexSet;
-use jtypes::{Args, Refusal};
+use jtypes::{Arg, Refusal};
 use std::alloc::{AllocError, Global};
 use std::marker::Model;
 use wire::Denial;
@@ -57,41 +59,49 @@ pub enum Work {
 /// What a job asks. It names its class by the number.
 #[derive(Clone, Copy)]
 pub enum Ask {
-    Invoke { class: usize, key: i64, args: Args },
+    Invoke { class: usize, key: i64, args: Span },
     Get { key: i64 },
     Put { key: i64, value: i64 },
     Remove { key: i64 },
     Contains { key: i64 },
 }
 
-/// What is told of each request of a round, and its jobs.
+/// What is told of each request of a round, its jobs, and the arguments of all its invocations, one behind the other.
 #[derive(Drop)]
 pub struct Plan {
     pub works: Vec<Work>,
     pub asks: Vec<Ask>,
+    pub args: Vec<Arg>,
 }
 
-/// For how many requests and jobs a round has room before it grows: as many as the round before had.
+/// For how many requests, jobs and arguments a round has room before it grows: as many as the round before had.
 #[derive(Clone, Copy)]
 pub struct Room {
     pub works: usize,
     pub asks: usize,
+    pub args: usize,
 }
 
-/// No request yet. Where there is no memory for the room it grows as it is filled.
+/// Nothing yet. Where there is no memory for so many it grows as it is filled.
+fn no_items<T>(alloc: Global, room: usize) -> Vec<T>
+    ensures { result.items ≡ [] }
+{
+    match Vec::with_capacity(alloc, room) {
+        Ok(items) => items,
+        Err(AllocError) => Vec::new(alloc),
+    }
+}
+
+/// No request yet.
 pub fn no_requests(alloc: Global, room: Room) -> Plan
     ensures works { result.works.items ≡ [] }
     ensures asks { result.asks.items ≡ [] }
 {
-    let works = match Vec::with_capacity(alloc, room.works) {
-        Ok(works) => works,
-        Err(AllocError) => Vec::new(alloc),
-    };
-    let asks = match Vec::with_capacity(alloc, room.asks) {
-        Ok(asks) => asks,
-        Err(AllocError) => Vec::new(alloc),
-    };
-    Plan { works, asks }
+    Plan {
+        works: no_items(alloc, room.works),
+        asks: no_items(alloc, room.asks),
+        args: no_items(alloc, room.args),
+    }
 }
 
 /// As much room as these requests and jobs take.
@@ -99,6 +109,7 @@ pub fn room_of(plan: &Plan) -> Room {
     Room {
         works: plan.works.len(),
         asks: plan.asks.len(),
+        args: plan.args.len(),
     }
 }
 
@@ -133,6 +144,7 @@ pub fn contains(key: &i64) -> Ask
 pub fn tell(plan: &mut Plan, work: Work) -> Result<(), AllocError>
     ensures works { OnOk result (plan.new.works.items ≡ plan.old.works.items ++ work ∷ []) }
     ensures asks { plan.new.asks ≡ plan.old.asks }
+    ensures args { plan.new.args ≡ plan.old.args }
 {
     plan.works.push(work)?;
     Ok(())
@@ -140,7 +152,7 @@ pub fn tell(plan: &mut Plan, work: Work) -> Result<(), AllocError>
 
 /// The request has this job, if there is room.
 pub fn one_job(plan: &mut Plan, ask: Ask) -> Result<(), AllocError>
-    ensures { (classes : List Class) (call : Call) → call_in classes ask ≡ Some call → OnOk result (Grows classes plan.old plan.new (one (length plan.old.asks.items) call)) }
+    ensures { (classes : List Class) (call : Call) → call_in classes plan.old.args.items ask ≡ Some call → OnOk result (Grows classes plan.old plan.new (one (length plan.old.asks.items) call)) }
 {
     let at = plan.asks.len();
     if at >= MOST_JOBS {
@@ -150,15 +162,49 @@ pub fn one_job(plan: &mut Plan, ask: Ask) -> Result<(), AllocError>
     tell(plan, Work::Job(at))
 }
 
+/// Puts arguments behind those of the round.
+fn keep(row: &mut Vec<Arg>, args: &[Arg]) -> Result<Span, AllocError>
+    requires { length args.now ≤ 8 }
+    ensures row { OnOk result (row.new.items ≡ row.old.items ++ args.now) }
+    ensures span { IfOk result (λ span. (span.at ≡ length row.old.items) × (span.count ≡ length args.now)) }
+{
+    let at = row.len();
+    row.extend_from_slice(args)?;
+    Ok(Span {
+        at,
+        count: args.len() as u8,
+    })
+}
+
+/// The request has an invocation of a class, if there is room.
+pub fn one_invocation(
+    plan: &mut Plan,
+    class: usize,
+    key: &i64,
+    args: &[Arg],
+) -> Result<(), AllocError>
+    requires { length args.now ≤ 8 }
+    ensures { (classes : List Class) (c : Class) → slice_get classes class ≡ Some c → OnOk result (Grows classes plan.old plan.new (one (length plan.old.asks.items) (Invoke c key.now args.now))) }
+{
+    let at = plan.asks.len();
+    if at >= MOST_JOBS {
+        return tell(plan, Work::Denied(Denial::TooManyJobs));
+    }
+    let span = keep(&mut plan.args, args)?;
+    plan.asks.push(invocation(class, key, span))?;
+    tell(plan, Work::Job(at))
+}
+
 /// The request has an invocation of a class on each of these keys, doubles dropped, if there is room.
 pub fn many_jobs(
     alloc: Global,
     plan: &mut Plan,
     class: usize,
     keys: &[i64],
-    args: Args,
+    args: &[Arg],
 ) -> Result<(), AllocError>
-    ensures { (classes : List Class) (c : Class) → slice_get classes class ≡ Some c → OnOk result (Grows classes plan.old plan.new (each (length plan.old.asks.items) (different keys.now) args c)) }
+    requires { length args.now ≤ 8 }
+    ensures { (classes : List Class) (c : Class) → slice_get classes class ≡ Some c → OnOk result (Grows classes plan.old plan.new (each (length plan.old.asks.items) (different keys.now) args.now c)) }
 {
     let set = once_each(alloc, keys)?;
     let at = plan.asks.len();
@@ -166,26 +212,27 @@ pub fn many_jobs(
         return tell(plan, Work::Denied(Denial::TooManyJobs));
     }
     let different = Vec::from_slice(alloc, set.as_slice())?;
-    push_jobs(&mut plan.asks, class, different.as_slice(), args)?;
+    let span = keep(&mut plan.args, args)?;
+    push_jobs(&mut plan.asks, class, different.as_slice(), span)?;
     tell(plan, Work::JobForEach(at, Keys { keys: different }))
 }
 
 /// An invocation.
-pub fn invocation(class: usize, key: &i64, args: &Args) -> Ask
-    ensures { result ≡ Ask.Invoke class key.now args.now }
+fn invocation(class: usize, key: &i64, args: Span) -> Ask
+    ensures { result ≡ Ask.Invoke class key.now args }
 {
     Ask::Invoke {
         class,
         key: *key,
-        args: *args,
+        args,
     }
 }
 
-fn push_jobs(asks: &mut Vec<Ask>, class: usize, keys: &[i64], args: Args) -> Result<(), AllocError>
-    ensures { (classes : List Class) (c : Class) → slice_get classes class ≡ Some c → OnOk result (calls_in classes asks.new.items ≡ calls_in classes asks.old.items ++ map Some (invocations c args keys.now)) }
+fn push_jobs(asks: &mut Vec<Ask>, class: usize, keys: &[i64], args: Span) -> Result<(), AllocError>
+    ensures { (classes : List Class) (row : List Arg) (c : Class) (xs : List Arg) → slice_get classes class ≡ Some c → args_at row args.at args.count ≡ Some xs → OnOk result (calls_in classes row asks.new.items ≡ calls_in classes row asks.old.items ++ map Some (invocations c xs keys.now)) }
 {
     for key in keys {
-        asks.push(invocation(class, key, &args))?;
+        asks.push(invocation(class, key, args))?;
     }
     Ok(())
 }

@@ -1,8 +1,9 @@
 //! Rounds are read.
 
-ghost use Rattle.std.specs.Prelude.{◌≡◌, ◌≢◌, IfOk, IfErr, true, false, Err};
+ghost use Rattle.std.specs.Prelude.{◌≡◌, ◌≢◌, List, IfOk, IfErr, true, false, Err};
 ghost use Rattle.std.specs.Io.KnownBytes.{IsAtEnd};
-ghost use Rattle.wire.specs.declared.request.Request.TheVariants.{RoundEnd};
+ghost use Rattle.jtypes.specs.declared.types.Arg.{Arg};
+ghost use Rattle.wire.specs.Requests.{with_args, RoundEnd};
 ghost use Rattle.serve.specs.Devices.{ReadsAreCounted};
 ghost use Rattle.serve.specs.Kept.{AreOf, classes_of, RoundRead, IsBroken};
 
@@ -16,8 +17,8 @@ use std::sync::Wait;
 use wire::{Counted, Request, read_request};
 
 fn is_end(request: &Request) -> bool
-    ensures yes { result ≡ true → request.now ≡ RoundEnd }
-    ensures no { result ≡ false → request.now ≢ RoundEnd }
+    ensures yes { (args : List Arg) → result ≡ true → with_args args request.now ≡ RoundEnd }
+    ensures no { (args : List Arg) → result ≡ false → with_args args request.now ≢ RoundEnd }
 {
     matches!(request, Request::RoundEnd)
 }
@@ -40,14 +41,23 @@ pub fn read_round<T: Wait, R: Read>(
     ensures known { AreOf registry.now ids.new.items }
 {
     let mut plan = no_requests(alloc, *room);
+    let mut args = Vec::new(alloc);
     for _ in rt.forever() {
-        match read_request(alloc, reader) {
+        match read_request(alloc, reader, &mut args) {
             Ok(Some(request)) => {
                 if is_end(&request) {
                     *room = room_of(&plan);
                     return Ok(Some(plan));
                 }
-                let Ok(()) = add(rt, alloc, registry, ids, &mut plan, request) else {
+                let Ok(()) = add(
+                    rt,
+                    alloc,
+                    registry,
+                    ids,
+                    &mut plan,
+                    request,
+                    args.as_slice(),
+                ) else {
                     return Err(ServeFault::NoMemory);
                 };
             }

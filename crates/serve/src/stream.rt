@@ -83,7 +83,11 @@ fn stream<T: Threads + Wait + Sync, R: Read, W: Write, G: Gate + Sync, L: Loader
     ensures writes { WritesAreCounted result writer.old writer.new }
 {
     let mut ids = Vec::new(alloc);
-    let mut room = Room { works: 0, asks: 0 };
+    let mut room = Room {
+        works: 0,
+        asks: 0,
+        args: 0,
+    };
     let mut tables = tables;
     for _ in rt.forever() {
         match one_round(

@@ -52,10 +52,10 @@ fn run_round<T: Threads + Wait + Sync, G: Gate + Sync, L: Loader + Sync>(
     requires called { HasCalls (classes_of ids.now) plan }
     requires known { AreOf registry.now ids.now }
     requires workers { settings.workers ≤ 16 }
-    ensures { IfOk result (λ run. (calls : List Call) → AreCalls (classes_of ids.now) plan.asks.items calls → IsRun L.ASKS (L.gives loader.now) (entry_among tables) calls (works_of plan) (entry_among run.0) run.1.items) }
+    ensures { IfOk result (λ run. (calls : List Call) → AreCalls (classes_of ids.now) plan.args.items plan.asks.items calls → IsRun L.ASKS (L.gives loader.now) (entry_among tables) calls (works_of plan) (entry_among run.0) run.1.items) }
 {
-    let Plan { works, asks } = plan;
-    let jobs = jobs_of(alloc, ids, asks.as_slice())?;
+    let Plan { works, asks, args } = plan;
+    let jobs = jobs_of(alloc, ids, args.as_slice(), asks.as_slice())?;
     let Ok(left) = run_jobs(
         rt,
         alloc,

@@ -2,7 +2,7 @@
 use Rattle.std.proofs.Common.{◌≡◌, ℕ, List, ◌++◌, Option, Some, None, Result, Ok, Err, IfSome, refl, sym, ap, ◌∙◌, subst, append_assoc, append-nil}
 use Rattle.std.specs.Io.KnownBytes.{Consumes}
 use Rattle.byteorder.specs.Endian.{big_bytes}
-use Rattle.wire.specs.declared.request.Request.{Request}
+use Rattle.wire.specs.Requests.{Request}
 use Rattle.wire.specs.declared.fault.WireFault.{WireFault}
 use Rattle.wire.specs.declared.fault.WireFault.TheVariants as fault
 use Rattle.wire.specs.Frames.{frame, request_frame, IsFaulty, too_long, empty, no_request, Front, AtEnd, Whole, Faulty, TooLong, Truncated, Malformed, IsFront}

@@ -9,8 +9,7 @@ use Rattle.jtypes.specs.declared.types.Arg.{Arg}
 use Rattle.jtypes.specs.declared.types.Arg.TheVariants as arg
 use Rattle.jtypes.specs.declared.refusal.Refusal.TheVariants.{BadOperand}
 use Rattle.jtypes.specs.Layout.{Layout, known, stopped, chosen, number, many, IsLaidOut, ◌>>=◌}
-use Rattle.wire.specs.declared.request.Request.{Request}
-use Rattle.wire.specs.declared.request.Request.TheVariants.{Put, Get, Remove, Contains, Invoke, InvokeAll, RoundEnd}
+use Rattle.wire.specs.Requests.{Request, Put, Get, Remove, Contains, Invoke, InvokeAll, RoundEnd}
 use Rattle.wire.specs.Frames.{AreBytes, long_text, int_text, arg_text, texts, args_text, request_text, IsArg, AreArgs, IsInRange}
 use Rattle.wire.specs.Bodies.{long, int, arg_of, argument, arguments, put, invoke, small, keys_and_arguments, alone}
 use Rattle.wire.proofs.Numbers.{bytes_front, bytes_back, bytes_of_number, number_small}

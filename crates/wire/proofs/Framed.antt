@@ -3,7 +3,7 @@ use Rattle.std.proofs.Common.{◌≡◌, ℕ, ◌≤◌, List, [], ◌∷◌, �
 use Rattle.std.proofs.lemmas.List.{take-append-drop, length-take-le, length-drop, take_all}
 use Rattle.byteorder.specs.Endian.{big_bytes, big_number}
 use Rattle.byteorder.specs.Numbers.{big_from-take}
-use Rattle.wire.specs.declared.request.Request.{Request}
+use Rattle.wire.specs.Requests.{Request}
 use Rattle.wire.specs.declared.fault.WireFault.{WireFault}
 use Rattle.wire.specs.declared.fault.WireFault.TheVariants as fault
 use Rattle.wire.specs.Frames.{AreBytes, longest, frame, request_frame, IsText, IsRead, cut_body, no_request, of_text}

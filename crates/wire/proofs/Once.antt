@@ -5,8 +5,7 @@ use Rattle.byteorder.specs.Endian.{big_bytes, big_number}
 use Rattle.byteorder.specs.Numbers.{big_number-reads_back}
 use Rattle.jtypes.specs.declared.refusal.Refusal.{Refusal}
 use Rattle.jtypes.specs.Layout.{first, number, and_then}
-use Rattle.wire.specs.declared.request.Request.{Request}
-use Rattle.wire.specs.declared.request.Request.TheVariants.{Define, Put, Get, Remove, Contains, Invoke, InvokeAll, RoundEnd}
+use Rattle.wire.specs.Requests.{Request, Define, Put, Get, Remove, Contains, Invoke, InvokeAll, RoundEnd}
 use Rattle.wire.specs.Frames.{longest, long_text, args_text, texts, request_text, IsText, IsNoRequest, cut_length, too_long, empty, cut_body, no_request, Front, AtEnd, Whole, Faulty, TooLong, Truncated, Malformed, IsFront}
 use Rattle.wire.specs.Bodies.{small, keys_and_arguments, alone}
 use Rattle.wire.proofs.Read.{read_small, read_keys, read_alone, read_number}

@@ -8,8 +8,7 @@ use Rattle.jtypes.specs.declared.refusal.Refusal.{Refusal}
 use Rattle.jtypes.specs.declared.refusal.Refusal.TheVariants as refusal
 use Rattle.jtypes.specs.Layout.{Layout, first, Gives, number}
 use Rattle.jtypes.proofs.Laws.{whole_found, stands_from_fails, first_stands}
-use Rattle.wire.specs.declared.request.Request.{Request}
-use Rattle.wire.specs.declared.request.Request.TheVariants.{Define, Put, Get, Remove, Contains, Invoke, InvokeAll, RoundEnd}
+use Rattle.wire.specs.Requests.{Request, Define, Put, Get, Remove, Contains, Invoke, InvokeAll, RoundEnd}
 use Rattle.wire.specs.declared.fault.WireFault.{WireFault}
 use Rattle.wire.specs.Frames.{AreBytes, long_text, arg_text, texts, args_text, request_text, IsText, IsNoRequest, AreArgs}
 use Rattle.wire.specs.Bodies.{small, keys_and_arguments, alone}

@@ -11,8 +11,7 @@ use Rattle.jtypes.specs.declared.types.Arg.{Arg}
 use Rattle.jtypes.specs.declared.types.Arg.TheVariants as arg
 use Rattle.jtypes.specs.declared.refusal.Refusal.{Refusal}
 use Rattle.jtypes.specs.Layout.{Layout, known, number, many, first, part_or, ◌>>=◌}
-use Rattle.wire.specs.declared.request.Request.{Request}
-use Rattle.wire.specs.declared.request.Request.TheVariants.{Define, Put, Get, Remove, Contains, Invoke, InvokeAll, RoundEnd}
+use Rattle.wire.specs.Requests.{Request, Define, Put, Get, Remove, Contains, Invoke, InvokeAll, RoundEnd}
 use Rattle.wire.specs.Frames.{long_text, int_text, arg_text, texts, args_text, request_text, IsArg, AreArgs, IsInRange}
 use Rattle.wire.specs.Bodies.{long, int, arg_of, argument, arguments, put, invoke, small, keys_and_arguments, alone}
 

@@ -1,7 +1,7 @@
 -- Bytes are taken one part after the other.
 use Rattle.std.proofs.Common.{◌≡◌, ℕ, ◌+◌, ◌≤◌, List, ◌++◌, length, Option, Result, Ok, Err, subst, arith, append_assoc}
 use Rattle.std.proofs.lemmas.List.{length-append}
-use Rattle.wire.specs.declared.request.Request.{Request}
+use Rattle.wire.specs.Requests.{Request}
 use Rattle.wire.specs.declared.fault.WireFault.{WireFault}
 use Rattle.wire.specs.declared.fault.WireFault.TheVariants.{TooLong, Truncated, Malformed, Read, NoMemory}
 use Rattle.wire.specs.Counting.{Counting, StaysCounted}

@@ -5,8 +5,7 @@ use Rattle.jtypes.specs.declared.types.Arg.{Arg}
 use Rattle.jtypes.specs.declared.types.Arg.TheVariants as arg
 use Rattle.jtypes.specs.declared.refusal.Refusal.TheVariants.{BadOperand}
 use Rattle.jtypes.specs.Layout.{Layout, known, stopped, chosen, ended, number, many, needed, ◌>>=◌, ◌>>◌}
-use Rattle.wire.specs.declared.request.Request.{Request}
-use Rattle.wire.specs.declared.request.Request.TheVariants.{Put, Get, Remove, Contains, Invoke, InvokeAll, RoundEnd}
+use Rattle.wire.specs.Requests.{Request, Put, Get, Remove, Contains, Invoke, InvokeAll, RoundEnd}
 
 unfoldable pub long : Layout ℤ
 long = do

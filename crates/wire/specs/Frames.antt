@@ -8,9 +8,8 @@ use Rattle.jtypes.specs.declared.types.Arg.TheVariants as arg
 use Rattle.jtypes.specs.declared.types.Outcome.{Outcome}
 use Rattle.jtypes.specs.declared.types.Outcome.TheVariants.{Returned, Threw}
 use Rattle.jtypes.specs.Refusals.{number, detail, fault_number}
-use Rattle.wire.specs.declared.request.Request.{Request}
-use Rattle.wire.specs.declared.request.Request.TheVariants.{Define, Put, Get, Remove, Contains, Invoke, InvokeAll}
-use Rattle.wire.specs.declared.request.Request.TheVariants as request
+use Rattle.wire.specs.Requests.{Request, Define, Put, Get, Remove, Contains, Invoke, InvokeAll}
+use Rattle.wire.specs.Requests as request
 use Rattle.wire.specs.declared.reply.Denial.{Denial}
 use Rattle.wire.specs.declared.reply.Denial.TheVariants.{UnknownClass, JournalFull, NoMemory, TooManyClasses, TooManyJobs}
 use Rattle.wire.specs.declared.reply.JobOutcome.{JobOutcome}

@@ -4,7 +4,7 @@ use Rattle.std.specs.Io.KnownBytes.{IsAtEnd, Consumes}
 use Rattle.byteorder.specs.Endian.{big_bytes}
 use Rattle.jtypes.specs.declared.refusal.Refusal.{Refusal}
 use Rattle.jtypes.specs.declared.refusal.Refusal.TheVariants as refusal
-use Rattle.wire.specs.declared.request.Request.{Request}
+use Rattle.wire.specs.Requests.{Request}
 use Rattle.wire.specs.declared.fault.WireFault.{WireFault}
 use Rattle.wire.specs.declared.fault.WireFault.TheVariants as fault
 use Rattle.wire.specs.Counting.{Counting, HasRisen, StaysCounted}

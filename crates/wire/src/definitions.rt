@@ -1,7 +1,7 @@
 //! The definitions that this crate's contracts cite.
 
 ghost use Rattle.std.specs.Prelude.{◌≡◌, ℕ, List};
-ghost use Rattle.wire.specs.declared.request.Request.{Request};
+ghost use Rattle.wire.specs.Requests.{Request};
 ghost use Rattle.wire.specs.declared.reply.Reply.{Reply};
 ghost use Rattle.wire.specs.Frames.{Front, IsFront, frame, reply_text};
 

@@ -1,13 +1,17 @@
 //! The bodies of requests.
 
-ghost use Rattle.std.specs.Prelude.{◌≡◌, ◌≢◌, ◌<◌, ◌≤◌, [], ◌∷◌, ◌++◌, length};
+ghost use Rattle.std.specs.Prelude.{◌≡◌, ◌≢◌, ◌⊎◌, ◌+◌, ◌*◌, ◌^◌, ◌<◌, List, [], ◌∷◌, ◌++◌, length, false};
 ghost use Rattle.jtypes.specs.Layout.{Takes, Gives, first, many};
 ghost use Rattle.byteorder.specs.Endian.{big_bytes};
+ghost use Rattle.jtypes.specs.declared.types.Arg.{Arg};
+ghost use Rattle.wire.specs.Frames.{AreBytes};
+ghost use Rattle.wire.specs.Requests.{with_args, asked};
 ghost use Rattle.wire.specs.Reading.{Parses, IsFaultOf};
 ghost use Rattle.wire.specs.Bodies.{long, int, arg_of, argument, arguments, put, invoke, small, keys_and_arguments, alone};
 
 use crate::{Request, WireFault};
-use jtypes::{Arg, Args, Cursor, Reader, Refusal, row};
+use byteorder::{BigEndian, ByteOrder};
+use jtypes::{Arg, Args, Cursor, Items, Reader, Refusal, row};
 use std::alloc::Global;
 
 #[tactic(auto, unfolding(crate::specs::Bodies::long))]
@@ -48,62 +52,51 @@ fn read_arg(cursor: &mut Cursor<'_>) -> Result<Arg, Refusal>
 
 #[tactic(auto, unfolding(crate::specs::Bodies::put))]
 fn read_put(cursor: &mut Cursor<'_>) -> Result<Request, Refusal>
-    ensures { Takes (λ x. x) result (first put cursor.old) cursor.new }
+    ensures { (args : List Arg) → Takes (with_args args) result (first put cursor.old) cursor.new }
 {
     let key = read_long(cursor)?;
     let value = read_long(cursor)?;
     Ok(Request::Put { key, value })
 }
 
-// At most eight arguments, one after the other.
-fn read_each(count: u8, cursor: &mut Cursor<'_>) -> Result<Args, Refusal>
-    requires { count < 9 }
-    ensures { Takes (λ x. x) result (first (many count argument) cursor.old) cursor.new }
+// So many arguments, one after the other. They take the place of what the row had.
+fn read_each(count: u8, cursor: &mut Cursor<'_>, args: &mut Vec<Arg>) -> Result<(), Refusal>
+    ensures { Takes (λ _. args.new.items) result (first (many count argument) cursor.old) cursor.new }
 {
-    let count = usize::from(count);
-    let mut args = [Arg::Null; 8];
-    for i in 0..count {
+    args.clear();
+    for _ in 0..count {
         let arg = read_arg(cursor)?;
-        args[i] = arg;
+        if args.push(arg).is_err() {
+            return Err(Refusal::NoMemory);
+        }
     }
-    Ok(few(&args[..count]))
-}
-
-// These arguments.
-fn few(args: &[Arg]) -> Args
-    requires { length args.now ≤ 8 }
-    ensures { result ≡ args.now }
-{
-    match Args::of(args) {
-        Some(args) => args,
-        None => Args::none(),
-    }
+    Ok(())
 }
 
 #[tactic(auto, unfolding(crate::specs::Bodies::arguments))]
-fn read_args(cursor: &mut Cursor<'_>) -> Result<Args, Refusal>
-    ensures { Takes (λ x. x) result (first arguments cursor.old) cursor.new }
+fn read_args(cursor: &mut Cursor<'_>, args: &mut Vec<Arg>) -> Result<(), Refusal>
+    ensures { Takes (λ _. args.new.items) result (first arguments cursor.old) cursor.new }
 {
     let count = cursor.u8()?;
     if usize::from(count) > Args::MOST {
         return Err(Refusal::BadOperand);
     }
-    read_each(count, cursor)
+    read_each(count, cursor, args)
 }
 
 #[tactic(auto, unfolding(crate::specs::Bodies::invoke))]
-fn read_invoke(cursor: &mut Cursor<'_>) -> Result<Request, Refusal>
-    ensures { Takes (λ x. x) result (first invoke cursor.old) cursor.new }
+fn read_invoke(cursor: &mut Cursor<'_>, args: &mut Vec<Arg>) -> Result<Request, Refusal>
+    ensures { Takes (with_args args.new.items) result (first invoke cursor.old) cursor.new }
 {
     let class = cursor.u32()?;
     let key = read_long(cursor)?;
-    let args = read_args(cursor)?;
-    Ok(Request::Invoke { class, key, args })
+    read_args(cursor, args)?;
+    Ok(Request::Invoke { class, key })
 }
 
 #[tactic(auto, unfolding(crate::specs::Bodies::small))]
-fn read_small(kind: u8, cursor: &mut Cursor<'_>) -> Result<Request, Refusal>
-    ensures { Takes (λ x. x) result (first (small kind) cursor.old) cursor.new }
+fn read_small(kind: u8, cursor: &mut Cursor<'_>, args: &mut Vec<Arg>) -> Result<Request, Refusal>
+    ensures { Takes (with_args args.new.items) result (first (small kind) cursor.old) cursor.new }
 {
     match kind {
         2 => read_put(cursor),
@@ -116,7 +109,7 @@ fn read_small(kind: u8, cursor: &mut Cursor<'_>) -> Result<Request, Refusal>
         5 => Ok(Request::Contains {
             key: read_long(cursor)?,
         }),
-        6 => read_invoke(cursor),
+        6 => read_invoke(cursor, args),
         8 => Ok(Request::RoundEnd),
         _ => Err(Refusal::BadOperand),
     }
@@ -140,30 +133,37 @@ fn read_keys_and_args(
     class: u32,
     count: u16,
     cursor: &mut Cursor<'_>,
+    args: &mut Vec<Arg>,
 ) -> Result<Request, Refusal>
-    ensures { Takes (λ x. x) result (first (keys_and_arguments class count) cursor.old) cursor.new }
+    ensures { Takes (with_args args.new.items) result (first (keys_and_arguments class count) cursor.old) cursor.new }
 {
     let keys = row(alloc, &LongReader, usize::from(count), cursor)?;
-    let args = read_args(cursor)?;
-    Ok(Request::InvokeAll { class, keys, args })
+    read_args(cursor, args)?;
+    Ok(Request::InvokeAll { class, keys })
 }
 
 #[tactic(auto, unfolding(crate::specs::Bodies::alone))]
-fn all_small(kind: u8, body: &[u8]) -> Result<Request, Refusal>
-    ensures { Gives (λ r. (r, [])) result (first (alone (small kind)) body.now) }
+fn all_small(kind: u8, body: &[u8], args: &mut Vec<Arg>) -> Result<Request, Refusal>
+    ensures { Gives (λ r. (with_args args.new.items r, [])) result (first (alone (small kind)) body.now) }
 {
     let mut cursor = Cursor::new(body);
-    let request = read_small(kind, &mut cursor)?;
+    let request = read_small(kind, &mut cursor, args)?;
     cursor.end()?;
     Ok(request)
 }
 
 #[tactic(auto, unfolding(crate::specs::Bodies::alone))]
-fn all_keys(alloc: Global, class: u32, count: u16, rest: &[u8]) -> Result<Request, Refusal>
-    ensures { Gives (λ r. (r, [])) result (first (alone (keys_and_arguments class count)) rest.now) }
+fn all_keys(
+    alloc: Global,
+    class: u32,
+    count: u16,
+    rest: &[u8],
+    args: &mut Vec<Arg>,
+) -> Result<Request, Refusal>
+    ensures { Gives (λ r. (with_args args.new.items r, [])) result (first (alone (keys_and_arguments class count)) rest.now) }
 {
     let mut cursor = Cursor::new(rest);
-    let request = read_keys_and_args(alloc, class, count, &mut cursor)?;
+    let request = read_keys_and_args(alloc, class, count, &mut cursor, args)?;
     cursor.end()?;
     Ok(request)
 }
@@ -178,15 +178,23 @@ fn fault_of(refusal: Refusal) -> WireFault
     }
 }
 
-/// The request with this kind and body, which has a key at most.
-pub fn small_request(kind: u8, body: &[u8]) -> Result<Request, WireFault>
+// The request with this kind and body, which has a key at most.
+fn small_request(kind: u8, body: &[u8], args: &mut Vec<Arg>) -> Result<Request, WireFault>
     requires other { (kind ≢ 1) × (kind ≢ 7) }
-    ensures { Parses (kind ∷ body.now) result }
+    ensures { Parses (kind ∷ body.now) (asked args.new.items result) }
 {
-    match all_small(kind, body) {
+    match all_small(kind, body, args) {
         Ok(request) => Ok(request),
         Err(e) => Err(fault_of(e)),
     }
+}
+
+/// Whether what follows the class and the count of an invocation on so many keys may have this length.
+pub fn may_hold(keys: u16, length: usize) -> bool
+    ensures { result ≡ false → (length < 8 * keys + 1) ⊎ (8 * keys + 73 < length) }
+{
+    let least = 8 * usize::from(keys) + 1;
+    least <= length && length <= least + 72
 }
 
 /// The invocation of this class on so many keys, which the rest holds with the arguments.
@@ -195,11 +203,67 @@ pub fn keys_request(
     class: u32,
     count: u16,
     rest: &[u8],
+    args: &mut Vec<Arg>,
 ) -> Result<Request, WireFault>
-    ensures { Parses (7 ∷ big_bytes 4 class ++ big_bytes 2 count ++ rest.now) result }
+    ensures { Parses (7 ∷ big_bytes 4 class ++ big_bytes 2 count ++ rest.now) (asked args.new.items result) }
 {
-    match all_keys(alloc, class, count, rest) {
+    match all_keys(alloc, class, count, rest, args) {
         Ok(request) => Ok(request),
         Err(e) => Err(fault_of(e)),
+    }
+}
+
+// For proofs alone: the numbers of a slice of bytes are bytes.
+pub fn are_bytes(bytes: &[u8])
+    ensures { AreBytes bytes.now }
+{}
+
+/// The class and the count of keys that an invocation on many keys begins with.
+pub fn class_and_count(head: &[u8]) -> (u32, u16)
+    requires { length head.now ≡ 6 }
+    ensures bytes { head.now ≡ big_bytes 4 result.0 ++ big_bytes 2 result.1 }
+    ensures small { (result.0 < 2 ^ 32) × (result.1 < 2 ^ 16) }
+{
+    are_bytes(head);
+    (BigEndian::read_u32(head), BigEndian::read_u16(&head[4..]))
+}
+
+// The invocation on many keys with this body.
+fn invoke_all_request(alloc: Global, body: &[u8], args: &mut Vec<Arg>) -> Result<Request, WireFault>
+    ensures { Parses (7 ∷ body.now) (asked args.new.items result) }
+{
+    if body.len() < 7 {
+        return Err(WireFault::Malformed);
+    }
+    let (head, rest) = body.split_at(6);
+    let (class, keys) = class_and_count(head);
+    if !may_hold(keys, rest.len()) {
+        return Err(WireFault::Malformed);
+    }
+    keys_request(alloc, class, keys, rest, args)
+}
+
+// The definition with this body.
+fn define_request(alloc: Global, body: &[u8]) -> Result<Request, WireFault>
+    ensures { (args : List Arg) → Parses (1 ∷ body.now) (asked args result) }
+{
+    are_bytes(body);
+    match Vec::from_slice(alloc, body) {
+        Ok(bytes) => Ok(Request::Define(Items::new(bytes))),
+        Err(_) => Err(WireFault::NoMemory),
+    }
+}
+
+/// The request with this text. The row has its arguments afterwards.
+pub fn request_of(alloc: Global, text: &[u8], args: &mut Vec<Arg>) -> Result<Request, WireFault>
+    ensures { Parses text.now (asked args.new.items result) }
+{
+    let Some((kind, body)) = text.split_first() else {
+        return Err(WireFault::Malformed);
+    };
+    match *kind {
+        1 => define_request(alloc, body),
+        7 => invoke_all_request(alloc, body, args),
+        kind => small_request(kind, body, args),
     }
 }

@@ -1,28 +1,25 @@
 //! Requests are read.
 
-ghost use Rattle.std.specs.Prelude.{◌≡◌, ◌≢◌, ◌<◌, ◌≤◌, ◌^◌, ℕ, List, [], ◌∷◌, ◌++◌, length, take, IfSome, IfOk, IfErr, OnOk, OnErr, Err};
+ghost use Rattle.std.specs.Prelude.{◌≡◌, ◌<◌, ◌≤◌, ◌^◌, ℕ, List, [], ◌∷◌, ◌++◌, length, take, IfSome, IfOk, IfErr, OnOk, OnErr, Err};
 ghost use Rattle.std.specs.Io.KnownBytes.{IsAtEnd};
 ghost use Rattle.byteorder.specs.Endian.{big_bytes};
-ghost use Rattle.wire.specs.Frames.{AreBytes, Front, IsFront};
+ghost use Rattle.jtypes.specs.declared.types.Arg.{Arg};
+ghost use Rattle.wire.specs.Frames.{Front, IsFront};
+ghost use Rattle.wire.specs.Requests.{asked, next_asked};
 ghost use Rattle.wire.specs.Reading.{Took, TookSome, FaultCounts, ReadCounts, IsCut, IsCutOrLacks, IsPassed, Completes, HeadGives, ReadGives, Tells, found};
 
-use crate::parsing::{keys_request, small_request};
+use crate::parsing::{are_bytes, class_and_count, keys_request, may_hold, request_of};
 use crate::{Counted, Request, WireFault};
 use byteorder::{BigEndian, ByteOrder};
-use jtypes::Items;
+use jtypes::{Arg, Items};
 use std::alloc::Global;
 use std::io::Read;
 
 /// The longest text of a request.
 const LONGEST: u32 = 131_072;
 
-/// The longest body of a request that has a key at most: a class, a key and eight longs.
-const SMALL: usize = 85;
-
-// For proofs alone: the numbers of a slice of bytes are bytes.
-fn are_bytes(bytes: &[u8])
-    ensures { AreBytes bytes.now }
-{}
+/// The longest text of a request that has a key at most: a kind, a class, a key and eight longs.
+const SHORT: usize = 86;
 
 // Reads until the buffer is full or the input ends, and answers how many bytes came.
 fn fill<R: Read>(reader: &mut Counted<R>, buf: &mut [u8]) -> Result<usize, WireFault>
@@ -102,7 +99,7 @@ fn read_define<R: Read>(
     reader: &mut Counted<R>,
     count: usize,
 ) -> Result<Request, WireFault>
-    ensures bytes { TookSome R.remaining reader.old reader.new (λ left bytes. Completes (1 ∷ []) count left bytes result) }
+    ensures bytes { (args : List Arg) → TookSome R.remaining reader.old reader.new (λ left bytes. Completes (1 ∷ []) count left bytes (asked args result)) }
     ensures counted { ReadCounts result reader.old reader.new }
 {
     match read_bytes(alloc, reader, count) {
@@ -114,24 +111,6 @@ fn read_define<R: Read>(
     }
 }
 
-// A request that has a key at most.
-fn read_small<R: Read>(
-    reader: &mut Counted<R>,
-    kind: u8,
-    count: usize,
-) -> Result<Request, WireFault>
-    requires other { (kind ≢ 1) × (kind ≢ 7) }
-    requires small { count ≤ 85 }
-    ensures bytes { TookSome R.remaining reader.old reader.new (λ left bytes. Completes (kind ∷ []) count left bytes result) }
-    ensures counted { ReadCounts result reader.old reader.new }
-{
-    let mut body = [0u8; SMALL];
-    match read_part(reader, &mut body[..count]) {
-        Ok(()) => small_request(kind, &body[..count]),
-        Err(e) => Err(e),
-    }
-}
-
 // What follows the class and the count of an invocation on many keys.
 fn read_keys<R: Read>(
     alloc: Global,
@@ -139,16 +118,16 @@ fn read_keys<R: Read>(
     class: u32,
     keys: u16,
     count: usize,
+    args: &mut Vec<Arg>,
 ) -> Result<Request, WireFault>
-    ensures bytes { TookSome R.remaining reader.old reader.new (λ left bytes. Completes (7 ∷ big_bytes 4 class ++ big_bytes 2 keys) count left bytes result) }
+    ensures bytes { TookSome R.remaining reader.old reader.new (λ left bytes. Completes (7 ∷ big_bytes 4 class ++ big_bytes 2 keys) count left bytes (asked args.new.items result)) }
     ensures counted { ReadCounts result reader.old reader.new }
 {
-    let least = 8 * usize::from(keys) + 1;
-    if count < least || count > least + 72 {
+    if !may_hold(keys, count) {
         return Err(pass_over(reader, count));
     }
     match read_bytes(alloc, reader, count) {
-        Ok(rest) => keys_request(alloc, class, keys, rest.as_slice()),
+        Ok(rest) => keys_request(alloc, class, keys, rest.as_slice(), args),
         Err(e) => Err(e),
     }
 }
@@ -157,8 +136,9 @@ fn read_invoke_all<R: Read>(
     alloc: Global,
     reader: &mut Counted<R>,
     count: usize,
+    args: &mut Vec<Arg>,
 ) -> Result<Request, WireFault>
-    ensures bytes { TookSome R.remaining reader.old reader.new (λ left bytes. Completes (7 ∷ []) count left bytes result) }
+    ensures bytes { TookSome R.remaining reader.old reader.new (λ left bytes. Completes (7 ∷ []) count left bytes (asked args.new.items result)) }
     ensures counted { ReadCounts result reader.old reader.new }
 {
     if count < 7 {
@@ -167,46 +147,64 @@ fn read_invoke_all<R: Read>(
     let mut head = [0u8; 6];
     match read_part(reader, &mut head) {
         Ok(()) => {
-            are_bytes(&head);
-            let class = BigEndian::read_u32(&head);
-            let keys = BigEndian::read_u16(&head[4..]);
-            read_keys(alloc, reader, class, keys, count - 6)
+            let (class, keys) = class_and_count(&head);
+            read_keys(alloc, reader, class, keys, count - 6, args)
         }
         Err(e) => Err(e),
     }
 }
 
-// The rest of a request of this kind. It is judged by its length before memory is taken for it.
+// The rest of a long request of this kind. It is judged by its length before memory is taken for it.
 fn read_body<R: Read>(
     alloc: Global,
     reader: &mut Counted<R>,
     kind: u8,
     count: usize,
+    args: &mut Vec<Arg>,
 ) -> Result<Request, WireFault>
-    ensures bytes { TookSome R.remaining reader.old reader.new (λ left bytes. Completes (kind ∷ []) count left bytes result) }
+    requires { 85 < count }
+    ensures bytes { TookSome R.remaining reader.old reader.new (λ left bytes. Completes (kind ∷ []) count left bytes (asked args.new.items result)) }
     ensures counted { ReadCounts result reader.old reader.new }
 {
     match kind {
         1 => read_define(alloc, reader, count),
-        7 => read_invoke_all(alloc, reader, count),
-        _ if count <= SMALL => read_small(reader, kind, count),
+        7 => read_invoke_all(alloc, reader, count, args),
         _ => Err(pass_over(reader, count)),
     }
 }
 
-// A whole text, which has a kind at least.
-fn read_text<R: Read>(
+// A long text, whose kind is read first.
+fn read_long<R: Read>(
     alloc: Global,
     reader: &mut Counted<R>,
     length: usize,
+    args: &mut Vec<Arg>,
 ) -> Result<Request, WireFault>
-    requires { 0 < length }
-    ensures bytes { TookSome R.remaining reader.old reader.new (λ left bytes. Completes [] length left bytes result) }
+    requires { 86 < length }
+    ensures bytes { TookSome R.remaining reader.old reader.new (λ left bytes. Completes [] length left bytes (asked args.new.items result)) }
     ensures counted { ReadCounts result reader.old reader.new }
 {
     let mut kind = [0u8; 1];
     match read_part(reader, &mut kind) {
-        Ok(()) => read_body(alloc, reader, kind[0], length - 1),
+        Ok(()) => read_body(alloc, reader, kind[0], length - 1, args),
+        Err(e) => Err(e),
+    }
+}
+
+// A short text, which is read at once.
+fn read_short<R: Read>(
+    alloc: Global,
+    reader: &mut Counted<R>,
+    length: usize,
+    args: &mut Vec<Arg>,
+) -> Result<Request, WireFault>
+    requires { length ≤ 86 }
+    ensures bytes { TookSome R.remaining reader.old reader.new (λ left bytes. Completes [] length left bytes (asked args.new.items result)) }
+    ensures counted { ReadCounts result reader.old reader.new }
+{
+    let mut text = [0u8; SHORT];
+    match read_part(reader, &mut text[..length]) {
+        Ok(()) => request_of(alloc, &text[..length], args),
         Err(e) => Err(e),
     }
 }
@@ -234,8 +232,9 @@ fn read_frame<R: Read>(
     alloc: Global,
     reader: &mut Counted<R>,
     length: u32,
+    args: &mut Vec<Arg>,
 ) -> Result<Request, WireFault>
-    ensures bytes { TookSome R.remaining reader.old reader.new (λ left bytes. ReadGives left (big_bytes 4 length ++ bytes) (found result)) }
+    ensures bytes { TookSome R.remaining reader.old reader.new (λ left bytes. ReadGives left (big_bytes 4 length ++ bytes) (found (asked args.new.items result))) }
     ensures counted { ReadCounts result reader.old reader.new }
 {
     if length == 0 {
@@ -244,21 +243,28 @@ fn read_frame<R: Read>(
     if length > LONGEST {
         return Err(WireFault::TooLong);
     }
-    read_text(alloc, reader, length as usize)
+    let length = length as usize;
+    if length <= SHORT {
+        read_short(alloc, reader, length, args)
+    } else {
+        read_long(alloc, reader, length, args)
+    }
 }
 
-/// Reads one frame, and answers its request; at the end of the input there is none. A read that answers an error is not tried again, whatever the error.
+/// Reads one frame, and answers its request; at the end of the input there is none. The arguments of an invocation are in the row
+/// afterwards, in the place of what it had. A read that answers an error is not tried again, whatever the error.
 pub fn read_request<R: Read>(
     alloc: Global,
     reader: &mut Counted<R>,
+    args: &mut Vec<Arg>,
 ) -> Result<Option<Request>, WireFault>
-    ensures bytes { TookSome R.remaining reader.old reader.new (λ left bytes. ReadGives left bytes result) }
-    ensures exact { IfSome (R.remaining reader.old.inner) (λ input. (f : Front) → IsFront input f → Tells f result) }
+    ensures bytes { TookSome R.remaining reader.old reader.new (λ left bytes. ReadGives left bytes (next_asked args.new.items result)) }
+    ensures exact { IfSome (R.remaining reader.old.inner) (λ input. (f : Front) → IsFront input f → Tells f (next_asked args.new.items result)) }
     ensures counted { ReadCounts result reader.old reader.new }
 {
     match read_length(reader) {
         Ok(None) => Ok(None),
-        Ok(Some(length)) => match read_frame(alloc, reader, length) {
+        Ok(Some(length)) => match read_frame(alloc, reader, length, args) {
             Ok(request) => Ok(Some(request)),
             Err(e) => Err(e),
         },

@@ -1,6 +1,6 @@
 //! The texts of replies.
 
-ghost use Rattle.std.specs.Prelude.{◌≡◌, ◌+◌, ◌≤◌, ◌∷◌, ◌++◌, length};
+ghost use Rattle.std.specs.Prelude.{◌≡◌, ◌+◌, ◌≤◌, [], ◌∷◌, ◌++◌, length};
 ghost use Rattle.byteorder.specs.Endian.{big_bytes};
 ghost use Rattle.wire.specs.Frames.{long_text, arg_text, outcome_text, job_text, reply_text};
 ghost use Rattle.wire.specs.declared.reply.Reply.TheVariants.{Defined, Refused, Value, Result};
@@ -9,6 +9,25 @@ ghost use Rattle.std.specs.Prelude.{Some};
 use crate::JobOutcome;
 use crate::text::Text;
 use jtypes::{Arg, Outcome, Refusal};
+
+/// The text of a reply that is nothing but its kind.
+pub fn kind_text(kind: u8) -> Text
+    ensures { result ≡ kind ∷ [] }
+{
+    let mut text = Text::new();
+    text.byte(kind);
+    text
+}
+
+/// The text of a reply that has one byte behind its kind.
+pub fn byte_text(kind: u8, n: u8) -> Text
+    ensures { result ≡ kind ∷ n ∷ [] }
+{
+    let mut text = Text::new();
+    text.byte(kind);
+    text.byte(n);
+    text
+}
 
 pub fn defined_text(class: u32, steps: u32, words: u32) -> Text
     ensures { result ≡ reply_text (Defined class steps words) }

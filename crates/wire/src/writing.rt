@@ -4,7 +4,9 @@ ghost use Rattle.std.specs.Prelude.{◌≡◌, ◌*◌, ◌<◌, ◌≤◌, ◌^
 ghost use Rattle.wire.specs.Frames.{frame, texts, job_text, reply_frame, results_text, IsReply, most_outcomes};
 ghost use Rattle.wire.specs.Streams.{Wrote, WrotePart};
 
-use crate::reply_texts::{defined_text, job_text, refused_text, result_text, value_text};
+use crate::reply_texts::{
+    byte_text, defined_text, job_text, kind_text, refused_text, result_text, value_text,
+};
 use crate::text::Text;
 use crate::{Counted, JobOutcome, Reply};
 use std::io::Write;
@@ -40,35 +42,24 @@ pub fn write_reply<W: Write>(writer: &mut Counted<W>, reply: &Reply) -> Result<(
             class,
             steps,
             words,
-        } => write_text(writer, &defined_text(*class, *steps, *words)),
-        Reply::Refused(refusal) => write_text(writer, &refused_text(*refusal)),
-        Reply::Done => write_frame(writer, &[3]),
-        Reply::Value(None) => write_frame(writer, &[4, 0]),
-        Reply::Value(Some(n)) => write_text(writer, &value_text(*n)),
-        Reply::Flag(flag) => write_frame(writer, &[5, u8::from(*flag)]),
-        Reply::Result(outcome) => write_text(writer, &result_text(*outcome)),
+        } => write_text(writer, defined_text(*class, *steps, *words)),
+        Reply::Refused(refusal) => write_text(writer, refused_text(*refusal)),
+        Reply::Done => write_text(writer, kind_text(3)),
+        Reply::Value(None) => write_text(writer, byte_text(4, 0)),
+        Reply::Value(Some(n)) => write_text(writer, value_text(*n)),
+        Reply::Flag(flag) => write_text(writer, byte_text(5, u8::from(*flag))),
+        Reply::Result(outcome) => write_text(writer, result_text(*outcome)),
         Reply::Results(jobs) => write_results(writer, jobs.as_slice()),
-        Reply::Denied(denial) => write_frame(writer, &[8, denial.number()]),
-        Reply::RoundEnd => write_frame(writer, &[9]),
+        Reply::Denied(denial) => write_text(writer, byte_text(8, denial.number())),
+        Reply::RoundEnd => write_text(writer, kind_text(9)),
     }
 }
 
-fn write_text<W: Write>(writer: &mut Counted<W>, text: &Text) -> Result<(), WriteFailed>
-    ensures ok { OnOk result (Wrote W.contents writer.old writer.new (frame text.now)) }
-    ensures err { OnErr result (WrotePart W.contents writer.old writer.new (frame text.now)) }
+fn write_text<W: Write>(writer: &mut Counted<W>, text: Text) -> Result<(), WriteFailed>
+    ensures ok { OnOk result (Wrote W.contents writer.old writer.new (frame text)) }
+    ensures err { OnErr result (WrotePart W.contents writer.old writer.new (frame text)) }
 {
-    write_frame(writer, text.as_slice())
-}
-
-fn write_frame<W: Write>(writer: &mut Counted<W>, text: &[u8]) -> Result<(), WriteFailed>
-    requires { length text.now < 2 ^ 32 }
-    ensures ok { OnOk result (Wrote W.contents writer.old writer.new (frame text.now)) }
-    ensures err { OnErr result (WrotePart W.contents writer.old writer.new (frame text.now)) }
-{
-    let mut head = Text::new();
-    head.u32(text.len() as u32);
-    write_bytes(writer, head.as_slice())?;
-    write_bytes(writer, text)
+    write_bytes(writer, text.framed().as_slice())
 }
 
 fn write_results<W: Write>(

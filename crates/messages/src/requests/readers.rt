@@ -29,7 +29,7 @@ impl<'a> Read for Drops<'a> {
 /// What is read from such a reader: the fault, or whether it is the put; and how many reads failed.
 fn read_from(alloc: Global, rest: &[u8], error: io::ErrorKind) -> (Result<bool, WireFault>, u64) {
     let mut reader = Counted::new(Drops { rest, error });
-    let told = match read_request(alloc, &mut reader) {
+    let told = match read_request(alloc, &mut reader, &mut Vec::new(alloc)) {
         Ok(Some(Request::Put { key, value })) => Ok(key == 5 && value == 1),
         Ok(_) => Ok(false),
         Err(fault) => Err(fault),

@@ -6,7 +6,7 @@ use Rattle.bounds.specs.Paths.{AreBounds}
 use Rattle.bounds.specs.Rows.{bounds_in}
 use Rattle.registry.specs.Ids.{class_of}
 use Rattle.jtypes.specs.declared.refusal.Refusal.TheVariants as refusal
-use Rattle.wire.specs.declared.request.Request.TheVariants.{Define}
+use Rattle.wire.specs.Requests.{Define}
 use Rattle.wire.specs.declared.reply.Reply.TheVariants as reply
 use Rattle.serve.specs.Rounds.{Adds, told, lacks_memory, too_many, most_classes}
 use Rattle.serve.specs.Kept.{classes_of}

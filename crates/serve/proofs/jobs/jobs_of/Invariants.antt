@@ -7,7 +7,7 @@ use Rattle.serve.proofs.jobs.jobs_of.Given as goal
 
 abbrev pub invariant-loop-ask : goal.invariant-loop-ask
 invariant-loop-ask l = record {
-  calls : map Some (calls_of l.jobs.items) ++ calls_in (classes_of l.ids) (drop l.ask-index l.asks) ≡ calls_in (classes_of l.ids) l.asks;
+  calls : map Some (calls_of l.jobs.items) ++ calls_in (classes_of l.ids) l.row (drop l.ask-index l.asks) ≡ calls_in (classes_of l.ids) l.row l.asks;
   callable : (registry : Shelves) → AreOf registry l.ids → All (IsCallable registry) l.jobs.items;
   room : length l.jobs.items + length (drop l.ask-index l.asks) ≤ vec_capacity l.jobs;
 }

@@ -2,22 +2,23 @@ use Rattle.std.proofs.Common.{◌≡◌, ◌≢◌, ℕ, List, [], ◌∷◌, �
 use Rattle.std.proofs.lemmas.List.{length-map}
 use Rattle.std.specs.Io.KnownBytes.{Consumes, IsAtEnd}
 use Rattle.std.proofs.KnownBytes.{Consumes-nil, Consumes-trans}
-use Rattle.wire.specs.declared.request.Request.{Request}
-use Rattle.wire.specs.declared.request.Request.TheVariants.{RoundEnd}
+use Rattle.jtypes.specs.declared.types.Arg.{Arg}
+use Rattle.wire.specs.Requests.{Request, RoundEnd, with_args, next_asked}
+use Rattle.wire.specs.declared.request.Request.{Request as Head}
 use Rattle.wire.specs.Frames.{IsRequest, IsRead}
 use Rattle.wire.specs.Reading.{ReadGives}
 use Rattle.serve.specs.Served.{requests_text, Stops, memory, input_ended}
-use Rattle.serve.specs.Kept.{classes_of, calls_in, work_of}
+use Rattle.serve.specs.Kept.{Adding, classes_of, calls_in, work_of}
 use Rattle.serve.proofs.Rounds.{each_more, took_more, as_many, begun, gathered_more, stops_of}
 use Rattle.serve.proofs.Begun.{is_none, is_some, nil_of}
 use Rattle.serve.proofs.Devices.{stays_on}
 use Rattle.serve.proofs.reading.read_round.Goals as goal
 
-frame_read : (left : Option (List ℕ)) (bytes : List ℕ) (o : Option Request) (r : Request) → o ≡ Some r → ReadGives left bytes (Ok o) → IsRead bytes r []
-frame_read left bytes o r e h = subst (λ (x : Option Request). ReadGives left bytes (Ok x)) e h
+frame_read : (left : Option (List ℕ)) (bytes : List ℕ) (args : List Arg) (o : Option Head) (r : Head) → o ≡ Some r → ReadGives left bytes (next_asked args (Ok o)) → IsRead bytes (with_args args r) []
+frame_read left bytes args o r e h = subst (λ (x : Option Head). ReadGives left bytes (next_asked args (Ok x))) e h
 
-end_read : (left : Option (List ℕ)) (bytes : List ℕ) (o : Option Request) → o ≡ None → ReadGives left bytes (Ok o) → (bytes ≡ []) × IsAtEnd left
-end_read left bytes o e h = subst (λ (x : Option Request). ReadGives left bytes (Ok x)) e h
+end_read : (left : Option (List ℕ)) (bytes : List ℕ) (args : List Arg) (o : Option Head) → o ≡ None → ReadGives left bytes (next_asked args (Ok o)) → (bytes ≡ []) × IsAtEnd left
+end_read left bytes args o e h = subst (λ (x : Option Head). ReadGives left bytes (next_asked args (Ok x))) e h
 
 pub loop-init : goal.loop-init
 loop-init g c = record {
@@ -28,17 +29,19 @@ loop-init g c = record {
   are = tt;
   took = Consumes-nil (g.R.Read.remaining c.args.reader.now.inner);
   gathered = begun (classes_of c.args.ids.now.items) c.no_requests-plan.result.works.items c.no_requests-plan.ensures.works;
-  called = ap (calls_in (classes_of c.args.ids.now.items)) c.no_requests-plan.ensures.asks;
+  called = ap (calls_in (classes_of c.args.ids.now.items) c.no_requests-plan.result.args.items) c.no_requests-plan.ensures.asks;
 }
 
 pub loop-preserved : goal.loop-preserved
 loop-preserved g c =
     let i = c.loop.invariant in
     let b = c.in-Ok-Some.ensures.bytes in
-    let r : Request = c.in-Ok-Some.request in
-    let f = frame_read (g.R.Read.remaining c.read_request.new.reader.inner) b.0 c.in-Ok-Some.field-0 r c.in-Ok-Some.field-0-is b.2 in
-    let apart : r ≢ RoundEnd = c.is_end.ensures.no c.if-is_end.false in
-    let added = c.in-Ok.ensures.ok in
+    let args : List Arg = c.read_request.new.args.items in
+    let r : Request = with_args args c.in-Ok-Some.request in
+    let f = frame_read (g.R.Read.remaining c.read_request.new.reader.inner) b.0 args c.in-Ok-Some.field-0 c.in-Ok-Some.request c.in-Ok-Some.field-0-is b.2 in
+    let apart : r ≢ RoundEnd = c.is_end.ensures.no args c.if-is_end.false in
+    let added : Adding (classes_of c.loop.ids.items) c.loop.plan (with_args args c.in-Ok-Some.request) c.add.new.plan (classes_of c.add.new.ids.items) =
+    subst (λ l. Adding (classes_of c.loop.ids.items) c.loop.plan (with_args l c.in-Ok-Some.request) c.add.new.plan (classes_of c.add.new.ids.items)) c.as_slice.ensures.value c.in-Ok.ensures.ok in
     record {
       known = c.add.ensures.known;
       kept = stays_on c.args.reader.now c.loop.reader c.read_request.new.reader i.kept c.in-Ok-Some.ensures.counted;
@@ -54,9 +57,10 @@ pub returns-then-is_end-clause-ok : goal.returns-then-is_end-clause-ok
 returns-then-is_end-clause-ok g c =
     let i = c.loop.invariant in
     let b = c.in-Ok-Some.ensures.bytes in
-    let r : Request = c.in-Ok-Some.request in
-    let f = frame_read (g.R.Read.remaining c.read_request.new.reader.inner) b.0 c.in-Ok-Some.field-0 r c.in-Ok-Some.field-0-is b.2 in
-    let is : r ≡ RoundEnd = c.is_end.ensures.yes c.if-is_end.true in
+    let args : List Arg = c.read_request.new.args.items in
+    let r : Request = with_args args c.in-Ok-Some.request in
+    let f = frame_read (g.R.Read.remaining c.read_request.new.reader.inner) b.0 args c.in-Ok-Some.field-0 c.in-Ok-Some.request c.in-Ok-Some.field-0-is b.2 in
+    let is : r ≡ RoundEnd = c.is_end.ensures.yes args c.if-is_end.true in
     record {
       requests = i.requests;
       calls = i.calls;
@@ -70,9 +74,10 @@ pub returns-in_default-clause-err : goal.returns-in_default-clause-err
 returns-in_default-clause-err g c =
     let i = c.loop.invariant in
     let b = c.in-Ok-Some.ensures.bytes in
-    let r : Request = c.in-Ok-Some.request in
-    let f = frame_read (g.R.Read.remaining c.read_request.new.reader.inner) b.0 c.in-Ok-Some.field-0 r c.in-Ok-Some.field-0-is b.2 in
-    let apart : r ≢ RoundEnd = c.is_end.ensures.no c.if-is_end.false in
+    let args : List Arg = c.read_request.new.args.items in
+    let r : Request = with_args args c.in-Ok-Some.request in
+    let f = frame_read (g.R.Read.remaining c.read_request.new.reader.inner) b.0 args c.in-Ok-Some.field-0 c.in-Ok-Some.request c.in-Ok-Some.field-0-is b.2 in
+    let apart : r ≢ RoundEnd = c.is_end.ensures.no args c.if-is_end.false in
     record {
       requests = i.requests ++ r ∷ [];
       extra = [];
@@ -85,7 +90,7 @@ pub returns-then-is_empty-clause-ok : goal.returns-then-is_empty-clause-ok
 returns-then-is_empty-clause-ok g c =
     let i = c.loop.invariant in
     let b = c.in-Ok-None.ensures.bytes in
-    let e = end_read (g.R.Read.remaining c.read_request.new.reader.inner) b.0 c.in-Ok-None.field-0 c.in-Ok-None.field-0-is b.2 in
+    let e = end_read (g.R.Read.remaining c.read_request.new.reader.inner) b.0 c.read_request.new.args.items c.in-Ok-None.field-0 c.in-Ok-None.field-0-is b.2 in
     let count = is_none _ c.is_empty.result c.is_empty.ensures c.if-is_empty.true in
     let empty : i.requests ≡ [] = nil_of i.requests (sym (as_many i.gathered) ∙ length-map c.loop.plan.works.items work_of ∙ omega (arith, count, c.loop.plan.works.ok.0)) in
     let first : Consumes (g.R.Read.remaining c.args.reader.now.inner) (g.R.Read.remaining c.loop.reader.inner) [] = subst (λ l. Consumes (g.R.Read.remaining c.args.reader.now.inner) (g.R.Read.remaining c.loop.reader.inner) (requests_text l)) empty i.took in
@@ -96,7 +101,7 @@ pub returns-in-Ok-None-clause-err : goal.returns-in-Ok-None-clause-err
 returns-in-Ok-None-clause-err g c =
     let i = c.loop.invariant in
     let b = c.in-Ok-None.ensures.bytes in
-    let e = end_read (g.R.Read.remaining c.read_request.new.reader.inner) b.0 c.in-Ok-None.field-0 c.in-Ok-None.field-0-is b.2 in
+    let e = end_read (g.R.Read.remaining c.read_request.new.reader.inner) b.0 c.read_request.new.args.items c.in-Ok-None.field-0 c.in-Ok-None.field-0-is b.2 in
     let count = is_some _ c.is_empty.result c.is_empty.ensures c.if-is_empty.false in
     let same = as_many i.gathered in
     let works = length-map c.loop.plan.works.items work_of in

@@ -40,7 +40,7 @@ returns-in_default-clause-err g c =
 pub returns-in-Ok-write_all-clause-ok : goal.returns-in-Ok-write_all-clause-ok
 returns-in-Ok-write_all-clause-ok g c =
     let w = whole (g.R.Read.remaining c.args.reader.now.inner) (g.R.Read.remaining c.read_round.new.reader.inner) (classes_of c.args.ids.now.items) (classes_of c.read_round.new.ids.items) c.in-Ok-Some.field-0 c.in-Ok-Some.plan c.in-Ok-Some.field-0-is c.in-Ok-Some.ensures.ok in
-    let run = c.in-Ok.ensures w.calls (subst (λ (l : List (Where Class)). AreCalls (classes_of l) c.in-Ok-Some.plan.asks.items w.calls) (sym c.as_slice.ensures.value) w.called) in
+    let run = c.in-Ok.ensures w.calls (subst (λ (l : List (Where Class)). AreCalls (classes_of l) c.in-Ok-Some.plan.args.items c.in-Ok-Some.plan.asks.items w.calls) (sym c.as_slice.ensures.value) w.called) in
     let replies : List Reply = map (work_reply run.answers) (works_of c.in-Ok-Some.plan) in
     let text = c.as_slice-2.ensures.value ∙ run.text_is in
     record {
@@ -55,7 +55,7 @@ returns-in-Ok-write_all-clause-ok g c =
 pub returns-in-Err-write_all-clause-err : goal.returns-in-Err-write_all-clause-err
 returns-in-Err-write_all-clause-err g c =
     let w = whole (g.R.Read.remaining c.args.reader.now.inner) (g.R.Read.remaining c.read_round.new.reader.inner) (classes_of c.args.ids.now.items) (classes_of c.read_round.new.ids.items) c.in-Ok-Some.field-0 c.in-Ok-Some.plan c.in-Ok-Some.field-0-is c.in-Ok-Some.ensures.ok in
-    let run = c.in-Ok.ensures w.calls (subst (λ (l : List (Where Class)). AreCalls (classes_of l) c.in-Ok-Some.plan.asks.items w.calls) (sym c.as_slice.ensures.value) w.called) in
+    let run = c.in-Ok.ensures w.calls (subst (λ (l : List (Where Class)). AreCalls (classes_of l) c.in-Ok-Some.plan.args.items c.in-Ok-Some.plan.asks.items w.calls) (sym c.as_slice.ensures.value) w.called) in
     let replies : List Reply = map (work_reply run.answers) (works_of c.in-Ok-Some.plan) in
     let text = c.as_slice-2.ensures.value ∙ run.text_is in
     let (front, back, e, appended) = c.in-Err-write_all.ensures.err.part in

@@ -1,6 +1,7 @@
 use Rattle.std.proofs.Common.{ℕ, Ok, Err, Some, ◌++◌}
 use Rattle.std.proofs.KnownBytes.{Consumes-trans}
 use Rattle.byteorder.specs.Endian.{big_bytes}
+use Rattle.wire.specs.Requests.{with_args}
 use Rattle.wire.proofs.Exact.{exact}
 use Rattle.wire.proofs.reading.read_request.Goals as goal
 
@@ -9,7 +10,7 @@ returns-in-Ok-clause-exact g c =
     let o = rw c.in-Ok-Some.field-0-is at c.in-Ok-Some.ensures.ok in
     let n : ℕ = c.in-Ok-Some.length in
     let (bytes, took, gives) = c.in-Ok.ensures.bytes in
-    exact _ _ (big_bytes 4 n ++ bytes) (Ok (Some c.in-Ok.request)) (Consumes-trans _ _ _ _ _ o.0 took) gives
+    exact _ _ (big_bytes 4 n ++ bytes) (Ok (Some (with_args c.read_frame.new.args.items c.in-Ok.request))) (Consumes-trans _ _ _ _ _ o.0 took) gives
 
 pub returns-in-Err-read_frame-clause-bytes : goal.returns-in-Err-read_frame-clause-bytes
 returns-in-Err-read_frame-clause-bytes g c =
