@@ -14,7 +14,7 @@ use jtypes::{Args, NoLoader};
 use machine::{Done, Workspace, run};
 use std::alloc::{AllocError, Global};
 use std::time::{CpuClock, Duration};
-use stripe::{ArgRow, Call, MOST_RECORDS, Stripe, Tables, stripe_of};
+use stripe::{ArgSlice, Call, MOST_RECORDS, Stripe, Tables, stripe_of};
 use verify::Verified;
 
 /// The calls of a round: as many as a stripe has records.
@@ -96,7 +96,7 @@ fn ask<'a>(
             let _told = stripe.remove(0, number, key);
         }
         Kind::Invoke(class) => {
-            let args = ArgRow::of(&Args::none());
+            let args = ArgSlice::none();
             make(stripe, number, Call::Invoke { class, key, args }, workspace);
         }
     }

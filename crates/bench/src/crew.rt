@@ -5,13 +5,14 @@ ghost use Rattle.std.specs.List.{All};
 ghost use Rattle.registry.specs.Ids.{IsOf};
 
 use cache::{Cache, Seat};
-use jtypes::{Args, NoLoader};
+use jtypes::NoLoader;
 use machine::Workspace;
 use registry::ClassId;
 use std::alloc::Global;
 use std::sync::Wait;
 use std::thread;
 use std::thread::Threads;
+use stripe::ArgSlice;
 
 /// What each call of a round is.
 #[derive(Clone, Copy, Debug)]
@@ -93,7 +94,7 @@ fn invokes<'a, R: Wait>(
         return;
     };
     for key in keys {
-        let _told = cache.invoke(rt, seat, &mut workspace, class, *key, Args::none());
+        let _told = cache.invoke(rt, seat, &mut workspace, class, *key, ArgSlice::none());
     }
 }
 

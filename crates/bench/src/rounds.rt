@@ -12,14 +12,14 @@ use crate::calls::{defined, filled, now, sum_of};
 use crate::measure::{Times, tenths, times_of};
 use crate::report::Failure;
 use cache::NoGate;
-use invokeall::{ArgSlice, Job};
-use jtypes::{Args, NoLoader};
+use invokeall::Job;
+use jtypes::NoLoader;
 use registry::{ClassId, Registry};
 use std::alloc::{AllocError, Global};
 use std::sync::Wait;
 use std::thread::Threads;
 use std::time::{Clock, Duration};
-use stripe::Tables;
+use stripe::{ArgSlice, Tables};
 use workers::{SHARE, run_by_workers, worth};
 
 /// How many rounds there are.
@@ -29,7 +29,7 @@ const ROUNDS: usize = 201;
 pub fn jobs_of<'j>(
     alloc: Global,
     class: &'j ClassId,
-    args: &'j Args,
+    args: ArgSlice<'j>,
     count: u32,
 ) -> Result<Vec<Job<'j>>, AllocError>
     ensures count { IfOk result (λ jobs. length jobs.items ≡ count) }
@@ -38,11 +38,7 @@ pub fn jobs_of<'j>(
     let mut jobs = Vec::new(alloc);
     for key in 0..count {
         let key = i64::from(key);
-        jobs.push(Job::Invoke {
-            class,
-            key,
-            args: ArgSlice::of(args),
-        })?;
+        jobs.push(Job::Invoke { class, key, args })?;
     }
     Ok(jobs)
 }
@@ -109,8 +105,7 @@ fn timed_on<R: Threads + Wait + Clock + Sync>(
     requires seats { IsSeatCount seats }
     requires jobs { IsJobCount jobs }
 {
-    let args = Args::none();
-    let list = jobs_of(alloc, class, &args, jobs)?;
+    let list = jobs_of(alloc, class, ArgSlice::none(), jobs)?;
     let tables = filled(rt, alloc, registry, class, jobs)?;
     let (times, tables) = timed(rt, alloc, registry, tables, seats, &list)?;
     Ok((times, sum_of(&tables, jobs)))

@@ -10,11 +10,11 @@ use crate::receipt::Receipt;
 use crate::refusal::InvokeRefusal;
 use crate::seat::Seat;
 use crate::steps::{begin, commit, give_back, give_full, take, tell};
-use jtypes::{Args, LoadAnswer, Loader};
+use jtypes::{LoadAnswer, Loader};
 use machine::{Done, Workspace, run};
 use registry::ClassId;
 use std::sync::Wait;
-use stripe::{ArgRow, BeginRefusal, Call, Reply, ask, stripe_of};
+use stripe::{ArgSlice, BeginRefusal, Call, Reply, ask, stripe_of};
 
 /// The stripe of a call's key, of so many.
 fn place_of(stripes: usize, call: &Call<'_>) -> usize
@@ -36,6 +36,7 @@ impl<'a, 'l, L: Loader> Cache<'a, 'l, L> {
     ghost use Rattle.stripe.specs.History.{Call as CallSeen, Invoke, Get, Put, Remove, Contains};
     ghost use Rattle.stripe.specs.Kept.{IsPlain};
     ghost use Rattle.stripe.specs.Seen.{call_of};
+    ghost use Rattle.stripe.specs.Rows.{arguments};
     ghost use Rattle.registry.specs.Ids.{IsOf, class_of};
     ghost use Rattle.cache.specs.Opened.{IsAnswered, IsTurnedAway};
     ghost use Rattle.cache.specs.Steps.{EndsSo};
@@ -120,12 +121,12 @@ impl<'a, 'l, L: Loader> Cache<'a, 'l, L> {
         workspace: &mut Workspace,
         class: &ClassId,
         key: i64,
-        args: Args,
+        args: ArgSlice<'a>,
     ) -> Result<Reply, InvokeRefusal>
         requires seat { seat.old.table ≡ self.now.table }
         requires class { IsOf self.now.registry class.now }
-        ensures ok { IfOk result (λ reply. IsAnswered self.now seat.old (Invoke (class_of class.now) key args) reply seat.new) }
-        ensures err { IfErr result (λ refusal. IsTurnedAway self.now seat.old (Invoke (class_of class.now) key args) refusal seat.new) }
+        ensures ok { IfOk result (λ reply. IsAnswered self.now seat.old (Invoke (class_of class.now) key (arguments args.entry)) reply seat.new) }
+        ensures err { IfErr result (λ refusal. IsTurnedAway self.now seat.old (Invoke (class_of class.now) key (arguments args.entry)) refusal seat.new) }
     {
         self.invoke_at(rt, seat, workspace, class, key, args, 0, &NoGate)
     }
@@ -138,21 +139,18 @@ impl<'a, 'l, L: Loader> Cache<'a, 'l, L> {
         workspace: &mut Workspace,
         class: &ClassId,
         key: i64,
-        args: Args,
+        args: ArgSlice<'a>,
         job: usize,
         gate: &G,
     ) -> Result<Reply, InvokeRefusal>
         requires seat { seat.old.table ≡ self.now.table }
         requires class { IsOf self.now.registry class.now }
-        ensures ok { IfOk result (λ reply. IsAnswered self.now seat.old (Invoke (class_of class.now) key args) reply seat.new) }
-        ensures err { IfErr result (λ refusal. IsTurnedAway self.now seat.old (Invoke (class_of class.now) key args) refusal seat.new) }
+        ensures ok { IfOk result (λ reply. IsAnswered self.now seat.old (Invoke (class_of class.now) key (arguments args.entry)) reply seat.new) }
+        ensures err { IfErr result (λ refusal. IsTurnedAway self.now seat.old (Invoke (class_of class.now) key (arguments args.entry)) refusal seat.new) }
     {
         let class = self.registry.class(class);
-        let call = Call::Invoke {
-            class,
-            key,
-            args: ArgRow::of(&args),
-        };
+        let call = Call::Invoke { class, key, args };
+        let args = args.args();
         let loader = self.loader;
         let end = |before: Option<i64>| {
             (

@@ -5,14 +5,14 @@ ghost use Rattle.cache.specs.Opened.{IsSeat};
 ghost use Rattle.registry.specs.Ids.{IsOf};
 
 use cache::{Cache, Closed, InvokeRefusal, Receipt, Seat};
-use jtypes::{Arg, Args, NoLoader, Outcome};
+use jtypes::{Arg, NoLoader, Outcome};
 use machine::Workspace;
 use registry::{ClassId, Registry};
 use rowclasses as rows;
 use std::alloc::{AllocError, Global};
 use std::sync::Wait;
 use std::test::Fail;
-use stripe::{OpenRefusal, Record, Reply, Tables};
+use stripe::{ArgSlice, OpenRefusal, Record, Reply, Tables};
 
 /// What a call was told.
 type Told = Result<Reply, InvokeRefusal>;
@@ -106,7 +106,7 @@ fn invoked<'a, R: Wait>(
     ensures caller { seat.new.caller ≡ seat.old.caller }
     ensures made { seat.new.made ≡ seat.old.made }
 {
-    cache.invoke(rt, seat, workspace, class, key, Args::none())
+    cache.invoke(rt, seat, workspace, class, key, ArgSlice::none())
 }
 
 /// Closes a cache that has one seat.

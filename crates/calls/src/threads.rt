@@ -6,7 +6,7 @@ ghost use Rattle.cache.specs.Opened.{AreFresh};
 ghost use Rattle.registry.specs.Ids.{IsOf};
 
 use cache::{Cache, Closed, Gate, Receipt, Seat};
-use jtypes::{Arg, Args, NoLoader, Outcome};
+use jtypes::{Arg, NoLoader, Outcome};
 use machine::Workspace;
 use registry::{ClassId, Registry};
 use rowclasses as rows;
@@ -15,7 +15,7 @@ use std::sync::{Barrier, Wait};
 use std::test::Fail;
 use std::thread;
 use std::thread::Threads;
-use stripe::{OpenRefusal, Reply, Tables};
+use stripe::{ArgSlice, OpenRefusal, Reply, Tables};
 
 /// What a worker does, at its place among all.
 trait Shift<W> {
@@ -127,6 +127,9 @@ fn count<'a, R: Wait>(
     }
 }
 
+/// The argument of each count.
+static ONE: [Arg; 1] = [Arg::Long(1)];
+
 /// Counts the entry of key 0 up.
 fn count_one<'a, R: Wait>(
     rt: &R,
@@ -141,9 +144,7 @@ fn count_one<'a, R: Wait>(
     ensures caller { seat.new.caller ≡ seat.old.caller }
     ensures made { seat.new.made ≡ seat.old.made }
 {
-    let Some(one) = Args::of(&[Arg::Long(1)]) else {
-        return;
-    };
+    let one = ArgSlice { items: &ONE };
     let _counted = cache.invoke(rt, seat, workspace, counter, 0, one);
 }
 

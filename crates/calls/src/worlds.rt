@@ -1,9 +1,9 @@
 //! Events in worlds.
 
-use jtypes::{Arg, Args, JavaFault, NoLoader, Outcome};
+use jtypes::{Arg, JavaFault, NoLoader, Outcome};
 use rowclasses as rows;
 use std::alloc::Global;
-use stripe::{ArgRow, BeginRefusal, Call, OpenRefusal, Record, Reply, Tables, stripe_of};
+use stripe::{ArgSlice, BeginRefusal, Call, OpenRefusal, Record, Reply, Tables, stripe_of};
 use verify::{Verified, verify};
 use world::{Applied, Event, World};
 
@@ -36,7 +36,7 @@ fn invoke<'a>(class: &'a Verified, key: i64) -> Call<'a> {
     Call::Invoke {
         class,
         key,
-        args: ArgRow::of(&Args::none()),
+        args: ArgSlice::none(),
     }
 }
 

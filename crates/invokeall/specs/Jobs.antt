@@ -2,12 +2,13 @@
 use Rattle.std.specs.Prelude.{List, map}
 use Rattle.boxcar.specs.Table.{Shelves}
 use Rattle.stripe.specs.History.{Call, Invoke, Get, Put, Remove, Contains}
+use Rattle.stripe.specs.Rows.{arguments}
 use Rattle.registry.specs.Ids.{IsOf, class_of}
 use Rattle.invokeall.specs.declared.job.Job.{Job}
 use Rattle.invokeall.specs.declared.job.Job.TheVariants as job
 
 abbrev pub call_of : Job → Call
-call_of (job.Invoke class key args) = Invoke (class_of class.now) key args.items.now
+call_of (job.Invoke class key args) = Invoke (class_of class.now) key (arguments args)
 call_of (job.Get key) = Get key
 call_of (job.Put key value) = Put key value
 call_of (job.Remove key) = Remove key

@@ -9,19 +9,19 @@ ghost use Rattle.invokeall.specs.Rounds.{IsAtHome};
 ghost use Rattle.invokeall.specs.Rooms.{HasRoom};
 ghost use Rattle.invokeall.specs.Collected.{IsInvokedAll, different, invocations, is_null as is_null_answer, listed};
 ghost use Rattle.boxcar.specs.Table.{Shelves};
+ghost use Rattle.stripe.specs.Rows.{arguments};
 
-use crate::args::ArgSlice;
 use crate::job::{Job, JobReply};
 use crate::round::run_round;
 use cache::{Cache, Gate, Seat};
 use indexmap::IndexSet;
-use jtypes::{Arg, Args, Loader, Outcome};
+use jtypes::{Arg, Loader, Outcome};
 use machine::Workspace;
 use registry::ClassId;
 use std::alloc::{AllocError, Global};
 use std::sync::Wait;
 use std::thread::Threads;
-use stripe::Reply;
+use stripe::{ArgSlice, Reply};
 
 /// Each key once, where it first stands.
 fn once_each(alloc: Global, keys: &[i64]) -> Result<IndexSet<i64>, AllocError>
@@ -41,9 +41,9 @@ fn jobs_for<'j>(
     alloc: Global,
     class: &'j ClassId,
     keys: &[i64],
-    args: &'j Args,
+    args: ArgSlice<'j>,
 ) -> Result<Vec<Job<'j>>, AllocError>
-    ensures calls { IfOk result (λ jobs. calls_of jobs.items ≡ invocations (class_of class.now) args.now keys.now) }
+    ensures calls { IfOk result (λ jobs. calls_of jobs.items ≡ invocations (class_of class.now) (arguments args.entry) keys.now) }
     ensures callable { (registry : Shelves) → IsOf registry class.now → IfOk result (λ jobs. All (IsCallable registry) jobs.items) }
 {
     let mut jobs = Vec::with_capacity(alloc, keys.len())?;
@@ -51,7 +51,7 @@ fn jobs_for<'j>(
         jobs.push_reserved(Job::Invoke {
             class,
             key: *key,
-            args: ArgSlice::of(args),
+            args,
         });
     }
     Ok(jobs)
@@ -90,9 +90,9 @@ pub fn invoke_all<'a, R: Threads + Wait + Sync, G: Gate + Sync, L: Loader + Sync
     rt: &R,
     alloc: Global,
     cache: &Cache<'a, '_, L>,
-    class: &ClassId,
+    class: &'a ClassId,
     keys: &[i64],
-    args: Args,
+    args: ArgSlice<'a>,
     seats: &mut Vec<Seat<'a>>,
     workspaces: &mut Vec<Workspace>,
     gate: &G,
@@ -102,14 +102,14 @@ pub fn invoke_all<'a, R: Threads + Wait + Sync, G: Gate + Sync, L: Loader + Sync
     requires workspaces { length workspaces.old.items ≡ length seats.old.items }
     requires home { All (IsAtHome cache.now) seats.old.items }
     requires class { IsOf cache.now.registry class.now }
-    ensures ok { IfOk result (λ results. IsInvokedAll cache.now (class_of class.now) keys.now args seats.old.items seats.new.items results.items) }
+    ensures ok { IfOk result (λ results. IsInvokedAll cache.now (class_of class.now) keys.now (arguments args.entry) seats.old.items seats.new.items results.items) }
     ensures workspaces { OnOk result (length workspaces.new.items ≡ length workspaces.old.items) }
     ensures err { OnErr result ((seats.new.items ≡ seats.old.items) × (workspaces.new.items ≡ workspaces.old.items)) }
 {
     let set = once_each(alloc, keys)?;
     let keys = set.as_slice();
     let mut results = Vec::with_capacity(alloc, keys.len())?;
-    let jobs = jobs_for(alloc, class, keys, &args)?;
+    let jobs = jobs_for(alloc, class, keys, args)?;
     let answers = run_round(rt, alloc, cache, jobs.as_slice(), seats, workspaces, gate)?;
     list(keys, answers.as_slice(), &mut results);
     Ok(results)

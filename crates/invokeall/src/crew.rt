@@ -20,17 +20,16 @@ use std::thread::Threads;
 
 /// What all workers of a round share.
 #[derive(Drop)]
-pub struct Day<'s, 'a, 'l, 'j, R, G, L: Loader> {
+pub struct Day<'s, 'a, 'l, R, G, L: Loader> {
     pub rt: &'s R,
     pub cache: &'s Cache<'a, 'l, L>,
     pub counter: &'s Counter,
     pub groups: &'s Groups,
-    pub jobs: &'s [Job<'j>],
+    pub jobs: &'s [Job<'a>],
     pub gate: &'s G,
 }
 
-impl<'s, 'a, 'l, 'j, R: Wait, G: Gate, L: Loader> Shift<Worker<'a>>
-    for Day<'s, 'a, 'l, 'j, R, G, L> {
+impl<'s, 'a, 'l, R: Wait, G: Gate, L: Loader> Shift<Worker<'a>> for Day<'s, 'a, 'l, R, G, L> {
     ghost use Rattle.std.specs.Prelude.{◌≡◌, length};
     ghost use Rattle.std.specs.List.{All};
     ghost use Rattle.invokeall.specs.Jobs.{IsCallable};
@@ -62,12 +61,12 @@ fn threads_for(jobs: usize, groups: usize, workers: usize) -> usize
 }
 
 /// Has all workers work.
-pub fn run_all<'a, 'j, R: Threads + Wait + Sync, G: Gate + Sync, L: Loader + Sync>(
+pub fn run_all<'a, R: Threads + Wait + Sync, G: Gate + Sync, L: Loader + Sync>(
     rt: &R,
     cache: &Cache<'a, '_, L>,
     counter: &Counter,
     groups: &Groups,
-    jobs: &[Job<'j>],
+    jobs: &[Job<'a>],
     workers: &mut [Worker<'a>],
     gate: &G,
 )

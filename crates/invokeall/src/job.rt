@@ -5,22 +5,21 @@ ghost use Rattle.registry.specs.Ids.{IsOf};
 ghost use Rattle.cache.specs.Opened.{IsAnswered, IsTurnedAway};
 ghost use Rattle.invokeall.specs.Jobs.{call_of, IsCallable};
 
-use crate::args::ArgSlice;
 use cache::{Cache, Gate, InvokeRefusal, Seat};
 use jtypes::Loader;
 use machine::Workspace;
 use registry::ClassId;
 use std::sync::Wait;
-use stripe::Reply;
+use stripe::{ArgSlice, Reply};
 
 /// A call that one of the workers of a round makes (JSR 107, `Cache`).
 #[derive(Clone, Copy)]
-pub enum Job<'j> {
+pub enum Job<'a> {
     /// `invoke`, of the entry processor of this class.
     Invoke {
-        class: &'j ClassId,
+        class: &'a ClassId,
         key: i64,
-        args: ArgSlice<'j>,
+        args: ArgSlice<'a>,
     },
     /// `get`
     Get {
@@ -44,7 +43,7 @@ pub enum Job<'j> {
 /// What a job is told: the reply to its call, or why the cache refused it.
 pub type JobReply = Result<Reply, InvokeRefusal>;
 
-impl<'j> Job<'j> {
+impl<'a> Job<'a> {
     ghost use Rattle.std.specs.Prelude.{◌≡◌, IfOk, IfErr};
     ghost use Rattle.stripe.specs.History.{key_of};
     ghost use Rattle.cache.specs.Opened.{IsAnswered, IsTurnedAway};
@@ -64,7 +63,7 @@ impl<'j> Job<'j> {
     }
 
     /// Makes the call, as the job of this number.
-    pub(crate) fn call<'a, R: Wait, G: Gate, L: Loader>(
+    pub(crate) fn call<R: Wait, G: Gate, L: Loader>(
         self,
         rt: &R,
         cache: &Cache<'a, '_, L>,
@@ -80,7 +79,7 @@ impl<'j> Job<'j> {
     {
         match self {
             Job::Invoke { class, key, args } => {
-                cache.invoke_at(rt, seat, workspace, class, key, args.args(), number, gate)
+                cache.invoke_at(rt, seat, workspace, class, key, args, number, gate)
             }
             Job::Get { key } => cache.get_at(rt, seat, key, number, gate),
             Job::Put { key, value } => cache.put_at(rt, seat, key, value, number, gate),

@@ -2,7 +2,6 @@
 #![tactic(auto)]
 
 mod all;
-mod args;
 mod crew;
 mod groups;
 mod job;
@@ -12,7 +11,6 @@ mod shift;
 mod work;
 
 pub use all::invoke_all;
-pub use args::ArgSlice;
 pub use job::{Job, JobReply};
 pub use room::{RoundRoom, room_for};
 pub use round::{run_in, run_round};

@@ -23,11 +23,11 @@ use std::thread::Threads;
 /// jobs or stripes, whichever are fewest, the caller's own among them.
 ///
 /// All memory of the round itself is taken before the first claim. After that a job may be refused, by its answer.
-pub fn run_round<'a, 'j, R: Threads + Wait + Sync, G: Gate + Sync, L: Loader + Sync>(
+pub fn run_round<'a, R: Threads + Wait + Sync, G: Gate + Sync, L: Loader + Sync>(
     rt: &R,
     alloc: Global,
     cache: &Cache<'a, '_, L>,
-    jobs: &[Job<'j>],
+    jobs: &[Job<'a>],
     seats: &mut Vec<Seat<'a>>,
     workspaces: &mut Vec<Workspace>,
     gate: &G,
@@ -46,10 +46,10 @@ pub fn run_round<'a, 'j, R: Threads + Wait + Sync, G: Gate + Sync, L: Loader + S
 }
 
 /// Runs the jobs in the room for them, as `run_round` does. So it takes no memory of its own, and a job may be refused by its answer alone.
-pub fn run_in<'a, 'j, R: Threads + Wait + Sync, G: Gate + Sync, L: Loader + Sync>(
+pub fn run_in<'a, R: Threads + Wait + Sync, G: Gate + Sync, L: Loader + Sync>(
     rt: &R,
     cache: &Cache<'a, '_, L>,
-    jobs: &[Job<'j>],
+    jobs: &[Job<'a>],
     seats: &mut Vec<Seat<'a>>,
     workspaces: &mut Vec<Workspace>,
     room: RoundRoom<'a>,

@@ -27,12 +27,12 @@ pub struct Worker<'a> {
 }
 
 /// Claims groups of jobs and makes their calls, until there is no group left.
-pub fn work<'a, 'j, R: Wait, G: Gate, L: Loader>(
+pub fn work<'a, R: Wait, G: Gate, L: Loader>(
     rt: &R,
     cache: &Cache<'a, '_, L>,
     counter: &Counter,
     groups: &Groups,
-    jobs: &[Job<'j>],
+    jobs: &[Job<'a>],
     worker: &mut Worker<'a>,
     gate: &G,
 )
@@ -48,12 +48,12 @@ pub fn work<'a, 'j, R: Wait, G: Gate, L: Loader>(
 }
 
 /// Makes the calls of one group's jobs, in their order.
-fn work_on<'a, 'j, R: Wait, G: Gate, L: Loader>(
+fn work_on<'a, R: Wait, G: Gate, L: Loader>(
     rt: &R,
     cache: &Cache<'a, '_, L>,
     groups: &Groups,
     group: usize,
-    jobs: &[Job<'j>],
+    jobs: &[Job<'a>],
     worker: &mut Worker<'a>,
     gate: &G,
 )
@@ -80,7 +80,7 @@ fn work_on<'a, 'j, R: Wait, G: Gate, L: Loader>(
 }
 
 /// The job of this number.
-fn job_at<'j>(jobs: &[Job<'j>], number: usize) -> Job<'j>
+fn job_at<'a>(jobs: &[Job<'a>], number: usize) -> Job<'a>
     requires { number < length jobs.now }
     ensures { get_elem? jobs.now number ≡ some result }
 {

@@ -10,7 +10,7 @@ ghost use Rattle.invokeall.specs.Jobs.{IsCallable};
 ghost use Rattle.invokeall.specs.Rounds.{IsAtHome};
 
 use cache::{Cache, InvokeRefusal, NoGate, Seat};
-use invokeall::{ArgSlice, Job, JobReply, invoke_all, run_round};
+use invokeall::{Job, JobReply, invoke_all, run_round};
 use jtypes::{Arg, Args, JavaFault, NoLoader, Outcome};
 use machine::Workspace;
 use registry::{ClassId, Registry};
@@ -20,7 +20,7 @@ use std::process::Abort;
 use std::sync::Wait;
 use std::test::Fail;
 use std::thread::Threads;
-use stripe::{Reply, Tables};
+use stripe::{ArgSlice, Reply, Tables};
 
 /// How many keys there are.
 const KEYS: usize = 48;
@@ -189,7 +189,7 @@ fn listed<'a, R: Threads + Wait + Sync>(
     rt: &R,
     alloc: Global,
     cache: &Cache<'a, '_, NoLoader>,
-    class: &ClassId,
+    class: &'a ClassId,
     seats: &mut Vec<Seat<'a>>,
 ) -> Option<Vec<(i64, JobReply)>>
     requires class { IsOf cache.now.registry class.now }
@@ -202,14 +202,13 @@ fn listed<'a, R: Threads + Wait + Sync>(
         return None;
     };
     let keys = keys_and_doubles();
-    let args = Args::none();
     match invoke_all(
         rt,
         alloc,
         cache,
         class,
         &keys,
-        args,
+        ArgSlice::none(),
         seats,
         &mut spaces,
         &NoGate,

@@ -225,7 +225,7 @@ fn class_and_next(alloc: Global, bytes: &[u8]) -> Option<(usize, Told)> {
 
 /// How many keys and arguments an invocation of class 0 has.
 fn counts_of_all(alloc: Global, bytes: &[u8]) -> Option<(usize, usize)> {
-    match read_with_args(alloc, bytes) {
+    match &read_with_args(alloc, bytes) {
         Ok((Ok(Some(Request::InvokeAll { class: 0, keys })), args)) => {
             Some((keys.as_slice().len(), args.len()))
         }

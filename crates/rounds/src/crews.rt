@@ -7,7 +7,7 @@ ghost use Rattle.registry.specs.Ids.{IsOf};
 ghost use Rattle.invokeall.specs.Jobs.{IsCallable};
 
 use cache::NoGate;
-use invokeall::{ArgSlice, Job};
+use invokeall::Job;
 use jtypes::{Arg, Args, NoLoader, Outcome};
 use registry::{ClassId, Registry};
 use rowclasses as rows;
@@ -15,7 +15,7 @@ use std::alloc::Global;
 use std::sync::Wait;
 use std::test::Fail;
 use std::thread::Threads;
-use stripe::{Reply, Tables};
+use stripe::{ArgSlice, Reply, Tables};
 use workers::{CrewLeft, run_by_workers, worth};
 
 /// An invocation returned this Long.
@@ -253,7 +253,7 @@ fn worths(registry: &Registry, class: &ClassId) -> [usize; 8]
     let args = Args::none();
     let jobs = on_own_keys(class, &args);
     let mut worths = [0; 8];
-    let shares = [0, 1, 643, 644, 858, 859, 1287, 1288];
+    let shares = [0, 1, 323, 324, 431, 432, 647, 648];
     for (worth_of, share) in worths.iter_mut().zip(shares) {
         *worth_of = worth(registry, &jobs, 4, share);
     }

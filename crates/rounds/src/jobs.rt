@@ -10,7 +10,7 @@ ghost use Rattle.invokeall.specs.Jobs.{IsCallable};
 ghost use Rattle.invokeall.specs.Rounds.{IsAtHome};
 
 use cache::{Cache, Gate, NoGate, Seat};
-use invokeall::{ArgSlice, Job, JobReply, invoke_all, run_round};
+use invokeall::{Job, JobReply, invoke_all, run_round};
 use jtypes::{Arg, Args, JavaFault, NoLoader, Outcome};
 use machine::Workspace;
 use registry::{ClassId, Registry};
@@ -22,7 +22,7 @@ use std::test::Fail;
 use std::thread;
 use std::thread::Threads;
 use std::time::{Clock, Duration};
-use stripe::{Reply, Tables};
+use stripe::{ArgSlice, Reply, Tables};
 
 /// What a job asks.
 #[derive(Clone, Copy)]
@@ -283,7 +283,7 @@ fn gathered<R: Threads + Wait + Sync>(
         &cache,
         class,
         keys,
-        Args::none(),
+        ArgSlice::none(),
         &mut seats,
         &mut spaces,
         &NoGate,

@@ -7,7 +7,7 @@ ghost use Rattle.registry.specs.Ids.{IsOf};
 ghost use Rattle.invokeall.specs.Jobs.{IsCallable};
 
 use cache::NoGate;
-use invokeall::{ArgSlice, Job};
+use invokeall::Job;
 use jtypes::{Arg, Args, JavaFault, LoadFailed, Loader, Outcome};
 use registry::{ClassId, Registry};
 use rowclasses as rows;
@@ -15,8 +15,9 @@ use std::alloc::{AllocError, Global};
 use std::sync::Wait;
 use std::test::Fail;
 use std::thread::Threads;
-use stripe::{ArgRow, Call, Reply, Tables};
+use stripe::{ArgSlice, Call, Reply, Tables};
 use turns::run_in_turns;
+use verify::Verified;
 use workers::run_by_workers;
 
 /// 7 gives 41, 9 gives 0, 13 fails, and no other key has a value.
@@ -163,6 +164,15 @@ fn one_job<'j>(class: &'j ClassId, key: i64, args: &'j Args) -> [Job<'j>; 1]
     }]
 }
 
+/// The same as a call.
+fn one_call<'a>(class: &'a Verified, key: i64, args: &'a Args) -> [Call<'a>; 1] {
+    [Call::Invoke {
+        class,
+        key,
+        args: ArgSlice::of(args),
+    }]
+}
+
 /// What the invocation of a row leaves, in turn and by four workers.
 fn row_by_each<R: Threads + Wait + Sync>(
     rt: &R,
@@ -176,11 +186,7 @@ fn row_by_each<R: Threads + Wait + Sync>(
     let args = Args::of(row.args)?;
     let key = row.key;
     let replies = [Some(Reply::Result(row.outcome))];
-    let calls = [Call::Invoke {
-        class: registry.class(class),
-        key,
-        args: ArgRow::of(&args),
-    }];
+    let calls = one_call(registry.class(class), key, &args);
     let jobs = one_job(class, key, &args);
     Some([
         by_turns(alloc, &calls, &replies, key),

@@ -19,7 +19,7 @@ use registry::{ClassId, Registry};
 use std::alloc::{AllocError, Global};
 use std::sync::Wait;
 use std::thread::Threads;
-use stripe::{ArgRow, Call, Reply, Tables};
+use stripe::{Call, Reply, Tables};
 use turns::run_in_turns;
 use workers::{run_by_workers, worth};
 
@@ -71,7 +71,7 @@ pub fn jobs_of<'j>(
 }
 
 /// The call of a job, with its class looked up.
-fn call_for<'a>(registry: &'a Registry, job: &Job<'_>) -> Call<'a>
+fn call_for<'a>(registry: &'a Registry, job: &Job<'a>) -> Call<'a>
     requires { IsCallable registry.now job.now }
     ensures { seen_call result ≡ call_of job.now }
 {
@@ -79,7 +79,7 @@ fn call_for<'a>(registry: &'a Registry, job: &Job<'_>) -> Call<'a>
         Job::Invoke { class, key, args } => Call::Invoke {
             class: registry.class(class),
             key: *key,
-            args: ArgRow::of(&args.args()),
+            args: *args,
         },
         Job::Get { key } => Call::Get { key: *key },
         Job::Put { key, value } => Call::Put {
@@ -95,7 +95,7 @@ fn call_for<'a>(registry: &'a Registry, job: &Job<'_>) -> Call<'a>
 fn calls_for<'a>(
     alloc: Global,
     registry: &'a Registry,
-    jobs: &[Job<'_>],
+    jobs: &[Job<'a>],
 ) -> Result<Vec<Call<'a>>, AllocError>
     requires { All (IsCallable registry.now) jobs.now }
     ensures { IfOk result (λ calls. map seen_call calls.items ≡ calls_of jobs.now) }

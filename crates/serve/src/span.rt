@@ -2,8 +2,8 @@
 
 ghost use Rattle.std.specs.Prelude.{◌≤◌};
 
-use invokeall::ArgSlice;
 use jtypes::Arg;
+use stripe::ArgSlice;
 
 /// Where the arguments of an invocation stand among those of its round: at most eight, from a place on.
 #[derive(Clone, Copy)]
@@ -15,11 +15,12 @@ pub struct Span {
 
 impl Span {
     ghost use Rattle.std.specs.Prelude.{◌≡◌, ◌+◌, ◌≤◌, length, take, drop};
+    ghost use Rattle.stripe.specs.Rows.{arguments};
 
     /// The arguments, among those of the round.
     pub fn among<'r>(self, row: &'r [Arg]) -> ArgSlice<'r>
         requires { self.at + self.count ≤ length row.now }
-        ensures { result.items.now ≡ take self.count (drop self.at row.now) }
+        ensures { arguments result ≡ take self.count (drop self.at row.now) }
     {
         ArgSlice {
             items: &row[self.at..self.at + usize::from(self.count)],

@@ -1,10 +1,10 @@
 //! Rounds on one thread.
 
-use jtypes::{Arg, Args, NoLoader, Outcome};
+use jtypes::{Arg, NoLoader, Outcome};
 use rowclasses as rows;
 use std::alloc::Global;
 use std::test::Fail;
-use stripe::{ArgRow, Call, Reply, Tables};
+use stripe::{ArgSlice, Call, Reply, Tables};
 use turns::{TurnsLeft, run_in_turns};
 use verify::{Verified, verify};
 
@@ -13,7 +13,7 @@ fn invoke<'a>(class: &'a Verified, key: i64) -> Call<'a> {
     Call::Invoke {
         class,
         key,
-        args: ArgRow::of(&Args::none()),
+        args: ArgSlice::none(),
     }
 }
 

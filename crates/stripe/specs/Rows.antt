@@ -1,7 +1,7 @@
 -- The arguments that a call carries.
-use Rattle.std.specs.Prelude.{List, take}
+use Rattle.std.specs.Prelude.{List}
 use Rattle.jtypes.specs.declared.types.Arg.{Arg}
-use Rattle.stripe.specs.declared.args.ArgRow.{ArgRow}
+use Rattle.stripe.specs.declared.args.ArgSlice.{ArgSlice}
 
-abbrev pub arguments : ArgRow → List Arg
-arguments row = take row.count row.items
+abbrev pub arguments : ArgSlice → List Arg
+arguments args = args.items.now

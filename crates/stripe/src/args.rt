@@ -1,33 +1,33 @@
 //! The arguments that a call carries.
 
-ghost use Rattle.std.specs.Prelude.{◌≡◌, ◌≤◌};
+ghost use Rattle.std.specs.Prelude.{◌≡◌, ◌≤◌, [], length};
 
 use jtypes::{Arg, Args};
 
-/// The arguments of an invocation, as a call carries them: those of an `Args`, in plain fields.
+/// The arguments of an invocation, where its caller has them: at most eight. Whoever keeps the call keeps no copy of them.
 #[derive(Clone, Copy, Debug)]
-pub struct ArgRow {
-    /// The arguments, and behind them any others.
-    pub items: [Arg; 8],
-    /// How many there are.
-    pub count: u8,
-    pub ghost few: { count ≤ 8 },
+pub struct ArgSlice<'a> {
+    pub items: &'a [Arg],
+    pub ghost few: { length items.now ≤ 8 },
 }
 
-impl ArgRow {
+impl<'a> ArgSlice<'a> {
     ghost use Rattle.std.specs.Prelude.{◌≡◌};
     ghost use Rattle.stripe.specs.Rows.{arguments};
 
-    /// The same arguments, for a call.
-    pub fn of(args: &Args) -> ArgRow
+    /// No arguments.
+    pub fn none() -> ArgSlice<'a>
+        ensures { arguments result ≡ [] }
+    {
+        ArgSlice { items: &[] }
+    }
+
+    /// All of these.
+    pub fn of(args: &'a Args) -> ArgSlice<'a>
         ensures { arguments result ≡ args.now }
     {
-        let given = args.as_slice();
-        let mut items = [Arg::Null; 8];
-        items[..given.len()].copy_from_slice(given);
-        ArgRow {
-            items,
-            count: given.len() as u8,
+        ArgSlice {
+            items: args.as_slice(),
         }
     }
 
@@ -35,6 +35,6 @@ impl ArgRow {
     pub fn args(&self) -> Args
         ensures { result ≡ arguments self.now }
     {
-        Args::of(&self.items[..self.count as usize]).unwrap()
+        Args::of(self.items).unwrap()
     }
 }

@@ -6,7 +6,7 @@ ghost use Rattle.jtypes.specs.Loading.{IsGiven};
 ghost use Rattle.stripe.specs.History.{IsGot};
 ghost use Rattle.stripe.specs.Kept.{IsAsked};
 
-use crate::args::ArgRow;
+use crate::args::ArgSlice;
 use jtypes::{Effect, JavaFault, LoadAnswer, Loader, Outcome};
 use machine::Done;
 use mutentry::effect_leads_from_before_to_now;
@@ -19,7 +19,7 @@ pub enum Call<'a> {
     Invoke {
         class: &'a Verified,
         key: i64,
-        args: ArgRow,
+        args: ArgSlice<'a>,
     },
     /// `get`
     Get {

@@ -10,7 +10,7 @@ mod stripe;
 mod table;
 mod tables;
 
-pub use args::ArgRow;
+pub use args::ArgSlice;
 pub use call::{Call, OpenCall, Record, Reply, ask};
 pub use key::stripe_of;
 pub use refusal::{BeginRefusal, OpenRefusal};

@@ -136,11 +136,11 @@ fn returned(n: i64) -> Reply {
 }
 
 /// An invocation of a class on a key.
-fn invoke<'a>(class: &'a Verified, key: i64, args: &Args) -> Call<'a> {
+fn invoke<'a>(class: &'a Verified, key: i64, args: &'a Args) -> Call<'a> {
     Call::Invoke {
         class,
         key,
-        args: ArgRow::of(args),
+        args: ArgSlice::of(args),
     }
 }
 
@@ -436,10 +436,8 @@ fn an_exception_leaves_an_entry(rt: HostRuntime) -> Result<(), Fail> {
         panic!(rt; "too many arguments");
     };
     let counter = verified(rt.alloc(), rows::counter(rt.alloc())?)?;
-    let calls = [
-        invoke(&counter, 7, &args),
-        invoke(&counter, 7, &Args::none()),
-    ];
+    let none = Args::none();
+    let calls = [invoke(&counter, 7, &args), invoke(&counter, 7, &none)];
     let outside = Reply::Result(Outcome::Threw(JavaFault::ArrayIndexOutOfBounds));
     let told = [
         Some((returned(1), Some(1))),

@@ -82,7 +82,7 @@ fn run_on<'a, R: Threads + Wait + Sync, G: Gate + Sync, L: Loader + Sync>(
     rt: &R,
     cache: Cache<'a, '_, L>,
     mut seats: Vec<Seat<'a>>,
-    jobs: &[Job<'_>],
+    jobs: &[Job<'a>],
     room: CrewRoom<'a>,
     gate: &G,
 ) -> CrewLeft
