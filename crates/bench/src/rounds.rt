@@ -20,7 +20,7 @@ use std::sync::Wait;
 use std::thread::Threads;
 use std::time::{Clock, Duration};
 use stripe::{ArgSlice, Tables};
-use workers::{SHARE, run_by_workers, worth};
+use workers::{Kept, SHARE, run_by_workers, worth};
 
 /// How many rounds there are.
 const ROUNDS: usize = 201;
@@ -51,6 +51,7 @@ pub fn one<R: Threads + Wait + Clock + Sync>(
     tables: Tables,
     seats: usize,
     jobs: &[Job<'_>],
+    kept: &mut Kept,
 ) -> Result<(Duration, Tables), Failure>
     requires seats { IsSeatCount seats }
     requires jobs { IsJobCount (length jobs.now) }
@@ -59,7 +60,7 @@ pub fn one<R: Threads + Wait + Clock + Sync>(
     let begin = now(rt)?;
     let workers = worth(registry, jobs, seats, SHARE);
     let Ok(left) = run_by_workers(
-        rt, alloc, registry, tables, workers, jobs, &NoGate, &NoLoader,
+        rt, alloc, registry, tables, workers, jobs, kept, &NoGate, &NoLoader,
     ) else {
         return Err(Failure::NoMemory);
     };
@@ -84,8 +85,9 @@ fn timed<R: Threads + Wait + Clock + Sync>(
     requires callable { All (IsCallable registry.now) jobs.now }
 {
     let mut times = [0u128; ROUNDS];
+    let mut kept = Kept::new(alloc);
     for time in times.iter_mut() {
-        let (taken, left) = one(rt, alloc, registry, tables, seats, jobs)?;
+        let (taken, left) = one(rt, alloc, registry, tables, seats, jobs, &mut kept)?;
         *time = tenths(taken, 1);
         tables = left;
     }

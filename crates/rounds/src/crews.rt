@@ -16,7 +16,7 @@ use std::sync::Wait;
 use std::test::Fail;
 use std::thread::Threads;
 use stripe::{ArgSlice, Reply, Tables};
-use workers::{CrewLeft, run_by_workers, worth};
+use workers::{CrewLeft, Kept, run_by_workers, worth};
 
 /// An invocation returned this Long.
 fn returned(n: i64) -> Option<Reply> {
@@ -37,8 +37,9 @@ fn round<R: Threads + Wait + Sync>(
     if workers == 0 || workers > 16 || jobs.len() > 4096 {
         return None;
     }
+    let mut kept = Kept::new(alloc);
     match run_by_workers(
-        rt, alloc, registry, tables, workers, jobs, &NoGate, &NoLoader,
+        rt, alloc, registry, tables, workers, jobs, &mut kept, &NoGate, &NoLoader,
     ) {
         Ok(left) => Some(left),
         Err(_) => None,

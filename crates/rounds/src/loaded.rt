@@ -18,7 +18,7 @@ use std::thread::Threads;
 use stripe::{ArgSlice, Call, Reply, Tables};
 use turns::run_in_turns;
 use verify::Verified;
-use workers::run_by_workers;
+use workers::{Kept, run_by_workers};
 
 /// 7 gives 41, 9 gives 0, 13 fails, and no other key has a value.
 struct Few;
@@ -130,7 +130,10 @@ fn by_workers<R: Threads + Wait + Sync>(
     }
     match Tables::new(alloc, 2) {
         Ok(tables) => {
-            match run_by_workers(rt, alloc, registry, tables, 4, jobs, &NoGate, &Few) {
+            let mut kept = Kept::new(alloc);
+            match run_by_workers(
+                rt, alloc, registry, tables, 4, jobs, &mut kept, &NoGate, &Few,
+            ) {
                 Ok(left) => Some((left.replies.as_slice() == replies, left.tables.entry(key))),
                 Err(_) => None,
             }

@@ -21,7 +21,7 @@ use std::sync::Wait;
 use std::thread::Threads;
 use stripe::{Call, Reply, Tables};
 use turns::run_in_turns;
-use workers::{run_by_workers, worth};
+use workers::{Kept, run_by_workers, worth};
 
 /// What a round leaves: the entries, and the answer to each job. A job without an answer found no memory.
 #[derive(Drop)]
@@ -139,6 +139,7 @@ pub fn run_jobs<T: Threads + Wait + Sync, G: Gate + Sync, L: Loader + Sync>(
     tables: Tables,
     settings: Settings,
     jobs: &[Job<'_>],
+    kept: &mut Kept,
     gate: &G,
     loader: &L,
 ) -> Result<RoundLeft, Tables>
@@ -153,7 +154,9 @@ pub fn run_jobs<T: Threads + Wait + Sync, G: Gate + Sync, L: Loader + Sync>(
         return run_alone(alloc, registry, tables, jobs, loader);
     }
     let workers = worth(registry, jobs, settings.workers, settings.share);
-    match run_by_workers(rt, alloc, registry, tables, workers, jobs, gate, loader) {
+    match run_by_workers(
+        rt, alloc, registry, tables, workers, jobs, kept, gate, loader,
+    ) {
         Ok(workers::CrewLeft { tables, replies }) => Ok(RoundLeft { tables, replies }),
         Err(tables) => Err(tables),
     }

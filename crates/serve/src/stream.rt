@@ -20,6 +20,7 @@ use std::sync::Wait;
 use std::thread::Threads;
 use stripe::{OpenRefusal, Tables};
 use wire::Counted;
+use workers::Kept;
 
 /// The most workers.
 const MOST_WORKERS: usize = 16;
@@ -88,11 +89,12 @@ fn stream<T: Threads + Wait + Sync, R: Read, W: Write, G: Gate + Sync, L: Loader
         asks: 0,
         args: 0,
     };
+    let mut kept = Kept::new(alloc);
     let mut tables = tables;
     for _ in rt.forever() {
         match one_round(
-            rt, alloc, registry, &mut ids, &mut room, tables, settings, reader, writer, gate,
-            loader,
+            rt, alloc, registry, &mut ids, &mut room, &mut kept, tables, settings, reader, writer,
+            gate, loader,
         ) {
             Ok(Some(left)) => tables = left,
             Ok(None) => return Ok(()),

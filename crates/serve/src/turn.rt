@@ -24,6 +24,7 @@ use std::sync::Wait;
 use std::thread::Threads;
 use stripe::Tables;
 use wire::{Counted, WriteFailed, write_bytes};
+use workers::Kept;
 
 /// Writes all the bytes, and flushes.
 fn write_all<W: Write>(writer: &mut Counted<W>, bytes: &[u8]) -> Result<(), WriteFailed>
@@ -46,6 +47,7 @@ fn run_round<T: Threads + Wait + Sync, G: Gate + Sync, L: Loader + Sync>(
     tables: Tables,
     settings: Settings,
     plan: Plan,
+    kept: &mut Kept,
     gate: &G,
     loader: &L,
 ) -> Result<(Tables, Vec<u8>), AllocError>
@@ -63,6 +65,7 @@ fn run_round<T: Threads + Wait + Sync, G: Gate + Sync, L: Loader + Sync>(
         tables,
         settings,
         jobs.as_slice(),
+        kept,
         gate,
         loader,
     ) else {
@@ -74,12 +77,14 @@ fn run_round<T: Threads + Wait + Sync, G: Gate + Sync, L: Loader + Sync>(
 }
 
 /// Reads a round, runs it and writes its replies. It gives the entries that the round left; at the end of the input there is none.
+/// The room is what the round before took, and what is kept what it left.
 pub fn one_round<T: Threads + Wait + Sync, R: Read, W: Write, G: Gate + Sync, L: Loader + Sync>(
     rt: &T,
     alloc: Global,
     registry: &Registry,
     ids: &mut Vec<ClassId>,
     room: &mut Room,
+    kept: &mut Kept,
     tables: Tables,
     settings: Settings,
     reader: &mut Counted<R>,
@@ -109,6 +114,7 @@ pub fn one_round<T: Threads + Wait + Sync, R: Read, W: Write, G: Gate + Sync, L:
         tables,
         settings,
         plan,
+        kept,
         gate,
         loader,
     ) else {

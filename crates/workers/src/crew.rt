@@ -11,7 +11,7 @@ ghost use Rattle.invokeall.specs.Rounds.{reply_of};
 ghost use Rattle.invokeall.specs.Rooms.{HasRoom};
 ghost use Rattle.workers.specs.Rooms.{HasPlace, IsRoom};
 
-use crate::room::{CrewRoom, room_for};
+use crate::room::{CrewRoom, Kept, room_for};
 use cache::{Cache, Closed, Gate, InvokeRefusal, Seat};
 use invokeall::{Job, JobReply, run_in};
 use jtypes::Loader;
@@ -49,6 +49,7 @@ fn needed(jobs: usize, most: usize) -> usize
 /// Runs the jobs by so many workers, or one for each job where there are fewer jobs. Each works on a thread of its own; the caller's is among them.
 ///
 /// All memory of the round itself is taken before the first job runs. Where that fails, no job was run, and the tables come back as they were.
+/// What was kept is used, and what the next round can use is kept.
 pub fn run_by_workers<R: Threads + Wait + Sync, G: Gate + Sync, L: Loader + Sync>(
     rt: &R,
     alloc: Global,
@@ -56,6 +57,7 @@ pub fn run_by_workers<R: Threads + Wait + Sync, G: Gate + Sync, L: Loader + Sync
     tables: Tables,
     workers: usize,
     jobs: &[Job<'_>],
+    kept: &mut Kept,
     gate: &G,
     loader: &L,
 ) -> Result<CrewLeft, Tables>
@@ -68,11 +70,11 @@ pub fn run_by_workers<R: Threads + Wait + Sync, G: Gate + Sync, L: Loader + Sync
 {
     let seats = needed(jobs.len(), workers);
     let records = needed(jobs.len(), MOST_RECORDS);
-    let Ok(room) = room_for(alloc, jobs.len(), tables.stripes(), seats) else {
+    let Ok(room) = room_for(alloc, jobs.len(), tables.stripes(), seats, kept) else {
         return Err(tables);
     };
     match Cache::open(alloc, registry, tables, records, seats, loader) {
-        Ok((cache, seats)) => Ok(run_on(rt, cache, seats, jobs, room, gate)),
+        Ok((cache, seats)) => Ok(run_on(rt, cache, seats, jobs, room, kept, gate)),
         Err((_, tables)) => Err(tables),
     }
 }
@@ -84,6 +86,7 @@ fn run_on<'a, R: Threads + Wait + Sync, G: Gate + Sync, L: Loader + Sync>(
     mut seats: Vec<Seat<'a>>,
     jobs: &[Job<'a>],
     room: CrewRoom<'a>,
+    kept: &mut Kept,
     gate: &G,
 ) -> CrewLeft
     requires count { IsSeatCount cache.seats }
@@ -102,6 +105,7 @@ fn run_on<'a, R: Threads + Wait + Sync, G: Gate + Sync, L: Loader + Sync>(
     let answers = run_in(rt, &cache, jobs, &mut seats, &mut workspaces, round, gate);
     let Closed { tables, .. } = cache.close(seats);
     put_replies(answers.as_slice(), &mut replies);
+    kept.keep(workspaces);
     CrewLeft { tables, replies }
 }
 

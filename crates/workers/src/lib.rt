@@ -6,4 +6,5 @@ mod room;
 mod shares;
 
 pub use crew::{CrewLeft, run_by_workers};
+pub use room::Kept;
 pub use shares::{SHARE, worth};

@@ -11,6 +11,28 @@ use machine::Workspace;
 use std::alloc::{AllocError, Global};
 use stripe::Reply;
 
+/// What a round hands on to the next one: to make a workspace takes longer than a short call.
+#[derive(Drop)]
+pub struct Kept {
+    pub workspaces: Vec<Workspace>,
+}
+
+impl Kept {
+    /// Nothing yet.
+    pub fn new(alloc: Global) -> Kept {
+        Kept {
+            workspaces: Vec::new(alloc),
+        }
+    }
+
+    /// Keeps these workspaces. One for which there is no memory isn't kept.
+    pub fn keep(&mut self, workspaces: Vec<Workspace>) {
+        for space in workspaces {
+            let _ = self.workspaces.push(space);
+        }
+    }
+}
+
 /// What a round needs beside its cache.
 #[derive(Drop)]
 pub struct CrewRoom<'a> {
@@ -19,12 +41,13 @@ pub struct CrewRoom<'a> {
     pub replies: Vec<Option<Reply>>,
 }
 
-/// Room for so many jobs, stripes and workers.
+/// Room for so many jobs, stripes and workers. The workspaces are those that were kept, as far as they go.
 pub fn room_for<'a>(
     alloc: Global,
     jobs: usize,
     stripes: usize,
     workers: usize,
+    kept: &mut Kept,
 ) -> Result<CrewRoom<'a>, AllocError>
     requires jobs { IsJobCount jobs }
     requires stripes { IsCount stripes }
@@ -32,7 +55,7 @@ pub fn room_for<'a>(
     ensures { IfOk result (IsRoom jobs stripes workers) }
 {
     let round = invokeall::room_for(alloc, jobs, stripes, workers)?;
-    let workspaces = workspaces(alloc, workers)?;
+    let workspaces = workspaces(alloc, workers, kept)?;
     let replies = Vec::with_capacity(alloc, jobs)?;
     Ok(CrewRoom {
         round,
@@ -41,13 +64,17 @@ pub fn room_for<'a>(
     })
 }
 
-/// So many workspaces.
-fn workspaces(alloc: Global, count: usize) -> Result<Vec<Workspace>, AllocError>
+/// So many workspaces, of those that were kept first.
+fn workspaces(alloc: Global, count: usize, kept: &mut Kept) -> Result<Vec<Workspace>, AllocError>
     ensures { IfOk result (λ v. length v.items ≡ count) }
 {
     let mut list = Vec::new(alloc);
     for _ in 0..count {
-        list.push(Workspace::new(alloc)?)?;
+        let space = match kept.workspaces.pop() {
+            Some(space) => space,
+            None => Workspace::new(alloc)?,
+        };
+        list.push(space)?;
     }
     Ok(list)
 }
