@@ -254,7 +254,7 @@ fn worths(registry: &Registry, class: &ClassId) -> [usize; 8]
     let args = Args::none();
     let jobs = on_own_keys(class, &args);
     let mut worths = [0; 8];
-    let shares = [0, 1, 323, 324, 431, 432, 647, 648];
+    let shares = [0, 1, 243, 244, 324, 325, 487, 488];
     for (worth_of, share) in worths.iter_mut().zip(shares) {
         *worth_of = worth(registry, &jobs, 4, share);
     }

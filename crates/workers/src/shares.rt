@@ -13,7 +13,7 @@ pub const SHARE: u32 = 524_288;
 
 /// The instructions that a call is reckoned to take beside those of its class: to take a stripe, find an entry, put it and leave a
 /// record takes as long.
-const CALL: u64 = 256;
+const CALL: u64 = 192;
 
 /// The instructions that a job takes at most: those of its call, and those that its class states.
 fn steps_of(registry: &Registry, job: &Job<'_>) -> u64
