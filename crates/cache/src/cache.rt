@@ -137,6 +137,13 @@ impl<'a, 'l, L: Loader> Cache<'a, 'l, L> {
         self.stripes
     }
 
+    /// The classes of its calls.
+    pub fn registry(&self) -> &'a Registry
+        ensures { result.now ≡ self.now.registry }
+    {
+        self.registry
+    }
+
     /// Ends the cache, by all the seats that `open` gave, in their order.
     pub fn close(self, mut seats: Vec<Seat<'a>>) -> Closed<'a>
         requires { AreSeats self seats.items }

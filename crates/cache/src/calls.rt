@@ -15,6 +15,7 @@ use machine::{Done, Workspace, run};
 use registry::ClassId;
 use std::sync::Wait;
 use stripe::{ArgSlice, BeginRefusal, Call, Reply, ask, stripe_of};
+use verify::Verified;
 
 /// The stripe of a call's key, of so many.
 fn place_of(stripes: usize, call: &Call<'_>) -> usize
@@ -149,6 +150,25 @@ impl<'a, 'l, L: Loader> Cache<'a, 'l, L> {
         ensures err { IfErr result (λ refusal. IsTurnedAway self.now seat.old (Invoke (class_of class.now) key (arguments args.entry)) refusal seat.new) }
     {
         let class = self.registry.class(class);
+        self.run_at(rt, seat, workspace, class, key, args, job, gate)
+    }
+
+    /// An invocation of this class.
+    fn run_at<R: Wait, G: Gate>(
+        &self,
+        rt: &R,
+        seat: &mut Seat<'a>,
+        workspace: &mut Workspace,
+        class: &'a Verified,
+        key: i64,
+        args: ArgSlice<'a>,
+        job: usize,
+        gate: &G,
+    ) -> Result<Reply, InvokeRefusal>
+        requires { seat.old.table ≡ self.now.table }
+        ensures ok { IfOk result (λ reply. IsAnswered self.now seat.old (Invoke class.now key (arguments args.entry)) reply seat.new) }
+        ensures err { IfErr result (λ refusal. IsTurnedAway self.now seat.old (Invoke class.now key (arguments args.entry)) refusal seat.new) }
+    {
         let call = Call::Invoke { class, key, args };
         let args = args.args();
         let loader = self.loader;
@@ -161,6 +181,31 @@ impl<'a, 'l, L: Loader> Cache<'a, 'l, L> {
         let answer = self.locked(rt, seat, call, end, job, gate);
         gate.answered(job);
         answer
+    }
+
+    /// Any of the calls, as a job, whose gate is told of it. The class of an invocation may be of any registry that lives as long.
+    pub fn call_at<R: Wait, G: Gate>(
+        &self,
+        rt: &R,
+        seat: &mut Seat<'a>,
+        workspace: &mut Workspace,
+        call: Call<'a>,
+        job: usize,
+        gate: &G,
+    ) -> Result<Reply, InvokeRefusal>
+        requires { seat.old.table ≡ self.now.table }
+        ensures ok { IfOk result (λ reply. IsAnswered self.now seat.old (call_of call.entry) reply seat.new) }
+        ensures err { IfErr result (λ refusal. IsTurnedAway self.now seat.old (call_of call.entry) refusal seat.new) }
+    {
+        match call {
+            Call::Invoke { class, key, args } => {
+                self.run_at(rt, seat, workspace, class, key, args, job, gate)
+            }
+            Call::Get { key } => self.get_at(rt, seat, key, job, gate),
+            Call::Put { .. } | Call::Remove { .. } | Call::Contains { .. } => {
+                self.plain(rt, seat, call, job, gate)
+            }
+        }
     }
 
     /// `get` (JSR 107, `Cache`).

@@ -34,3 +34,15 @@ impl<'a> Model for Seat<'a> {
 
     ghost invariant = { IsSeated };
 }
+
+impl<'a> Seat<'a> {
+    ghost use Rattle.std.specs.Prelude.{◌≡◌};
+
+    /// Makes room for the receipts of so many further calls at once, if there is memory for it. A call for which there is none makes
+    /// its own.
+    pub fn expect(&mut self, calls: usize)
+        ensures { self.new ≡ self.old }
+    {
+        let _ = self.receipts.reserve(calls);
+    }
+}
