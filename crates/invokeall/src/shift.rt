@@ -28,25 +28,61 @@ fn serve_in_turn<W, S: Shift<W>>(shift: &S, workers: &mut [W])
     }
 }
 
-/// Has each worker serve, by at most so many threads. One thread is the caller's own, and it starts all the others: a thread that one
-/// of them started was seen to wait for the processor of that one.
-#[cycle(serving)]
+/// Has each worker serve, by at most so many threads. One thread is the caller's own. Where there are more, all are started for it
+/// and the caller waits for them: the first thread that it starts was seen to wait for the caller's processor while others had
+/// nothing to do, until the caller waited.
 pub fn serve_all<R: Threads + Sync, W: Send, S: Shift<W> + Sync>(
     rt: &R,
     shift: &S,
     threads: usize,
     workers: &mut [W],
 )
+    requires ready { All (S.accepts shift.now) workers.old }
+    ensures { AreServed (S.leaves shift.now) workers.old workers.new }
+{
+    if threads < 2 || workers.len() < 2 {
+        serve_in_turn(shift, workers);
+    } else {
+        serve_apart(rt, shift, threads, workers);
+    }
+}
+
+/// Has each worker serve, by so many threads that are started for it; the last one has all the workers that are left.
+#[cycle(serving)]
+fn serve_apart<R: Threads + Sync, W: Send, S: Shift<W> + Sync>(
+    rt: &R,
+    shift: &S,
+    threads: usize,
+    workers: &mut [W],
+)
     requires some_thread { 0 < threads }
+    requires some_worker { 0 < length workers.old }
     requires ready { All (S.accepts shift.now) workers.old }
     ensures { AreServed (S.leaves shift.now) workers.old workers.new }
 {
     if threads == 1 || workers.len() < 2 {
-        serve_in_turn(shift, workers);
+        serve_elsewhere(rt, shift, workers);
         return;
     }
     let (first, others) = workers.split_at_mut(1);
     serve_beside(rt, shift, threads - 1, first, others);
+}
+
+/// Has each worker serve, one after the other, in a thread of its own.
+fn serve_elsewhere<R: Threads + Sync, W: Send, S: Shift<W> + Sync>(
+    rt: &R,
+    shift: &S,
+    workers: &mut [W],
+)
+    requires ready { All (S.accepts shift.now) workers.old }
+    ensures { AreServed (S.leaves shift.now) workers.old workers.new }
+{
+    let mut all = ||
+        requires { IsSync S.row × IsSend W.row × All (S.accepts shift.now) workers.now }
+        ensures { AreServed (S.leaves shift.entry.now) workers.entry.now workers.exit.now }
+    { serve_in_turn(shift, workers) };
+    let mut nothing = || {};
+    join_mut(rt, &mut all, &mut nothing);
 }
 
 /// Has the first worker serve in a thread of its own, and the others by so many threads.
@@ -59,6 +95,7 @@ fn serve_beside<R: Threads + Sync, W: Send, S: Shift<W> + Sync>(
     others: &mut [W],
 )
     requires some_thread { 0 < threads }
+    requires some_worker { 0 < length others.old }
     requires first { All (S.accepts shift.now) first.old }
     requires others { All (S.accepts shift.now) others.old }
     ensures first { AreServed (S.leaves shift.now) first.old first.new }
@@ -69,8 +106,8 @@ fn serve_beside<R: Threads + Sync, W: Send, S: Shift<W> + Sync>(
         ensures { AreServed (S.leaves shift.entry.now) first.entry.now first.exit.now }
     { serve_in_turn(shift, first) };
     let mut rest = ||
-        requires { IsSync R.row × IsSync S.row × IsSend W.row × (0 < threads) × All (S.accepts shift.now) others.now }
+        requires { IsSync R.row × IsSync S.row × IsSend W.row × (0 < threads) × (0 < length others.now) × All (S.accepts shift.now) others.now }
         ensures { AreServed (S.leaves shift.entry.now) others.entry.now others.exit.now }
-    { serve_all(rt, shift, threads, others) };
+    { serve_apart(rt, shift, threads, others) };
     join_mut(rt, &mut one, &mut rest);
 }
