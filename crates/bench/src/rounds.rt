@@ -12,7 +12,7 @@ use crate::calls::{defined, filled, now, sum_of};
 use crate::measure::{Times, tenths, times_of};
 use crate::report::Failure;
 use cache::NoGate;
-use invokeall::Job;
+use invokeall::{Job, calls_for};
 use jtypes::NoLoader;
 use registry::{ClassId, Registry};
 use std::alloc::{AllocError, Global};
@@ -20,7 +20,7 @@ use std::sync::Wait;
 use std::thread::Threads;
 use std::time::{Clock, Duration};
 use stripe::{ArgSlice, Tables};
-use workers::{Kept, SHARE, run_by_workers, worth};
+use workers::{Kept, SHARE, run_by_workers, steps_of, worth};
 
 /// How many rounds there are.
 const ROUNDS: usize = 201;
@@ -43,13 +43,14 @@ pub fn jobs_of<'j>(
     Ok(jobs)
 }
 
-/// How long a round takes, and the entries that it leaves.
+/// How long a round takes whose jobs are reckoned to take so many instructions, and the entries that it leaves.
 pub fn one<R: Threads + Wait + Clock + Sync>(
     rt: &R,
     alloc: Global,
     registry: &Registry,
     tables: Tables,
     seats: usize,
+    steps: u64,
     jobs: &[Job<'_>],
     kept: &mut Kept,
 ) -> Result<(Duration, Tables), Failure>
@@ -57,10 +58,11 @@ pub fn one<R: Threads + Wait + Clock + Sync>(
     requires jobs { IsJobCount (length jobs.now) }
     requires callable { All (IsCallable registry.now) jobs.now }
 {
+    let calls = calls_for(alloc, registry, jobs)?;
     let begin = now(rt)?;
-    let workers = worth(registry, jobs, seats, SHARE);
+    let workers = worth(steps, seats, SHARE);
     let Ok(left) = run_by_workers(
-        rt, alloc, registry, tables, workers, jobs, kept, &NoGate, &NoLoader,
+        rt, alloc, registry, tables, workers, &calls, kept, &NoGate, &NoLoader,
     ) else {
         return Err(Failure::NoMemory);
     };
@@ -78,6 +80,7 @@ fn timed<R: Threads + Wait + Clock + Sync>(
     registry: &Registry,
     mut tables: Tables,
     seats: usize,
+    steps: u64,
     jobs: &[Job<'_>],
 ) -> Result<(Times, Tables), Failure>
     requires seats { IsSeatCount seats }
@@ -87,7 +90,7 @@ fn timed<R: Threads + Wait + Clock + Sync>(
     let mut times = [0u128; ROUNDS];
     let mut kept = Kept::new(alloc);
     for time in times.iter_mut() {
-        let (taken, left) = one(rt, alloc, registry, tables, seats, jobs, &mut kept)?;
+        let (taken, left) = one(rt, alloc, registry, tables, seats, steps, jobs, &mut kept)?;
         *time = tenths(taken, 1);
         tables = left;
     }
@@ -109,7 +112,8 @@ fn timed_on<R: Threads + Wait + Clock + Sync>(
 {
     let list = jobs_of(alloc, class, ArgSlice::none(), jobs)?;
     let tables = filled(rt, alloc, registry, class, jobs)?;
-    let (times, tables) = timed(rt, alloc, registry, tables, seats, &list)?;
+    let steps = steps_of(registry.class(class)).saturating_mul(u64::from(jobs));
+    let (times, tables) = timed(rt, alloc, registry, tables, seats, steps, &list)?;
     Ok((times, sum_of(&tables, jobs)))
 }
 

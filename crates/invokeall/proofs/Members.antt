@@ -146,7 +146,7 @@ members_next of g k r is f =
 pub linked_none : (of : List ℕ) (groups n : ℕ) (firsts nexts : List ℕ) → length of ≡ n → length firsts ≡ groups → length nexts ≡ n → firsts ≡ replicate groups n → AreLinked of groups n firsts nexts
 linked_none of groups n firsts nexts long a b blank = record {
   groups_are = a;
-  jobs_are = b ∙ sym long;
+  calls_are = b ∙ sym long;
   within = λ k h below. absurd (omega arith);
   first = λ g below. subst (IsFirst of g n) (sym (ap (λ (l : List ℕ). get_or l g 0) blank ∙ get_or-replicate groups g n 0 below))
       (record { from = omega arith; most = omega arith; none = λ k h h'. absurd (omega arith); here = λ h. absurd (omega arith) });
@@ -183,14 +183,14 @@ module _ (of : List ℕ) (groups j g : ℕ) (firsts nexts : List ℕ) (is : get_
   next_of : (k : ℕ) → j ≤ k → k < length of → IsFirst of (get_or of k 0) (k + 1) (get_or new_nexts k 0)
   next_of k from few = dite (ℕ_discrete k j)
       (λ (e : k ≡ j). subst (λ (m : ℕ). IsFirst of (get_or of m 0) (m + 1) (get_or new_nexts m 0)) (sym e)
-      (subst (IsFirst of (get_or of j 0) (j + 1)) (sym (get_or-set_same nexts j (get_or firsts g 0) 0 (omega (arith, old.jobs_are))))
+      (subst (IsFirst of (get_or of j 0) (j + 1)) (sym (get_or-set_same nexts j (get_or firsts g 0) 0 (omega (arith, old.calls_are))))
       (subst (λ (m : ℕ). IsFirst of m (j + 1) (get_or firsts g 0)) (sym is) (old.first g some_group))))
       (λ (ne : k ≢ j). subst (IsFirst of (get_or of k 0) (k + 1)) (sym (get_or-set_other nexts j k (get_or firsts g 0) 0 ne)) (old.next k (omega arith) few))
 
   pub linked_more : AreLinked of groups j new_firsts new_nexts
   linked_more = record {
     groups_are = length-set firsts g j ∙ old.groups_are;
-    jobs_are = length-set nexts j (get_or firsts g 0) ∙ old.jobs_are;
+    calls_are = length-set nexts j (get_or firsts g 0) ∙ old.calls_are;
     within = λ k from few. dite (ℕ_discrete k j)
         (λ (e : k ≡ j). let same = ap (λ (m : ℕ). get_or of m 0) e in omega (arith, is))
         (λ (ne : k ≢ j). old.within k (omega arith) few);

@@ -2,12 +2,9 @@
 use Rattle.std.proofs.Common.{◌≡◌, ℕ, zero, suc, ◌≤◌, List, [], ◌∷◌, ◌++◌, length, get_or, set, Ok, Err, IfOk, IfErr, Bool, true, false, refl, sym, ap, ◌∙◌, subst, ⊎_elim, append_assoc, arith, vec_capacity}
 use Rattle.std.proofs.lemmas.List.{append-nil, map-append}
 use Rattle.std.proofs.lemmas.List.Concat.{flat_map-append}
-use Rattle.std.proofs.lemmas.List.Elements.{All-head, All-tail}
-use Rattle.std.specs.List.{All}
 use mathlib.Core.Option.{some, some-injective, some-ne-none}
 use lib.ListN.{get_elem?}
 use Rattle.atomic_table.proofs.Lists.{at_snoc}
-use Rattle.boxcar.specs.Table.{Shelves}
 use Rattle.claims.specs.Counters.{Share}
 use Rattle.stripe.specs.declared.call.Reply.{Reply}
 use Rattle.stripe.specs.History.{Call}
@@ -16,9 +13,7 @@ use Rattle.cache.specs.declared.refusal.InvokeRefusal.TheVariants.{JournalFull, 
 use Rattle.cache.specs.Opened.{Opened, Sitting, IsAnswered, IsTurnedAway, stripe_in}
 use Rattle.outcome.specs.Closed.{calls_told, AreFiled}
 use Rattle.outcome.proofs.Handed.{filed_by_calls, filed_by_refusals}
-use Rattle.invokeall.specs.declared.job.Job.{Job}
 use Rattle.invokeall.specs.declared.work.Worker.{Worker}
-use Rattle.invokeall.specs.Jobs.{call_of, calls_of, IsCallable}
 use Rattle.invokeall.specs.Rounds.{Answer, IsLaterSeat, IsFull}
 use Rattle.invokeall.specs.Crews.{told_answer, told_at, told_row, numbers, ShowsFull, HasAnswered}
 
@@ -73,17 +68,6 @@ one_call d c a b (Err NoMemory) ok err = record {
   full = λ x. absurd (cc);
 }
 
--- the call of a job stands where the job stands
-pub called_at : (jobs : List Job) (k : ℕ) (j : Job) → get_elem? jobs k ≡ some j → get_elem? (calls_of jobs) k ≡ some (call_of j)
-called_at [] k j e = absurd (some-ne-none j (sym e))
-called_at (x ∷ xs) zero j e = ap (λ (z : Job). some (call_of z)) (some-injective x j e)
-called_at (x ∷ xs) (suc k) j e = called_at xs k j e
-
-pub callable_at : (registry : Shelves) (jobs : List Job) (k : ℕ) (j : Job) → All (IsCallable registry) jobs → get_elem? jobs k ≡ some j → IsCallable registry j
-callable_at registry [] k j all e = absurd (some-ne-none j (sym e))
-callable_at registry (x ∷ xs) zero j all e = subst (IsCallable registry) (some-injective x j e) (All-head (IsCallable registry) x xs all)
-callable_at registry (x ∷ xs) (suc k) j all e = callable_at registry xs k j (All-tail (IsCallable registry) x xs all) e
-
 told_there : (cs : List Call) (k : ℕ) (c : Call) (x : Answer) → get_elem? cs k ≡ some c → told_at cs k x ≡ told_answer c x
 told_there [] k c x e = absurd (some-ne-none c (sym e))
 told_there (y ∷ ys) zero c x e = ap (λ (z : Call). told_answer z x) (some-injective y c e)
@@ -111,34 +95,32 @@ numbers_long [] = refl
 numbers_long (y ∷ ys) = ap suc (numbers_long ys)
 
 -- a worker that has no answer yet
-pub none_answered : {L : Type 0} (d : Opened L) (jobs : List Job) (v : Worker) → v.answers.items ≡ [] → HasAnswered d jobs v v []
-none_answered d jobs v none = record {
+pub none_answered : {L : Type 0} (d : Opened L) (calls : List Call) (v : Worker) → v.answers.items ≡ [] → HasAnswered d calls v v []
+none_answered d calls v none = record {
   seat = same_seat v.seat v.seat refl;
   numbers_are = ap numbers none;
-  receipts = sym (ap (λ l. told_seat v.seat ++ told_row (calls_of jobs) l) none ∙ append-nil (told_seat v.seat));
+  receipts = sym (ap (λ l. told_seat v.seat ++ told_row calls l) none ∙ append-nil (told_seat v.seat));
   filed = λ h. h;
-  full = subst (ShowsFull d (calls_of jobs) v.seat) (sym none) (λ j k c e. absurd (some-ne-none (k, Err JournalFull) (sym e)));
+  full = subst (ShowsFull d calls v.seat) (sym none) (λ j k c e. absurd (some-ne-none (k, Err JournalFull) (sym e)));
   room = omega arith;
 }
 
--- one job more is answered
-pub one_answered : {L : Type 0} (d : Opened L) (jobs : List Job) (v w next : Worker) (before : List ℕ) (k : ℕ) (j : Job) (x : Answer) → get_elem? jobs k ≡ some j → OneCall d (call_of j) w.seat next.seat x
-    → next.answers.items ≡ w.answers.items ++ (k, x) ∷ [] → vec_capacity w.answers ≤ vec_capacity next.answers → HasAnswered d jobs v w before → HasAnswered d jobs v next (before ++ k ∷ [])
-one_answered d jobs v w next before k j x there one items room old =
-    let calls : List Call = calls_of jobs in
+-- one call more is answered
+pub one_answered : {L : Type 0} (d : Opened L) (calls : List Call) (v w next : Worker) (before : List ℕ) (k : ℕ) (c : Call) (x : Answer) → get_elem? calls k ≡ some c → OneCall d c w.seat next.seat x
+    → next.answers.items ≡ w.answers.items ++ (k, x) ∷ [] → vec_capacity w.answers ≤ vec_capacity next.answers → HasAnswered d calls v w before → HasAnswered d calls v next (before ++ k ∷ [])
+one_answered d calls v w next before k c x at one items room old =
     let xs : List (ℕ × Answer) = w.answers.items in
-    let at : get_elem? calls k ≡ some (call_of j) = called_at jobs k j there in
     record {
       seat = later_seat v.seat w.seat next.seat old.seat one.later;
       numbers_are = ap numbers items ∙ numbers_more xs k x ∙ ap (λ (l : List ℕ). l ++ k ∷ []) old.numbers_are;
-      receipts = one.receipts ∙ ap (λ l. l ++ told_answer (call_of j) x) old.receipts ∙ append_assoc (told_seat v.seat) (told_row calls xs) (told_answer (call_of j) x)
-          ∙ ap (λ l. told_seat v.seat ++ l) (sym (row_more calls xs k (call_of j) x at) ∙ ap (told_row calls) (sym items));
+      receipts = one.receipts ∙ ap (λ l. l ++ told_answer c x) old.receipts ∙ append_assoc (told_seat v.seat) (told_row calls xs) (told_answer c x)
+          ∙ ap (λ l. told_seat v.seat ++ l) (sym (row_more calls xs k c x at) ∙ ap (told_row calls) (sym items));
       filed = λ h. one.filed (old.filed h);
-      full = subst (ShowsFull d calls next.seat) (sym items) (full_more d calls w.seat next.seat xs k (call_of j) x at one old.full);
+      full = subst (ShowsFull d calls next.seat) (sym items) (full_more d calls w.seat next.seat xs k c x at one old.full);
       room = let more = old.room in omega arith;
     }
 
 -- which claimer a worker has is another thing
-pub same_answered : {L : Type 0} (d : Opened L) (jobs : List Job) (v w : Worker) (claimer : Share) (before : List ℕ) → HasAnswered d jobs v w before
-    → HasAnswered d jobs v (record { seat = w.seat; workspace = w.workspace; claimer = claimer; answers = w.answers }) before
-same_answered d jobs v w claimer before h = record { seat = h.seat; numbers_are = h.numbers_are; receipts = h.receipts; filed = h.filed; full = h.full; room = h.room }
+pub same_answered : {L : Type 0} (d : Opened L) (calls : List Call) (v w : Worker) (claimer : Share) (before : List ℕ) → HasAnswered d calls v w before
+    → HasAnswered d calls v (record { seat = w.seat; workspace = w.workspace; claimer = claimer; answers = w.answers }) before
+same_answered d calls v w claimer before h = record { seat = h.seat; numbers_are = h.numbers_are; receipts = h.receipts; filed = h.filed; full = h.full; room = h.room }

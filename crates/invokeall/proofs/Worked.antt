@@ -53,13 +53,13 @@ some_same a b e = ap (λ (p : Option Answer). value p a) e
     value (Some x) d = x
     value None d = d
 
-module _ {L : Type 0} (d : Opened L) (counter : Numbering) (groups : Groups) (jobs : List Job) where
+module _ {L : Type 0} (d : Opened L) (counter : Numbering) (groups : Groups) (calls : List Call) where
   abbrev pub AllWorked : List Worker → List Worker → Type 0
   AllWorked [] [] = Unit {0}
-  AllWorked (v ∷ vs) (w ∷ ws) = HasWorked d counter groups jobs v w × AllWorked vs ws
+  AllWorked (v ∷ vs) (w ∷ ws) = HasWorked d counter groups calls v w × AllWorked vs ws
   AllWorked _ _ = ⊥
 
-  pub all_worked : (vs ws : List Worker) → length ws ≡ length vs → ((i : ℕ) (e : Worker) → i < length vs → HasWorked d counter groups jobs (get_or vs i e) (get_or ws i e)) → AllWorked vs ws
+  pub all_worked : (vs ws : List Worker) → length ws ≡ length vs → ((i : ℕ) (e : Worker) → i < length vs → HasWorked d counter groups calls (get_or vs i e) (get_or ws i e)) → AllWorked vs ws
   all_worked [] [] same each = tt
   all_worked [] (w ∷ ws) same each = absurd (omega arith)
   all_worked (v ∷ vs) [] same each = absurd (omega arith)
@@ -85,7 +85,7 @@ module _ {L : Type 0} (d : Opened L) (counter : Numbering) (groups : Groups) (jo
   all_filed (v ∷ vs) (w ∷ ws) a h (suc i) y f = all_filed vs ws a.1 (λ j x e. h (suc j) x e) i y f
 
   abbrev row_told : Worker → List (Call × Reply)
-  row_told w = told_row (calls_of jobs) w.answers.items
+  row_told w = told_row calls w.answers.items
 
   crossed : (p q r s : List (Call × Reply)) → IsPermutation ((p ++ r) ++ (q ++ s)) ((p ++ q) ++ (r ++ s))
   crossed p q r s =
@@ -114,9 +114,9 @@ module _ {L : Type 0} (d : Opened L) (counter : Numbering) (groups : Groups) (jo
       let new : (p ++ q) ++ calls_at (seats_of ws) ≡ calls_at (seats_of (w ∷ ws)) = ap (λ l. l ++ calls_at (seats_of ws)) (sym a.0.answered.receipts) ∙ sym (seat_more w.seat (seats_of ws)) in
       subst (λ l. IsPermutation (l ++ (q ++ s)) (calls_at (seats_of (w ∷ ws)))) (sym (seat_more v.seat (seats_of vs))) (subst (λ l. IsPermutation ((p ++ r) ++ (q ++ s)) l) new all)
 
-  pub told_entries : (ws : List Worker) → told_row (calls_of jobs) (entries_of (rows_of ws)) ≡ flat_map row_told ws
+  pub told_entries : (ws : List Worker) → told_row calls (entries_of (rows_of ws)) ≡ flat_map row_told ws
   told_entries [] = refl
-  told_entries (w ∷ ws) = flat_map-append (λ (a : ℕ × Answer). told_at (calls_of jobs) a.0 a.1) w.answers.items (entries_of (rows_of ws)) ∙ ap (λ l. row_told w ++ l) (told_entries ws)
+  told_entries (w ∷ ws) = flat_map-append (λ (a : ℕ × Answer). told_at calls a.0 a.1) w.answers.items (entries_of (rows_of ws)) ∙ ap (λ l. row_told w ++ l) (told_entries ws)
 
   numbers_append : (xs ys : List (ℕ × Answer)) → numbers (xs ++ ys) ≡ numbers xs ++ numbers ys
   numbers_append xs ys = map-append (λ (a : ℕ × Answer). a.0) xs ys
@@ -124,21 +124,21 @@ module _ {L : Type 0} (d : Opened L) (counter : Numbering) (groups : Groups) (jo
   more_entries : (x : ℕ) (w : Worker) (ws : List Worker) → times x (numbers (entries_of (rows_of (w ∷ ws)))) ≡ times x (numbers w.answers.items) + times x (numbers (entries_of (rows_of ws)))
   more_entries x w ws = ap (λ l. times x l) (numbers_append w.answers.items (entries_of (rows_of ws))) ∙ total_append (λ (y : ℕ). one_if (x == y)) (numbers w.answers.items) (numbers (entries_of (rows_of ws)))
 
-  -- the group of each job
+  -- the group of each call
   abbrev of : List ℕ
-  of = groups_in groups jobs
+  of = groups_in groups calls
 
-  -- a job has as many answers as its group was claimed by claimers
-  drawn_entries : (vs ws : List Worker) → AllWorked vs ws → (x : ℕ) → times x (numbers (entries_of (rows_of ws))) ≡ (if ltb x (length jobs) then times_drawn (get_or of x 0) (claimers_of ws) else 0)
-  drawn_entries [] [] a x = same_if (ltb x (length jobs)) 0
+  -- a call has as many answers as its group was claimed by claimers
+  drawn_entries : (vs ws : List Worker) → AllWorked vs ws → (x : ℕ) → times x (numbers (entries_of (rows_of ws))) ≡ (if ltb x (length calls) then times_drawn (get_or of x 0) (claimers_of ws) else 0)
+  drawn_entries [] [] a x = same_if (ltb x (length calls)) 0
   drawn_entries [] (w ∷ ws) a x = absurd a
   drawn_entries (v ∷ vs) [] a x = absurd a
   drawn_entries (v ∷ vs) (w ∷ ws) a x =
       let e = ap (times x) a.0.answered.numbers_are in
-      let f = times_all_members of w.claimer.drawn (length jobs) x in
+      let f = times_all_members of w.claimer.drawn (length calls) x in
       let g = drawn_entries vs ws a.1 x in
       let h = more_entries x w ws in
-      let i = sum_if (ltb x (length jobs)) (times (get_or of x 0) w.claimer.drawn) (times_drawn (get_or of x 0) (claimers_of ws)) in omega arith
+      let i = sum_if (ltb x (length calls)) (times (get_or of x 0) w.claimer.drawn) (times_drawn (get_or of x 0) (claimers_of ws)) in omega arith
 
   -- no group was claimed twice, and each once
   pub record IsEachOnce (ws : List Worker) : Type 0 where
@@ -147,18 +147,18 @@ module _ {L : Type 0} (d : Opened L) (counter : Numbering) (groups : Groups) (jo
 
   entries_once : (vs ws : List Worker) → AllWorked vs ws → IsEachOnce ws → AreOnce (entries_of (rows_of ws))
   entries_once vs ws a each = record {
-    once = λ x. let e = drawn_entries vs ws a x in let f = if_one (ltb x (length jobs)) (times_drawn (get_or of x 0) (claimers_of ws)) (each.most (get_or of x 0)) in omega arith;
+    once = λ x. let e = drawn_entries vs ws a x in let f = if_one (ltb x (length calls)) (times_drawn (get_or of x 0) (claimers_of ws)) (each.most (get_or of x 0)) in omega arith;
   }
 
-  -- so each job has its answer
-  pub are_filled : (vs ws : List Worker) → AllWorked vs ws → IsEachOnce ws → AreGroups jobs groups → counter.jobs ≡ length groups.firsts.items → All IsThere (placed (blanks (length jobs)) (entries_of (rows_of ws)))
-  are_filled vs ws a each linked same = all_filled (length jobs) (entries_of (rows_of ws)) (λ k below.
-      let long : length of ≡ length jobs = length-map jobs (group_of (length groups.firsts.items)) in
+  -- so each call has its answer
+  pub are_filled : (vs ws : List Worker) → AllWorked vs ws → IsEachOnce ws → AreGroups calls groups → counter.jobs ≡ length groups.firsts.items → All IsThere (placed (blanks (length calls)) (entries_of (rows_of ws)))
+  are_filled vs ws a each linked same = all_filled (length calls) (entries_of (rows_of ws)) (λ k below.
+      let long : length of ≡ length calls = length-map calls (group_of (length groups.firsts.items)) in
       let group : ℕ = get_or of k 0 in
       let some_group : group < length groups.firsts.items = linked.within k (omega arith) (omega arith) in
       let once = each.groups_are group (omega arith) in
       let e = drawn_entries vs ws a k in
-      let f = if_below k (length jobs) (times_drawn group (claimers_of ws)) below in omega arith)
+      let f = if_below k (length calls) (times_drawn group (claimers_of ws)) below in omega arith)
 
   -- where a worker worked, a claimer is done
   pub first_done : (vs ws : List Worker) → AllWorked vs ws → 0 < length vs → (s : Share) × (get_elem? (claimers_of ws) 0 ≡ some s) × (s.done ≡ true)
@@ -182,7 +182,7 @@ module _ {L : Type 0} (d : Opened L) (counter : Numbering) (groups : Groups) (jo
       (λ (g : (m : ℕ) × (get_elem? ys m ≡ some e)). inr g)
       (at_append xs ys j e h)
 
-  pub full_shown : (vs ws : List Worker) → AllWorked vs ws → (k : ℕ) (c : Call) → get_elem? (calls_of jobs) k ≡ some c → (j : ℕ) → get_elem? (entries_of (rows_of ws)) j ≡ some (k, Err JournalFull)
+  pub full_shown : (vs ws : List Worker) → AllWorked vs ws → (k : ℕ) (c : Call) → get_elem? calls k ≡ some c → (j : ℕ) → get_elem? (entries_of (rows_of ws)) j ≡ some (k, Err JournalFull)
       → (i : ℕ) × (s : Sitting) × (get_elem? (seats_of ws) i ≡ some s) × IsFull d c s
   full_shown [] [] a k c there j e = absurd (some-ne-none (k, Err JournalFull) (sym e))
   full_shown [] (w ∷ ws) a k c there j e = absurd a
@@ -192,39 +192,38 @@ module _ {L : Type 0} (d : Opened L) (counter : Numbering) (groups : Groups) (jo
       (λ (g : (m : ℕ) × (get_elem? (entries_of (rows_of ws)) m ≡ some (k, Err JournalFull))). let f = full_shown vs ws a.1 k c there g.0 g.1 in (suc f.0, f.1, f.2, f.3))
       (at_append w.answers.items (entries_of (rows_of ws)) j (k, Err JournalFull) e)
 
-  told_by_all : (vs ws : List Worker) → AllWorked vs ws → IsEachOnce ws → (answers : List Answer) → map Some answers ≡ placed (blanks (length jobs)) (entries_of (rows_of ws))
-      → IsPermutation (calls_at (seats_of vs) ++ answered (calls_of jobs) (map reply_of answers)) (calls_at (seats_of ws))
+  told_by_all : (vs ws : List Worker) → AllWorked vs ws → IsEachOnce ws → (answers : List Answer) → map Some answers ≡ placed (blanks (length calls)) (entries_of (rows_of ws))
+      → IsPermutation (calls_at (seats_of vs) ++ answered calls (map reply_of answers)) (calls_at (seats_of ws))
   told_by_all vs ws a each answers are =
-      let calls : List Call = calls_of jobs in
       let es : List (ℕ × Answer) = entries_of (rows_of ws) in
       let old : List (Call × Reply) = calls_at (seats_of vs) in
       let here : List (Call × Reply) = answered calls (map reply_of answers) in
       let same : told_all calls (placed (blanks (length calls)) es) ≡ here =
-      ap (λ n. told_all calls (placed (blanks n) es)) (length_calls jobs) ∙ ap (told_all calls) (sym are) ∙ ap (answered calls) (replies_in answers) in
+      ap (told_all calls) (sym are) ∙ ap (answered calls) (replies_in answers) in
       let told : IsPermutation (told_row calls es) here = subst (IsPermutation (told_row calls es)) same (told_rows calls es (entries_once vs ws a each)) in
       let one : IsPermutation (old ++ here) (old ++ told_row calls es) = IsPermutation-append_right old here (told_row calls es) (IsPermutation-sym (told_row calls es) here told) in
       let two : IsPermutation (old ++ told_row calls es) (calls_at (seats_of ws)) = subst (λ l. IsPermutation (old ++ l) (calls_at (seats_of ws))) (sym (told_entries ws)) (told_worked vs ws a) in
       IsPermutation-trans (old ++ here) (old ++ told_row calls es) (calls_at (seats_of ws)) one two
 
-  full_by_all : (vs ws : List Worker) → AllWorked vs ws → (answers : List Answer) → map Some answers ≡ placed (blanks (length jobs)) (entries_of (rows_of ws))
-      → (k : ℕ) (c : Call) → get_elem? answers k ≡ some (Err JournalFull) → get_elem? (calls_of jobs) k ≡ some c → (i : ℕ) × (s : Sitting) × (get_elem? (seats_of ws) i ≡ some s) × IsFull d c s
+  full_by_all : (vs ws : List Worker) → AllWorked vs ws → (answers : List Answer) → map Some answers ≡ placed (blanks (length calls)) (entries_of (rows_of ws))
+      → (k : ℕ) (c : Call) → get_elem? answers k ≡ some (Err JournalFull) → get_elem? calls k ≡ some c → (i : ℕ) × (s : Sitting) × (get_elem? (seats_of ws) i ≡ some s) × IsFull d c s
   full_by_all vs ws a answers are k c e there =
       let es : List (ℕ × Answer) = entries_of (rows_of ws) in
       let full : Answer = Err JournalFull in
       ⊎_elim
-      (λ (g : get_elem? (blanks (length jobs)) k ≡ some (Some full)). absurd (let f = blank_at (length jobs) k (Some full) g in cc))
+      (λ (g : get_elem? (blanks (length calls)) k ≡ some (Some full)). absurd (let f = blank_at (length calls) k (Some full) g in cc))
       (λ (g : (j : ℕ) × (b : Answer) × (Some full ≡ Some b) × (get_elem? es j ≡ some (k, b))).
       let same : g.1 ≡ full = sym (some_same full g.1 g.2) in
       full_shown vs ws a k c there g.0 (subst (λ (b : Answer). get_elem? es g.0 ≡ some (k, b)) same g.3))
-      (from_entry (blanks (length jobs)) es k (Some full) (subst (λ (l : Places). get_elem? l k ≡ some (Some full)) are (some_at answers k full e)))
+      (from_entry (blanks (length calls)) es k (Some full) (subst (λ (l : Places). get_elem? l k ≡ some (Some full)) are (some_at answers k full e)))
 
   -- the round, from what the workers did
   pub is_round : (vs ws : List Worker) (old new : List Sitting) (answers : List Answer) → AllWorked vs ws → old ≡ seats_of vs → new ≡ seats_of ws
-      → map Some answers ≡ placed (blanks (length jobs)) (entries_of (rows_of ws)) → IsEachOnce ws → IsRound d (calls_of jobs) old new answers
+      → map Some answers ≡ placed (blanks (length calls)) (entries_of (rows_of ws)) → IsEachOnce ws → IsRound d calls old new answers
   is_round vs ws old new answers a before after are each =
-      subst (λ (l : List Sitting). IsRound d (calls_of jobs) l new answers) (sym before)
-      (subst (λ (l : List Sitting). IsRound d (calls_of jobs) (seats_of vs) l answers) (sym after) (record {
-        count = sym (length_some answers) ∙ ap length are ∙ length_placed (blanks (length jobs)) (entries_of (rows_of ws)) ∙ length_blanks (length jobs) ∙ sym (length_calls jobs);
+      subst (λ (l : List Sitting). IsRound d calls l new answers) (sym before)
+      (subst (λ (l : List Sitting). IsRound d calls (seats_of vs) l answers) (sym after) (record {
+        count = sym (length_some answers) ∙ ap length are ∙ length_placed (blanks (length calls)) (entries_of (rows_of ws)) ∙ length_blanks (length calls);
         seats = as_long vs ws a;
         later = all_later vs ws a;
         receipts = told_by_all vs ws a each answers are;
@@ -232,17 +231,17 @@ module _ {L : Type 0} (d : Opened L) (counter : Numbering) (groups : Groups) (jo
         full = full_by_all vs ws a answers are;
       }))
 
-  -- workers that were hired in order have seats of this cache, fresh claimers, and empty lists with room for all jobs
+  -- workers that were hired in order have seats of this cache, fresh claimers, and empty lists with room for all calls
   pub all_ready : (vs : List Worker) (seats : List Sitting) (shares : List Share) (rows : List Row) → seats_of vs ≡ seats → claimers_of vs ≡ shares → rows_of vs ≡ rows
-      → All (IsAtHome d) seats → ((i : ℕ) (s : Share) → get_elem? shares i ≡ some s → s ≡ fresh counter) → All (HasRoom (length jobs)) rows → All (IsReady d counter jobs) vs
-  all_ready [] seats shares rows a b e home each room = All-nil (IsReady d counter jobs)
+      → All (IsAtHome d) seats → ((i : ℕ) (s : Share) → get_elem? shares i ≡ some s → s ≡ fresh counter) → All (HasRoom (length calls)) rows → All (IsReady d counter (length calls)) vs
+  all_ready [] seats shares rows a b e home each room = All-nil (IsReady d counter (length calls))
   all_ready (v ∷ vs) seats shares rows a b e home each room =
       let h = All-same (IsAtHome d) (v.seat ∷ seats_of vs) seats a home in
-      let r = All-same (HasRoom (length jobs)) (v.answers ∷ rows_of vs) rows e room in
+      let r = All-same (HasRoom (length calls)) (v.answers ∷ rows_of vs) rows e room in
       let f : (i : ℕ) (s : Share) → get_elem? (v.claimer ∷ claimers_of vs) i ≡ some s → s ≡ fresh counter = subst (λ (l : List Share). (i : ℕ) (s : Share) → get_elem? l i ≡ some s → s ≡ fresh counter) (sym b) each in
-      let mine = All-head (HasRoom (length jobs)) v.answers (rows_of vs) r in
-      All-cons (IsReady d counter jobs) v vs (record { home = All-head (IsAtHome d) v.seat (seats_of vs) h; claimer = f 0 v.claimer refl; answers = mine.0; room = mine.1 })
-      (all_ready vs (seats_of vs) (claimers_of vs) (rows_of vs) refl refl refl (All-tail (IsAtHome d) v.seat (seats_of vs) h) (λ i s g. f (suc i) s g) (All-tail (HasRoom (length jobs)) v.answers (rows_of vs) r))
+      let mine = All-head (HasRoom (length calls)) v.answers (rows_of vs) r in
+      All-cons (IsReady d counter (length calls)) v vs (record { home = All-head (IsAtHome d) v.seat (seats_of vs) h; claimer = f 0 v.claimer refl; answers = mine.0; room = mine.1 })
+      (all_ready vs (seats_of vs) (claimers_of vs) (rows_of vs) refl refl refl (All-tail (IsAtHome d) v.seat (seats_of vs) h) (λ i s g. f (suc i) s g) (All-tail (HasRoom (length calls)) v.answers (rows_of vs) r))
 
   length_claimers : (ws : List Worker) → length (claimers_of ws) ≡ length ws
   length_claimers [] = refl

@@ -9,9 +9,7 @@ use Rattle.cache.specs.declared.refusal.InvokeRefusal.TheVariants.{JournalFull}
 use Rattle.cache.specs.Opened.{Opened, Sitting}
 use Rattle.outcome.specs.Closed.{calls_told, AreFiled}
 use Rattle.invokeall.specs.declared.groups.Groups.{Groups}
-use Rattle.invokeall.specs.declared.job.Job.{Job}
 use Rattle.invokeall.specs.declared.work.Worker.{Worker}
-use Rattle.invokeall.specs.Jobs.{calls_of}
 use Rattle.invokeall.specs.Groups.{groups_in, members_of_all}
 use Rattle.invokeall.specs.Rounds.{Answer, IsLaterSeat, IsFull}
 
@@ -36,24 +34,24 @@ numbers row = map (λ (a : ℕ × Answer). a.0) row
 abbrev pub ShowsFull : {L : Type 0} → Opened L → List Call → Sitting → List (ℕ × Answer) → Type 0
 ShowsFull d calls s row = (j k : ℕ) (c : Call) → get_elem? row j ≡ some (k, Err JournalFull) → get_elem? calls k ≡ some c → IsFull d c s
 
--- a worker that hasn't begun
-pub record IsReady {L : Type 0} (d : Opened L) (counter : Numbering) (jobs : List Job) (w : Worker) : Type 0 where
+-- a worker that hasn't begun, with room for so many answers
+pub record IsReady {L : Type 0} (d : Opened L) (counter : Numbering) (calls : ℕ) (w : Worker) : Type 0 where
   pub home : w.seat.table ≡ d.table
   pub claimer : w.claimer ≡ fresh counter
   pub answers : w.answers.items ≡ []
-  pub room : length jobs ≤ vec_capacity w.answers
+  pub room : calls ≤ vec_capacity w.answers
 
--- what a worker did since: it has an answer to each of these jobs, in their order, and what these tell is what its new receipts tell
-pub record HasAnswered {L : Type 0} (d : Opened L) (jobs : List Job) (v w : Worker) (answered : List ℕ) : Type 0 where
+-- what a worker did since: it has an answer to each call of these numbers, in their order, and what these tell is what its new receipts tell
+pub record HasAnswered {L : Type 0} (d : Opened L) (calls : List Call) (v w : Worker) (answered : List ℕ) : Type 0 where
   pub seat : IsLaterSeat v.seat w.seat
   pub numbers_are : numbers w.answers.items ≡ answered
-  pub receipts : calls_told w.seat.receipts ≡ calls_told v.seat.receipts ++ told_row (calls_of jobs) w.answers.items
+  pub receipts : calls_told w.seat.receipts ≡ calls_told v.seat.receipts ++ told_row calls w.answers.items
   pub filed : AreFiled (length d.tables) v.seat.receipts → AreFiled (length d.tables) w.seat.receipts
-  pub full : ShowsFull d (calls_of jobs) w.seat w.answers.items
+  pub full : ShowsFull d calls w.seat w.answers.items
   pub room : vec_capacity v.answers ≤ vec_capacity w.answers
 
--- a worker that found no group left: it has an answer to each job of the groups that it claimed
-pub record HasWorked {L : Type 0} (d : Opened L) (counter : Numbering) (groups : Groups) (jobs : List Job) (v w : Worker) : Type 0 where
+-- a worker that found no group left: it has an answer to each call of the groups that it claimed
+pub record HasWorked {L : Type 0} (d : Opened L) (counter : Numbering) (groups : Groups) (calls : List Call) (v w : Worker) : Type 0 where
   pub at : w.claimer.counter ≡ counter
   pub done : w.claimer.done ≡ true
-  pub answered : HasAnswered d jobs v w (members_of_all (groups_in groups jobs) (length jobs) w.claimer.drawn)
+  pub answered : HasAnswered d calls v w (members_of_all (groups_in groups calls) (length calls) w.claimer.drawn)

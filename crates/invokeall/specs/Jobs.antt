@@ -3,6 +3,8 @@ use Rattle.std.specs.Prelude.{List, map}
 use Rattle.boxcar.specs.Table.{Shelves}
 use Rattle.stripe.specs.History.{Call, Invoke, Get, Put, Remove, Contains}
 use Rattle.stripe.specs.Rows.{arguments}
+use Rattle.stripe.specs.declared.call.Call.{Call as CallTaken}
+use Rattle.stripe.specs.Seen.{call_of as seen_call}
 use Rattle.registry.specs.Ids.{IsOf, class_of}
 use Rattle.invokeall.specs.declared.job.Job.{Job}
 use Rattle.invokeall.specs.declared.job.Job.TheVariants as job
@@ -24,3 +26,7 @@ IsCallable registry (job.Get key) = Unit {0}
 IsCallable registry (job.Put key value) = Unit {0}
 IsCallable registry (job.Remove key) = Unit {0}
 IsCallable registry (job.Contains key) = Unit {0}
+
+-- calls of the code, as the definitions see them
+abbrev pub all_seen : List CallTaken → List Call
+all_seen calls = map seen_call calls

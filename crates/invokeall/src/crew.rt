@@ -3,13 +3,11 @@
 ghost use Rattle.std.specs.Prelude.{◌≡◌, ◌<◌, ℕ, length, slice_index_or};
 ghost use Rattle.std.specs.List.{All};
 ghost use Rattle.invokeall.specs.declared.work.Worker.{Worker};
-ghost use Rattle.invokeall.specs.declared.job.Job.{Job};
-ghost use Rattle.invokeall.specs.Jobs.{IsCallable};
+ghost use Rattle.invokeall.specs.Jobs.{all_seen};
 ghost use Rattle.invokeall.specs.Groups.{AreGroups};
 ghost use Rattle.invokeall.specs.Crews.{IsReady, HasWorked};
 
 use crate::groups::Groups;
-use crate::job::Job;
 use crate::shift::{Shift, serve_all};
 use crate::work::{Worker, work};
 use cache::{Cache, Gate};
@@ -17,6 +15,7 @@ use claims::Counter;
 use jtypes::Loader;
 use std::sync::Wait;
 use std::thread::Threads;
+use stripe::Call;
 
 /// What all workers of a round share.
 #[derive(Drop)]
@@ -25,20 +24,19 @@ pub struct Day<'s, 'a, 'l, R, G, L: Loader> {
     pub cache: &'s Cache<'a, 'l, L>,
     pub counter: &'s Counter,
     pub groups: &'s Groups,
-    pub jobs: &'s [Job<'a>],
+    pub calls: &'s [Call<'a>],
     pub gate: &'s G,
 }
 
 impl<'s, 'a, 'l, R: Wait, G: Gate, L: Loader> Shift<Worker<'a>> for Day<'s, 'a, 'l, R, G, L> {
     ghost use Rattle.std.specs.Prelude.{◌≡◌, length};
-    ghost use Rattle.std.specs.List.{All};
-    ghost use Rattle.invokeall.specs.Jobs.{IsCallable};
+    ghost use Rattle.invokeall.specs.Jobs.{all_seen};
     ghost use Rattle.invokeall.specs.Groups.{AreGroups};
     ghost use Rattle.invokeall.specs.Crews.{IsReady, HasWorked};
 
-    ghost accepts = { λ s w. IsReady s.cache.now s.counter.now s.jobs.now w × ((s.counter.now.jobs ≡ length s.groups.now.firsts.items) × AreGroups s.jobs.now s.groups.now × All (IsCallable s.cache.now.registry) s.jobs.now) };
+    ghost accepts = { λ s w. IsReady s.cache.now s.counter.now (length (all_seen s.calls.now)) w × (s.counter.now.jobs ≡ length s.groups.now.firsts.items) × AreGroups (all_seen s.calls.now) s.groups.now };
 
-    ghost leaves = { λ s v w. HasWorked s.cache.now s.counter.now s.groups.now s.jobs.now v w };
+    ghost leaves = { λ s v w. HasWorked s.cache.now s.counter.now s.groups.now (all_seen s.calls.now) v w };
 
     fn serve(&self, worker: &mut Worker<'a>) {
         work(
@@ -46,18 +44,16 @@ impl<'s, 'a, 'l, R: Wait, G: Gate, L: Loader> Shift<Worker<'a>> for Day<'s, 'a, 
             self.cache,
             self.counter,
             self.groups,
-            self.jobs,
+            self.calls,
             worker,
             self.gate,
         )
     }
 }
 
-/// How many threads serve: one a worker, but no more than there are jobs or groups of them.
-fn threads_for(jobs: usize, groups: usize, workers: usize) -> usize
-    ensures { 0 < result }
-{
-    jobs.min(groups).min(workers).max(1)
+/// How many threads serve: one a worker, but no more than there are calls or groups of them.
+fn threads_for(calls: usize, groups: usize, workers: usize) -> usize {
+    calls.min(groups).min(workers)
 }
 
 /// Has all workers work.
@@ -66,24 +62,23 @@ pub fn run_all<'a, R: Threads + Wait + Sync, G: Gate + Sync, L: Loader + Sync>(
     cache: &Cache<'a, '_, L>,
     counter: &Counter,
     groups: &Groups,
-    jobs: &[Job<'a>],
+    calls: &[Call<'a>],
     workers: &mut [Worker<'a>],
     gate: &G,
 )
     requires counter { counter.now.jobs ≡ length groups.now.firsts.items }
-    requires groups { AreGroups jobs.now groups.now }
-    requires callable { All (IsCallable cache.now.registry) jobs.now }
-    requires ready { All (IsReady cache.now counter.now jobs.now) workers.old }
-    ensures { (i : ℕ) (d : Worker) → i < length workers.old → HasWorked cache.now counter.now groups.now jobs.now (slice_index_or workers.old i d) (slice_index_or workers.new i d) }
+    requires groups { AreGroups (all_seen calls.now) groups.now }
+    requires ready { All (IsReady cache.now counter.now (length (all_seen calls.now))) workers.old }
+    ensures { (i : ℕ) (d : Worker) → i < length workers.old → HasWorked cache.now counter.now groups.now (all_seen calls.now) (slice_index_or workers.old i d) (slice_index_or workers.new i d) }
 {
     let day = Day {
         rt,
         cache,
         counter,
         groups,
-        jobs,
+        calls,
         gate,
     };
-    let threads = threads_for(jobs.len(), groups.firsts.len(), workers.len());
+    let threads = threads_for(calls.len(), groups.firsts.len(), workers.len());
     serve_all(rt, &day, threads, workers);
 }

@@ -1,51 +1,52 @@
-//! Which jobs of a round are of one stripe.
+//! Which calls of a round are of one stripe.
 
 ghost use Rattle.std.specs.Prelude.{◌≡◌, ◌<◌, length, map, replicate, slice_index, IfOk};
+ghost use Rattle.stripe.specs.Seen.{call_of as seen_call};
 ghost use Rattle.stripe.specs.Tables.{IsCount};
+ghost use Rattle.invokeall.specs.Jobs.{all_seen};
 ghost use Rattle.invokeall.specs.Groups.{AreBlank, AreGroups, AreLinked, group_of as group_seen};
 
-use crate::job::Job;
 use std::alloc::{AllocError, Global};
-use stripe::stripe_of;
+use stripe::{Call, stripe_of};
 
-/// The jobs of a round in groups, by their numbers: a group is all jobs whose keys are of one stripe, in their order.
+/// The calls of a round in groups, by their numbers: a group is all calls whose keys are of one stripe, in their order.
 #[derive(Drop)]
 pub struct Groups {
-    /// The first job of each group; the count of jobs stands for none.
+    /// The first call of each group; the count of calls stands for none.
     pub firsts: Vec<usize>,
-    /// For each job the next one of its group, in the same way.
+    /// For each call the next one of its group, in the same way.
     pub nexts: Vec<usize>,
 }
 
-/// So many groups without a job, and room for so many jobs.
-pub fn no_groups(alloc: Global, jobs: usize, groups: usize) -> Result<Groups, AllocError>
-    ensures { IfOk result (AreBlank jobs groups) }
+/// So many groups without a call, and room for so many calls.
+pub fn no_groups(alloc: Global, calls: usize, groups: usize) -> Result<Groups, AllocError>
+    ensures { IfOk result (AreBlank calls groups) }
 {
-    let firsts = vec![in alloc; jobs; groups]?;
-    let nexts = vec![in alloc; jobs; jobs]?;
+    let firsts = vec![in alloc; calls; groups]?;
+    let nexts = vec![in alloc; calls; calls]?;
     Ok(Groups { firsts, nexts })
 }
 
-/// The group of a job, of so many: the stripe of its key.
-fn group_of(groups: usize, job: &Job<'_>) -> usize
+/// The group of a call, of so many: the stripe of its key.
+fn group_of(groups: usize, call: &Call<'_>) -> usize
     requires { IsCount groups }
-    ensures group { result ≡ group_seen groups job.now }
+    ensures group { result ≡ group_seen groups (seen_call call.now) }
     ensures within { result < groups }
 {
-    stripe_of(groups, job.key())
+    stripe_of(groups, call.key())
 }
 
-/// Links the jobs of each group, from the last job on.
-fn link(jobs: &[Job<'_>], firsts: &mut [usize], nexts: &mut [usize])
+/// Links the calls of each group, from the last one on.
+fn link(calls: &[Call<'_>], firsts: &mut [usize], nexts: &mut [usize])
     requires groups { IsCount (length firsts.old) }
-    requires none { firsts.old ≡ replicate (length firsts.old) (length jobs.now) }
-    requires jobs { length nexts.old ≡ length jobs.now }
-    ensures { AreLinked (map (group_seen (length firsts.old)) jobs.now) (length firsts.old) 0 firsts.new nexts.new }
+    requires none { firsts.old ≡ replicate (length firsts.old) (length (all_seen calls.now)) }
+    requires calls { length nexts.old ≡ length (all_seen calls.now) }
+    ensures { AreLinked (map (group_seen (length firsts.old)) (all_seen calls.now)) (length firsts.old) 0 firsts.new nexts.new }
 {
-    let mut left = jobs.len();
+    let mut left = calls.len();
     while left > 0 {
         left -= 1;
-        let group = group_of(firsts.len(), &jobs[left]);
+        let group = group_of(firsts.len(), &calls[left]);
         nexts[left] = firsts[group];
         firsts[group] = left;
     }
@@ -54,24 +55,25 @@ fn link(jobs: &[Job<'_>], firsts: &mut [usize], nexts: &mut [usize])
 impl Groups {
     ghost use Rattle.std.specs.Prelude.{◌≡◌, ◌<◌, length, slice_index};
     ghost use Rattle.stripe.specs.Tables.{IsCount};
+    ghost use Rattle.invokeall.specs.Jobs.{all_seen};
     ghost use Rattle.invokeall.specs.Groups.{AreBlank, AreGroups};
 
-    /// With each job in its group. It takes no memory.
-    pub fn of(self, jobs: &[Job<'_>]) -> Groups
+    /// With each call in its group. It takes no memory.
+    pub fn of(self, calls: &[Call<'_>]) -> Groups
         requires groups { IsCount (length self.firsts.items) }
-        requires blank { AreBlank (length jobs.now) (length self.firsts.items) self }
+        requires blank { AreBlank (length (all_seen calls.now)) (length self.firsts.items) self }
         ensures groups { length result.firsts.items ≡ length self.firsts.items }
-        ensures jobs { AreGroups jobs.now result }
+        ensures calls { AreGroups (all_seen calls.now) result }
     {
         let Groups {
             mut firsts,
             mut nexts,
         } = self;
-        link(jobs, firsts.as_mut_slice(), nexts.as_mut_slice());
+        link(calls, firsts.as_mut_slice(), nexts.as_mut_slice());
         Groups { firsts, nexts }
     }
 
-    /// The first job of a group.
+    /// The first call of a group.
     pub fn first(&self, group: usize) -> usize
         requires { group < length self.now.firsts.items }
         ensures { result ≡ slice_index self.now.firsts.items group }
@@ -79,7 +81,7 @@ impl Groups {
         self.firsts[group]
     }
 
-    /// The next job of the same group.
+    /// The next call of the same group.
     pub fn next(&self, number: usize) -> usize
         requires { number < length self.now.nexts.items }
         ensures { result ≡ slice_index self.now.nexts.items number }

@@ -1,16 +1,14 @@
 //! Jobs of a round.
 
-ghost use Rattle.std.specs.Prelude.{◌≡◌, IfOk, IfErr};
-ghost use Rattle.registry.specs.Ids.{IsOf};
-ghost use Rattle.cache.specs.Opened.{IsAnswered, IsTurnedAway};
-ghost use Rattle.invokeall.specs.Jobs.{call_of, IsCallable};
+ghost use Rattle.std.specs.Prelude.{◌≡◌, length, IfOk};
+ghost use Rattle.std.specs.List.{All};
+ghost use Rattle.stripe.specs.Seen.{call_of as seen_call};
+ghost use Rattle.invokeall.specs.Jobs.{call_of, calls_of, all_seen, IsCallable};
 
-use cache::{Cache, Gate, InvokeRefusal, Seat};
-use jtypes::Loader;
-use machine::Workspace;
-use registry::ClassId;
-use std::sync::Wait;
-use stripe::{ArgSlice, Reply};
+use cache::InvokeRefusal;
+use registry::{ClassId, Registry};
+use std::alloc::{AllocError, Global};
+use stripe::{ArgSlice, Call, Reply};
 
 /// A call that one of the workers of a round makes (JSR 107, `Cache`).
 #[derive(Clone, Copy)]
@@ -43,48 +41,40 @@ pub enum Job<'a> {
 /// What a job is told: the reply to its call, or why the cache refused it.
 pub type JobReply = Result<Reply, InvokeRefusal>;
 
-impl<'a> Job<'a> {
-    ghost use Rattle.std.specs.Prelude.{◌≡◌, IfOk, IfErr};
-    ghost use Rattle.stripe.specs.History.{key_of};
-    ghost use Rattle.cache.specs.Opened.{IsAnswered, IsTurnedAway};
-    ghost use Rattle.invokeall.specs.Jobs.{call_of, IsCallable};
-
-    /// The key that the job's call names.
-    pub(crate) fn key(&self) -> i64
-        ensures { result ≡ key_of (call_of self.now) }
-    {
-        match *self {
-            Job::Invoke { key, .. } => key,
-            Job::Get { key } => key,
-            Job::Put { key, .. } => key,
-            Job::Remove { key } => key,
-            Job::Contains { key } => key,
-        }
+/// The call of a job, with its class looked up.
+fn call_for<'a>(registry: &'a Registry, job: &Job<'a>) -> Call<'a>
+    requires { IsCallable registry.now job.now }
+    ensures { seen_call result ≡ call_of job.now }
+{
+    match job {
+        Job::Invoke { class, key, args } => Call::Invoke {
+            class: registry.class(class),
+            key: *key,
+            args: *args,
+        },
+        Job::Get { key } => Call::Get { key: *key },
+        Job::Put { key, value } => Call::Put {
+            key: *key,
+            value: *value,
+        },
+        Job::Remove { key } => Call::Remove { key: *key },
+        Job::Contains { key } => Call::Contains { key: *key },
     }
+}
 
-    /// Makes the call, as the job of this number.
-    pub(crate) fn call<R: Wait, G: Gate, L: Loader>(
-        self,
-        rt: &R,
-        cache: &Cache<'a, '_, L>,
-        seat: &mut Seat<'a>,
-        workspace: &mut Workspace,
-        number: usize,
-        gate: &G,
-    ) -> JobReply
-        requires seat { seat.old.table ≡ cache.now.table }
-        requires callable { IsCallable cache.now.registry self }
-        ensures ok { IfOk result (λ reply. IsAnswered cache.now seat.old (call_of self.entry) reply seat.new) }
-        ensures err { IfErr result (λ refusal. IsTurnedAway cache.now seat.old (call_of self.entry) refusal seat.new) }
-    {
-        match self {
-            Job::Invoke { class, key, args } => {
-                cache.invoke_at(rt, seat, workspace, class, key, args, number, gate)
-            }
-            Job::Get { key } => cache.get_at(rt, seat, key, number, gate),
-            Job::Put { key, value } => cache.put_at(rt, seat, key, value, number, gate),
-            Job::Remove { key } => cache.remove_at(rt, seat, key, number, gate),
-            Job::Contains { key } => cache.contains_key_at(rt, seat, key, number, gate),
-        }
+/// The calls of jobs whose classes are of this registry, in their order.
+pub fn calls_for<'a>(
+    alloc: Global,
+    registry: &'a Registry,
+    jobs: &[Job<'a>],
+) -> Result<Vec<Call<'a>>, AllocError>
+    requires { All (IsCallable registry.now) jobs.now }
+    ensures calls { IfOk result (λ calls. all_seen calls.items ≡ calls_of jobs.now) }
+    ensures count { IfOk result (λ calls. length calls.items ≡ length jobs.now) }
+{
+    let mut calls = Vec::with_capacity(alloc, jobs.len())?;
+    for job in jobs {
+        calls.push_reserved(call_for(registry, job));
     }
+    Ok(calls)
 }

@@ -11,6 +11,6 @@ mod shift;
 mod work;
 
 pub use all::invoke_all;
-pub use job::{Job, JobReply};
+pub use job::{Job, JobReply, calls_for};
 pub use room::{RoundRoom, room_for};
 pub use round::{run_in, run_round};

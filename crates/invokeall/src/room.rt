@@ -82,8 +82,9 @@ fn empty_rows(alloc: Global, jobs: usize, count: usize) -> Result<Vec<Row>, Allo
     Ok(rows)
 }
 
-/// A worker for each seat, in their order.
+/// A worker for each seat, in their order, with room for the receipts of so many calls.
 pub fn hire<'a>(
+    calls: usize,
     seats: Vec<Seat<'a>>,
     mut workspaces: Vec<Workspace>,
     mut claimers: Vec<Claimer>,
@@ -98,7 +99,8 @@ pub fn hire<'a>(
     ensures claimers { claimers_of workers.new.items ≡ claimers.items }
     ensures lists { rows_of workers.new.items ≡ lists.items }
 {
-    for seat in seats {
+    for mut seat in seats {
+        seat.expect(calls);
         workers.push_reserved(Worker {
             seat,
             workspace: workspaces.remove(0),

@@ -3,12 +3,12 @@
 ghost use Rattle.std.specs.Prelude.{◌≡◌, ◌<◌, length, IfOk, OnErr, OnOk};
 ghost use Rattle.std.specs.List.{All};
 ghost use Rattle.claims.specs.Counters.{IsJobCount, IsWorkerCount};
-ghost use Rattle.invokeall.specs.Jobs.{IsCallable, calls_of};
+ghost use Rattle.invokeall.specs.Jobs.{IsCallable, calls_of, all_seen};
 ghost use Rattle.invokeall.specs.Rounds.{IsRound, IsAtHome};
 ghost use Rattle.invokeall.specs.Rooms.{IsRoom};
 
 use crate::crew::run_all;
-use crate::job::{Job, JobReply};
+use crate::job::{Job, JobReply, calls_for};
 use crate::room::{RoundRoom, collect, filled, gather, hire, room_for};
 use cache::{Cache, Gate, Seat};
 use jtypes::Loader;
@@ -17,6 +17,7 @@ use std::alloc::{AllocError, Global};
 use std::mem;
 use std::sync::Wait;
 use std::thread::Threads;
+use stripe::Call;
 
 /// Runs the jobs, by a worker at each seat, each with a workspace. A group is all jobs whose keys are of one stripe. A worker claims one group after the other and
 /// makes the calls of its jobs in their order, until there is no group left; the answers stand in the order of the jobs. There are as many threads as workers,
@@ -42,14 +43,16 @@ pub fn run_round<'a, R: Threads + Wait + Sync, G: Gate + Sync, L: Loader + Sync>
     ensures err { OnErr result ((seats.new.items ≡ seats.old.items) × (workspaces.new.items ≡ workspaces.old.items)) }
 {
     let room = room_for(alloc, jobs.len(), cache.stripes(), seats.len())?;
-    Ok(run_in(rt, cache, jobs, seats, workspaces, room, gate))
+    let calls = calls_for(alloc, cache.registry(), jobs)?;
+    Ok(run_in(rt, cache, &calls, seats, workspaces, room, gate))
 }
 
-/// Runs the jobs in the room for them, as `run_round` does. So it takes no memory of its own, and a job may be refused by its answer alone.
+/// Makes the calls in the room for them, as `run_round` does those of its jobs. So it takes no memory of its own, and a call may be
+/// refused by its answer alone.
 pub fn run_in<'a, R: Threads + Wait + Sync, G: Gate + Sync, L: Loader + Sync>(
     rt: &R,
     cache: &Cache<'a, '_, L>,
-    jobs: &[Job<'a>],
+    calls: &[Call<'a>],
     seats: &mut Vec<Seat<'a>>,
     workspaces: &mut Vec<Workspace>,
     room: RoundRoom<'a>,
@@ -58,9 +61,8 @@ pub fn run_in<'a, R: Threads + Wait + Sync, G: Gate + Sync, L: Loader + Sync>(
     requires some_seat { 0 < length seats.old.items }
     requires workspaces { length workspaces.old.items ≡ length seats.old.items }
     requires home { All (IsAtHome cache.now) seats.old.items }
-    requires callable { All (IsCallable cache.now.registry) jobs.now }
-    requires room { IsRoom (length jobs.now) (length cache.now.tables) (length seats.old.items) room }
-    ensures round { IsRound cache.now (calls_of jobs.now) seats.old.items seats.new.items result.items }
+    requires room { IsRoom (length (all_seen calls.now)) (length cache.now.tables) (length seats.old.items) room }
+    ensures round { IsRound cache.now (all_seen calls.now) seats.old.items seats.new.items result.items }
     ensures workspaces { length workspaces.new.items ≡ length workspaces.old.items }
 {
     let RoundRoom {
@@ -76,16 +78,16 @@ pub fn run_in<'a, R: Threads + Wait + Sync, G: Gate + Sync, L: Loader + Sync>(
         mut places,
         answers,
     } = room;
-    let groups = groups.of(jobs);
+    let groups = groups.of(calls);
     let old = mem::replace(seats, back);
     let used = mem::replace(workspaces, spaces);
-    hire(old, used, claimers, lists, &mut workers);
+    hire(calls.len(), old, used, claimers, lists, &mut workers);
     run_all(
         rt,
         cache,
         &counter,
         &groups,
-        jobs,
+        calls,
         workers.as_mut_slice(),
         gate,
     );

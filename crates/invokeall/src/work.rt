@@ -1,23 +1,24 @@
 //! One worker.
 
 ghost use Rattle.std.specs.Prelude.{◌≡◌, ◌<◌, ◌≤◌, ◌++◌, ℕ, List, length, vec_capacity};
-ghost use Rattle.std.specs.List.{All};
 ghost use mathlib.Core.Option.{some};
 ghost use lib.ListN.{get_elem?};
+ghost use Rattle.stripe.specs.Seen.{call_of as seen_call};
 ghost use Rattle.invokeall.specs.declared.work.Worker.{Worker};
-ghost use Rattle.invokeall.specs.Jobs.{IsCallable};
+ghost use Rattle.invokeall.specs.Jobs.{all_seen};
 ghost use Rattle.invokeall.specs.Groups.{AreGroups, AreDifferent, groups_in, members};
 ghost use Rattle.invokeall.specs.Crews.{IsReady, HasAnswered, HasWorked, numbers};
 
 use crate::groups::Groups;
-use crate::job::{Job, JobReply};
+use crate::job::JobReply;
 use cache::{Cache, Gate, Seat};
 use claims::{Claimer, Counter};
 use jtypes::Loader;
 use machine::Workspace;
 use std::sync::Wait;
+use stripe::Call;
 
-/// A worker of a round: what it makes calls with, its share of the numbers, and the answers that it got, each with its job's number.
+/// A worker of a round: what it makes calls with, its share of the numbers, and the answers that it got, each with its call's number.
 #[derive(Drop)]
 pub struct Worker<'a> {
     pub seat: Seat<'a>,
@@ -26,63 +27,62 @@ pub struct Worker<'a> {
     pub answers: Vec<(usize, JobReply)>,
 }
 
-/// Claims groups of jobs and makes their calls, until there is no group left.
+/// Claims groups of calls and makes them, until there is no group left.
 pub fn work<'a, R: Wait, G: Gate, L: Loader>(
     rt: &R,
     cache: &Cache<'a, '_, L>,
     counter: &Counter,
     groups: &Groups,
-    jobs: &[Job<'a>],
+    calls: &[Call<'a>],
     worker: &mut Worker<'a>,
     gate: &G,
 )
     requires counter { counter.now.jobs ≡ length groups.now.firsts.items }
-    requires groups { AreGroups jobs.now groups.now }
-    requires callable { All (IsCallable cache.now.registry) jobs.now }
-    requires ready { IsReady cache.now counter.now jobs.now worker.old }
-    ensures { HasWorked cache.now counter.now groups.now jobs.now worker.old worker.new }
+    requires groups { AreGroups (all_seen calls.now) groups.now }
+    requires ready { IsReady cache.now counter.now (length (all_seen calls.now)) worker.old }
+    ensures { HasWorked cache.now counter.now groups.now (all_seen calls.now) worker.old worker.new }
 {
     while let Some(group) = worker.claimer.claim(counter) {
-        work_on(rt, cache, groups, group, jobs, worker, gate);
+        work_on(rt, cache, groups, group, calls, worker, gate);
     }
 }
 
-/// Makes the calls of one group's jobs, in their order.
+/// Makes the calls of one group, in their order.
 fn work_on<'a, R: Wait, G: Gate, L: Loader>(
     rt: &R,
     cache: &Cache<'a, '_, L>,
     groups: &Groups,
     group: usize,
-    jobs: &[Job<'a>],
+    calls: &[Call<'a>],
     worker: &mut Worker<'a>,
     gate: &G,
 )
     requires group { group < length groups.now.firsts.items }
-    requires groups { AreGroups jobs.now groups.now }
-    requires callable { All (IsCallable cache.now.registry) jobs.now }
+    requires groups { AreGroups (all_seen calls.now) groups.now }
     requires home { worker.old.seat.table ≡ cache.now.table }
-    requires free { AreDifferent (length jobs.now) (numbers worker.old.answers.items ++ members (groups_in groups.now jobs.now) group (length jobs.now)) }
-    requires room { length jobs.now ≤ vec_capacity worker.old.answers }
+    requires free { AreDifferent (length (all_seen calls.now)) (numbers worker.old.answers.items ++ members (groups_in groups.now (all_seen calls.now)) group (length (all_seen calls.now))) }
+    requires room { length (all_seen calls.now) ≤ vec_capacity worker.old.answers }
     ensures claimer { worker.new.claimer ≡ worker.old.claimer }
-    ensures answered { (v : Worker) (before : List ℕ) → HasAnswered cache.now jobs.now v worker.old before → HasAnswered cache.now jobs.now v worker.new (before ++ members (groups_in groups.now jobs.now) group (length jobs.now)) }
+    ensures answered { (v : Worker) (before : List ℕ) → HasAnswered cache.now (all_seen calls.now) v worker.old before → HasAnswered cache.now (all_seen calls.now) v worker.new (before ++ members (groups_in groups.now (all_seen calls.now)) group (length (all_seen calls.now))) }
 {
     let mut number = groups.first(group);
-    while number < jobs.len() {
+    while number < calls.len() {
         let Worker {
             seat,
             workspace,
             ..
         } = worker;
-        let answer = job_at(jobs, number).call(rt, cache, seat, workspace, number, gate);
+        let call = call_numbered(calls, number);
+        let answer = cache.call_at(rt, seat, workspace, call, number, gate);
         worker.answers.push_reserved((number, answer));
         number = groups.next(number);
     }
 }
 
-/// The job of this number.
-fn job_at<'a>(jobs: &[Job<'a>], number: usize) -> Job<'a>
-    requires { number < length jobs.now }
-    ensures { get_elem? jobs.now number ≡ some result }
+/// The call of this number.
+fn call_numbered<'a>(calls: &[Call<'a>], number: usize) -> Call<'a>
+    requires { number < length calls.now }
+    ensures { get_elem? (all_seen calls.now) number ≡ some (seen_call result) }
 {
-    jobs[number]
+    calls[number]
 }

@@ -7,7 +7,7 @@ ghost use Rattle.registry.specs.Ids.{IsOf};
 ghost use Rattle.invokeall.specs.Jobs.{IsCallable};
 
 use cache::NoGate;
-use invokeall::Job;
+use invokeall::{Job, calls_for};
 use jtypes::{Arg, Args, NoLoader, Outcome};
 use registry::{ClassId, Registry};
 use rowclasses as rows;
@@ -16,7 +16,7 @@ use std::sync::Wait;
 use std::test::Fail;
 use std::thread::Threads;
 use stripe::{ArgSlice, Reply, Tables};
-use workers::{CrewLeft, Kept, run_by_workers, worth};
+use workers::{CALL, CrewLeft, Kept, run_by_workers, steps_of, worth};
 
 /// An invocation returned this Long.
 fn returned(n: i64) -> Option<Reply> {
@@ -38,8 +38,9 @@ fn round<R: Threads + Wait + Sync>(
         return None;
     }
     let mut kept = Kept::new(alloc);
+    let calls = calls_for(alloc, registry, jobs).ok()?;
     match run_by_workers(
-        rt, alloc, registry, tables, workers, jobs, &mut kept, &NoGate, &NoLoader,
+        rt, alloc, registry, tables, workers, &calls, &mut kept, &NoGate, &NoLoader,
     ) {
         Ok(left) => Some(left),
         Err(_) => None,
@@ -247,16 +248,15 @@ fn no_jobs_leave_the_entries(rt: HostRuntime) -> Result<(), Fail> {
     Ok(())
 }
 
-/// How many of four workers a round is worth that has five calls and runs 14 instructions at most: reckoned as 2,574 of them.
+/// How many of four workers a round is worth that has five calls and runs 14 instructions at most: reckoned as 974 of them.
 fn worths(registry: &Registry, class: &ClassId) -> [usize; 8]
     requires { IsOf registry.now class.now }
 {
-    let args = Args::none();
-    let jobs = on_own_keys(class, &args);
+    let steps = steps_of(registry.class(class)).saturating_add(4 * CALL);
     let mut worths = [0; 8];
     let shares = [0, 1, 243, 244, 324, 325, 487, 488];
     for (worth_of, share) in worths.iter_mut().zip(shares) {
-        *worth_of = worth(registry, &jobs, 4, share);
+        *worth_of = worth(steps, 4, share);
     }
     worths
 }

@@ -7,7 +7,7 @@ ghost use Rattle.registry.specs.Ids.{IsOf};
 ghost use Rattle.invokeall.specs.Jobs.{IsCallable};
 
 use cache::NoGate;
-use invokeall::Job;
+use invokeall::{Job, calls_for};
 use jtypes::{Arg, Args, JavaFault, LoadFailed, Loader, Outcome};
 use registry::{ClassId, Registry};
 use rowclasses as rows;
@@ -131,8 +131,9 @@ fn by_workers<R: Threads + Wait + Sync>(
     match Tables::new(alloc, 2) {
         Ok(tables) => {
             let mut kept = Kept::new(alloc);
+            let calls = calls_for(alloc, registry, jobs).ok()?;
             match run_by_workers(
-                rt, alloc, registry, tables, 4, jobs, &mut kept, &NoGate, &Few,
+                rt, alloc, registry, tables, 4, &calls, &mut kept, &NoGate, &Few,
             ) {
                 Ok(left) => Some((left.replies.as_slice() == replies, left.tables.entry(key))),
                 Err(_) => None,

@@ -1,12 +1,12 @@
 -- Plans grow, and their jobs keep their calls.
 use Rattle.std.proofs.Common.{◌≡◌, ◌⊎◌, inl, inr, ℕ, ℤ, zero, ◌+◌, ◌<◌, ◌≤◌, List, [], ◌∷◌, ◌++◌, length, map, take, drop, append-nil, append_assoc, Result, Ok, Err, OnOk, Bool, true, false, if◌then◌else◌, Option, Some, None, slice_get, get_or, length-append, arith, refl, sym, ap, ◌∙◌, subst, suc}
-use Rattle.std.specs.Prelude.{nat_le, All}
+use Rattle.std.specs.Prelude.{nat_le, All, Vec}
+use Rattle.std.specs.Global.{Global}
 use Rattle.std.proofs.lemmas.Bool.{leb-true, le-leb, lt-leb}
-use Rattle.std.proofs.lemmas.List.{length-map, map-append, get_or_append_left, length-drop, drop-append-le, take_all}
+use Rattle.std.proofs.lemmas.List.{length-map, map-append, length-drop, drop-append-le, take_all}
 use Rattle.std.proofs.Math.Seq.{drop-append_seam}
 use lib.Seq.{take-append-le}
 use Rattle.std.proofs.lemmas.List.Elements.{All-nil, All-cons}
-use Rattle.std.proofs.lemmas.Option.{slice_get_within, slice_get-get_or, get_or_from_slice_get}
 use Rattle.jtypes.specs.declared.refusal.Refusal.{Refusal}
 use Rattle.jtypes.specs.declared.refusal.Refusal.TheVariants as refusal
 use Rattle.typecheck.specs.Typing.{Class, IsProcessOf}
@@ -25,9 +25,8 @@ use Rattle.invokeall.specs.Collected.{different, invocations}
 use Rattle.serve.specs.Rounds.{most_classes, Part, part, Job, JobForEach, Adds, Gathers, Work, most_jobs, with_room, told, of_class, one, each, defines, refuses, lacks_memory, too_many, puts, gets, removes, looks, invokes, invokes_all}
 use Rattle.serve.specs.Rounds as rounds
 use Rattle.serve.specs.declared.plan.Plan.{Plan}
-use Rattle.serve.specs.declared.span.Span.{Span}
 use Rattle.serve.specs.declared.plan.Work.{Work as Planned}
-use Rattle.serve.specs.Kept.{HasFew, args_at, invocation_of, call_in, calls_in, AreCalls, IsKnown, Grows, Adding, work_of, works_of}
+use Rattle.serve.specs.Kept.{HasFew, args_at, invocation_of, call_in, calls_in, AreCalls, IsWithin, call_of, calls_of, Grows, Adding, work_of, works_of}
 use Rattle.jtypes.specs.Profile.{Second}
 
 -- ---- arguments
@@ -44,14 +43,8 @@ few_of RoundEnd h = tt
 
 -- ---- calls
 
-pub as_many_calls : (classes : List Class) (row : List Arg) (asks : List Ask) (calls : List Call) → AreCalls classes row asks calls → length asks ≡ length calls
-as_many_calls classes row asks calls h = sym (length-map asks (call_in classes row)) ∙ ap length h ∙ length-map calls Some
-
--- what stands at a place stays there when more is put behind
-front_get : {A : Type 0} (xs ys : List A) (n : ℕ) (x : A) → slice_get xs n ≡ Some x → slice_get (xs ++ ys) n ≡ Some x
-front_get xs ys n x h =
-    let lt = slice_get_within xs n x h in
-    slice_get-get_or (xs ++ ys) n x (omega (arith, lt, length-append xs ys)) ∙ ap Some (get_or_append_left xs ys x n lt ∙ get_or_from_slice_get xs n x x h)
+pub as_many_calls : (row : List Arg) (asks : List Ask) (calls : List Call) → AreCalls row asks calls → length asks ≡ length calls
+as_many_calls row asks calls h = sym (length-map asks (call_in row)) ∙ ap length h ∙ length-map calls Some
 
 -- arguments that are there lie within
 args_within : (row : List Arg) (at count : ℕ) (xs : List Arg) → args_at row at count ≡ Some xs → at + count ≤ length row
@@ -81,76 +74,78 @@ last_args row more =
     ∙ ap (λ l. Some (take (length more) l)) (drop-append_seam row more)
     ∙ ap Some (take_all (length more) more (omega arith))
 
--- an invocation has a class and arguments
-record IsInvocation (o : Option Class) (key : ℤ) (a : Option (List Arg)) (c : Call) : Type 0 where
-  class : Class
+-- an invocation has arguments
+record IsInvocation (class : Class) (key : ℤ) (a : Option (List Arg)) (c : Call) : Type 0 where
   args : List Arg
-  class_is : o ≡ Some class
   args_are : a ≡ Some args
   is : call.Invoke class key args ≡ c
 
-invoked : (o : Option Class) (key : ℤ) (a : Option (List Arg)) (c : Call) → invocation_of o key a ≡ Some c → IsInvocation o key a c
-invoked (Some x) key (Some args) c h = record { class = x; args = args; class_is = refl; args_are = refl; is = cc }
-invoked (Some x) key None c h = absurd cc
-invoked None key a c h = absurd cc
+invoked : (class : Class) (key : ℤ) (a : Option (List Arg)) (c : Call) → invocation_of class key a ≡ Some c → IsInvocation class key a c
+invoked class key (Some args) c h = record { args = args; args_are = refl; is = cc }
+invoked class key None c h = absurd cc
 
-later_call : (classes more : List Class) (row behind : List Arg) (a : Ask) (c : Call) → call_in classes row a ≡ Some c → call_in (classes ++ more) (row ++ behind) a ≡ Some c
-later_call classes more row behind (ask.Invoke n key span) c h =
-    let i = invoked (slice_get classes n) key (args_at row span.at span.count) c h in
-    let class = front_get classes more n i.class i.class_is in
+later_call : (row behind : List Arg) (a : Ask) (c : Call) → call_in row a ≡ Some c → call_in (row ++ behind) a ≡ Some c
+later_call row behind (ask.Invoke class key span) c h =
+    let i = invoked class.now key (args_at row span.at span.count) c h in
     let args = front_args row behind span.at span.count i.args i.args_are in
-    ap (λ o. invocation_of o key (args_at (row ++ behind) span.at span.count)) class ∙ ap (λ a. invocation_of (Some i.class) key a) args ∙ ap Some i.is
-later_call classes more row behind (ask.Get key) c h = h
-later_call classes more row behind (ask.Put key value) c h = h
-later_call classes more row behind (ask.Remove key) c h = h
-later_call classes more row behind (ask.Contains key) c h = h
+    ap (λ a. invocation_of class.now key a) args ∙ ap Some i.is
+later_call row behind (ask.Get key) c h = h
+later_call row behind (ask.Put key value) c h = h
+later_call row behind (ask.Remove key) c h = h
+later_call row behind (ask.Contains key) c h = h
 
--- a class that is accepted later is no job's, nor are arguments that come later
-pub later_calls : (classes more : List Class) (row behind : List Arg) (asks : List Ask) (calls : List Call) → AreCalls classes row asks calls → AreCalls (classes ++ more) (row ++ behind) asks calls
-later_calls classes more row behind [] [] h = refl
-later_calls classes more row behind [] (c ∷ calls) h = absurd cc
-later_calls classes more row behind (a ∷ asks) [] h = absurd cc
-later_calls classes more row behind (a ∷ asks) (c ∷ calls) h =
-    let first : call_in classes row a ≡ Some c = cc in
-    let rest : calls_in classes row asks ≡ map Some calls = cc in
-    let head = later_call classes more row behind a c first in
-    let tail = later_calls classes more row behind asks calls rest in
+-- arguments that come later are no job's
+pub later_calls : (row behind : List Arg) (asks : List Ask) (calls : List Call) → AreCalls row asks calls → AreCalls (row ++ behind) asks calls
+later_calls row behind [] [] h = refl
+later_calls row behind [] (c ∷ calls) h = absurd cc
+later_calls row behind (a ∷ asks) [] h = absurd cc
+later_calls row behind (a ∷ asks) (c ∷ calls) h =
+    let first : call_in row a ≡ Some c = cc in
+    let rest : calls_in row asks ≡ map Some calls = cc in
+    let head = later_call row behind a c first in
+    let tail = later_calls row behind asks calls rest in
     cc
 
--- no class, or no arguments
-pub later_classes : (classes more : List Class) (row : List Arg) (asks : List Ask) (calls : List Call) → AreCalls classes row asks calls → AreCalls (classes ++ more) row asks calls
-later_classes classes more row asks calls h = subst (λ l. AreCalls (classes ++ more) l asks calls) (append-nil row) (later_calls classes more row [] asks calls h)
+-- the arguments of a job that has a call are there
+within_call : (row : List Arg) (a : Ask) (c : Call) → call_in row a ≡ Some c → IsWithin (length row) a
+within_call row (ask.Invoke class key span) c h =
+    let i = invoked class.now key (args_at row span.at span.count) c h in
+    args_within row span.at span.count i.args i.args_are
+within_call row (ask.Get key) c h = tt
+within_call row (ask.Put key value) c h = tt
+within_call row (ask.Remove key) c h = tt
+within_call row (ask.Contains key) c h = tt
 
-pub later_args : (classes : List Class) (row behind : List Arg) (asks : List Ask) (calls : List Call) → AreCalls classes row asks calls → AreCalls classes (row ++ behind) asks calls
-later_args classes row behind asks calls h = subst (λ l. AreCalls l (row ++ behind) asks calls) (append-nil classes) (later_calls classes [] row behind asks calls h)
+pub within_calls : (row : List Arg) (asks : List Ask) (calls : List Call) → AreCalls row asks calls → All (IsWithin (length row)) asks
+within_calls row [] calls h = All-nil (IsWithin (length row))
+within_calls row (a ∷ asks) [] h = absurd cc
+within_calls row (a ∷ asks) (c ∷ calls) h =
+    let first : call_in row a ≡ Some c = cc in
+    let rest : calls_in row asks ≡ map Some calls = cc in
+    All-cons (IsWithin (length row)) a asks (within_call row a c first) (within_calls row asks calls rest)
 
--- the class and the arguments of a job that has a call are there
-known_call : (classes : List Class) (row : List Arg) (a : Ask) (c : Call) → call_in classes row a ≡ Some c → IsKnown (length classes) (length row) a
-known_call classes row (ask.Invoke n key span) c h =
-    let i = invoked (slice_get classes n) key (args_at row span.at span.count) c h in
-    (slice_get_within classes n i.class i.class_is, args_within row span.at span.count i.args i.args_are)
-known_call classes row (ask.Get key) c h = tt
-known_call classes row (ask.Put key value) c h = tt
-known_call classes row (ask.Remove key) c h = tt
-known_call classes row (ask.Contains key) c h = tt
+-- and the call is the one that has them
+same_call : (row : List Arg) (a : Ask) (c : Call) → call_in row a ≡ Some c → call_of row a ≡ c
+same_call row (ask.Invoke class key span) c h =
+    let i = invoked class.now key (args_at row span.at span.count) c h in
+    let within = args_within row span.at span.count i.args i.args_are in
+    let found : Some (take span.count (drop span.at row)) ≡ Some i.args = sym (args_there row span.at span.count within) ∙ i.args_are in
+    let same : take span.count (drop span.at row) ≡ i.args = cc in
+    ap (λ l. call.Invoke class.now key l) same ∙ i.is
+same_call row (ask.Get key) c h = cc
+same_call row (ask.Put key value) c h = cc
+same_call row (ask.Remove key) c h = cc
+same_call row (ask.Contains key) c h = cc
 
-pub known_calls : (classes : List Class) (row : List Arg) (asks : List Ask) (calls : List Call) → AreCalls classes row asks calls → All (IsKnown (length classes) (length row)) asks
-known_calls classes row [] calls h = All-nil (IsKnown (length classes) (length row))
-known_calls classes row (a ∷ asks) [] h = absurd cc
-known_calls classes row (a ∷ asks) (c ∷ calls) h =
-    let first : call_in classes row a ≡ Some c = cc in
-    let rest : calls_in classes row asks ≡ map Some calls = cc in
-    All-cons (IsKnown (length classes) (length row)) a asks (known_call classes row a c first) (known_calls classes row asks calls rest)
-
--- each is there
-pub same_calls : (xs ys : List Call) → map Some xs ≡ map Some ys → xs ≡ ys
-same_calls [] [] h = refl
-same_calls [] (y ∷ ys) h = absurd cc
-same_calls (x ∷ xs) [] h = absurd cc
-same_calls (x ∷ xs) (y ∷ ys) h =
-    let first : x ≡ y = cc in
-    let rest : map {B = Option Call} Some xs ≡ map Some ys = cc in
-    let tail = same_calls xs ys rest in
+pub same_calls : (row : List Arg) (asks : List Ask) (calls : List Call) → AreCalls row asks calls → calls_of row asks ≡ calls
+same_calls row [] [] h = refl
+same_calls row [] (c ∷ calls) h = absurd cc
+same_calls row (a ∷ asks) [] h = absurd cc
+same_calls row (a ∷ asks) (c ∷ calls) h =
+    let first : call_in row a ≡ Some c = cc in
+    let rest : calls_in row asks ≡ map Some calls = cc in
+    let head = same_call row a c first in
+    let tail = same_calls row asks calls rest in
     cc
 
 -- ---- a round has no more jobs than it may have
@@ -199,37 +194,29 @@ lacks_room at p h = ap (λ (b : Bool). if b then p else told (reply.Denied TooMa
 
 -- ---- what a call adds to a plan
 
-pub grows_jobs : {E : Type 0} (res : Result (Unit {0}) E) (classes : List Class) (old new : Plan) (w : Planned) (q : Part) (more : List Arg) → OnOk res (new.works.items ≡ old.works.items ++ w ∷ []) → work_of w ≡ q.work
-    → new.args.items ≡ old.args.items ++ more → calls_in classes new.args.items new.asks.items ≡ calls_in classes new.args.items old.asks.items ++ map Some q.calls → OnOk res (Grows classes old new q)
-grows_jobs (Ok x) classes old new w q more works is row calls = record {
+pub grows_jobs : {E : Type 0} (res : Result (Unit {0}) E) (old new : Plan) (w : Planned) (q : Part) (more : List Arg) → OnOk res (new.works.items ≡ old.works.items ++ w ∷ []) → work_of w ≡ q.work
+    → new.args.items ≡ old.args.items ++ more → calls_in new.args.items new.asks.items ≡ calls_in new.args.items old.asks.items ++ map Some q.calls → OnOk res (Grows old new q)
+grows_jobs (Ok x) old new w q more works is row calls = record {
   works = ap (λ l. map work_of l) works ∙ map-append work_of old.works.items (w ∷ []) ∙ ap (λ y. works_of old ++ y ∷ []) is;
-  calls = λ cs h. calls ∙ ap (λ l. l ++ map Some q.calls) (subst (λ l. AreCalls classes l old.asks.items cs) (sym row) (later_args classes old.args.items more old.asks.items cs h)) ∙ sym (map-append Some cs q.calls);
+  calls = λ cs h. calls ∙ ap (λ l. l ++ map Some q.calls) (subst (λ l. AreCalls l old.asks.items cs) (sym row) (later_calls old.args.items more old.asks.items cs h)) ∙ sym (map-append Some cs q.calls);
 }
-grows_jobs (Err e) classes old new w q more works is row calls = tt
+grows_jobs (Err e) old new w q more works is row calls = tt
 
-pub grows_told : {E : Type 0} (res : Result (Unit {0}) E) (classes : List Class) (old new : Plan) (w : Planned) → OnOk res (new.works.items ≡ old.works.items ++ w ∷ []) → new.asks ≡ old.asks → new.args ≡ old.args
-    → OnOk res (Grows classes old new (part (work_of w) []))
-grows_told res classes old new w works asks args =
-    grows_jobs res classes old new w (part (work_of w) []) [] works refl (ap (λ v. v.items) args ∙ sym (append-nil old.args.items)) (ap (λ v. calls_in classes new.args.items v.items) asks ∙ sym (append-nil (calls_in classes new.args.items old.asks.items)))
+pub grows_told : {E : Type 0} (res : Result (Unit {0}) E) (old new : Plan) (w : Planned) → OnOk res (new.works.items ≡ old.works.items ++ w ∷ []) → new.asks ≡ old.asks → new.args ≡ old.args
+    → OnOk res (Grows old new (part (work_of w) []))
+grows_told res old new w works asks args =
+    grows_jobs res old new w (part (work_of w) []) [] works refl (ap (λ v. v.items) args ∙ sym (append-nil old.args.items)) (ap (λ v. calls_in new.args.items v.items) asks ∙ sym (append-nil (calls_in new.args.items old.asks.items)))
+
+-- what is told of a plan whose works are those of another
+pub grown : {E : Type 0} (res : Result (Unit {0}) E) (new : List Planned) (w : Planned) (old middle : Vec Planned Global) → middle ≡ old → OnOk res (new ≡ middle.items ++ w ∷ []) → OnOk res (new ≡ old.items ++ w ∷ [])
+grown (Ok x) new w old middle e h = h ∙ ap (λ (v : Vec Planned Global). v.items ++ w ∷ []) e
+grown (Err x) new w old middle e h = tt
 
 -- one more job
-pub one_more_call : (classes : List Class) (row : List Arg) (old new : List Ask) (a : Ask) (c : Call) → new ≡ old ++ a ∷ [] → call_in classes row a ≡ Some c → calls_in classes row new ≡ calls_in classes row old ++ map Some (c ∷ [])
-one_more_call classes row old new a c is called = ap (calls_in classes row) is ∙ map-append (call_in classes row) old (a ∷ []) ∙ ap (λ o. calls_in classes row old ++ o ∷ []) called
+pub one_more_call : (row : List Arg) (old new : List Ask) (a : Ask) (c : Call) → new ≡ old ++ a ∷ [] → call_in row a ≡ Some c → calls_in row new ≡ calls_in row old ++ map Some (c ∷ [])
+one_more_call row old new a c is called = ap (calls_in row) is ∙ map-append (call_in row) old (a ∷ []) ∙ ap (λ o. calls_in row old ++ o ∷ []) called
 
--- the classes of the jobs stay
-keeps_calls : {classes later : List Class} {at : ℕ} {r : Request} {p : Part} → Adds classes at r p later → (row : List Arg) (asks : List Ask) (calls : List Call) → AreCalls classes row asks calls → AreCalls later row asks calls
-keeps_calls {classes} (defines bytes c r few is) row asks calls h = later_classes classes (c ∷ []) row asks calls h
-keeps_calls (refuses bytes r few is) row asks calls h = h
-keeps_calls (lacks_memory bytes few) row asks calls h = h
-keeps_calls (too_many bytes many) row asks calls h = h
-keeps_calls (puts key value) row asks calls h = h
-keeps_calls (gets key) row asks calls h = h
-keeps_calls (removes key) row asks calls h = h
-keeps_calls (looks key) row asks calls h = h
-keeps_calls (invokes n key args) row asks calls h = h
-keeps_calls (invokes_all n keys args) row asks calls h = h
-
-pub adds_jobs : {E : Type 0} (res : Result (Unit {0}) E) (classes : List Class) (old new : Plan) (r s : Request) (p : Part) → r ≡ s → OnOk res (Grows classes old new p)
+pub adds_jobs : {E : Type 0} (res : Result (Unit {0}) E) (classes : List Class) (old new : Plan) (r s : Request) (p : Part) → r ≡ s → OnOk res (Grows old new p)
     → Adds classes (length old.asks.items) s p classes → OnOk res (Adding classes old r new classes)
 adds_jobs (Ok x) classes old new r s p e g a = subst (λ (z : Request). Adding classes old z new classes) (sym e) (record {
   part = p;
@@ -245,7 +232,7 @@ adds_told (Ok x) classes later old new r s w e works asks args a = subst (λ (z 
   part = part (work_of w) [];
   adds = a;
   works = ap (λ l. map work_of l) works ∙ map-append work_of old.works.items (w ∷ []);
-  calls = λ calls h. ap (λ v. calls_in later new.args.items v.items) asks ∙ ap (λ v. calls_in later v.items old.asks.items) args ∙ keeps_calls a old.args.items old.asks.items calls h ∙ ap (λ l. map Some l) (sym (append-nil calls));
+  calls = λ calls h. ap (λ v. calls_in new.args.items v.items) asks ∙ ap (λ v. calls_in v.items old.asks.items) args ∙ h ∙ ap (λ l. map Some l) (sym (append-nil calls));
 })
 adds_told (Err x) classes later old new r s w e works asks args a = tt
 
@@ -295,17 +282,15 @@ pub of_ok : {A E P : Type 0} (res : Result A E) (x : A) → res ≡ Ok x → OnO
 of_ok {P = P} res x e h = subst (λ r. OnOk r P) e h
 
 -- a job for one more key
-pub pushed : (classes : List Class) (row : List Arg) (n : ℕ) (span : Span) (args : List Arg) (x : Class) (old new : List Ask) (keys : List ℤ) (i : ℕ) (d : ℤ) (all : List (Option Call)) → i < length keys → slice_get classes n ≡ Some x
-    → args_at row span.at span.count ≡ Some args → new ≡ old ++ ask.Invoke n (get_or keys i d) span ∷ [] → calls_in classes row old ++ map Some (invocations x args (drop i keys)) ≡ all
-    → calls_in classes row new ++ map Some (invocations x args (drop (i + 1) keys)) ≡ all
-pushed classes row n span args x old new keys i d all h e there is g =
+pub pushed : (row : List Arg) (make : ℤ → Ask) (x : Class) (args : List Arg) (old new : List Ask) (keys : List ℤ) (i : ℕ) (d : ℤ) (all : List (Option Call)) → i < length keys → ((k : ℤ) → call_in row (make k) ≡ Some (call.Invoke x k args))
+    → new ≡ old ++ make (get_or keys i d) ∷ [] → calls_in row old ++ map Some (invocations x args (drop i keys)) ≡ all → calls_in row new ++ map Some (invocations x args (drop (i + 1) keys)) ≡ all
+pushed row make x args old new keys i d all h called is g =
     let f : ℤ → Option Call = λ k. Some (call.Invoke x k args) in
-    let a : Ask = ask.Invoke n (get_or keys i d) span in
-    let called : call_in classes row a ≡ f (get_or keys i d) = ap (λ o. invocation_of o (get_or keys i d) (args_at row span.at span.count)) e ∙ ap (λ l. invocation_of (Some x) (get_or keys i d) l) there in
-    ap (λ l. calls_in classes row l ++ map Some (invocations x args (drop (i + 1) keys))) is
-    ∙ ap (λ l. l ++ map Some (invocations x args (drop (i + 1) keys))) (map-append (call_in classes row) old (a ∷ []))
-    ∙ ap (λ l. (calls_in classes row old ++ call_in classes row a ∷ []) ++ l) (map-map (drop (i + 1) keys))
-    ∙ map_step f (calls_in classes row old) keys i d (call_in classes row a) all h called (ap (λ l. calls_in classes row old ++ l) (sym (map-map (drop i keys))) ∙ g)
+    let a : Ask = make (get_or keys i d) in
+    ap (λ l. calls_in row l ++ map Some (invocations x args (drop (i + 1) keys))) is
+    ∙ ap (λ l. l ++ map Some (invocations x args (drop (i + 1) keys))) (map-append (call_in row) old (a ∷ []))
+    ∙ ap (λ l. (calls_in row old ++ call_in row a ∷ []) ++ l) (map-map (drop (i + 1) keys))
+    ∙ map_step f (calls_in row old) keys i d (call_in row a) all h (called (get_or keys i d)) (ap (λ l. calls_in row old ++ l) (sym (map-map (drop i keys))) ∙ g)
   where
     map-map : (ks : List ℤ) → map {B = Option Call} Some (invocations x args ks) ≡ map (λ k. Some (call.Invoke x k args)) ks
     map-map [] = refl

@@ -57,10 +57,10 @@ as_many (rounds.more requests works calls now later r p g a) = length-append wor
 pub begun : (first : List Class) (works : List Planned) → works ≡ [] → Gathers first [] (map work_of works) [] first
 begun first works e = subst (λ l. Gathers first [] (map work_of l) [] first) (sym e) rounds.none
 
-pub gathered_more : (first now later : List Class) (xs : List Request) (calls : List Call) (r : Request) (old new : Plan) → Gathers first xs (works_of old) calls now → AreCalls now old.args.items old.asks.items calls
+pub gathered_more : (first now later : List Class) (xs : List Request) (calls : List Call) (r : Request) (old new : Plan) → Gathers first xs (works_of old) calls now → AreCalls old.args.items old.asks.items calls
     → (a : Adding now old r new later) → Gathers first (xs ++ r ∷ []) (works_of new) (calls ++ a.part.calls) later
 gathered_more first now later xs calls r old new g c a =
-    let adds = subst (λ n. rounds.Adds now n r a.part later) (as_many_calls now old.args.items old.asks.items calls c) a.adds in
+    let adds = subst (λ n. rounds.Adds now n r a.part later) (as_many_calls old.args.items old.asks.items calls c) a.adds in
     subst (λ l. Gathers first (xs ++ r ∷ []) l (calls ++ a.part.calls) later) (sym a.works) (rounds.more xs (works_of old) calls now later r a.part g adds)
 
 pub stops_of : (left : Option (List ℕ)) (requests : List Request) (bytes : List ℕ) (e : WireFault) → ReadGives left bytes (Err e) → Stops requests bytes (fault_of_wire e)

@@ -1,5 +1,5 @@
 -- What the code keeps, as the definitions see it.
-use Rattle.std.specs.Prelude.{Bool, ℤ, ◌≡◌, ◌+◌, ◌<◌, ◌≤◌, nat_le, if◌then◌else◌, ℕ, List, [], ◌∷◌, ◌++◌, length, take, drop, map, Option, Some, None, slice_get, All}
+use Rattle.std.specs.Prelude.{Bool, ℤ, ◌≡◌, ◌+◌, ◌≤◌, nat_le, if◌then◌else◌, ℕ, List, [], ◌∷◌, ◌++◌, length, take, drop, map, Option, Some, None, All}
 use Rattle.std.specs.Io.KnownBytes.{Consumes, Appends, IsAtEnd}
 use Rattle.boxcar.specs.Table.{Shelves, Where}
 use Rattle.jtypes.specs.declared.loader.LoadAnswer.{LoadAnswer}
@@ -67,46 +67,56 @@ works_of p = map work_of p.works.items
 abbrev pub args_at : List Arg → ℕ → ℕ → Option (List Arg)
 args_at row at count = if nat_le (at + count) (length row) then Some (take count (drop at row)) else None
 
-abbrev pub invocation_of : Option Class → ℤ → Option (List Arg) → Option Call
-invocation_of (Some c) key (Some args) = Some (call.Invoke c key args)
-invocation_of (Some c) key None = None
-invocation_of None key args = None
+abbrev pub invocation_of : Class → ℤ → Option (List Arg) → Option Call
+invocation_of c key (Some args) = Some (call.Invoke c key args)
+invocation_of c key None = None
 
--- the call of a job, if its class is one of these and its arguments are in the row
-abbrev pub call_in : List Class → List Arg → Ask → Option Call
-call_in classes row (ask.Invoke n key span) = invocation_of (slice_get classes n) key (args_at row span.at span.count)
-call_in classes row (ask.Get key) = Some (call.Get key)
-call_in classes row (ask.Put key value) = Some (call.Put key value)
-call_in classes row (ask.Remove key) = Some (call.Remove key)
-call_in classes row (ask.Contains key) = Some (call.Contains key)
+-- the call of a job, if its arguments are in the row
+abbrev pub call_in : List Arg → Ask → Option Call
+call_in row (ask.Invoke class key span) = invocation_of class.now key (args_at row span.at span.count)
+call_in row (ask.Get key) = Some (call.Get key)
+call_in row (ask.Put key value) = Some (call.Put key value)
+call_in row (ask.Remove key) = Some (call.Remove key)
+call_in row (ask.Contains key) = Some (call.Contains key)
 
-abbrev pub calls_in : List Class → List Arg → List Ask → List (Option Call)
-calls_in classes row asks = map (call_in classes row) asks
+abbrev pub calls_in : List Arg → List Ask → List (Option Call)
+calls_in row asks = map (call_in row) asks
 
 -- the jobs are these calls
-abbrev pub AreCalls : List Class → List Arg → List Ask → List Call → Type 0
-AreCalls classes row asks calls = calls_in classes row asks ≡ map Some calls
+abbrev pub AreCalls : List Arg → List Ask → List Call → Type 0
+AreCalls row asks calls = calls_in row asks ≡ map Some calls
 
 -- the jobs are calls, as many as a round may have at most
-abbrev pub HasCalls : List Class → Plan → Type 0
-HasCalls classes plan = (calls : List Call) × AreCalls classes plan.args.items plan.asks.items calls × (length calls ≤ most_jobs)
+abbrev pub HasCalls : Plan → Type 0
+HasCalls plan = (calls : List Call) × AreCalls plan.args.items plan.asks.items calls × (length calls ≤ most_jobs)
 
--- the class of a job is one of so many, and its arguments are among so many
-abbrev pub IsKnown : ℕ → ℕ → Ask → Type 0
-IsKnown count long (ask.Invoke n key span) = (n < count) × (span.at + span.count ≤ long)
-IsKnown count long _ = Unit {0}
+-- the arguments of a job are among so many
+abbrev pub IsWithin : ℕ → Ask → Type 0
+IsWithin long (ask.Invoke class key span) = span.at + span.count ≤ long
+IsWithin long _ = Unit {0}
+
+-- the call of a job whose arguments are in the row
+abbrev pub call_of : List Arg → Ask → Call
+call_of row (ask.Invoke class key span) = call.Invoke class.now key (take span.count (drop span.at row))
+call_of row (ask.Get key) = call.Get key
+call_of row (ask.Put key value) = call.Put key value
+call_of row (ask.Remove key) = call.Remove key
+call_of row (ask.Contains key) = call.Contains key
+
+abbrev pub calls_of : List Arg → List Ask → List Call
+calls_of row asks = map (call_of row) asks
 
 -- a part was added to the plan
-pub record Grows (classes : List Class) (old new : Plan) (p : Part) : Type 0 where
+pub record Grows (old new : Plan) (p : Part) : Type 0 where
   pub works : works_of new ≡ works_of old ++ p.work ∷ []
-  pub calls : (calls : List Call) → AreCalls classes old.args.items old.asks.items calls → AreCalls classes new.args.items new.asks.items (calls ++ p.calls)
+  pub calls : (calls : List Call) → AreCalls old.args.items old.asks.items calls → AreCalls new.args.items new.asks.items (calls ++ p.calls)
 
 -- a request was added to the plan
 pub record Adding (classes : List Class) (old : Plan) (r : Request) (new : Plan) (later : List Class) : Type 0 where
   pub part : Part
   pub adds : Adds classes (length old.asks.items) r part later
   pub works : works_of new ≡ works_of old ++ part.work ∷ []
-  pub calls : (calls : List Call) → AreCalls classes old.args.items old.asks.items calls → AreCalls later new.args.items new.asks.items (calls ++ part.calls)
+  pub calls : (calls : List Call) → AreCalls old.args.items old.asks.items calls → AreCalls new.args.items new.asks.items (calls ++ part.calls)
 
 -- ---- rounds
 
@@ -117,7 +127,7 @@ pub record IsWhole (old new : Option (List ℕ)) (first : List Class) (plan : Pl
   pub are : AreOpen requests
   pub took : Consumes old new (requests_text (ended requests))
   pub gathered : Gathers first requests (works_of plan) calls later
-  pub called : AreCalls later plan.args.items plan.asks.items calls
+  pub called : AreCalls plan.args.items plan.asks.items calls
 
 -- a round was read to its end, or the input ended before one
 abbrev pub RoundRead : Option (List ℕ) → Option (List ℕ) → List Class → List Class → Option Plan → Type 0

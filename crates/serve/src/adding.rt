@@ -1,6 +1,6 @@
 //! Requests are added to their round.
 
-ghost use Rattle.std.specs.Prelude.{◌≡◌, ◌≢◌, ◌<◌, ◌≤◌, ℕ, [], length, OnOk, None, slice_get, true, false};
+ghost use Rattle.std.specs.Prelude.{◌≡◌, ◌≢◌, ◌≤◌, ℕ, [], length, OnOk, Some, None, IfSome, IfNone, slice_get};
 ghost use Rattle.wire.specs.Requests.{with_args, Define, Invoke, InvokeAll, RoundEnd};
 ghost use Rattle.serve.specs.Rounds.{Adds, part};
 ghost use Rattle.serve.specs.Kept.{AreOf, HasFew, classes_of, work_of, Adding};
@@ -12,6 +12,7 @@ use jtypes::{Arg, Refusal};
 use registry::{ClassId, Registry};
 use std::alloc::{AllocError, Global};
 use std::sync::Wait;
+use verify::Verified;
 use wire::{Denial, Request};
 
 /// The most classes of a stream.
@@ -50,56 +51,63 @@ fn define<T: Wait>(
     }
 }
 
-/// Whether a class with this number was accepted.
-fn is_known(ids: &[ClassId], class: usize) -> bool
-    ensures yes { result ≡ true → class < length ids.now }
-    ensures no { result ≡ false → slice_get (classes_of ids.now) class ≡ None }
+/// The class with this number, if it was accepted.
+fn class_at<'r>(registry: &'r Registry, ids: &[ClassId], class: usize) -> Option<&'r Verified>
+    requires { AreOf registry.now ids.now }
+    ensures some { IfSome result (λ c. slice_get (classes_of ids.now) class ≡ Some c.now) }
+    ensures none { IfNone result (slice_get (classes_of ids.now) class ≡ None) }
 {
-    class < ids.len()
+    if class < ids.len() {
+        Some(registry.class(&ids[class]))
+    } else {
+        None
+    }
 }
 
-fn add_invoke(
+fn add_invoke<'r>(
+    registry: &'r Registry,
     ids: &[ClassId],
-    plan: &mut Plan,
+    plan: &mut Plan<'r>,
     class: usize,
     key: &i64,
     args: &[Arg],
 ) -> Result<(), AllocError>
-    requires { length args.now ≤ 8 }
+    requires few { length args.now ≤ 8 }
+    requires known { AreOf registry.now ids.now }
     ensures { OnOk result (Adding (classes_of ids.now) plan.old (Invoke class key.now args.now) plan.new (classes_of ids.now)) }
 {
-    if is_known(ids, class) {
-        one_invocation(plan, class, key, args)
-    } else {
-        tell(plan, Work::Denied(Denial::UnknownClass))
+    match class_at(registry, ids, class) {
+        Some(class) => one_invocation(plan, class, key, args),
+        None => tell(plan, Work::Denied(Denial::UnknownClass)),
     }
 }
 
-fn add_invoke_all(
+fn add_invoke_all<'r>(
     alloc: Global,
+    registry: &'r Registry,
     ids: &[ClassId],
-    plan: &mut Plan,
+    plan: &mut Plan<'r>,
     class: usize,
     keys: &[i64],
     args: &[Arg],
 ) -> Result<(), AllocError>
-    requires { length args.now ≤ 8 }
+    requires few { length args.now ≤ 8 }
+    requires known { AreOf registry.now ids.now }
     ensures { OnOk result (Adding (classes_of ids.now) plan.old (InvokeAll class keys.now args.now) plan.new (classes_of ids.now)) }
 {
-    if is_known(ids, class) {
-        many_jobs(alloc, plan, class, keys, args)
-    } else {
-        tell(plan, Work::Denied(Denial::UnknownClass))
+    match class_at(registry, ids, class) {
+        Some(class) => many_jobs(alloc, plan, class, keys, args),
+        None => tell(plan, Work::Denied(Denial::UnknownClass)),
     }
 }
 
 /// Adds a request with these arguments to its round.
-pub fn add<T: Wait>(
+pub fn add<'r, T: Wait>(
     rt: &T,
     alloc: Global,
-    registry: &Registry,
+    registry: &'r Registry,
     ids: &mut Vec<ClassId>,
-    plan: &mut Plan,
+    plan: &mut Plan<'r>,
     request: Request,
     args: &[Arg],
 ) -> Result<(), AllocError>
@@ -112,12 +120,12 @@ pub fn add<T: Wait>(
     add_behind(rt, alloc, registry, ids, plan, &request, args)
 }
 
-fn add_behind<T: Wait>(
+fn add_behind<'r, T: Wait>(
     rt: &T,
     alloc: Global,
-    registry: &Registry,
+    registry: &'r Registry,
     ids: &mut Vec<ClassId>,
-    plan: &mut Plan,
+    plan: &mut Plan<'r>,
     request: &Request,
     args: &[Arg],
 ) -> Result<(), AllocError>
@@ -137,10 +145,11 @@ fn add_behind<T: Wait>(
         Request::Remove { key } => one_job(plan, remove(key)),
         Request::Contains { key } => one_job(plan, contains(key)),
         Request::Invoke { class, key } => {
-            add_invoke(ids.as_slice(), plan, *class as usize, key, args)
+            add_invoke(registry, ids.as_slice(), plan, *class as usize, key, args)
         }
         Request::InvokeAll { class, keys } => add_invoke_all(
             alloc,
+            registry,
             ids.as_slice(),
             plan,
             *class as usize,

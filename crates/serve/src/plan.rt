@@ -1,8 +1,7 @@
 //! What a round has to do.
 
-ghost use Rattle.std.specs.Prelude.{◌≡◌, ◌≤◌, ◌++◌, ◌∷◌, [], List, Some, length, map, slice_get, OnOk, IfOk};
+ghost use Rattle.std.specs.Prelude.{◌≡◌, ◌≤◌, ◌++◌, ◌∷◌, [], List, Some, length, map, OnOk, IfOk};
 ghost use Rattle.jtypes.specs.declared.types.Arg.{Arg};
-ghost use Rattle.typecheck.specs.Typing.{Class};
 ghost use Rattle.stripe.specs.History.{Call, Invoke};
 ghost use Rattle.invokeall.specs.Collected.{different, invocations};
 ghost use Rattle.serve.specs.Rounds.{one, each, most_jobs};
@@ -13,7 +12,9 @@ use indexmap::IndexSet;
 use jtypes::{Arg, Refusal};
 use std::alloc::{AllocError, Global};
 use std::marker::Model;
+use verify::Verified;
 use wire::Denial;
+use workers::{CALL, steps_of};
 
 /// The most jobs of a round.
 pub const MOST_JOBS: usize = 4096;
@@ -56,22 +57,37 @@ pub enum Work {
     JobForEach(usize, Keys),
 }
 
-/// What a job asks. It names its class by the number.
+/// What a job asks. It has its class, and its arguments by where they stand in their round.
 #[derive(Clone, Copy)]
-pub enum Ask {
-    Invoke { class: usize, key: i64, args: Span },
-    Get { key: i64 },
-    Put { key: i64, value: i64 },
-    Remove { key: i64 },
-    Contains { key: i64 },
+pub enum Ask<'r> {
+    Invoke {
+        class: &'r Verified,
+        key: i64,
+        args: Span,
+    },
+    Get {
+        key: i64,
+    },
+    Put {
+        key: i64,
+        value: i64,
+    },
+    Remove {
+        key: i64,
+    },
+    Contains {
+        key: i64,
+    },
 }
 
 /// What is told of each request of a round, its jobs, and the arguments of all its invocations, one behind the other.
 #[derive(Drop)]
-pub struct Plan {
+pub struct Plan<'r> {
     pub works: Vec<Work>,
-    pub asks: Vec<Ask>,
+    pub asks: Vec<Ask<'r>>,
     pub args: Vec<Arg>,
+    /// The instructions that the jobs are reckoned to take at most; at the greatest value it stays.
+    pub steps: u64,
 }
 
 /// For how many requests, jobs and arguments a round has room before it grows: as many as the round before had.
@@ -93,7 +109,7 @@ fn no_items<T>(alloc: Global, room: usize) -> Vec<T>
 }
 
 /// No request yet.
-pub fn no_requests(alloc: Global, room: Room) -> Plan
+pub fn no_requests<'r>(alloc: Global, room: Room) -> Plan<'r>
     ensures works { result.works.items ≡ [] }
     ensures asks { result.asks.items ≡ [] }
 {
@@ -101,11 +117,12 @@ pub fn no_requests(alloc: Global, room: Room) -> Plan
         works: no_items(alloc, room.works),
         asks: no_items(alloc, room.asks),
         args: no_items(alloc, room.args),
+        steps: 0,
     }
 }
 
 /// As much room as these requests and jobs take.
-pub fn room_of(plan: &Plan) -> Room {
+pub fn room_of(plan: &Plan<'_>) -> Room {
     Room {
         works: plan.works.len(),
         asks: plan.asks.len(),
@@ -113,13 +130,13 @@ pub fn room_of(plan: &Plan) -> Room {
     }
 }
 
-pub fn get(key: &i64) -> Ask
+pub fn get<'r>(key: &i64) -> Ask<'r>
     ensures { result ≡ Ask.Get key.now }
 {
     Ask::Get { key: *key }
 }
 
-pub fn put(key: &i64, value: &i64) -> Ask
+pub fn put<'r>(key: &i64, value: &i64) -> Ask<'r>
     ensures { result ≡ Ask.Put key.now value.now }
 {
     Ask::Put {
@@ -128,20 +145,20 @@ pub fn put(key: &i64, value: &i64) -> Ask
     }
 }
 
-pub fn remove(key: &i64) -> Ask
+pub fn remove<'r>(key: &i64) -> Ask<'r>
     ensures { result ≡ Ask.Remove key.now }
 {
     Ask::Remove { key: *key }
 }
 
-pub fn contains(key: &i64) -> Ask
+pub fn contains<'r>(key: &i64) -> Ask<'r>
     ensures { result ≡ Ask.Contains key.now }
 {
     Ask::Contains { key: *key }
 }
 
 /// The request has no job.
-pub fn tell(plan: &mut Plan, work: Work) -> Result<(), AllocError>
+pub fn tell(plan: &mut Plan<'_>, work: Work) -> Result<(), AllocError>
     ensures works { OnOk result (plan.new.works.items ≡ plan.old.works.items ++ work ∷ []) }
     ensures asks { plan.new.asks ≡ plan.old.asks }
     ensures args { plan.new.args ≡ plan.old.args }
@@ -150,15 +167,26 @@ pub fn tell(plan: &mut Plan, work: Work) -> Result<(), AllocError>
     Ok(())
 }
 
+/// So many calls more, which take so many instructions each.
+fn reckon(plan: &mut Plan<'_>, steps: u64, calls: usize)
+    ensures works { plan.new.works ≡ plan.old.works }
+    ensures asks { plan.new.asks ≡ plan.old.asks }
+    ensures args { plan.new.args ≡ plan.old.args }
+{
+    let more = steps.saturating_mul(calls as u64);
+    plan.steps = plan.steps.saturating_add(more);
+}
+
 /// The request has this job, if there is room.
-pub fn one_job(plan: &mut Plan, ask: Ask) -> Result<(), AllocError>
-    ensures { (classes : List Class) (call : Call) → call_in classes plan.old.args.items ask ≡ Some call → OnOk result (Grows classes plan.old plan.new (one (length plan.old.asks.items) call)) }
+pub fn one_job<'r>(plan: &mut Plan<'r>, ask: Ask<'r>) -> Result<(), AllocError>
+    ensures { (call : Call) → call_in plan.old.args.items ask.entry ≡ Some call → OnOk result (Grows plan.old plan.new (one (length plan.old.asks.items) call)) }
 {
     let at = plan.asks.len();
     if at >= MOST_JOBS {
         return tell(plan, Work::Denied(Denial::TooManyJobs));
     }
     plan.asks.push(ask)?;
+    reckon(plan, CALL, 1);
     tell(plan, Work::Job(at))
 }
 
@@ -177,14 +205,14 @@ fn keep(row: &mut Vec<Arg>, args: &[Arg]) -> Result<Span, AllocError>
 }
 
 /// The request has an invocation of a class, if there is room.
-pub fn one_invocation(
-    plan: &mut Plan,
-    class: usize,
+pub fn one_invocation<'r>(
+    plan: &mut Plan<'r>,
+    class: &'r Verified,
     key: &i64,
     args: &[Arg],
 ) -> Result<(), AllocError>
     requires { length args.now ≤ 8 }
-    ensures { (classes : List Class) (c : Class) → slice_get classes class ≡ Some c → OnOk result (Grows classes plan.old plan.new (one (length plan.old.asks.items) (Invoke c key.now args.now))) }
+    ensures { OnOk result (Grows plan.old plan.new (one (length plan.old.asks.items) (Invoke class.now key.now args.now))) }
 {
     let at = plan.asks.len();
     if at >= MOST_JOBS {
@@ -192,19 +220,20 @@ pub fn one_invocation(
     }
     let span = keep(&mut plan.args, args)?;
     plan.asks.push(invocation(class, key, span))?;
+    reckon(plan, steps_of(class), 1);
     tell(plan, Work::Job(at))
 }
 
 /// The request has an invocation of a class on each of these keys, doubles dropped, if there is room.
-pub fn many_jobs(
+pub fn many_jobs<'r>(
     alloc: Global,
-    plan: &mut Plan,
-    class: usize,
+    plan: &mut Plan<'r>,
+    class: &'r Verified,
     keys: &[i64],
     args: &[Arg],
 ) -> Result<(), AllocError>
     requires { length args.now ≤ 8 }
-    ensures { (classes : List Class) (c : Class) → slice_get classes class ≡ Some c → OnOk result (Grows classes plan.old plan.new (each (length plan.old.asks.items) (different keys.now) args.now c)) }
+    ensures { OnOk result (Grows plan.old plan.new (each (length plan.old.asks.items) (different keys.now) args.now class.now)) }
 {
     let set = once_each(alloc, keys)?;
     let at = plan.asks.len();
@@ -214,12 +243,13 @@ pub fn many_jobs(
     let different = Vec::from_slice(alloc, set.as_slice())?;
     let span = keep(&mut plan.args, args)?;
     push_jobs(&mut plan.asks, class, different.as_slice(), span)?;
+    reckon(plan, steps_of(class), different.len());
     tell(plan, Work::JobForEach(at, Keys { keys: different }))
 }
 
 /// An invocation.
-fn invocation(class: usize, key: &i64, args: Span) -> Ask
-    ensures { result ≡ Ask.Invoke class key.now args }
+fn invocation<'r>(class: &'r Verified, key: &i64, args: Span) -> Ask<'r>
+    ensures { result ≡ Ask.Invoke class.entry key.now args }
 {
     Ask::Invoke {
         class,
@@ -228,8 +258,13 @@ fn invocation(class: usize, key: &i64, args: Span) -> Ask
     }
 }
 
-fn push_jobs(asks: &mut Vec<Ask>, class: usize, keys: &[i64], args: Span) -> Result<(), AllocError>
-    ensures { (classes : List Class) (row : List Arg) (c : Class) (xs : List Arg) → slice_get classes class ≡ Some c → args_at row args.at args.count ≡ Some xs → OnOk result (calls_in classes row asks.new.items ≡ calls_in classes row asks.old.items ++ map Some (invocations c xs keys.now)) }
+fn push_jobs<'r>(
+    asks: &mut Vec<Ask<'r>>,
+    class: &'r Verified,
+    keys: &[i64],
+    args: Span,
+) -> Result<(), AllocError>
+    ensures { (row : List Arg) (xs : List Arg) → args_at row args.at args.count ≡ Some xs → OnOk result (calls_in row asks.new.items ≡ calls_in row asks.old.items ++ map Some (invocations class.now xs keys.now)) }
 {
     for key in keys {
         asks.push(invocation(class, key, args))?;

@@ -25,14 +25,14 @@ fn is_end(request: &Request) -> bool
 
 /// Reads the requests of a round, up to its end; at the end of the input there is none. Classes are defined as they are read. The
 /// room is what the round before took, and then what this one takes.
-pub fn read_round<T: Wait, R: Read>(
+pub fn read_round<'r, T: Wait, R: Read>(
     rt: &T,
     alloc: Global,
-    registry: &Registry,
+    registry: &'r Registry,
     ids: &mut Vec<ClassId>,
     room: &mut Room,
     reader: &mut Counted<R>,
-) -> Result<Option<Plan>, ServeFault>
+) -> Result<Option<Plan<'r>>, ServeFault>
     requires { AreOf registry.now ids.old.items }
     ensures ok { IfOk result (λ round. RoundRead (R.remaining reader.old.inner) (R.remaining reader.new.inner) (classes_of ids.old.items) (classes_of ids.new.items) round) }
     ensures err { IfErr result (λ e. IsBroken (R.remaining reader.old.inner) (R.remaining reader.new.inner) e) }

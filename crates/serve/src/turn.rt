@@ -10,7 +10,7 @@ ghost use Rattle.serve.specs.Devices.{ReadsAreCounted, WritesAreCounted};
 ghost use Rattle.serve.specs.Kept.{AreOf, AreCalls, HasCalls, IsRun, classes_of, works_of, RoundServed, RoundFailed};
 
 use crate::fault::ServeFault;
-use crate::jobs::{RoundLeft, jobs_of, run_jobs};
+use crate::jobs::{RoundLeft, calls_for, run_jobs};
 use crate::plan::{Plan, Room};
 use crate::reading::read_round;
 use crate::settings::Settings;
@@ -43,28 +43,32 @@ fn run_round<T: Threads + Wait + Sync, G: Gate + Sync, L: Loader + Sync>(
     rt: &T,
     alloc: Global,
     registry: &Registry,
-    ids: &[ClassId],
     tables: Tables,
     settings: Settings,
-    plan: Plan,
+    plan: Plan<'_>,
     kept: &mut Kept,
     gate: &G,
     loader: &L,
 ) -> Result<(Tables, Vec<u8>), AllocError>
-    requires called { HasCalls (classes_of ids.now) plan }
-    requires known { AreOf registry.now ids.now }
+    requires called { HasCalls plan }
     requires workers { settings.workers ≤ 16 }
-    ensures { IfOk result (λ run. (calls : List Call) → AreCalls (classes_of ids.now) plan.args.items plan.asks.items calls → IsRun L.ASKS (L.gives loader.now) (entry_among tables) calls (works_of plan) (entry_among run.0) run.1.items) }
+    ensures { IfOk result (λ run. (calls : List Call) → AreCalls plan.entry.args.items plan.entry.asks.items calls → IsRun L.ASKS (L.gives loader.now) (entry_among tables) calls (works_of plan.entry) (entry_among run.0) run.1.items) }
 {
-    let Plan { works, asks, args } = plan;
-    let jobs = jobs_of(alloc, ids, args.as_slice(), asks.as_slice())?;
+    let Plan {
+        works,
+        asks,
+        args,
+        steps,
+    } = plan;
+    let calls = calls_for(alloc, args.as_slice(), asks.as_slice())?;
     let Ok(left) = run_jobs(
         rt,
         alloc,
         registry,
         tables,
         settings,
-        jobs.as_slice(),
+        steps,
+        calls.as_slice(),
         kept,
         gate,
         loader,
@@ -107,16 +111,7 @@ pub fn one_round<T: Threads + Wait + Sync, R: Read, W: Write, G: Gate + Sync, L:
         Err(e) => return Err(e),
     };
     let Ok(ran) = run_round(
-        rt,
-        alloc,
-        registry,
-        ids.as_slice(),
-        tables,
-        settings,
-        plan,
-        kept,
-        gate,
-        loader,
+        rt, alloc, registry, tables, settings, plan, kept, gate, loader,
     ) else {
         return Err(ServeFault::NoMemory);
     };

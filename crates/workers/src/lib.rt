@@ -1,4 +1,4 @@
-//! A round of jobs by worker threads, on a cache that is opened for it and closed behind it.
+//! A round of calls by worker threads, on a cache that is opened for it and closed behind it.
 #![tactic(auto)]
 
 mod crew;
@@ -7,4 +7,4 @@ mod shares;
 
 pub use crew::{CrewLeft, run_by_workers};
 pub use room::Kept;
-pub use shares::{SHARE, worth};
+pub use shares::{CALL, SHARE, steps_of, worth};

@@ -1,8 +1,9 @@
 use Rattle.std.proofs.Common.{◌≡◌, ℕ, ◌++◌, ◌∷◌, [], List, length, arith, sym, ap, ◌∙◌, subst}
+use Rattle.stripe.specs.History.{Call}
 use Rattle.cache.specs.Opened.{Opened}
 use Rattle.claims.specs.Counters.{Share, times, with_number}
-use Rattle.invokeall.specs.declared.job.Job.{Job}
 use Rattle.invokeall.specs.declared.work.Worker.{Worker}
+use Rattle.invokeall.specs.Jobs.{all_seen}
 use Rattle.invokeall.specs.Groups.{groups_in, members, members_of_all, AreDifferent}
 use Rattle.invokeall.specs.Crews.{HasAnswered}
 use Rattle.invokeall.proofs.Members.{claimed_once, different_members, members_more}
@@ -13,12 +14,12 @@ pub loop-group-init : goal.loop-group-init
 loop-group-init g c =
     let ready = c.requires.ready in
     let drawn : c.args.worker.now.claimer.drawn ≡ [] = ap (λ (s : Share). s.drawn) ready.claimer in
-    let jobs : List Job = c.args.jobs.now in
-    let of : List ℕ = groups_in c.args.groups.now jobs in
+    let calls : List Call = all_seen c.args.calls.now in
+    let of : List ℕ = groups_in c.args.groups.now calls in
     record {
       at = ap (λ (s : Share). s.counter) ready.claimer;
       once = λ x. let none = ap (times x) drawn in omega arith;
-      answered = subst (HasAnswered c.args.cache.now jobs c.args.worker.now c.args.worker.now) (ap (members_of_all of (length jobs)) (sym drawn)) (none_answered c.args.cache.now jobs c.args.worker.now ready.answers);
+      answered = subst (HasAnswered c.args.cache.now calls c.args.worker.now c.args.worker.now) (ap (members_of_all of (length calls)) (sym drawn)) (none_answered c.args.cache.now calls c.args.worker.now ready.answers);
     }
 
 pub work_on-requires-clause-home : goal.work_on-requires-clause-home
@@ -27,8 +28,9 @@ work_on-requires-clause-home g c = c.loop-group.invariant.answered.seat.table �
 pub work_on-requires-clause-free : goal.work_on-requires-clause-free
 work_on-requires-clause-free g c =
     let i = c.loop-group.invariant in
-    let n : ℕ = length c.args.jobs.now in
-    let of : List ℕ = groups_in c.args.groups.now c.args.jobs.now in
+    let calls : List Call = all_seen c.args.calls.now in
+    let n : ℕ = length calls in
+    let of : List ℕ = groups_in c.args.groups.now calls in
     let drawn : List ℕ = c.loop-group.worker.claimer.drawn in
     let group : ℕ = c.in-Some.group in
     subst (AreDifferent n) (members_more of drawn n group ∙ ap (λ (l : List ℕ). l ++ members of group n) (sym i.answered.numbers_are))
@@ -41,9 +43,9 @@ pub loop-group-preserved : goal.loop-group-preserved
 loop-group-preserved g c =
     let i = c.loop-group.invariant in
     let d : Opened _ = c.args.cache.now in
-    let jobs : List Job = c.args.jobs.now in
-    let n : ℕ = length jobs in
-    let of : List ℕ = groups_in c.args.groups.now jobs in
+    let calls : List Call = all_seen c.args.calls.now in
+    let n : ℕ = length calls in
+    let of : List ℕ = groups_in c.args.groups.now calls in
     let drawn : List ℕ = c.loop-group.worker.claimer.drawn in
     let group : ℕ = c.in-Some.group in
     let first : Worker = c.args.worker.now in
@@ -54,6 +56,6 @@ loop-group-preserved g c =
     record {
       at = ap (λ (s : Share). s.counter) claimer ∙ i.at;
       once = λ x. let a = claimed_once drawn group c.in-Some.ensures.rising i.once x in let b = ap (times x) more in omega arith;
-      answered = subst (HasAnswered d jobs first next) (sym (ap (members_of_all of n) more ∙ members_more of drawn n group))
-          (c.work_on.ensures.answered first before (same_answered d jobs first c.loop-group.worker c.claim.new.self before i.answered));
+      answered = subst (HasAnswered d calls first next) (sym (ap (members_of_all of n) more ∙ members_more of drawn n group))
+          (c.work_on.ensures.answered first before (same_answered d calls first c.loop-group.worker c.claim.new.self before i.answered));
     }

@@ -18,19 +18,19 @@ returns-in-Define-clause-ok g c =
 pub returns-in-Put-clause-ok : goal.returns-in-Put-clause-ok
 returns-in-Put-clause-ok g c =
     let classes = classes_of c.args.ids.now.items in
-    adds_jobs c.one_job.result classes c.args.plan.now c.one_job.new.plan (with_args c.args.args.now c.args.request.now) (wanted.Put c.in-Put.key c.in-Put.value) (one (length c.args.plan.now.asks.items) (call.Put c.in-Put.key c.in-Put.value)) (ap (with_args c.args.args.now) c.in-Put.is) (c.one_job.ensures classes (call.Put c.in-Put.key c.in-Put.value) (ap (call_in classes c.args.plan.now.args.items) c.put.ensures)) (puts c.in-Put.key c.in-Put.value)
+    adds_jobs c.one_job.result classes c.args.plan.now c.one_job.new.plan (with_args c.args.args.now c.args.request.now) (wanted.Put c.in-Put.key c.in-Put.value) (one (length c.args.plan.now.asks.items) (call.Put c.in-Put.key c.in-Put.value)) (ap (with_args c.args.args.now) c.in-Put.is) (c.one_job.ensures (call.Put c.in-Put.key c.in-Put.value) (ap (call_in c.args.plan.now.args.items) c.put.ensures)) (puts c.in-Put.key c.in-Put.value)
 
 pub returns-in-Get-clause-ok : goal.returns-in-Get-clause-ok
 returns-in-Get-clause-ok g c =
     let classes = classes_of c.args.ids.now.items in
-    adds_jobs c.one_job-in-Get.result classes c.args.plan.now c.one_job-in-Get.new.plan (with_args c.args.args.now c.args.request.now) (wanted.Get c.in-Get.key) (one (length c.args.plan.now.asks.items) (call.Get c.in-Get.key)) (ap (with_args c.args.args.now) c.in-Get.is) (c.one_job-in-Get.ensures classes (call.Get c.in-Get.key) (ap (call_in classes c.args.plan.now.args.items) c.get.ensures)) (gets c.in-Get.key)
+    adds_jobs c.one_job-in-Get.result classes c.args.plan.now c.one_job-in-Get.new.plan (with_args c.args.args.now c.args.request.now) (wanted.Get c.in-Get.key) (one (length c.args.plan.now.asks.items) (call.Get c.in-Get.key)) (ap (with_args c.args.args.now) c.in-Get.is) (c.one_job-in-Get.ensures (call.Get c.in-Get.key) (ap (call_in c.args.plan.now.args.items) c.get.ensures)) (gets c.in-Get.key)
 
 pub returns-in-Remove-clause-ok : goal.returns-in-Remove-clause-ok
 returns-in-Remove-clause-ok g c =
     let classes = classes_of c.args.ids.now.items in
-    adds_jobs c.one_job-in-Remove.result classes c.args.plan.now c.one_job-in-Remove.new.plan (with_args c.args.args.now c.args.request.now) (wanted.Remove c.in-Remove.key) (one (length c.args.plan.now.asks.items) (call.Remove c.in-Remove.key)) (ap (with_args c.args.args.now) c.in-Remove.is) (c.one_job-in-Remove.ensures classes (call.Remove c.in-Remove.key) (ap (call_in classes c.args.plan.now.args.items) c.remove.ensures)) (removes c.in-Remove.key)
+    adds_jobs c.one_job-in-Remove.result classes c.args.plan.now c.one_job-in-Remove.new.plan (with_args c.args.args.now c.args.request.now) (wanted.Remove c.in-Remove.key) (one (length c.args.plan.now.asks.items) (call.Remove c.in-Remove.key)) (ap (with_args c.args.args.now) c.in-Remove.is) (c.one_job-in-Remove.ensures (call.Remove c.in-Remove.key) (ap (call_in c.args.plan.now.args.items) c.remove.ensures)) (removes c.in-Remove.key)
 
 pub returns-in-Contains-clause-ok : goal.returns-in-Contains-clause-ok
 returns-in-Contains-clause-ok g c =
     let classes = classes_of c.args.ids.now.items in
-    adds_jobs c.one_job-in-Contains.result classes c.args.plan.now c.one_job-in-Contains.new.plan (with_args c.args.args.now c.args.request.now) (wanted.Contains c.in-Contains.key) (one (length c.args.plan.now.asks.items) (call.Contains c.in-Contains.key)) (ap (with_args c.args.args.now) c.in-Contains.is) (c.one_job-in-Contains.ensures classes (call.Contains c.in-Contains.key) (ap (call_in classes c.args.plan.now.args.items) c.contains.ensures)) (looks c.in-Contains.key)
+    adds_jobs c.one_job-in-Contains.result classes c.args.plan.now c.one_job-in-Contains.new.plan (with_args c.args.args.now c.args.request.now) (wanted.Contains c.in-Contains.key) (one (length c.args.plan.now.asks.items) (call.Contains c.in-Contains.key)) (ap (with_args c.args.args.now) c.in-Contains.is) (c.one_job-in-Contains.ensures (call.Contains c.in-Contains.key) (ap (call_in c.args.plan.now.args.items) c.contains.ensures)) (looks c.in-Contains.key)

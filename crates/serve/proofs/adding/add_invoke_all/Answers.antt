@@ -1,28 +1,26 @@
-use Rattle.std.proofs.Common.{ℕ, length, refl, arith}
-use Rattle.std.proofs.lemmas.List.{length-map}
-use Rattle.registry.specs.Ids.{class_of}
+use Rattle.std.proofs.Common.{ℕ, length, refl}
 use Rattle.invokeall.specs.Collected.{different}
 use Rattle.wire.specs.Requests.{InvokeAll}
 use Rattle.wire.specs.declared.reply.Denial.TheVariants.{UnknownClass}
 use Rattle.serve.specs.declared.plan.Work.TheVariants as planned
 use Rattle.serve.specs.Rounds.{each}
 use Rattle.serve.specs.Kept.{classes_of}
-use Rattle.serve.proofs.Plans.{there, adds_jobs, adds_told, invoke_all_known, invoke_all_unknown}
+use Rattle.serve.proofs.Plans.{adds_jobs, adds_told, invoke_all_known, invoke_all_unknown}
 use Rattle.serve.proofs.adding.add_invoke_all.Goals as goal
 
-pub returns-then-is_known : goal.returns-then-is_known
-returns-then-is_known c =
+pub returns-in-Some : goal.returns-in-Some
+returns-in-Some c =
     let classes = classes_of c.args.ids.now in
     let keys = c.args.keys.now in
     let at : ℕ = length c.args.plan.now.asks.items in
-    let (x, e) = there classes c.args.class (omega (arith, c.is_known.ensures.yes c.if-is_known.true, length-map c.args.ids.now class_of)) in
-    adds_jobs c.many_jobs.result classes c.args.plan.now c.many_jobs.new.plan (InvokeAll c.args.class keys c.args.args.now) (InvokeAll c.args.class keys c.args.args.now) (each at (different keys) c.args.args.now x) refl (c.many_jobs.ensures classes x e)
-    (invoke_all_known classes at c.args.class keys c.args.args.now x e)
+    let x = c.in-Some.class.now in
+    adds_jobs c.many_jobs.result classes c.args.plan.now c.many_jobs.new.plan (InvokeAll c.args.class keys c.args.args.now) (InvokeAll c.args.class keys c.args.args.now) (each at (different keys) c.args.args.now x) refl c.many_jobs.ensures
+    (invoke_all_known classes at c.args.class keys c.args.args.now x c.in-Some.ensures.some)
 
-pub returns-else-is_known : goal.returns-else-is_known
-returns-else-is_known c =
+pub returns-in-None : goal.returns-in-None
+returns-in-None c =
     let classes = classes_of c.args.ids.now in
     let keys = c.args.keys.now in
     let at : ℕ = length c.args.plan.now.asks.items in
     adds_told c.tell.result classes classes c.args.plan.now c.tell.new.plan (InvokeAll c.args.class keys c.args.args.now) (InvokeAll c.args.class keys c.args.args.now) (planned.Denied UnknownClass) refl c.tell.ensures.works c.tell.ensures.asks c.tell.ensures.args
-    (invoke_all_unknown classes at c.args.class keys c.args.args.now (c.is_known.ensures.no c.if-is_known.false))
+    (invoke_all_unknown classes at c.args.class keys c.args.args.now c.in-None.ensures.none)

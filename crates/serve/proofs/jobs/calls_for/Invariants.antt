@@ -1,10 +1,10 @@
-use Rattle.std.proofs.Common.{◌≡◌, ◌≤◌, ◌+◌, ◌++◌, drop, map, length, vec_capacity}
-use Rattle.stripe.specs.Seen.{call_of as seen_call}
-use Rattle.invokeall.specs.Jobs.{calls_of}
+use Rattle.std.proofs.Common.{◌≡◌, ◌≤◌, ◌+◌, ◌++◌, drop, length, vec_capacity}
+use Rattle.invokeall.specs.Jobs.{all_seen}
+use Rattle.serve.specs.Kept.{calls_of}
 use Rattle.serve.proofs.jobs.calls_for.Given as goal
 
-abbrev pub invariant-loop-job : goal.invariant-loop-job
-invariant-loop-job l = record {
-  calls : map seen_call l.calls.items ++ calls_of (drop l.job-index l.jobs) ≡ calls_of l.jobs;
-  room : length l.calls.items + length (drop l.job-index l.jobs) ≤ vec_capacity l.calls;
+abbrev pub invariant-loop-ask : goal.invariant-loop-ask
+invariant-loop-ask l = record {
+  calls : all_seen l.calls.items ++ calls_of l.row (drop l.ask-index l.asks) ≡ calls_of l.row l.asks;
+  room : length l.calls.items + length (drop l.ask-index l.asks) ≤ vec_capacity l.calls;
 }

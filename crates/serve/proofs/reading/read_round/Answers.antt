@@ -29,7 +29,7 @@ loop-init g c = record {
   are = tt;
   took = Consumes-nil (g.R.Read.remaining c.args.reader.now.inner);
   gathered = begun (classes_of c.args.ids.now.items) c.no_requests-plan.result.works.items c.no_requests-plan.ensures.works;
-  called = ap (calls_in (classes_of c.args.ids.now.items) c.no_requests-plan.result.args.items) c.no_requests-plan.ensures.asks;
+  called = ap (calls_in c.no_requests-plan.result.args.items) c.no_requests-plan.ensures.asks;
 }
 
 pub loop-preserved : goal.loop-preserved

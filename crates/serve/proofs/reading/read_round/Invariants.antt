@@ -18,5 +18,5 @@ invariant-loop g l = record {
   are : AreOpen requests;
   took : Consumes (g.R.Read.remaining l.initial.reader.inner) (g.R.Read.remaining l.reader.inner) (requests_text requests);
   gathered : Gathers (classes_of l.initial.ids.items) requests (works_of l.plan) calls (classes_of l.ids.items);
-  called : AreCalls (classes_of l.ids.items) l.plan.args.items l.plan.asks.items calls;
+  called : AreCalls l.plan.args.items l.plan.asks.items calls;
 }

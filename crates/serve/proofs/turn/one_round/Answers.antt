@@ -1,14 +1,13 @@
 use Rattle.std.proofs.Common.{◌≡◌, ℕ, List, [], ◌++◌, map, Option, Some, sym, ◌∙◌, subst, refl}
 use Rattle.std.specs.Io.KnownBytes.{Appends}
 use Rattle.std.proofs.KnownBytes.{Appends-nil}
-use Rattle.boxcar.specs.Table.{Where}
 use Rattle.typecheck.specs.Typing.{Class}
 use Rattle.stripe.specs.Stored.{entry_among}
 use Rattle.wire.specs.declared.reply.Reply.{Reply}
 use Rattle.serve.specs.declared.plan.Plan.{Plan}
 use Rattle.serve.specs.Rounds.{work_reply}
 use Rattle.serve.specs.Served.{stand, ended, requests_text, unread, no_memory, writer}
-use Rattle.serve.specs.Kept.{IsWhole, RoundRead, HasCalls, classes_of, works_of, AreCalls}
+use Rattle.serve.specs.Kept.{IsWhole, RoundRead, classes_of, works_of}
 use Rattle.serve.proofs.Plans.{few_jobs}
 use Rattle.serve.proofs.Rounds.{round_of}
 use Rattle.serve.proofs.turn.one_round.Goals as goal
@@ -30,7 +29,7 @@ returns-in-Err-clause-err g c =
 pub run_round-requires-clause-called : goal.run_round-requires-clause-called
 run_round-requires-clause-called g c = λ lifetimes lives.
     let w = whole (g.R.Read.remaining c.args.reader.now.inner) (g.R.Read.remaining c.read_round.new.reader.inner) (classes_of c.args.ids.now.items) (classes_of c.read_round.new.ids.items) c.in-Ok-Some.field-0 c.in-Ok-Some.plan c.in-Ok-Some.field-0-is c.in-Ok-Some.ensures.ok in
-    subst (λ (l : List (Where Class)). HasCalls (classes_of l) c.in-Ok-Some.plan) (sym c.as_slice.ensures.value) (w.calls, w.called, few_jobs w.gathered)
+    (w.calls, w.called, few_jobs w.gathered)
 
 pub returns-in_default-clause-err : goal.returns-in_default-clause-err
 returns-in_default-clause-err g c =
@@ -40,9 +39,9 @@ returns-in_default-clause-err g c =
 pub returns-in-Ok-write_all-clause-ok : goal.returns-in-Ok-write_all-clause-ok
 returns-in-Ok-write_all-clause-ok g c =
     let w = whole (g.R.Read.remaining c.args.reader.now.inner) (g.R.Read.remaining c.read_round.new.reader.inner) (classes_of c.args.ids.now.items) (classes_of c.read_round.new.ids.items) c.in-Ok-Some.field-0 c.in-Ok-Some.plan c.in-Ok-Some.field-0-is c.in-Ok-Some.ensures.ok in
-    let run = c.in-Ok.ensures w.calls (subst (λ (l : List (Where Class)). AreCalls (classes_of l) c.in-Ok-Some.plan.args.items c.in-Ok-Some.plan.asks.items w.calls) (sym c.as_slice.ensures.value) w.called) in
+    let run = c.in-Ok.ensures w.calls w.called in
     let replies : List Reply = map (work_reply run.answers) (works_of c.in-Ok-Some.plan) in
-    let text = c.as_slice-2.ensures.value ∙ run.text_is in
+    let text = c.as_slice.ensures.value ∙ run.text_is in
     record {
       requests = w.requests;
       replies = replies;
@@ -55,9 +54,9 @@ returns-in-Ok-write_all-clause-ok g c =
 pub returns-in-Err-write_all-clause-err : goal.returns-in-Err-write_all-clause-err
 returns-in-Err-write_all-clause-err g c =
     let w = whole (g.R.Read.remaining c.args.reader.now.inner) (g.R.Read.remaining c.read_round.new.reader.inner) (classes_of c.args.ids.now.items) (classes_of c.read_round.new.ids.items) c.in-Ok-Some.field-0 c.in-Ok-Some.plan c.in-Ok-Some.field-0-is c.in-Ok-Some.ensures.ok in
-    let run = c.in-Ok.ensures w.calls (subst (λ (l : List (Where Class)). AreCalls (classes_of l) c.in-Ok-Some.plan.args.items c.in-Ok-Some.plan.asks.items w.calls) (sym c.as_slice.ensures.value) w.called) in
+    let run = c.in-Ok.ensures w.calls w.called in
     let replies : List Reply = map (work_reply run.answers) (works_of c.in-Ok-Some.plan) in
-    let text = c.as_slice-2.ensures.value ∙ run.text_is in
+    let text = c.as_slice.ensures.value ∙ run.text_is in
     let (front, back, e, appended) = c.in-Err-write_all.ensures.err.part in
     record {
       taken = requests_text (ended w.requests);

@@ -1,36 +1,36 @@
-use Rattle.std.proofs.Common.{◌≡◌, List, Option, map, length, sym, ap, ◌∙◌, subst}
+use Rattle.std.proofs.Common.{◌≡◌, List, Option, map, length, sym, ap, ◌∙◌, subst, arith}
 use Rattle.std.proofs.lemmas.List.{length-map}
-use Rattle.std.specs.List.{All}
-use Rattle.registry.specs.Ids.{class_of}
 use Rattle.stripe.specs.History.{Call}
 use Rattle.stripe.specs.Stored.{entry_among}
+use Rattle.stripe.specs.Seen.{call_of as seen_call}
+use Rattle.stripe.specs.declared.call.Call.{Call as CallTaken}
 use Rattle.stripe.specs.declared.call.Reply.{Reply as Answer}
-use Rattle.invokeall.specs.declared.job.Job.{Job}
-use Rattle.invokeall.specs.Jobs.{IsCallable, calls_of}
 use Rattle.outcome.specs.Outcome.{IsDone}
+use Rattle.invokeall.specs.Jobs.{all_seen}
 use Rattle.serve.specs.Rounds.{work_reply}
 use Rattle.serve.specs.Served.{replies_text, all_told}
-use Rattle.serve.specs.Kept.{IsKnown, classes_of, calls_in, works_of}
-use Rattle.serve.proofs.Plans.{known_calls, same_calls}
-use Rattle.serve.proofs.Ends.{if_ok}
+use Rattle.serve.specs.Kept.{calls_of, works_of}
+use Rattle.serve.proofs.Plans.{within_calls, same_calls}
 use Rattle.serve.proofs.turn.run_round.Goals as goal
 
-pub jobs_of-requires : goal.jobs_of-requires
-jobs_of-requires g c =
+pub calls_for-requires : goal.calls_for-requires
+calls_for-requires g c =
     let (calls, are, few) = c.requires.called in
-    let classes = classes_of c.args.ids.now in
-    let row = c.args.plan.args.items in
-    rw (c.as_slice.ensures.value, c.as_slice-2.ensures.value) (subst (λ n. All (IsKnown n (length row)) c.args.plan.asks.items) (length-map c.args.ids.now class_of) (known_calls classes row c.args.plan.asks.items calls are))
+    rw (c.as_slice.ensures.value, c.as_slice-2.ensures.value) (within_calls c.args.plan.args.items c.args.plan.asks.items calls are)
 
-pub run_jobs-requires-clause-callable : goal.run_jobs-requires-clause-callable
-run_jobs-requires-clause-callable g c κs within =
-    subst (λ (l : List Job). All (IsCallable c.args.registry.now) l) (sym c.as_slice-3.ensures.value) (if_ok (λ jobs. All (IsCallable c.args.registry.now) jobs.items) c.jobs_of.result c.in_ok-jobs.jobs c.in_ok-jobs.was (c.jobs_of.ensures.callable c.args.registry.now c.requires.known))
+pub run_jobs-requires-clause-jobs : goal.run_jobs-requires-clause-jobs
+run_jobs-requires-clause-jobs g c = λ lifetimes lives.
+    let (calls, are, few) = c.requires.called in
+    let row = c.args.plan.args.items in
+    let same : all_seen c.in_ok-calls.calls.items ≡ calls = c.in_ok-calls.ensures ∙ ap (λ r. calls_of r c.as_slice-2.result.now) c.as_slice.ensures.value ∙ ap (calls_of row) c.as_slice-2.ensures.value ∙ same_calls row c.args.plan.asks.items calls are in
+    let many : length c.in_ok-calls.calls.items ≡ length calls = sym (length-map c.in_ok-calls.calls.items seen_call) ∙ ap (λ (l : List Call). length l) same in
+    let there : length c.as_slice-3.result.now ≡ length c.in_ok-calls.calls.items = ap (λ (l : List CallTaken). length l) c.as_slice-3.ensures.value in
+    omega (arith, few, many, there)
 
 pub returns : goal.returns
 returns g c calls are =
-    let classes = classes_of c.args.ids.now in
-    let named = c.in_ok-jobs.ensures.calls ∙ ap (λ r. calls_in classes r c.as_slice-2.result.now) c.as_slice.ensures.value ∙ ap (calls_in classes c.args.plan.args.items) c.as_slice-2.ensures.value ∙ are in
-    let same : calls_of c.as_slice-3.result.now ≡ calls = ap calls_of c.as_slice-3.ensures.value ∙ same_calls (calls_of c.in_ok-jobs.jobs.items) calls named in
+    let row = c.args.plan.args.items in
+    let same : all_seen c.as_slice-3.result.now ≡ calls = ap all_seen c.as_slice-3.ensures.value ∙ c.in_ok-calls.ensures ∙ ap (λ r. calls_of r c.as_slice-2.result.now) c.as_slice.ensures.value ∙ ap (calls_of row) c.as_slice-2.ensures.value ∙ same_calls row c.args.plan.asks.items calls are in
     record {
       answers = c.in-Ok.left.replies.items;
       done = subst (λ (l : List Call). IsDone g.L.Loader.ASKS (g.L.Loader.gives c.args.loader.now) (entry_among c.args.tables) l c.in-Ok.left.replies.items (entry_among c.in-Ok.left.tables)) same c.in-Ok.ensures.done;
