@@ -1,9 +1,9 @@
 -- Answers are put to their places, each number once.
-use Rattle.std.proofs.Common.{◌≡◌, ◌≢◌, ◌⊎◌, ℕ, zero, suc, ◌<◌, ◌≤◌, ◌==◌, List, [], ◌∷◌, ◌++◌, length, map, set, Option, Some, None, Ok, Err, refl, sym, ap, ◌∙◌, subst, inl, inr, ⊎_elim, arith, append_assoc}
+use Rattle.std.proofs.Common.{◌≡◌, ◌≢◌, ◌⊎◌, ℕ, zero, suc, ◌<◌, ◌≤◌, ◌==◌, List, [], ◌∷◌, ◌++◌, length, map, set, replicate, Option, Some, None, Ok, Err, refl, sym, ap, ◌∙◌, subst, inl, inr, ⊎_elim, arith, append_assoc}
 use Rattle.std.specs.List.{All}
 use Rattle.std.specs.List.Sorted.{IsPermutation}
 use Rattle.std.proofs.lemmas.List.{append-nil}
-use Rattle.std.proofs.lemmas.List.Elements.{All-nil, All-cons}
+use Rattle.std.proofs.lemmas.List.Elements.{All-nil, All-cons, All-head, All-tail}
 use Rattle.std.proofs.lemmas.List.Sorted.{IsPermutation-refl, IsPermutation-cons, IsPermutation-trans, IsPermutation-to_front, IsPermutation-append_left}
 use Rattle.std.proofs.lemmas.Bool.Decides.{nat_tests}
 use mathlib.Core.Logic.{dite}
@@ -14,10 +14,11 @@ use Rattle.atomic_table.proofs.Lists.{at_set}
 use Rattle.stripe.specs.declared.call.Reply.{Reply}
 use Rattle.stripe.specs.History.{Call}
 use Rattle.claims.specs.Counters.{one_if, times}
+use Rattle.cache.specs.declared.refusal.InvokeRefusal.TheVariants.{NoMemory}
 use Rattle.outcome.specs.Outcome.{answered}
 use Rattle.invokeall.specs.Rounds.{Answer, reply_of}
 use Rattle.invokeall.specs.Crews.{told_at, told_row, numbers}
-use Rattle.invokeall.specs.Rooms.{Places, blanks, placed, IsThere}
+use Rattle.invokeall.specs.Rooms.{Places, blanks, placed, shown_place, shown, put_all, IsThere}
 
 -- the reply at a place
 abbrev pub reply_in : Option Answer → Option Reply
@@ -183,3 +184,27 @@ pub all_filled : (n : ℕ) (es : List (ℕ × Answer)) → ((k : ℕ) → k < n 
 all_filled n es h =
     let long : length (placed (blanks n) es) ≡ n = length_placed (blanks n) es ∙ length_blanks n in
     all_there (placed (blanks n) es) (λ k below. answer_there (blanks n) es k (h k (omega arith)))
+
+-- ---- what stands at the places
+
+shown_set : (places : Places) (k : ℕ) (a : Answer) → shown (set places k (Some a)) ≡ set (shown places) k a
+shown_set [] k a = refl
+shown_set (p ∷ ps) zero a = refl
+shown_set (p ∷ ps) (suc k) a = ap (λ (l : List Answer). shown_place p ∷ l) (shown_set ps k a)
+
+-- answers that are put over what stands there stand at their places
+pub put_shown : (places : Places) (es : List (ℕ × Answer)) → put_all (shown places) es ≡ shown (placed places es)
+put_shown places [] = refl
+put_shown places (e ∷ es) = ap (λ (l : List Answer). put_all l es) (sym (shown_set places e.0 e.1)) ∙ put_shown (set places e.0 (Some e.1)) es
+
+pub shown_blanks : (n : ℕ) → replicate n (Err NoMemory) ≡ shown (blanks n)
+shown_blanks zero = refl
+shown_blanks (suc n) = ap (λ (l : List Answer). Err NoMemory ∷ l) (shown_blanks n)
+
+-- where each place has its answer, that is what stands there
+pub shown_there : (places : Places) → All IsThere places → map Some (shown places) ≡ places
+shown_there [] all = refl
+shown_there (p ∷ ps) all =
+    let (a, is) = All-head IsThere p ps all in
+    let here : Some (shown_place p) ≡ p = ap (λ (x : Option Answer). Some (shown_place x)) is ∙ sym is in
+    (λ i. here i ∷ shown_there ps (All-tail IsThere p ps all) i)

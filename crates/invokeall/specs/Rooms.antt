@@ -1,9 +1,10 @@
 -- The memory of a round, and its workers before and after their work.
-use Rattle.std.specs.Prelude.{◌≡◌, ℕ, ◌≤◌, List, [], ◌∷◌, map, flat_map, length, replicate, slice_set, vec_capacity, Option, Some, None, Vec}
+use Rattle.std.specs.Prelude.{◌≡◌, ℕ, ◌≤◌, List, [], ◌∷◌, map, flat_map, length, replicate, slice_set, vec_capacity, Option, Some, None, Err, Vec}
 use Rattle.std.specs.Global.{Global}
 use Rattle.std.specs.List.{All}
 use Rattle.stripe.specs.Tables.{IsCount}
 use Rattle.claims.specs.Counters.{Share, AreFresh}
+use Rattle.cache.specs.declared.refusal.InvokeRefusal.TheVariants.{NoMemory}
 use Rattle.cache.specs.Opened.{Sitting}
 use Rattle.invokeall.specs.declared.work.Worker.{Worker}
 use Rattle.invokeall.specs.declared.room.RoundRoom.{RoundRoom}
@@ -25,6 +26,19 @@ blanks n = replicate n None
 abbrev pub placed : Places → List (ℕ × Answer) → Places
 placed places [] = places
 placed places (e ∷ es) = placed (slice_set places e.0 (Some e.1)) es
+
+-- what stands at a place: its answer, or a refusal where there is none yet
+abbrev pub shown_place : Option Answer → Answer
+shown_place (Some a) = a
+shown_place None = Err NoMemory
+
+abbrev pub shown : Places → List Answer
+shown places = map shown_place places
+
+-- answers put over what stands at their places
+abbrev pub put_all : List Answer → List (ℕ × Answer) → List Answer
+put_all answers [] = answers
+put_all answers (e ∷ es) = put_all (slice_set answers e.0 e.1) es
 
 -- there is an answer
 abbrev pub IsThere : Option Answer → Type 0
@@ -59,5 +73,4 @@ pub record IsRoom (jobs groups count : ℕ) (r : RoundRoom) : Type 0 where
   pub seats : HasRoom count r.seats
   pub workspaces : HasRoom count r.workspaces
   pub spent : HasRoom count r.spent
-  pub places : r.places.items ≡ blanks jobs
-  pub answers : HasRoom jobs r.answers
+  pub answers : r.answers.items ≡ replicate jobs (Err NoMemory)

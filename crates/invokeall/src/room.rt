@@ -1,15 +1,15 @@
 //! The memory of a round. Workers get it, and it comes back from them.
 
-ghost use Rattle.std.specs.Prelude.{◌≡◌, ◌≤◌, length, map, IfOk, Some, vec_capacity};
+ghost use Rattle.std.specs.Prelude.{◌≡◌, length, IfOk};
 ghost use Rattle.std.specs.List.{All};
 ghost use Rattle.stripe.specs.Tables.{IsCount};
 ghost use Rattle.claims.specs.Counters.{IsJobCount, IsWorkerCount};
-ghost use Rattle.invokeall.specs.Rooms.{blanks, placed, entries_of, seats_of, claimers_of, rows_of, HasRoom, IsThere, IsRoom};
+ghost use Rattle.invokeall.specs.Rooms.{put_all, entries_of, seats_of, claimers_of, rows_of, HasRoom, IsRoom};
 
 use crate::groups::{Groups, no_groups};
 use crate::job::JobReply;
 use crate::work::Worker;
-use cache::Seat;
+use cache::{InvokeRefusal, Seat};
 use claims::{Claimer, Counter, open};
 use machine::Workspace;
 use std::alloc::{AllocError, Global};
@@ -29,7 +29,7 @@ pub struct RoundRoom<'a> {
     pub seats: Vec<Seat<'a>>,
     pub workspaces: Vec<Workspace>,
     pub spent: Vec<Claimer>,
-    pub places: Vec<Option<JobReply>>,
+    /// A place for the answer to each call, in which a refusal stands until then.
     pub answers: Vec<JobReply>,
 }
 
@@ -52,8 +52,7 @@ pub fn room_for<'a>(
     let seats = Vec::with_capacity(alloc, count)?;
     let workspaces = Vec::with_capacity(alloc, count)?;
     let spent = Vec::with_capacity(alloc, count)?;
-    let places = vec![in alloc; None; jobs]?;
-    let answers = Vec::with_capacity(alloc, jobs)?;
+    let answers = vec![in alloc; Err(InvokeRefusal::NoMemory); jobs]?;
     let (counter, claimers) = open(alloc, stripes, count)?;
     Ok(RoundRoom {
         counter,
@@ -65,7 +64,6 @@ pub fn room_for<'a>(
         seats,
         workspaces,
         spent,
-        places,
         answers,
     })
 }
@@ -142,33 +140,20 @@ pub fn gather<'a>(
 }
 
 /// Puts the answers of all rows to their places.
-pub fn collect(rows: Vec<Row>, places: &mut [Option<JobReply>])
-    ensures { places.new ≡ placed places.old (entries_of rows.items) }
+pub fn collect(rows: Vec<Row>, answers: &mut [JobReply])
+    ensures { answers.new ≡ put_all answers.old (entries_of rows.items) }
 {
     for row in rows {
-        place(row.as_slice(), places);
+        put(row.as_slice(), answers);
     }
 }
 
-fn place(row: &[(usize, JobReply)], places: &mut [Option<JobReply>])
-    ensures { places.new ≡ placed places.old row.now }
+fn put(row: &[(usize, JobReply)], answers: &mut [JobReply])
+    ensures { answers.new ≡ put_all answers.old row.now }
 {
     for (number, answer) in row {
-        if *number < places.len() {
-            places[*number] = Some(*answer);
+        if *number < answers.len() {
+            answers[*number] = *answer;
         }
     }
-}
-
-/// The answers, once each is there.
-pub fn filled(places: Vec<Option<JobReply>>, mut answers: Vec<JobReply>) -> Vec<JobReply>
-    requires there { All IsThere places.items }
-    requires room { HasRoom (length places.items) answers }
-    ensures { map Some result.items ≡ places.items }
-{
-    for place in places {
-        let Some(answer) = place else { unreachable!() };
-        answers.push_reserved(answer);
-    }
-    answers
 }

@@ -9,7 +9,7 @@ ghost use Rattle.invokeall.specs.Rooms.{IsRoom};
 
 use crate::crew::run_all;
 use crate::job::{Job, JobReply, calls_for};
-use crate::room::{RoundRoom, collect, filled, gather, hire, room_for};
+use crate::room::{RoundRoom, collect, gather, hire, room_for};
 use cache::{Cache, Gate, Seat};
 use jtypes::Loader;
 use machine::Workspace;
@@ -75,8 +75,7 @@ pub fn run_in<'a, R: Threads + Wait + Sync, G: Gate + Sync, L: Loader + Sync>(
         seats: back,
         workspaces: spaces,
         mut spent,
-        mut places,
-        answers,
+        mut answers,
     } = room;
     let groups = groups.of(calls);
     let old = mem::replace(seats, back);
@@ -93,6 +92,6 @@ pub fn run_in<'a, R: Threads + Wait + Sync, G: Gate + Sync, L: Loader + Sync>(
     );
     gather(workers, seats, workspaces, &mut spent, &mut rows);
     counter.close(spent);
-    collect(rows, places.as_mut_slice());
-    filled(places, answers)
+    collect(rows, answers.as_mut_slice());
+    answers
 }

@@ -1,4 +1,4 @@
-use Rattle.std.proofs.Common.{◌≡◌, ℕ, ◌<◌, List, ◌++◌, length, take, drop, get_or, arith, sym, ap, ◌∙◌, subst, take_all}
+use Rattle.std.proofs.Common.{◌≡◌, ℕ, ◌<◌, List, ◌++◌, Some, length, map, take, drop, get_or, arith, sym, ap, ◌∙◌, subst, take_all}
 use Rattle.std.proofs.lemmas.List.{length-replicate}
 use Rattle.std.proofs.lemmas.List.Elements.{All-same}
 use lib.Seq.{take-append-le}
@@ -9,8 +9,10 @@ use Rattle.invokeall.specs.declared.groups.Groups.{Groups}
 use Rattle.invokeall.specs.declared.work.Worker.{Worker}
 use Rattle.invokeall.specs.Jobs.{all_seen}
 use Rattle.invokeall.specs.Crews.{IsReady, HasWorked}
-use Rattle.invokeall.specs.Rooms.{Places, seats_of, claimers_of, rows_of, entries_of, blanks, placed, IsThere}
+use Rattle.invokeall.specs.Rounds.{Answer}
+use Rattle.invokeall.specs.Rooms.{seats_of, claimers_of, rows_of, entries_of, blanks, placed, put_all}
 use Rattle.invokeall.proofs.Worked.{all_worked, all_ready, all_claimers, are_filled, is_round, each_once, length_seats}
+use Rattle.invokeall.proofs.Rows.{put_shown, shown_blanks, shown_there}
 use Rattle.invokeall.proofs.round.run_in.Goals as goal
 
 -- what stands in a vector after a write of its whole slice
@@ -44,31 +46,6 @@ close-requires g c =
     let shares : c.gather.new.claimers.items ≡ claimers_of ws = c.gather.ensures.claimers ∙ ap claimers_of whole in
     subst (AreAll counter) (sym shares) (all_claimers d counter groups calls vs ws worked (same ∙ seats ∙ sym c.requires.room.workers_are))
 
-pub filled-requires-clause-there : goal.filled-requires-clause-there
-filled-requires-clause-there g c =
-    let d : Opened _ = c.args.cache.now in
-    let counter : Numbering = c.args.room.counter in
-    let groups : Groups = c.of-groups.result in
-    let calls : List Call = all_seen c.args.calls.now in
-    let vs : List Worker = c.hire.new.workers.items in
-    let ws : List Worker = c.run_all.new.workers in
-    let before : seats_of vs ≡ c.args.seats.now.items = c.hire.ensures.seats ∙ ap (λ v. v.items) c.replace-old.ensures.value in
-    let long : length c.as_mut_slice.result.now ≡ length vs = ap (λ (l : List Worker). length l) c.as_mut_slice.ensures.value in
-    let same : length ws ≡ length vs = omega (arith, c.run_all.auto.workers) in
-    let seats : length vs ≡ length c.args.seats.now.items = sym (length_seats vs) ∙ ap (λ (l : List Sitting). length l) before in
-    let whole = written c.hire.new.workers.len ws vs (drop (length ws) vs) (omega (arith, c.hire.new.workers.ok.0)) same in
-    let worked = all_worked d counter groups calls vs ws same (λ i e below. subst (λ (l : List Worker). HasWorked d counter groups calls (get_or l i e) (get_or ws i e)) c.as_mut_slice.ensures.value (c.run_all.ensures i e (omega arith))) in
-    let shares : c.gather.new.claimers.items ≡ claimers_of ws = c.gather.ensures.claimers ∙ ap claimers_of whole in
-    let some_worker : 0 < length vs = omega (arith, c.requires.some_seat) in
-    let counted : counter.jobs ≡ length groups.firsts.items = c.requires.room.groups_are ∙ sym (c.of-groups.ensures.groups ∙ ap (λ (l : List ℕ). length l) c.requires.room.blank.0 ∙ length-replicate _ _) in
-    let each = each_once d counter groups calls vs ws c.gather.new.claimers.items worked some_worker shares c.close.ensures.once c.close.ensures.done in
-    let start : c.as_mut_slice-2.result.now ≡ c.args.room.places.items = c.as_mut_slice-2.ensures.value in
-    let covered : length c.collect.new.places ≡ length c.args.room.places.items = c.collect.auto.places ∙ ap (λ (l : Places). length l) start in
-    let rows : entries_of c.gather.new.rows.items ≡ entries_of (rows_of ws) = ap entries_of c.gather.ensures.rows ∙ ap (λ (l : List Worker). entries_of (rows_of l)) whole in
-    let places = written c.args.room.places.len c.collect.new.places c.args.room.places.items (drop (length c.collect.new.places) c.args.room.places.items) (omega (arith, c.args.room.places.ok.0)) covered
-    ∙ c.collect.ensures ∙ (λ k. placed ((start ∙ c.requires.room.places) k) (rows k)) in
-    All-same IsThere _ (placed (blanks (length calls)) (entries_of (rows_of ws))) places (are_filled d counter groups calls vs ws worked each c.of-groups.ensures.calls counted)
-
 pub returns-clause-round : goal.returns-clause-round
 returns-clause-round g c =
     let d : Opened _ = c.args.cache.now in
@@ -86,9 +63,14 @@ returns-clause-round g c =
     let shares : c.gather.new.claimers.items ≡ claimers_of ws = c.gather.ensures.claimers ∙ ap claimers_of whole in
     let some_worker : 0 < length vs = omega (arith, c.requires.some_seat) in
     let each = each_once d counter groups calls vs ws c.gather.new.claimers.items worked some_worker shares c.close.ensures.once c.close.ensures.done in
-    let start : c.as_mut_slice-2.result.now ≡ c.args.room.places.items = c.as_mut_slice-2.ensures.value in
-    let covered : length c.collect.new.places ≡ length c.args.room.places.items = c.collect.auto.places ∙ ap (λ (l : Places). length l) start in
-    let rows : entries_of c.gather.new.rows.items ≡ entries_of (rows_of ws) = ap entries_of c.gather.ensures.rows ∙ ap (λ (l : List Worker). entries_of (rows_of l)) whole in
-    let places = written c.args.room.places.len c.collect.new.places c.args.room.places.items (drop (length c.collect.new.places) c.args.room.places.items) (omega (arith, c.args.room.places.ok.0)) covered
-    ∙ c.collect.ensures ∙ (λ k. placed ((start ∙ c.requires.room.places) k) (rows k)) in
-    is_round d counter groups calls vs ws c.args.seats.now.items c.gather.new.seats.items c.filled.result.items worked (sym before) (c.gather.ensures.seats ∙ ap seats_of whole) (c.filled.ensures ∙ places) each
+    let counted : counter.jobs ≡ length groups.firsts.items = c.requires.room.groups_are ∙ sym (c.of-groups.ensures.groups ∙ ap (λ (l : List ℕ). length l) c.requires.room.blank.0 ∙ length-replicate _ _) in
+    let n : ℕ = length calls in
+    let es : List (ℕ × Answer) = entries_of (rows_of ws) in
+    let begun : List Answer = c.args.room.answers.items in
+    let start : c.as_mut_slice-2.result.now ≡ begun = c.as_mut_slice-2.ensures.value in
+    let covered : length c.collect.new.answers ≡ length begun = c.collect.auto.answers ∙ ap (λ (l : List Answer). length l) start in
+    let rows : entries_of c.gather.new.rows.items ≡ es = ap entries_of c.gather.ensures.rows ∙ ap (λ (l : List Worker). entries_of (rows_of l)) whole in
+    let answers = written c.args.room.answers.len c.collect.new.answers begun (drop (length c.collect.new.answers) begun) (omega (arith, c.args.room.answers.ok.0)) covered
+    ∙ c.collect.ensures ∙ (λ k. put_all ((start ∙ c.requires.room.answers ∙ shown_blanks n) k) (rows k)) ∙ put_shown (blanks n) es in
+    let there = are_filled d counter groups calls vs ws worked each c.of-groups.ensures.calls counted in
+    is_round d counter groups calls vs ws c.args.seats.now.items c.gather.new.seats.items _ worked (sym before) (c.gather.ensures.seats ∙ ap seats_of whole) (ap (λ (l : List Answer). map Some l) answers ∙ shown_there (placed (blanks n) es) there) each
