@@ -67,7 +67,7 @@ pub fn one<R: Threads + Wait + Clock + Sync>(
         return Err(Failure::NoMemory);
     };
     let time = now(rt)?.saturating_duration_since(begin);
-    if left.replies.iter().any(|reply| reply.is_none()) {
+    if left.answers.iter().any(|answer| answer.is_err()) {
         return Err(Failure::NoMemory);
     }
     Ok((time, left.tables))

@@ -7,7 +7,7 @@ ghost use Rattle.registry.specs.Ids.{IsOf};
 ghost use Rattle.invokeall.specs.Jobs.{IsCallable};
 
 use cache::NoGate;
-use invokeall::{Job, calls_for};
+use invokeall::{Job, JobReply, calls_for};
 use jtypes::{Arg, Args, NoLoader, Outcome};
 use registry::{ClassId, Registry};
 use rowclasses as rows;
@@ -19,8 +19,8 @@ use stripe::{ArgSlice, Reply, Tables};
 use workers::{CALL, CrewLeft, Kept, run_by_workers, steps_of, worth};
 
 /// An invocation returned this Long.
-fn returned(n: i64) -> Option<Reply> {
-    Some(Reply::Result(Outcome::Returned(Arg::Long(n))))
+fn returned(n: i64) -> JobReply {
+    Ok(Reply::Result(Outcome::Returned(Arg::Long(n))))
 }
 
 /// What a round of these jobs leaves, by 1 to 16 workers.
@@ -122,20 +122,20 @@ fn entries_in(tables: &Tables) -> [Option<i64>; 5] {
     ]
 }
 
-/// Whether a round behind three puts leaves these replies and entries.
+/// Whether a round behind three puts leaves these answers and entries.
 fn leaves<R: Threads + Wait + Sync>(
     rt: &R,
     alloc: Global,
     registry: &Registry,
     workers: usize,
     jobs: &[Job<'_>],
-    replies: &[Option<Reply>],
+    answers: &[JobReply],
     entries: [Option<i64>; 5],
 ) -> bool
     requires { All (IsCallable registry.now) jobs.now }
 {
     match behind_puts(rt, alloc, registry, workers, jobs) {
-        Some(left) => left.replies.as_slice() == replies && entries_in(&left.tables) == entries,
+        Some(left) => left.answers.as_slice() == answers && entries_in(&left.tables) == entries,
         None => false,
     }
 }
@@ -152,15 +152,15 @@ fn own_keys_are_right<R: Threads + Wait + Sync>(
 {
     let args = Args::none();
     let jobs = on_own_keys(class, &args);
-    let replies = [
-        Some(Reply::Done),
+    let answers = [
+        Ok(Reply::Done),
         returned(42),
-        Some(Reply::Value(Some(7))),
-        Some(Reply::Flag(false)),
-        Some(Reply::Flag(true)),
+        Ok(Reply::Value(Some(7))),
+        Ok(Reply::Flag(false)),
+        Ok(Reply::Flag(true)),
     ];
     let entries = [Some(5), Some(42), Some(7), None, None];
-    leaves(rt, alloc, registry, workers, &jobs, &replies, entries)
+    leaves(rt, alloc, registry, workers, &jobs, &answers, entries)
 }
 
 /// The same by 1 and by 4 workers.
@@ -200,15 +200,15 @@ fn two_keys_are_right<R: Threads + Wait + Sync>(
 {
     let args = Args::none();
     let jobs = on_two_keys(class, &args);
-    let replies = [
-        Some(Reply::Done),
+    let answers = [
+        Ok(Reply::Done),
         returned(6),
-        Some(Reply::Value(Some(6))),
-        Some(Reply::Flag(true)),
-        Some(Reply::Flag(false)),
+        Ok(Reply::Value(Some(6))),
+        Ok(Reply::Flag(true)),
+        Ok(Reply::Flag(false)),
     ];
     let entries = [Some(6), Some(41), None, None, Some(50)];
-    leaves(rt, alloc, registry, 1, &jobs, &replies, entries)
+    leaves(rt, alloc, registry, 1, &jobs, &answers, entries)
 }
 
 /// The same, with a registry of its own.

@@ -7,7 +7,7 @@ ghost use Rattle.registry.specs.Ids.{IsOf};
 ghost use Rattle.invokeall.specs.Jobs.{IsCallable};
 
 use cache::NoGate;
-use invokeall::{Job, calls_for};
+use invokeall::{Job, JobReply, calls_for};
 use jtypes::{Arg, Args, JavaFault, LoadFailed, Loader, Outcome};
 use registry::{ClassId, Registry};
 use rowclasses as rows;
@@ -114,6 +114,15 @@ fn bytes_of(alloc: Global, name: &str) -> Result<Vec<u8>, AllocError> {
 /// What a round leaves: its replies are these, and the entry of a key is that.
 type Left = Option<(bool, Option<i64>)>;
 
+/// Whether the answers have these replies.
+fn have(answers: &[JobReply], replies: &[Option<Reply>]) -> bool {
+    answers.len() == replies.len()
+        && answers
+            .iter()
+            .zip(replies)
+            .all(|(answer, reply)| (*answer).ok() == *reply)
+}
+
 /// What a round of these jobs leaves, by four workers.
 fn by_workers<R: Threads + Wait + Sync>(
     rt: &R,
@@ -135,7 +144,7 @@ fn by_workers<R: Threads + Wait + Sync>(
             match run_by_workers(
                 rt, alloc, registry, tables, 4, &calls, &mut kept, &NoGate, &Few,
             ) {
-                Ok(left) => Some((left.replies.as_slice() == replies, left.tables.entry(key))),
+                Ok(left) => Some((have(&left.answers, replies), left.tables.entry(key))),
                 Err(_) => None,
             }
         }

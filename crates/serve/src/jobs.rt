@@ -6,11 +6,15 @@ ghost use Rattle.stripe.specs.Stored.{entry_among};
 ghost use Rattle.stripe.specs.Seen.{call_of as seen_call};
 ghost use Rattle.outcome.specs.Outcome.{IsDone};
 ghost use Rattle.invokeall.specs.Jobs.{all_seen};
+ghost use Rattle.invokeall.specs.Rounds.{reply_of};
+ghost use Rattle.invokeall.specs.Rooms.{HasRoom};
+ghost use Rattle.workers.specs.Rooms.{HasPlace};
 ghost use Rattle.serve.specs.Kept.{IsWithin, call_of, calls_of};
 
 use crate::plan::Ask;
 use crate::settings::Settings;
-use cache::Gate;
+use cache::{Gate, InvokeRefusal};
+use invokeall::JobReply;
 use jtypes::{Arg, Loader};
 use registry::Registry;
 use std::alloc::{AllocError, Global};
@@ -20,11 +24,11 @@ use stripe::{Call, Reply, Tables};
 use turns::run_in_turns;
 use workers::{Kept, run_by_workers, worth};
 
-/// What a round leaves: the entries, and the answer to each job. A job without an answer found no memory.
+/// What a round leaves: the entries, and the answer to each job. A job that was refused found no memory.
 #[derive(Drop)]
 pub struct RoundLeft {
     pub tables: Tables,
-    pub replies: Vec<Option<Reply>>,
+    pub answers: Vec<JobReply>,
 }
 
 /// The call of a job, with its arguments.
@@ -64,6 +68,28 @@ pub fn calls_for<'a>(
     Ok(calls)
 }
 
+/// The answer with this reply. A job without one found no memory.
+fn answer_with(reply: &Option<Reply>) -> JobReply
+    ensures reply { reply_of result ≡ reply.now }
+    ensures placed { HasPlace result }
+{
+    match *reply {
+        Some(reply) => Ok(reply),
+        None => Err(InvokeRefusal::NoMemory),
+    }
+}
+
+/// The answers with these replies.
+fn answer_all(replies: &[Option<Reply>], answers: &mut Vec<JobReply>)
+    requires { HasRoom (length replies.now) answers.old }
+    ensures replies { map reply_of answers.new.items ≡ replies.now }
+    ensures placed { All HasPlace answers.new.items }
+{
+    for reply in replies {
+        answers.push_reserved(answer_with(reply));
+    }
+}
+
 /// Runs the jobs in turn, on this thread.
 fn run_alone<L: Loader>(
     alloc: Global,
@@ -72,12 +98,19 @@ fn run_alone<L: Loader>(
     loader: &L,
 ) -> Result<RoundLeft, Tables>
     requires { length calls.now ≤ 4096 }
-    ensures done { IfOk result (λ left. IsDone L.ASKS (L.gives loader.now) (entry_among tables) (all_seen calls.now) left.replies.items (entry_among left.tables)) }
+    ensures done { IfOk result (λ left. IsDone L.ASKS (L.gives loader.now) (entry_among tables) (all_seen calls.now) (map reply_of left.answers.items) (entry_among left.tables)) }
+    ensures placed { IfOk result (λ left. All HasPlace left.answers.items) }
     ensures stripes { IfOk result (λ left. length left.tables ≡ length tables) }
     ensures kept { IfErr result (λ e. e ≡ tables) }
 {
+    let Ok(mut answers) = Vec::with_capacity(alloc, calls.len()) else {
+        return Err(tables);
+    };
     match run_in_turns(alloc, tables, calls, loader) {
-        Ok(turns::TurnsLeft { tables, replies }) => Ok(RoundLeft { tables, replies }),
+        Ok(turns::TurnsLeft { tables, replies }) => {
+            answer_all(replies.as_slice(), &mut answers);
+            Ok(RoundLeft { tables, answers })
+        }
         Err(tables) => Err(tables),
     }
 }
@@ -98,7 +131,8 @@ pub fn run_jobs<'a, T: Threads + Wait + Sync, G: Gate + Sync, L: Loader + Sync>(
 ) -> Result<RoundLeft, Tables>
     requires jobs { length calls.now ≤ 4096 }
     requires workers { settings.workers ≤ 16 }
-    ensures done { IfOk result (λ left. IsDone L.ASKS (L.gives loader.now) (entry_among tables) (all_seen calls.now) left.replies.items (entry_among left.tables)) }
+    ensures done { IfOk result (λ left. IsDone L.ASKS (L.gives loader.now) (entry_among tables) (all_seen calls.now) (map reply_of left.answers.items) (entry_among left.tables)) }
+    ensures placed { IfOk result (λ left. All HasPlace left.answers.items) }
     ensures stripes { IfOk result (λ left. length left.tables ≡ length tables) }
     ensures kept { IfErr result (λ e. e ≡ tables) }
 {
@@ -109,7 +143,7 @@ pub fn run_jobs<'a, T: Threads + Wait + Sync, G: Gate + Sync, L: Loader + Sync>(
     match run_by_workers(
         rt, alloc, registry, tables, workers, calls, kept, gate, loader,
     ) {
-        Ok(workers::CrewLeft { tables, replies }) => Ok(RoundLeft { tables, replies }),
+        Ok(workers::CrewLeft { tables, answers }) => Ok(RoundLeft { tables, answers }),
         Err(tables) => Err(tables),
     }
 }

@@ -1,24 +1,26 @@
 //! Replies are made of answers.
 
 ghost use Rattle.std.specs.Prelude.{◌≡◌, ◌≤◌, ◌++◌, None, length, map, drop, slice_index_or, IfOk, OnOk};
+ghost use Rattle.std.specs.List.{All};
+ghost use Rattle.invokeall.specs.Rounds.{reply_of};
+ghost use Rattle.workers.specs.Rooms.{HasPlace};
 ghost use Rattle.wire.specs.Frames.{IsReply, reply_frame};
 ghost use Rattle.serve.specs.Rounds.{work_reply, job_reply as reply_of_answer, all_listed, listed, most_jobs};
 ghost use Rattle.serve.specs.Served.{all_told, replies_text};
 ghost use Rattle.serve.specs.Kept.{work_of};
 
 use crate::plan::Work;
+use cache::InvokeRefusal;
+use invokeall::JobReply;
 use jtypes::{Arg, Items, Outcome};
 use std::alloc::{AllocError, Global};
 use stripe::Reply as Answer;
 use wire::{Counted, Denial, JobOutcome, Reply, write_reply};
 
 /// The frames of the replies to a round's requests, and of its end.
-pub fn text_of(
-    alloc: Global,
-    works: Vec<Work>,
-    answers: &[Option<Answer>],
-) -> Result<Vec<u8>, AllocError>
-    ensures { IfOk result (λ text. text.items ≡ replies_text (all_told (map (work_reply answers.now) (map work_of works.items)))) }
+pub fn text_of(alloc: Global, works: Vec<Work>, answers: &[JobReply]) -> Result<Vec<u8>, AllocError>
+    requires { All HasPlace answers.now }
+    ensures { IfOk result (λ text. text.items ≡ replies_text (all_told (map (work_reply (map reply_of answers.now)) (map work_of works.items)))) }
 {
     let mut text = Counted::new(Vec::new(alloc));
     for work in works {
@@ -38,8 +40,9 @@ fn add_reply(text: &mut Counted<Vec<u8>>, reply: Reply) -> Result<(), AllocError
     }
 }
 
-fn reply_to(alloc: Global, work: Work, answers: &[Option<Answer>]) -> Result<Reply, AllocError>
-    ensures reply { IfOk result (λ reply. reply ≡ work_reply answers.now (work_of work)) }
+fn reply_to(alloc: Global, work: Work, answers: &[JobReply]) -> Result<Reply, AllocError>
+    requires { All HasPlace answers.now }
+    ensures reply { IfOk result (λ reply. reply ≡ work_reply (map reply_of answers.now) (work_of work)) }
     ensures framed { IfOk result IsReply }
 {
     match work {
@@ -62,19 +65,34 @@ fn reply_to(alloc: Global, work: Work, answers: &[Option<Answer>]) -> Result<Rep
     }
 }
 
-fn answer_at(answers: &[Option<Answer>], at: usize) -> Option<Answer>
-    ensures { result ≡ slice_index_or answers.now at None }
+/// The reply of an answer; none of a refusal for want of memory.
+fn reply_in(answer: &JobReply) -> Option<Answer>
+    requires { HasPlace answer.now }
+    ensures { result ≡ reply_of answer.now }
+{
+    match *answer {
+        Ok(reply) => Some(reply),
+        Err(InvokeRefusal::NoMemory) => None,
+        Err(InvokeRefusal::JournalFull) => unreachable!(),
+    }
+}
+
+fn answer_at(answers: &[JobReply], at: usize) -> Option<Answer>
+    requires { All HasPlace answers.now }
+    ensures { result ≡ slice_index_or (map reply_of answers.now) at None }
 {
     if at < answers.len() {
-        answers[at]
+        reply_in(&answers[at])
     } else {
         None
     }
 }
 
 /// The answers from this place on.
-fn answers_from(answers: &[Option<Answer>], at: usize) -> &[Option<Answer>]
-    ensures { result.now ≡ drop at answers.now }
+fn answers_from(answers: &[JobReply], at: usize) -> &[JobReply]
+    requires { All HasPlace answers.now }
+    ensures answers { map reply_of result.now ≡ drop at (map reply_of answers.now) }
+    ensures placed { All HasPlace result.now }
 {
     if at < answers.len() {
         &answers[at..]
@@ -99,35 +117,30 @@ fn job_reply(answer: Option<Answer>) -> Reply
 /// What is listed of the keys, of which these are the answers.
 fn results(
     alloc: Global,
-    answers: &[Option<Answer>],
+    answers: &[JobReply],
     keys: &[i64],
 ) -> Result<Vec<(i64, JobOutcome)>, AllocError>
-    ensures { IfOk result (λ list. list.items ≡ all_listed answers.now keys.now) }
+    requires { All HasPlace answers.now }
+    ensures { IfOk result (λ list. list.items ≡ all_listed (map reply_of answers.now) keys.now) }
 {
     let mut list = Vec::new(alloc);
-    let mut rest = answers;
-    for key in keys {
-        if let Some((first, others)) = rest.split_first() {
-            list_job(&mut list, *key, *first)?;
-            rest = others;
-        } else {
-            list_job(&mut list, *key, None)?;
-        }
+    for i in 0..keys.len() {
+        list_job(&mut list, &keys[i], answer_at(answers, i))?;
     }
     Ok(list)
 }
 
 fn list_job(
     list: &mut Vec<(i64, JobOutcome)>,
-    key: i64,
+    key: &i64,
     answer: Option<Answer>,
 ) -> Result<(), AllocError>
-    ensures { OnOk result (list.new.items ≡ list.old.items ++ listed key answer) }
+    ensures { OnOk result (list.new.items ≡ list.old.items ++ listed key.now answer) }
 {
     match answer {
-        None => list.push((key, JobOutcome::Denied(Denial::NoMemory)))?,
+        None => list.push((*key, JobOutcome::Denied(Denial::NoMemory)))?,
         Some(Answer::Result(Outcome::Returned(Arg::Null))) => {}
-        Some(Answer::Result(outcome)) => list.push((key, JobOutcome::Ended(outcome)))?,
+        Some(Answer::Result(outcome)) => list.push((*key, JobOutcome::Ended(outcome)))?,
         Some(_) => {}
     }
     Ok(())

@@ -75,8 +75,8 @@ fn run_round<T: Threads + Wait + Sync, G: Gate + Sync, L: Loader + Sync>(
     ) else {
         return Err(AllocError);
     };
-    let RoundLeft { tables, replies } = left;
-    let text = text_of(alloc, works, replies.as_slice())?;
+    let RoundLeft { tables, answers } = left;
+    let text = text_of(alloc, works, answers.as_slice())?;
     Ok((tables, text))
 }
 

@@ -1,6 +1,6 @@
 //! A cache is opened, a round is run on it, and it is closed.
 
-ghost use Rattle.std.specs.Prelude.{◌≡◌, ◌<◌, ◌≤◌, length, map, vec_capacity, IfOk, IfErr};
+ghost use Rattle.std.specs.Prelude.{◌≡◌, ◌<◌, ◌≤◌, length, map, IfOk, IfErr};
 ghost use Rattle.std.specs.List.{All};
 ghost use Rattle.claims.specs.Counters.{IsJobCount};
 ghost use Rattle.stripe.specs.Stored.{entry_among};
@@ -8,26 +8,25 @@ ghost use Rattle.cache.specs.Opened.{IsSeatCount, AreFresh};
 ghost use Rattle.outcome.specs.Outcome.{IsDone};
 ghost use Rattle.invokeall.specs.Jobs.{all_seen};
 ghost use Rattle.invokeall.specs.Rounds.{reply_of};
-ghost use Rattle.invokeall.specs.Rooms.{HasRoom};
 ghost use Rattle.workers.specs.Rooms.{HasPlace, IsRoom};
 
 use crate::room::{CrewRoom, Kept, room_for};
-use cache::{Cache, Closed, Gate, InvokeRefusal, Seat};
+use cache::{Cache, Closed, Gate, Seat};
 use invokeall::{JobReply, run_in};
 use jtypes::Loader;
 use registry::Registry;
 use std::alloc::Global;
 use std::sync::Wait;
 use std::thread::Threads;
-use stripe::{Call, MOST_RECORDS, Reply, Tables};
+use stripe::{Call, MOST_RECORDS, Tables};
 
 /// What a round leaves.
 #[derive(Drop)]
 pub struct CrewLeft {
     /// The entries afterwards.
     pub tables: Tables,
-    /// A reply for each call, in the order of the calls. A call that was refused for want of memory has none, and changed nothing.
-    pub replies: Vec<Option<Reply>>,
+    /// An answer to each call, in the order of the calls. A call that was refused, for want of memory, changed nothing.
+    pub answers: Vec<JobReply>,
 }
 
 /// How many of something a round takes that needs no more of it than it has calls: at least one.
@@ -64,7 +63,8 @@ pub fn run_by_workers<'a, R: Threads + Wait + Sync, G: Gate + Sync, L: Loader + 
 ) -> Result<CrewLeft, Tables>
     requires workers { IsSeatCount workers }
     requires calls { IsJobCount (length calls.now) }
-    ensures done { IfOk result (λ left. IsDone L.ASKS (L.gives loader.now) (entry_among tables) (all_seen calls.now) left.replies.items (entry_among left.tables)) }
+    ensures done { IfOk result (λ left. IsDone L.ASKS (L.gives loader.now) (entry_among tables) (all_seen calls.now) (map reply_of left.answers.items) (entry_among left.tables)) }
+    ensures placed { IfOk result (λ left. All HasPlace left.answers.items) }
     ensures stripes { IfOk result (λ left. length left.tables ≡ length tables) }
     ensures kept { IfErr result (λ e. e ≡ tables) }
 {
@@ -94,40 +94,16 @@ fn run_on<'a, R: Threads + Wait + Sync, G: Gate + Sync, L: Loader + Sync>(
     requires journal { length (all_seen calls.now) ≤ cache.journal }
     requires seats { AreFresh cache.table cache.seats seats.items }
     requires room { IsRoom (length (all_seen calls.now)) (length cache.tables) cache.seats room }
-    ensures done { IsDone L.ASKS (L.gives cache.entry.loader) (entry_among cache.entry.tables) (all_seen calls.now) result.replies.items (entry_among result.tables) }
+    ensures done { IsDone L.ASKS (L.gives cache.entry.loader) (entry_among cache.entry.tables) (all_seen calls.now) (map reply_of result.answers.items) (entry_among result.tables) }
+    ensures placed { All HasPlace result.answers.items }
     ensures stripes { length result.tables ≡ length cache.entry.tables }
 {
     let CrewRoom {
         round,
         mut workspaces,
-        mut replies,
     } = room;
     let answers = run_in(rt, &cache, calls, &mut seats, &mut workspaces, round, gate);
     let Closed { tables, .. } = cache.close(seats);
-    put_replies(answers.as_slice(), &mut replies);
     kept.keep(workspaces);
-    CrewLeft { tables, replies }
-}
-
-/// Puts the replies of answers into the room for them.
-fn put_replies(answers: &[JobReply], replies: &mut Vec<Option<Reply>>)
-    requires room { HasRoom (length answers.now) replies.old }
-    requires places { All HasPlace answers.now }
-    ensures { replies.new.items ≡ map reply_of answers.now }
-{
-    for answer in answers {
-        replies.push_reserved(reply_in(answer));
-    }
-}
-
-/// The reply of an answer; none of a refusal for want of memory.
-fn reply_in(answer: &JobReply) -> Option<Reply>
-    requires { HasPlace answer.now }
-    ensures { result ≡ reply_of answer.now }
-{
-    match *answer {
-        Ok(reply) => Some(reply),
-        Err(InvokeRefusal::NoMemory) => None,
-        Err(InvokeRefusal::JournalFull) => unreachable!(),
-    }
+    CrewLeft { tables, answers }
 }

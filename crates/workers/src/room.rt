@@ -9,7 +9,6 @@ ghost use Rattle.workers.specs.Rooms.{IsRoom};
 use invokeall::RoundRoom;
 use machine::Workspace;
 use std::alloc::{AllocError, Global};
-use stripe::Reply;
 
 /// What a round hands on to the next one: to make a workspace takes longer than a short call.
 #[derive(Drop)]
@@ -38,7 +37,6 @@ impl Kept {
 pub struct CrewRoom<'a> {
     pub round: RoundRoom<'a>,
     pub workspaces: Vec<Workspace>,
-    pub replies: Vec<Option<Reply>>,
 }
 
 /// Room for so many jobs, stripes and workers. The workspaces are those that were kept, as far as they go.
@@ -56,12 +54,7 @@ pub fn room_for<'a>(
 {
     let round = invokeall::room_for(alloc, jobs, stripes, workers)?;
     let workspaces = workspaces(alloc, workers, kept)?;
-    let replies = Vec::with_capacity(alloc, jobs)?;
-    Ok(CrewRoom {
-        round,
-        workspaces,
-        replies,
-    })
+    Ok(CrewRoom { round, workspaces })
 }
 
 /// So many workspaces, of those that were kept first.

@@ -1,12 +1,12 @@
-use Rattle.std.proofs.Common.{◌≡◌, List, Option, map, length, sym, ap, ◌∙◌, subst, arith}
+use Rattle.std.proofs.Common.{◌≡◌, List, map, length, sym, ap, ◌∙◌, subst, arith}
 use Rattle.std.proofs.lemmas.List.{length-map}
 use Rattle.stripe.specs.History.{Call}
 use Rattle.stripe.specs.Stored.{entry_among}
 use Rattle.stripe.specs.Seen.{call_of as seen_call}
 use Rattle.stripe.specs.declared.call.Call.{Call as CallTaken}
-use Rattle.stripe.specs.declared.call.Reply.{Reply as Answer}
 use Rattle.outcome.specs.Outcome.{IsDone}
 use Rattle.invokeall.specs.Jobs.{all_seen}
+use Rattle.invokeall.specs.Rounds.{Answer, reply_of}
 use Rattle.serve.specs.Rounds.{work_reply}
 use Rattle.serve.specs.Served.{replies_text, all_told}
 use Rattle.serve.specs.Kept.{calls_of, works_of}
@@ -32,7 +32,7 @@ returns g c calls are =
     let row = c.args.plan.args.items in
     let same : all_seen c.as_slice-3.result.now ≡ calls = ap all_seen c.as_slice-3.ensures.value ∙ c.in_ok-calls.ensures ∙ ap (λ r. calls_of r c.as_slice-2.result.now) c.as_slice.ensures.value ∙ ap (calls_of row) c.as_slice-2.ensures.value ∙ same_calls row c.args.plan.asks.items calls are in
     record {
-      answers = c.in-Ok.left.replies.items;
-      done = subst (λ (l : List Call). IsDone g.L.Loader.ASKS (g.L.Loader.gives c.args.loader.now) (entry_among c.args.tables) l c.in-Ok.left.replies.items (entry_among c.in-Ok.left.tables)) same c.in-Ok.ensures.done;
-      text_is = c.in_ok-text.ensures ∙ ap (λ (l : List (Option Answer)). replies_text (all_told (map (work_reply l) (works_of c.args.plan)))) c.as_slice-4.ensures.value;
+      answers = map reply_of c.in-Ok.left.answers.items;
+      done = subst (λ (l : List Call). IsDone g.L.Loader.ASKS (g.L.Loader.gives c.args.loader.now) (entry_among c.args.tables) l (map reply_of c.in-Ok.left.answers.items) (entry_among c.in-Ok.left.tables)) same c.in-Ok.ensures.done;
+      text_is = c.in_ok-text.ensures ∙ ap (λ (l : List Answer). replies_text (all_told (map (work_reply (map reply_of l)) (works_of c.args.plan)))) c.as_slice-4.ensures.value;
     }
