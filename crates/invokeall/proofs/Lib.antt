@@ -3,3 +3,4 @@ pub mod Turns
 pub mod Rows
 pub mod Worked
 pub mod Homes
+mod OneSeat

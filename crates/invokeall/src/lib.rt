@@ -2,6 +2,7 @@
 #![tactic(auto)]
 
 mod all;
+mod alone;
 mod crew;
 mod groups;
 mod job;
@@ -11,6 +12,7 @@ mod shift;
 mod work;
 
 pub use all::invoke_all;
+pub use alone::run_alone;
 pub use job::{Job, JobReply, calls_for};
 pub use room::{RoundRoom, room_for};
 pub use round::{run_in, run_round};

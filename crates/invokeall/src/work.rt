@@ -80,7 +80,7 @@ fn work_on<'a, R: Wait, G: Gate, L: Loader>(
 }
 
 /// The call of this number.
-fn call_numbered<'a>(calls: &[Call<'a>], number: usize) -> Call<'a>
+pub fn call_numbered<'a>(calls: &[Call<'a>], number: usize) -> Call<'a>
     requires { number < length calls.now }
     ensures { get_elem? (all_seen calls.now) number ≡ some (seen_call result) }
 {

@@ -10,6 +10,7 @@ ghost use Rattle.invokeall.specs.Jobs.{all_seen};
 ghost use Rattle.invokeall.specs.Rounds.{reply_of};
 ghost use Rattle.workers.specs.Rooms.{HasPlace, IsRoom};
 
+use crate::alone::run_by_one;
 use crate::room::{CrewRoom, Kept, room_for};
 use cache::{Cache, Closed, Gate, Seat};
 use invokeall::{JobReply, run_in};
@@ -71,6 +72,11 @@ pub fn run_by_workers<'a, R: Threads + Wait + Sync, G: Gate + Sync, L: Loader + 
     let many = calls.len();
     let seats = needed(many, workers);
     let records = needed(many, MOST_RECORDS);
+    if seats == 1 {
+        return run_by_one(
+            rt, alloc, registry, tables, records, calls, kept, gate, loader,
+        );
+    }
     let Ok(room) = room_for(alloc, many, tables.stripes(), seats, kept) else {
         return Err(tables);
     };
@@ -104,6 +110,6 @@ fn run_on<'a, R: Threads + Wait + Sync, G: Gate + Sync, L: Loader + Sync>(
     } = room;
     let answers = run_in(rt, &cache, calls, &mut seats, &mut workspaces, round, gate);
     let Closed { tables, .. } = cache.close(seats);
-    kept.keep(workspaces);
+    kept.keep_all(workspaces);
     CrewLeft { tables, answers }
 }

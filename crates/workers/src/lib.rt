@@ -1,6 +1,7 @@
 //! A round of calls by worker threads, on a cache that is opened for it and closed behind it.
 #![tactic(auto)]
 
+mod alone;
 mod crew;
 mod room;
 mod shares;

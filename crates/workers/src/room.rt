@@ -24,10 +24,23 @@ impl Kept {
         }
     }
 
-    /// Keeps these workspaces. One for which there is no memory isn't kept.
-    pub fn keep(&mut self, workspaces: Vec<Workspace>) {
-        for space in workspaces {
-            let _ = self.workspaces.push(space);
+    /// Keeps a workspace, if there is memory for it.
+    pub fn keep(&mut self, workspace: Workspace) {
+        let _ = self.workspaces.push(workspace);
+    }
+
+    /// Keeps these workspaces.
+    pub fn keep_all(&mut self, workspaces: Vec<Workspace>) {
+        for workspace in workspaces {
+            self.keep(workspace);
+        }
+    }
+
+    /// A workspace that was kept, or a new one.
+    pub fn workspace(&mut self, alloc: Global) -> Result<Workspace, AllocError> {
+        match self.workspaces.pop() {
+            Some(workspace) => Ok(workspace),
+            None => Workspace::new(alloc),
         }
     }
 }
@@ -63,11 +76,7 @@ fn workspaces(alloc: Global, count: usize, kept: &mut Kept) -> Result<Vec<Worksp
 {
     let mut list = Vec::new(alloc);
     for _ in 0..count {
-        let space = match kept.workspaces.pop() {
-            Some(space) => space,
-            None => Workspace::new(alloc)?,
-        };
-        list.push(space)?;
+        list.push(kept.workspace(alloc)?)?;
     }
     Ok(list)
 }

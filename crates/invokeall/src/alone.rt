@@ -1,0 +1,37 @@
+//! A round by one worker.
+
+ghost use Rattle.std.specs.Prelude.{◌≡◌, ◌∷◌, [], length};
+ghost use Rattle.invokeall.specs.Jobs.{all_seen};
+ghost use Rattle.invokeall.specs.Rounds.{IsRound};
+ghost use Rattle.invokeall.specs.Rooms.{HasRoom};
+
+use crate::job::JobReply;
+use crate::work::call_numbered;
+use cache::{Cache, Gate, Seat};
+use jtypes::Loader;
+use machine::Workspace;
+use std::sync::Wait;
+use stripe::Call;
+
+/// Makes the calls in their order at one seat, and puts the answers into the room for them. It makes room for their receipts at once, if
+/// there is memory for it.
+pub fn run_alone<'a, R: Wait, G: Gate, L: Loader>(
+    rt: &R,
+    cache: &Cache<'a, '_, L>,
+    calls: &[Call<'a>],
+    seat: &mut Seat<'a>,
+    workspace: &mut Workspace,
+    answers: &mut Vec<JobReply>,
+    gate: &G,
+)
+    requires home { seat.old.table ≡ cache.now.table }
+    requires room { HasRoom (length calls.now) answers.old }
+    ensures { IsRound cache.now (all_seen calls.now) (seat.old ∷ []) (seat.new ∷ []) answers.new.items }
+{
+    seat.expect(calls.len());
+    for number in 0..calls.len() {
+        let call = call_numbered(calls, number);
+        let answer = cache.call_at(rt, seat, workspace, call, number, gate);
+        answers.push_reserved(answer);
+    }
+}
