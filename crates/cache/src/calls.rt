@@ -43,6 +43,7 @@ impl<'a, 'l, L: Loader> Cache<'a, 'l, L> {
     ghost use Rattle.cache.specs.Steps.{EndsSo};
 
     /// Makes a call under the lock of its key's stripe. `end` tells how it ends, by the entry that it found.
+    #[inline(always)]
     fn locked<R: Wait, F: FnOnce(Option<i64>) -> Ended, G: Gate>(
         &self,
         rt: &R,
@@ -154,6 +155,7 @@ impl<'a, 'l, L: Loader> Cache<'a, 'l, L> {
     }
 
     /// An invocation of this class.
+    #[inline(always)]
     fn run_at<R: Wait, G: Gate>(
         &self,
         rt: &R,
@@ -184,6 +186,7 @@ impl<'a, 'l, L: Loader> Cache<'a, 'l, L> {
     }
 
     /// Any of the calls, as a job, whose gate is told of it. The class of an invocation may be of any registry that lives as long.
+    #[inline(always)]
     pub fn call_at<R: Wait, G: Gate>(
         &self,
         rt: &R,

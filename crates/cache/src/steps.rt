@@ -80,6 +80,7 @@ fn watch<L: Loader>(board: &Board<'_, L>, index: usize)
 /// Takes a stripe. Who finds it taken looks at it for a while, and sleeps then until it is given back.
 ///
 /// Who has waited takes it as one that is awaited, since others may sleep still; so whoever sleeps is woken in the end.
+#[inline(always)]
 pub fn take<'a, L: Loader, R: Wait>(
     rt: &R,
     board: &Board<'a, L>,

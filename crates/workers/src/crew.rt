@@ -21,6 +21,9 @@ use std::sync::Wait;
 use std::thread::Threads;
 use stripe::{Call, MOST_RECORDS, Tables};
 
+/// One worker makes so few calls in their order. More of them it makes stripe by stripe, since what a stripe stores stays at hand then.
+const FEW: usize = 512;
+
 /// What a round leaves.
 #[derive(Drop)]
 pub struct CrewLeft {
@@ -72,7 +75,7 @@ pub fn run_by_workers<'a, R: Threads + Wait + Sync, G: Gate + Sync, L: Loader + 
     let many = calls.len();
     let seats = needed(many, workers);
     let records = needed(many, MOST_RECORDS);
-    if seats == 1 {
+    if seats == 1 && many <= FEW {
         return run_by_one(
             rt, alloc, registry, tables, records, calls, kept, gate, loader,
         );
