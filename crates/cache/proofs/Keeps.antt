@@ -2,6 +2,7 @@
 use Rattle.std.proofs.Common.{ℤ, Bool, ◌≡◌, ◌≢◌, ◌⊎◌, ℕ, zero, suc, ◌<◌, ◌≤◌, List, [], ◌∷◌, length, get_or, set, Option, Some, None, sym, refl, ap, ◌∙◌, subst, inl, inr, ⊎_elim, arith, length-set, get_or-set_other, get_or-set_same}
 use mathlib.Core.Option.{some, none, some-injective, some-ne-none}
 use lib.ListN.{get_elem?}
+use lib.Seq.{set-set}
 use Rattle.atomic_table.specs.Table.{State}
 use Rattle.atomic_table.proofs.Lists.{at_set, set_here, set_else}
 use Rattle.jtypes.specs.declared.loader.LoadAnswer.{LoadAnswer}
@@ -251,3 +252,20 @@ module _ (loads : Bool) (may : ℤ → LoadAnswer → Type 0) (tables : List Sto
         one_holder = g.one_holder;
         one_place = g.one_place;
       }
+
+-- a stripe that goes back and is taken again in one step
+pub taken_again : (loads : Bool) (may : ℤ → LoadAnswer → Type 0) (tables : List Stored) (journal : ℕ) (s : S) (id i made : ℕ) (q : Part) (z : Kept)
+    (g : IsGuarded loads may tables journal record { words = set s.words i 0; homes = set s.homes i (some z); views = set s.views id (seat_view made q) })
+    → 0 < get_or s.words i 0 → get_elem? (set s.views id (seat_view made q)) id ≡ some (seat_view made q) → i < length s.homes → i < length s.words → i < length tables
+    → IsGuarded loads may tables journal record { words = set s.words i (get_or s.words i 0); homes = set (set s.homes i (some z)) i none; views = set s.views id (holding made q i z) }
+taken_again loads may tables journal s id i made q z g held there home word below =
+    let back : S = record { words = set s.words i 0; homes = set s.homes i (some z); views = set s.views id (seat_view made q) } in
+    let free : get_or back.words i 0 ≡ 0 = get_or-set_same s.words i 0 0 word in
+    let at : IsHome loads may tables journal g.seats g.history g.receipts g.full back i = ⊎_elim
+    (λ (h : IsHome loads may tables journal g.seats g.history g.receipts g.full back i). h)
+    (λ (h : IsOut loads may tables journal g.seats g.history g.receipts g.full back i). let one = h.held in absurd (omega (arith, one, free)))
+    (g.each_stripe i below) in
+    let same : z ≡ at.stripe = some-injective z at.stripe (some-injective (some z) (some at.stripe) (sym (set_here s.homes i (some z) home) ∙ at.there)) in
+    subst (λ (x : List ℕ × List View). IsGuarded loads may tables journal record { words = x.0; homes = set (set s.homes i (some z)) i none; views = x.1 })
+    (λ t. (set-set s.words i 0 (get_or s.words i 0) t, (set-set s.views id (seat_view made q) (holding made q i at.stripe) ∙ ap (λ (y : Kept). set s.views id (holding made q i y)) (sym same)) t))
+    (takes_one loads may tables journal back g id i made q at there (get_or s.words i 0) held)

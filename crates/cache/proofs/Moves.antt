@@ -1,9 +1,9 @@
 -- What the steps on a stripe's lock ask of the table.
-use Rattle.std.proofs.Common.{zero, All, ℤ, Bool, ◌≡◌, ℕ, suc, ◌+◌, ◌*◌, ◌<◌, ◌≤◌, List, [], ◌∷◌, ◌++◌, length, set, Option, None, true, sym, refl, ap, ◌∙◌, subst, ⊎_elim, arith, length-append}
-use mathlib.Core.Option.{none, some-injective}
+use Rattle.std.proofs.Common.{zero, All, ℤ, Bool, ◌≡◌, ℕ, suc, ◌+◌, ◌*◌, ◌<◌, ◌≤◌, List, [], ◌∷◌, ◌++◌, length, get_or, set, None, true, sym, refl, ap, ◌∙◌, subst, ⊎_elim, arith, length-append}
+use mathlib.Core.Option.{none, some, some-injective}
 use lib.ListN.{get_elem?}
-use Rattle.atomic_table.specs.Table.{Allows, step, keeps, takes, gives}
-use Rattle.atomic_table.proofs.Lists.{set_again}
+use Rattle.atomic_table.specs.Table.{Allows, step, keeps, takes, gives, chain}
+use Rattle.atomic_table.proofs.Lists.{set_again, set_here}
 use Rattle.jtypes.specs.declared.loader.LoadAnswer.{LoadAnswer}
 use Rattle.jtypes.specs.Entry.{Entry}
 use Rattle.stripe.specs.History.{Call, Invoke, Get, Put, Remove, Contains, Record}
@@ -13,13 +13,13 @@ use Rattle.stripe.specs.Tables.{IsCount, IsJournal}
 use Rattle.cache.specs.Receipts.{Receipt, receipt_behind}
 use Rattle.cache.specs.Views.{Part, View, seat_view, holding, told_part, filled_part}
 use Rattle.cache.specs.Guarded.{IsLater, IsHome, IsOut, IsGuarded, Guarded, count_records}
-use Rattle.cache.specs.Plays.{Sat, on_take, on_return, on_fill, on_tell, last_receipt, told_last}
+use Rattle.cache.specs.Plays.{Sat, on_take, on_return, on_fill, on_note, last_receipt, told_last}
 use Rattle.cache.specs.Steps.{EndsSo, CanReturn, CanFill, CanTell}
 use Rattle.cache.specs.declared.known.Terms.{Terms}
-use Rattle.cache.proofs.Puts.{put}
+use Rattle.cache.proofs.Puts.{put, within}
 use Rattle.cache.proofs.Counts.{count_few}
 use Rattle.cache.proofs.Books.{Books, put_is, same_books, more_full, more_books}
-use Rattle.cache.proofs.Keeps.{S, gives_back, takes_one, stays_out}
+use Rattle.cache.proofs.Keeps.{S, gives_back, takes_one, taken_again, stays_out}
 
 last_after : (i place : ℕ) (x : Record) (xs : List Record) (r : Record) → last_receipt i place x (xs ++ r ∷ []) ≡ record { stripe = i; place = place + length xs + 1; call = r.call; reply = r.reply }
 last_after i place x [] r = ap (λ (n : ℕ). record { stripe = i; place = n; call = r.call; reply = r.reply }) (omega arith)
@@ -120,24 +120,34 @@ module _ {L : Type 0} (loads : Bool) (may : ℤ → LoadAnswer → Type 0) (k : 
             refl,
           )
 
-      may_tell : (r : Record) → z.records ≡ y.records ++ r ∷ [] → length z.records ≤ z.journal → r.caller ≡ p.caller → r.number ≡ length p.receipts
-          → Allows (Guarded loads may k) n id (holding made p i y, (i, z) ∷ []) i (λ _. 0) (on_tell (step n i 0 0 none) (holding made p i y, (i, z) ∷ []))
-      may_tell r more room by number s g long at fits =
+      may_note : (r : Record) → z.records ≡ y.records ++ r ∷ [] → length z.records ≤ z.journal → r.caller ≡ p.caller → r.number ≡ length p.receipts → IsCount (length tables) → IsJournal k.journal
+          → Allows (Guarded loads may k) n id (holding made p i y, (i, z) ∷ []) i (λ word. word) (on_note (step n i 0 0 none) (holding made p i y, (i, z) ∷ []))
+      may_note r more room by number count small s g long at fits =
           let was = g.each_view id (holding made p i y) at in
-          let here = (was.holds i y refl).at in
+          let holder = was.holds i y refl in
+          let here = holder.at in
           let of = was.parts 0 p refl in
           let q : Part = told_part p (receipt_behind i y.records r) in
           let e : z.records ≡ g.history i ++ r ∷ [] = more ∙ ap (λ (l : List Record). l ++ r ∷ []) here.records in
           let size : z.journal ≡ k.journal = later.journal ∙ here.journal_is in
-          let much : length (g.history i) < k.journal = omega (arith, ap (λ (l : List Record). length l) e, length-append (g.history i) (r ∷ []), size, room) in (
-            seat_view made q,
-            gives,
-            tt,
-            gives_back loads may tables k.journal s g id i made p y at z q.receipts q.full later (omega (arith, room, size))
-                (subst (λ (x : List Record × List Receipt × (ℕ → List Bool)). Books (length tables) k.journal g.seats (put g.history i x.0) (put g.receipts p.caller x.1) x.2)
-                (λ t. (sym e t, sym of.receipts_are t ++ receipt_behind i (sym here.records t) r ∷ [], sym (put_is g.full p.caller p.full of.full_is) t))
-                (more_books (length tables) k.journal g.seats g.history g.receipts g.full record { accounts = g.accounts; counted = g.counted } i p.caller r here.inside much of.caller by (number ∙ ap (λ (l : List Receipt). length l) of.receipts_are))),
-            (λ t. (seat_view made (sym (ap (λ (l : List Record). told_last i l p) more ∙ told_snoc i y.records r p) t), [])),
+          let much : length (g.history i) < k.journal = omega (arith, ap (λ (l : List Record). length l) e, length-append (g.history i) (r ∷ []), size, room) in
+          let word : ℕ = get_or s.words i 0 in
+          let back : S = record { words = set s.words i 0; homes = set s.homes i (some z); views = set s.views id (seat_view made q) } in
+          let given : IsGuarded loads may tables k.journal back = gives_back loads may tables k.journal s g id i made p y at z q.receipts q.full later (omega (arith, room, size))
+          (subst (λ (x : List Record × List Receipt × (ℕ → List Bool)). Books (length tables) k.journal g.seats (put g.history i x.0) (put g.receipts p.caller x.1) x.2)
+          (λ t. (sym e t, sym of.receipts_are t ++ receipt_behind i (sym here.records t) r ∷ [], sym (put_is g.full p.caller p.full of.full_is) t))
+          (more_books (length tables) k.journal g.seats g.history g.receipts g.full record { accounts = g.accounts; counted = g.counted } i p.caller r here.inside much of.caller by (number ∙ ap (λ (l : List Receipt). length l) of.receipts_are))) in
+          let there : get_elem? back.views id ≡ some (seat_view made q) = set_here s.views id (seat_view made q) (within s.views id (holding made p i y) at) in
+          let again = taken_again loads may tables k.journal s id i made q z given holder.held there (omega (arith, here.inside, g.homes)) (omega (arith, here.inside, g.words)) here.inside in
+          let few : length q.receipts ≤ 262144 = subst (λ (l : List Receipt). length l ≤ 262144) (sym ((given.each_view id (seat_view made q) there).parts 0 q refl).receipts_are) (few_receipts loads may tables k.journal back given q.caller count small) in (
+            holding made q i z,
+            chain gives (takes i z),
+            (tt, set_here s.homes i (some z) (omega (arith, here.inside, g.homes))),
+            again,
+            (
+              (λ t. (holding made (sym (ap (λ (l : List Record). told_last i l p) more ∙ told_snoc i y.records r p) t) i z, (i, z) ∷ [])),
+              (λ x only. subst (λ (x : Part). length x.receipts ≤ 262144) (some-injective q x (ap (λ (l : List Part). get_elem? l 0) only)) few),
+            ),
           )
 
   same_later : (y : Kept) → y.running ≡ None → IsLater loads may y y
@@ -149,8 +159,8 @@ module _ {L : Type 0} (loads : Bool) (may : ℤ → LoadAnswer → Type 0) (k : 
   pub may_fill_as : (m : Sat) → CanFill i m → Allows (Guarded loads may k) n id m i (λ _. 0) (on_fill (step n i 0 0 none) m)
   may_fill_as m f = let h = f.held in subst (λ (x : Sat). Allows (Guarded loads may k) n id x i (λ _. 0) (on_fill (step n i 0 0 none) x)) (sym h.is) (may_fill h.made h.part h.stripe h.stripe (same_later h.stripe h.idle) refl f.whole)
 
-  pub may_tell_as : (m : Sat) → CanTell loads may i m → Allows (Guarded loads may k) n id m i (λ _. 0) (on_tell (step n i 0 0 none) m)
-  may_tell_as m h = subst (λ (x : Sat). Allows (Guarded loads may k) n id x i (λ _. 0) (on_tell (step n i 0 0 none) x)) (sym h.is) (may_tell h.made h.part h.before h.stripe h.later h.one h.more h.few h.caller h.number)
+  pub may_note_as : (m : Sat) → CanTell loads may i m → IsCount (length tables) → IsJournal k.journal → Allows (Guarded loads may k) n id m i (λ word. word) (on_note (step n i 0 0 none) m)
+  may_note_as m h count small = subst (λ (x : Sat). Allows (Guarded loads may k) n id x i (λ word. word) (on_note (step n i 0 0 none) x)) (sym h.is) (may_note h.made h.part h.before h.stripe h.later h.one h.more h.few h.caller h.number count small)
 
 -- what holds of one record
 pub one_of : (P : Record → Type 0) (r : Record) → P r → All P (r ∷ [])

@@ -1,5 +1,5 @@
 -- The last state settles the accounts.
-use Rattle.std.proofs.Common.{ℤ, Bool, false, ◌≡◌, ℕ, zero, suc, ◌<◌, ◌≤◌, List, [], ◌∷◌, length, map, get_or, drop, Some, sym, refl, ap, ◌∙◌, subst, ⊎_elim, arith}
+use Rattle.std.proofs.Common.{ℤ, Bool, ◌≡◌, ℕ, zero, suc, ◌<◌, ◌≤◌, List, [], ◌∷◌, length, map, get_or, drop, Some, sym, refl, ap, ◌∙◌, subst, ⊎_elim, arith}
 use Rattle.std.specs.Prelude.{slice_get, option_and_then, pos, negsuc}
 use Rattle.std.proofs.Math.Nat.{mod-lt}
 use mathlib.Core.Option.{some, some-injective, some-ne-none}

@@ -3,8 +3,9 @@ use Rattle.std.specs.Prelude.{◌≡◌, ◌<◌, ◌≤◌, [], length, vec_cap
 use Rattle.atomic_table.specs.Seated.{TableId}
 use Rattle.stripe.specs.Tables.{IsCount, IsJournal, none_back}
 use Rattle.cache.specs.Receipts.{receipts_of}
-use Rattle.cache.specs.Views.{part, seat_view}
+use Rattle.cache.specs.Views.{part}
 use Rattle.cache.specs.Opened.{Opened, Sitting}
+use Rattle.cache.specs.Steps.{IsKnown}
 use Rattle.cache.specs.declared.known.Terms.{Terms}
 use Rattle.cache.specs.declared.cache.Cache.TheInside.{Inside}
 use Rattle.cache.specs.declared.seat.Seat.TheInside.{Inside as InSeat}
@@ -33,5 +34,5 @@ sitting s = record { table = s.pass.table_id; caller = s.caller; made = s.made; 
 
 -- what the locks know of the seat is what it has
 pub record IsSeated (s : InSeat) : Type 0 where
-  pub known : s.pass.me ≡ (seat_view s.made (part s.caller (receipts_of s.receipts.items) s.full), [])
+  pub known : IsKnown s.pass.table_id.slots s.made (part s.caller (receipts_of s.receipts.items) s.full) s.held s.pass.me
   pub full : length s.full ≡ 64

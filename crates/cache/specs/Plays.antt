@@ -13,13 +13,17 @@ Sat = Me Kept View
 abbrev pub with_held : View → ℕ → Kept → View
 with_held v i y = record { made = v.made; parts = v.parts; held = Some (taken i y) }
 
--- a stripe that was free: which one it is, and that no seat of the view has more receipts than there can be records
+-- no seat of the view has more receipts than there can be records
+abbrev pub HaveFew : List Part → Type 0
+HaveFew parts = (p : Part) → parts ≡ p ∷ [] → length p.receipts ≤ 262144
+
+-- a stripe between two calls: which one it is, and that its seat has few receipts
 pub record IsFree (slots i : ℕ) (parts : List Part) (y : Kept) : Type 0 where
   pub stripes : y.stripes ≡ slots
   pub place : y.place ≡ i
   pub idle : y.running ≡ None
   pub few : length y.records ≤ y.journal
-  pub receipts : (p : Part) → parts ≡ p ∷ [] → length p.receipts ≤ 262144
+  pub receipts : HaveFew parts
 
 -- nothing is held, and the parts are changed
 abbrev pub released : (Part → Part) → View → View
@@ -33,10 +37,6 @@ last_receipt i place r (x ∷ xs) = last_receipt i (suc place) x xs
 abbrev pub told_last : ℕ → List Record → Part → Part
 told_last i [] p = p
 told_last i (x ∷ xs) p = told_part p (last_receipt i 0 x xs)
-
-abbrev pub records_in : List (ℕ × Kept) → List Record
-records_in [] = []
-records_in (x ∷ xs) = x.1.records
 
 -- the seat holds the stripe, which was free
 abbrev pub HasTaken : Step Kept → Sat → Sat → Type 0
@@ -54,6 +54,11 @@ on_return st m found m' = m' ≡ (released (λ p. p) m.0, rest m.1)
 abbrev pub on_fill : Step Kept → Sat → ℕ → Sat → Type 0
 on_fill st m found m' = m' ≡ (released (λ p. filled_part p st.word) m.0, rest m.1)
 
--- it is given back with one record more
-abbrev pub on_tell : Step Kept → Sat → ℕ → Sat → Type 0
-on_tell st m found m' = m' ≡ (released (told_last st.word (records_in m.1)) m.0, rest m.1)
+-- the seat has the receipts of its stripe's records, and holds the stripe on as it is
+abbrev pub noted : ℕ → View → List (ℕ × Kept) → Sat
+noted i v [] = (v, [])
+noted i v (x ∷ xs) = (with_held (released (told_last i x.1.records) v) i x.1, x ∷ xs)
+
+-- it has one record more, and is held on
+abbrev pub on_note : Step Kept → Sat → ℕ → Sat → Type 0
+on_note st m found m' = (m' ≡ noted st.word m.0 m.1) × HaveFew m'.0.parts

@@ -1,5 +1,5 @@
 -- What is asked and told of the steps of a call.
-use Rattle.std.specs.Prelude.{◌≡◌, Bool, Option, ◌≢◌, ℕ, ℤ, ◌≤◌, List, [], ◌∷◌, ◌++◌, None, length}
+use Rattle.std.specs.Prelude.{◌≡◌, Bool, Option, Some, ◌≢◌, ℕ, ℤ, ◌<◌, ◌≤◌, List, [], ◌∷◌, ◌++◌, None, length}
 use Rattle.jtypes.specs.declared.loader.LoadAnswer.{LoadAnswer}
 use Rattle.jtypes.specs.Entry.{Entry}
 use Rattle.jtypes.specs.Loading.{IsGiven}
@@ -9,7 +9,7 @@ use Rattle.stripe.specs.Kept.{Kept, IsEnd, asked_by, IsKept, IsOf, IsRecord, beg
 use Rattle.cache.specs.Receipts.{receipt_behind}
 use Rattle.cache.specs.Views.{Part, seat_view, holding, told_part}
 use Rattle.cache.specs.Guarded.{IsLater}
-use Rattle.cache.specs.Plays.{Sat, IsFree}
+use Rattle.cache.specs.Plays.{Sat, IsFree, HaveFew}
 
 -- a call that found this entry ends so, and the loader gives what it answered
 abbrev pub EndsSo : Bool → (ℤ → LoadAnswer → Type 0) → Entry → Call → Option Done × Option LoadAnswer → Type 0
@@ -21,11 +21,16 @@ pub record IsIdle (m : Sat) : Type 0 where
   pub part : Part
   pub is : m ≡ (seat_view made part, [])
 
--- the seat has taken the stripe, which was free
-pub record HasTaken (slots i made : ℕ) (p : Part) (m : Sat) : Type 0 where
+-- the seat holds the stripe, on which no call is open
+pub record Holds (slots i made : ℕ) (p : Part) (m : Sat) : Type 0 where
   pub stripe : Kept
   pub is : m ≡ (holding made p i stripe, (i, stripe) ∷ [])
   pub free : IsFree slots i (p ∷ []) stripe
+
+-- what is known of a seat, which holds nothing or this stripe
+abbrev pub IsKnown : ℕ → ℕ → Part → Option ℕ → Sat → Type 0
+IsKnown slots made p None m = m ≡ (seat_view made p, [])
+IsKnown slots made p (Some i) m = (i < slots) × Holds slots i made p m
 
 -- the stripe is in the seat's hands, and no call is open on it
 pub record CanBegin (i : ℕ) (b : Begun) (held : List (ℕ × Kept)) : Type 0 where
@@ -77,7 +82,7 @@ pub record CanTell (loads : Bool) (gives : ℤ → LoadAnswer → Type 0) (i : �
   pub caller : one.caller ≡ part.caller
   pub number : one.number ≡ length part.receipts
 
--- the seat has given the stripe back with one record more, and has its receipt
-abbrev pub HasTold : ℕ → Sat → Sat → Type 0
-HasTold i m m' = (made : ℕ) (p : Part) (y z : Kept) (r : Record) → m ≡ (holding made p i y, (i, z) ∷ []) → z.records ≡ y.records ++ r ∷ []
-    → m' ≡ (seat_view made (told_part p (receipt_behind i y.records r)), [])
+-- the seat has the receipt of the stripe's new record, and holds the stripe on
+abbrev pub HasNoted : ℕ → Sat → Sat → Type 0
+HasNoted i m m' = (made : ℕ) (p : Part) (y z : Kept) (r : Record) → m ≡ (holding made p i y, (i, z) ∷ []) → z.records ≡ y.records ++ r ∷ []
+    → (m' ≡ (holding made (told_part p (receipt_behind i y.records r)) i z, (i, z) ∷ [])) × HaveFew (told_part p (receipt_behind i y.records r) ∷ [])

@@ -9,7 +9,7 @@ use crate::gate::{Gate, NoGate};
 use crate::receipt::Receipt;
 use crate::refusal::InvokeRefusal;
 use crate::seat::Seat;
-use crate::steps::{begin, commit, give_back, give_full, take, tell};
+use crate::steps::{begin, commit, give_full, hold, leave, note};
 use jtypes::{LoadAnswer, Loader};
 use machine::{Done, Workspace, run};
 use registry::ClassId;
@@ -42,7 +42,7 @@ impl<'a, 'l, L: Loader> Cache<'a, 'l, L> {
     ghost use Rattle.cache.specs.Opened.{IsAnswered, IsTurnedAway};
     ghost use Rattle.cache.specs.Steps.{EndsSo};
 
-    /// Makes a call under the lock of its key's stripe. `end` tells how it ends, by the entry that it found.
+    /// Makes a call under the lock of its key's stripe, which the seat holds on. `end` tells how it ends, by the entry that it found.
     #[inline(always)]
     fn locked<R: Wait, F: FnOnce(Option<i64>) -> Ended, G: Gate>(
         &self,
@@ -64,15 +64,15 @@ impl<'a, 'l, L: Loader> Cache<'a, 'l, L> {
         }
         let index = place_of(self.stripes, &call);
         let board = &self.table.shared;
+        hold(rt, board, &mut seat.pass, &mut seat.held, index);
         let pass = &mut seat.pass;
-        take(rt, board, pass, index);
         let number = seat.receipts.len() as u32;
         match begin(board, pass, index, seat.caller, number, call, self.loader) {
             Ok(before) => {
                 gate.started(job);
                 let (done, asked) = end(before);
                 let (record, place) = commit(board, pass, index, done, asked);
-                tell(board, pass, index);
+                note(board, pass, index);
                 seat.receipts.push_reserved(Receipt {
                     stripe: index,
                     place,
@@ -83,13 +83,11 @@ impl<'a, 'l, L: Loader> Cache<'a, 'l, L> {
             }
             Err(BeginRefusal::JournalFull) => {
                 give_full(board, pass, index);
+                seat.held = None;
                 seat.full[index] = true;
                 Err(InvokeRefusal::JournalFull)
             }
-            Err(BeginRefusal::NoMemory) => {
-                give_back(board, pass, index);
-                Err(InvokeRefusal::NoMemory)
-            }
+            Err(BeginRefusal::NoMemory) => Err(InvokeRefusal::NoMemory),
         }
     }
 
@@ -113,6 +111,33 @@ impl<'a, 'l, L: Loader> Cache<'a, 'l, L> {
         let answer = self.locked(rt, seat, call, end, job, gate);
         gate.answered(job);
         answer
+    }
+
+    /// The same, behind which the seat holds no stripe.
+    fn plain_alone<R: Wait, G: Gate>(
+        &self,
+        rt: &R,
+        seat: &mut Seat<'a>,
+        call: Call<'a>,
+        job: usize,
+        gate: &G,
+    ) -> Result<Reply, InvokeRefusal>
+        requires seat { seat.old.table ≡ self.now.table }
+        requires plain { IsPlain (call_of call) }
+        ensures ok { IfOk result (λ reply. IsAnswered self.now seat.old (call_of call.entry) reply seat.new) }
+        ensures err { IfErr result (λ refusal. IsTurnedAway self.now seat.old (call_of call.entry) refusal seat.new) }
+    {
+        let answer = self.plain(rt, seat, call, job, gate);
+        self.leave(seat);
+        answer
+    }
+
+    /// Gives back the stripe that the seat holds, if `call_at` left it one.
+    pub fn leave(&self, seat: &mut Seat<'a>)
+        requires { seat.old.table ≡ self.now.table }
+        ensures { seat.new ≡ seat.old }
+    {
+        leave(&self.table.shared, &mut seat.pass, &mut seat.held);
     }
 
     /// `invoke` (JSR 107, `Cache`), of an entry processor of this class.
@@ -151,7 +176,9 @@ impl<'a, 'l, L: Loader> Cache<'a, 'l, L> {
         ensures err { IfErr result (λ refusal. IsTurnedAway self.now seat.old (Invoke (class_of class.now) key (arguments args.entry)) refusal seat.new) }
     {
         let class = self.registry.class(class);
-        self.run_at(rt, seat, workspace, class, key, args, job, gate)
+        let answer = self.run_at(rt, seat, workspace, class, key, args, job, gate);
+        self.leave(seat);
+        answer
     }
 
     /// An invocation of this class.
@@ -186,6 +213,9 @@ impl<'a, 'l, L: Loader> Cache<'a, 'l, L> {
     }
 
     /// Any of the calls, as a job, whose gate is told of it. The class of an invocation may be of any registry that lives as long.
+    ///
+    /// The seat holds the stripe of the call's key on, so that a call on the same stripe finds it held; no other seat makes a call on it
+    /// meanwhile. The seat gives it back before a call on another stripe, behind each call that isn't this one, and by `leave`.
     #[inline(always)]
     pub fn call_at<R: Wait, G: Gate>(
         &self,
@@ -204,7 +234,7 @@ impl<'a, 'l, L: Loader> Cache<'a, 'l, L> {
             Call::Invoke { class, key, args } => {
                 self.run_at(rt, seat, workspace, class, key, args, job, gate)
             }
-            Call::Get { key } => self.get_at(rt, seat, key, job, gate),
+            Call::Get { key } => self.read(rt, seat, key, job, gate),
             Call::Put { .. } | Call::Remove { .. } | Call::Contains { .. } => {
                 self.plain(rt, seat, call, job, gate)
             }
@@ -227,6 +257,24 @@ impl<'a, 'l, L: Loader> Cache<'a, 'l, L> {
 
     /// `get`, as a job, whose gate is told of it.
     pub fn get_at<R: Wait, G: Gate>(
+        &self,
+        rt: &R,
+        seat: &mut Seat<'a>,
+        key: i64,
+        job: usize,
+        gate: &G,
+    ) -> Result<Reply, InvokeRefusal>
+        requires { seat.old.table ≡ self.now.table }
+        ensures ok { IfOk result (λ reply. IsAnswered self.now seat.old (Get key) reply seat.new) }
+        ensures err { IfErr result (λ refusal. IsTurnedAway self.now seat.old (Get key) refusal seat.new) }
+    {
+        let answer = self.read(rt, seat, key, job, gate);
+        self.leave(seat);
+        answer
+    }
+
+    /// A `get`.
+    fn read<R: Wait, G: Gate>(
         &self,
         rt: &R,
         seat: &mut Seat<'a>,
@@ -274,7 +322,7 @@ impl<'a, 'l, L: Loader> Cache<'a, 'l, L> {
         ensures ok { IfOk result (λ reply. IsAnswered self.now seat.old (Put key value) reply seat.new) }
         ensures err { IfErr result (λ refusal. IsTurnedAway self.now seat.old (Put key value) refusal seat.new) }
     {
-        self.plain(rt, seat, Call::Put { key, value }, job, gate)
+        self.plain_alone(rt, seat, Call::Put { key, value }, job, gate)
     }
 
     /// `remove` (JSR 107, `Cache`).
@@ -304,7 +352,7 @@ impl<'a, 'l, L: Loader> Cache<'a, 'l, L> {
         ensures ok { IfOk result (λ reply. IsAnswered self.now seat.old (Remove key) reply seat.new) }
         ensures err { IfErr result (λ refusal. IsTurnedAway self.now seat.old (Remove key) refusal seat.new) }
     {
-        self.plain(rt, seat, Call::Remove { key }, job, gate)
+        self.plain_alone(rt, seat, Call::Remove { key }, job, gate)
     }
 
     /// `containsKey` (JSR 107, `Cache`).
@@ -334,6 +382,6 @@ impl<'a, 'l, L: Loader> Cache<'a, 'l, L> {
         ensures ok { IfOk result (λ reply. IsAnswered self.now seat.old (Contains key) reply seat.new) }
         ensures err { IfErr result (λ refusal. IsTurnedAway self.now seat.old (Contains key) refusal seat.new) }
     {
-        self.plain(rt, seat, Call::Contains { key }, job, gate)
+        self.plain_alone(rt, seat, Call::Contains { key }, job, gate)
     }
 }

@@ -7,13 +7,14 @@ ghost use Rattle.stripe.specs.Tables.{IsCount, fresh_stripes, none_back};
 ghost use Rattle.cache.specs.Views.{seat_view, part, none_full, first_view};
 ghost use Rattle.cache.specs.Opened.{Sitting, IsSeatCount, AreFresh, fresh_seat, view_of};
 ghost use Rattle.cache.specs.Closing.{receipts_seen, receipts_in};
+ghost use Rattle.cache.specs.Inside.{IsBoard};
 ghost use Rattle.cache.specs.Ends.{AreReady, CanComeBack, IsUnpacked, tables_of};
 
 use crate::known::{Known, Terms};
 use crate::locks::{Locks, OneMore};
 use crate::receipt::Receipt;
 use crate::seat::Seat;
-use crate::steps::{Board, Place};
+use crate::steps::{Board, Place, leave};
 use atomic_table::Table;
 use jtypes::Loader;
 use std::alloc::Global;
@@ -47,6 +48,7 @@ fn cut_all<'a, L: Loader>(
             made: 0,
             receipts: Vec::new(alloc),
             full: [false; 64],
+            held: None,
         });
     }
 }
@@ -63,6 +65,7 @@ fn first_seat<'a>(alloc: Global, pass: Place<'a>, seats: usize) -> Seat<'a>
         made: seats as u8,
         receipts: Vec::new(alloc),
         full: [false; 64],
+        held: None,
     }
 }
 
@@ -117,14 +120,14 @@ fn first_in<'a>(list: &mut Vec<Seat<'a>>, first: Seat<'a>)
     }
 }
 
-/// Joins all seats into the first, and gathers their receipts.
+/// Joins all seats into the first, and gathers their receipts. A stripe that a seat holds is given back before.
 pub fn join_all<'a, L: Loader>(
     board: &Board<'a, L>,
     first: Seat<'a>,
     rest: Vec<Seat<'a>>,
     lists: &mut Vec<Vec<Receipt<'a>>>,
 ) -> Place<'a>
-    requires board { (first.table ≡ board.now.table_id) × (0 < board.now.table_id.words) }
+    requires board { (first.table ≡ board.now.table_id) × IsBoard board.now.table_id board.now.key }
     requires rest { (c : ℕ) (s : Sitting) → get_elem? rest.items c ≡ some s → s.table ≡ board.now.table_id }
     requires room { (lists.old.items ≡ []) × (length rest.items + 1 ≤ vec_capacity lists.old) }
     ensures table { result.table_id ≡ board.now.table_id }
@@ -134,15 +137,19 @@ pub fn join_all<'a, L: Loader>(
     let Seat {
         mut pass,
         receipts,
+        mut held,
         ..
     } = first;
+    leave(board, &mut pass, &mut held);
     lists.push_reserved(receipts);
     for seat in rest {
         let Seat {
-            pass: other,
+            pass: mut other,
             receipts,
+            mut held,
             ..
         } = seat;
+        leave(board, &mut other, &mut held);
         board.join_seat::<OneMore>(&mut pass, other);
         lists.push_reserved(receipts);
     }

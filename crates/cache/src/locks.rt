@@ -44,13 +44,13 @@ impl<'a> Play<Stripe<'a>, Known> for Fill {
     ghost then = { on_fill };
 }
 
-/// A stripe is given back with one record more.
-pub struct Tell;
+/// A stripe that is held has one record more.
+pub struct Note;
 
-impl<'a> Play<Stripe<'a>, Known> for Tell {
-    ghost use Rattle.cache.specs.Plays.{on_tell};
+impl<'a> Play<Stripe<'a>, Known> for Note {
+    ghost use Rattle.cache.specs.Plays.{on_note};
 
-    ghost then = { on_tell };
+    ghost then = { on_note };
 }
 
 /// A further seat is made, and seats are put together at the end.

@@ -15,6 +15,8 @@ pub struct Seat<'a> {
     pub(crate) made: u8,
     pub(crate) receipts: Vec<Receipt<'a>>,
     pub(crate) full: [bool; 64],
+    /// The stripe that it holds, if any.
+    pub(crate) held: Option<usize>,
 }
 
 impl<'a> Model for Seat<'a> {

@@ -1,16 +1,16 @@
 //! A stripe is taken, worked on and given back.
 
-ghost use Rattle.std.specs.Prelude.{◌≡◌, ◌<◌, ◌∷◌, [], ℕ, length, Some, Err, IfOk, OnErr, IsTrue, IsFalse};
+ghost use Rattle.std.specs.Prelude.{◌≡◌, ◌<◌, ◌∷◌, [], ℕ, length, Some, None, Err, IfOk, OnErr, IsTrue, IsFalse};
 ghost use Rattle.stripe.specs.History.{Begun, key_of};
 ghost use Rattle.stripe.specs.Kept.{Kept, CanCommit, asked_by};
 ghost use Rattle.stripe.specs.Seen.{call_of, record_of};
 ghost use Rattle.stripe.specs.declared.refusal.BeginRefusal.TheVariants.{JournalFull};
 ghost use Rattle.cache.specs.Views.{Part, seat_view, holding, filled_part};
 ghost use Rattle.cache.specs.Inside.{IsBoard};
-ghost use Rattle.cache.specs.Steps.{IsIdle, HasTaken, CanBegin, HasBegun, HasCommitted, HasTold, CanReturn, CanFill, CanTell};
+ghost use Rattle.cache.specs.Steps.{IsIdle, Holds, IsKnown, CanBegin, HasBegun, HasCommitted, HasNoted, CanReturn, CanFill, CanTell};
 
 use crate::known::{Known, Terms};
-use crate::locks::{Fill, Locks, Return, Take, Tell};
+use crate::locks::{Fill, Locks, Note, Return, Take};
 use atomic_table::{Seat as Pass, Shared};
 use jtypes::{LoadAnswer, Loader};
 use machine::Done;
@@ -50,7 +50,7 @@ fn try_take<'a, L: Loader>(
     requires idle { IsIdle pass.old.me }
     requires some { 0 < mark }
     ensures table { pass.new.table_id ≡ pass.old.table_id }
-    ensures taken { IsTrue result → (made : ℕ) (p : Part) → pass.old.me ≡ (seat_view made p, []) → HasTaken board.now.table_id.slots index made p pass.new.me }
+    ensures taken { IsTrue result → (made : ℕ) (p : Part) → pass.old.me ≡ (seat_view made p, []) → Holds board.now.table_id.slots index made p pass.new.me }
     ensures left { IsFalse result → pass.new.me ≡ pass.old.me }
 {
     board.swap::<Take>(pass, index, mark) == FREE
@@ -92,7 +92,7 @@ pub fn take<'a, L: Loader, R: Wait>(
     requires index { index < board.now.table_id.words }
     requires idle { IsIdle pass.old.me }
     ensures table { pass.new.table_id ≡ pass.old.table_id }
-    ensures taken { (made : ℕ) (p : Part) → pass.old.me ≡ (seat_view made p, []) → HasTaken board.now.table_id.slots index made p pass.new.me }
+    ensures taken { (made : ℕ) (p : Part) → pass.old.me ≡ (seat_view made p, []) → Holds board.now.table_id.slots index made p pass.new.me }
 {
     if try_take(board, pass, index, HELD) {
         return;
@@ -148,16 +148,16 @@ pub fn commit<'a, L: Loader>(
     (stripe.commit(done, asked), place)
 }
 
-/// Gives the stripe back with one record more.
-pub fn tell<'a, L: Loader>(board: &Board<'a, L>, pass: &mut Place<'a>, index: usize)
+/// Notes that the stripe has one record more. The seat holds it on, so its word stays as it is.
+pub fn note<'a, L: Loader>(board: &Board<'a, L>, pass: &mut Place<'a>, index: usize)
     requires table { pass.old.table_id ≡ board.now.table_id }
+    requires board { IsBoard board.now.table_id board.now.key }
     requires index { index < board.now.table_id.words }
     requires held { CanTell L.ASKS (L.gives board.now.key.loader.value) index pass.old.me }
     ensures table { pass.new.table_id ≡ pass.old.table_id }
-    ensures given { HasTold index pass.old.me pass.new.me }
+    ensures noted { HasNoted index pass.old.me pass.new.me }
 {
-    let word = board.swap::<Tell>(pass, index, FREE);
-    wake(board, index, word);
+    board.load::<Note>(pass, index);
 }
 
 /// Gives the stripe back as it was.
@@ -182,4 +182,46 @@ pub fn give_full<'a, L: Loader>(board: &Board<'a, L>, pass: &mut Place<'a>, inde
 {
     let word = board.swap::<Fill>(pass, index, FREE);
     wake(board, index, word);
+}
+
+/// Gives back the stripe that a seat holds, if it holds one.
+pub fn leave<'a, L: Loader>(board: &Board<'a, L>, pass: &mut Place<'a>, held: &mut Option<usize>)
+    requires table { pass.old.table_id ≡ board.now.table_id }
+    requires board { IsBoard board.now.table_id board.now.key }
+    requires known { (made : ℕ) × (p : Part) × IsKnown board.now.table_id.slots made p held.old pass.old.me }
+    ensures table { pass.new.table_id ≡ pass.old.table_id }
+    ensures none { held.new ≡ None }
+    ensures left { (made : ℕ) (p : Part) → IsKnown board.now.table_id.slots made p held.old pass.old.me → pass.new.me ≡ (seat_view made p, []) }
+{
+    if let Some(index) = *held {
+        give_back(board, pass, index);
+        *held = None;
+    }
+}
+
+/// Has the seat hold this stripe, and no other.
+#[inline(always)]
+pub fn hold<'a, L: Loader, R: Wait>(
+    rt: &R,
+    board: &Board<'a, L>,
+    pass: &mut Place<'a>,
+    held: &mut Option<usize>,
+    index: usize,
+)
+    requires table { pass.old.table_id ≡ board.now.table_id }
+    requires board { IsBoard board.now.table_id board.now.key }
+    requires index { index < board.now.table_id.words }
+    requires known { (made : ℕ) × (p : Part) × IsKnown board.now.table_id.slots made p held.old pass.old.me }
+    ensures table { pass.new.table_id ≡ pass.old.table_id }
+    ensures held { held.new ≡ Some index }
+    ensures holds { (made : ℕ) (p : Part) → IsKnown board.now.table_id.slots made p held.old pass.old.me → Holds board.now.table_id.slots index made p pass.new.me }
+{
+    if let Some(stripe) = *held {
+        if stripe == index {
+            return;
+        }
+    }
+    leave(board, pass, held);
+    take(rt, board, pass, index);
+    *held = Some(index);
 }

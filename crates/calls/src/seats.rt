@@ -4,7 +4,7 @@ ghost use Rattle.std.specs.Prelude.{◌≡◌, IfOk};
 ghost use Rattle.cache.specs.Opened.{IsSeat};
 ghost use Rattle.registry.specs.Ids.{IsOf};
 
-use cache::{Cache, Closed, InvokeRefusal, Receipt, Seat};
+use cache::{Cache, Closed, InvokeRefusal, NoGate, Receipt, Seat};
 use jtypes::{Arg, NoLoader, Outcome};
 use machine::Workspace;
 use registry::{ClassId, Registry};
@@ -12,7 +12,7 @@ use rowclasses as rows;
 use std::alloc::{AllocError, Global};
 use std::sync::Wait;
 use std::test::Fail;
-use stripe::{ArgSlice, OpenRefusal, Record, Reply, Tables};
+use stripe::{ArgSlice, Call, OpenRefusal, Record, Reply, Tables};
 
 /// What a call was told.
 type Told = Result<Reply, InvokeRefusal>;
@@ -331,5 +331,53 @@ fn a_full_stripe_refuses(rt: HostRuntime) -> Result<(), Fail> {
     let got = Err(InvokeRefusal::JournalFull);
     let left = Some((Some(5), Some((1, 1))));
     assert!(rt; full(&rt, rt.alloc(), &registry) == Some((put, got, left)));
+    Ok(())
+}
+
+/// A cache of two stripes with two seats.
+fn opened_for_two<'a>(
+    alloc: Global,
+    registry: &'a Registry,
+) -> Result<(Cache<'a, 'static, NoLoader>, Seat<'a>, Seat<'a>), OpenRefusal>
+    ensures first { IfOk result (λ r. r.1.table ≡ r.0.table) }
+    ensures second { IfOk result (λ r. r.2.table ≡ r.0.table) }
+{
+    let tables = Tables::new(alloc, 2)?;
+    match Cache::open(alloc, registry, tables, 4, 2, &NoLoader) {
+        Ok((cache, mut seats)) => {
+            let first = seats.remove(0);
+            let second = seats.remove(0);
+            Ok((cache, first, second))
+        }
+        Err((refusal, _tables)) => Err(refusal),
+    }
+}
+
+/// What two seats are told. One puts and gets on key 1 and puts on key 2 by `call_at`; then the other one gets on key 1, whose stripe
+/// was given back for that of key 2, and behind `leave` on key 2.
+fn held_and_left<R: Wait>(rt: &R, alloc: Global, registry: &Registry) -> Option<[Told; 5]> {
+    let mut workspace = Workspace::new(alloc).ok()?;
+    let Ok((cache, mut first, mut second)) = opened_for_two(alloc, registry) else {
+        return None;
+    };
+    let spaces = &mut workspace;
+    let put = Call::Put { key: 1, value: 5 };
+    let one = cache.call_at(rt, &mut first, spaces, put, 0, &NoGate);
+    let again = cache.call_at(rt, &mut first, spaces, Call::Get { key: 1 }, 0, &NoGate);
+    let put = Call::Put { key: 2, value: 6 };
+    let other = cache.call_at(rt, &mut first, spaces, put, 0, &NoGate);
+    let left = cache.get(rt, &mut second, 1);
+    cache.leave(&mut first);
+    let given = cache.get(rt, &mut second, 2);
+    Some([one, again, other, left, given])
+}
+
+#[test]
+fn a_stripe_is_held_on_until_it_is_left(rt: HostRuntime) -> Result<(), Fail> {
+    let registry = Registry::new(rt.alloc())?;
+    let done = Ok(Reply::Done);
+    let five = Ok(Reply::Value(Some(5)));
+    let six = Ok(Reply::Value(Some(6)));
+    assert!(rt; held_and_left(&rt, rt.alloc(), &registry) == Some([done, five, done, five, six]));
     Ok(())
 }

@@ -1,11 +1,8 @@
-use Rattle.std.proofs.Common.{◌≡◌, ◌<◌, List, [], ◌∷◌, length, drop, get_or, sym, arith, ap, ◌∙◌}
+use Rattle.std.proofs.Common.{List, arith, ap}
 use lib.ListN.{get_elem?}
 use Rattle.cache.specs.Opened.{Sitting}
+use Rattle.calls.proofs.Firsts.{after_first}
 use Rattle.calls.proofs.seats.opened.Goals as goal
-
-after_first : (l rest : List Sitting) (x : Sitting) → 0 < length l → x ≡ get_or l 0 x → rest ≡ drop 1 l → l ≡ x ∷ rest
-after_first [] rest x h e f = absurd (omega arith)
-after_first (y ∷ ys) rest x h e f = λ k. sym e k ∷ sym f k
 
 pub returns-in-Ok-clause-seat : goal.returns-in-Ok-clause-seat
 returns-in-Ok-clause-seat c =

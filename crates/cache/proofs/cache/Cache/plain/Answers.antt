@@ -1,4 +1,4 @@
-use Rattle.std.proofs.Common.{sym, subst, None, Option, ◌≡◌}
+use Rattle.std.proofs.Common.{sym, subst, Option}
 use Rattle.jtypes.specs.declared.loader.LoadAnswer.{LoadAnswer}
 use Rattle.machine.specs.declared.done.Done.{Done}
 use Rattle.stripe.specs.Seen.{call_of}
