@@ -122,5 +122,5 @@ one_answered d calls v w next before k c x at one items room old =
 
 -- which claimer a worker has is another thing
 pub same_answered : {L : Type 0} (d : Opened L) (calls : List Call) (v w : Worker) (claimer : Share) (before : List ℕ) → HasAnswered d calls v w before
-    → HasAnswered d calls v (record { seat = w.seat; workspace = w.workspace; claimer = claimer; answers = w.answers }) before
+    → HasAnswered d calls v (record w { claimer = claimer }) before
 same_answered d calls v w claimer before h = record { seat = h.seat; numbers_are = h.numbers_are; receipts = h.receipts; filed = h.filed; full = h.full; room = h.room }

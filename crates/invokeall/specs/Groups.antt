@@ -1,12 +1,16 @@
 -- The calls of a round in groups, which workers claim.
-use Rattle.std.specs.Prelude.{◌≡◌, ◌≢◌, ℕ, zero, suc, ◌+◌, ◌<◌, ◌≤◌, ◌==◌, ltb, List, [], ◌∷◌, ◌++◌, if◌then◌else◌, map, flat_map, length, replicate, slice_index}
+use Rattle.std.specs.Prelude.{◌≡◌, ◌≢◌, ℕ, zero, suc, ◌+◌, ◌*◌, ◌%◌, ◌<◌, ◌≤◌, ◌==◌, ltb, List, [], ◌∷◌, ◌++◌, if◌then◌else◌, map, flat_map, length, replicate, slice_index}
 use Rattle.claims.specs.Counters.{one_if, times}
 use Rattle.stripe.specs.History.{Call, key_of, stripe_of}
 use Rattle.invokeall.specs.declared.groups.Groups.{Groups}
 
--- the group of a call, of so many: the stripe of its key
+-- the group of a stripe, of so many of both. 71 is a prime, so that up to 64 stripes have a group each
+abbrev pub group_at : ℕ → ℕ → ℕ
+group_at groups stripe = (71 * stripe) % groups
+
+-- the group of a call, of so many: that of its key's stripe
 abbrev pub group_of : ℕ → Call → ℕ
-group_of groups call = stripe_of groups (key_of call)
+group_of groups call = group_at groups (stripe_of groups (key_of call))
 
 -- the group of each call
 abbrev pub groups_in : Groups → List Call → List ℕ

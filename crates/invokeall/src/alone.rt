@@ -34,4 +34,5 @@ pub fn run_alone<'a, R: Wait, G: Gate, L: Loader>(
         let answer = cache.call_at(rt, seat, workspace, call, number, gate);
         answers.push_reserved(answer);
     }
+    cache.leave(seat);
 }

@@ -4,12 +4,13 @@ ghost use Rattle.std.specs.Prelude.{◌≡◌, ◌<◌, length, map, replicate, 
 ghost use Rattle.stripe.specs.Seen.{call_of as seen_call};
 ghost use Rattle.stripe.specs.Tables.{IsCount};
 ghost use Rattle.invokeall.specs.Jobs.{all_seen};
-ghost use Rattle.invokeall.specs.Groups.{AreBlank, AreGroups, AreLinked, group_of as group_seen};
+ghost use Rattle.invokeall.specs.Groups.{AreBlank, AreGroups, AreLinked, group_at as group_of_stripe, group_of as group_seen};
 
 use std::alloc::{AllocError, Global};
 use stripe::{Call, stripe_of};
 
-/// The calls of a round in groups, by their numbers: a group is all calls whose keys are of one stripe, in their order.
+/// The calls of a round in groups, by their numbers: a group is all calls whose keys are of one stripe, in their order. Workers claim
+/// groups as they are numbered, so that at one time they are at groups that follow one another; the stripes of these stand apart.
 #[derive(Drop)]
 pub struct Groups {
     /// The first call of each group; the count of calls stands for none.
@@ -27,13 +28,32 @@ pub fn no_groups(alloc: Global, calls: usize, groups: usize) -> Result<Groups, A
     Ok(Groups { firsts, nexts })
 }
 
-/// The group of a call, of so many: the stripe of its key.
+/// A prime that is greater than any count of stripes.
+const FACTOR: usize = 71;
+
+/// The group of a stripe, of so many of both: the remainder of a product, so that no two stripes have one group. By 16 and by 64 it takes
+/// no division.
+fn group_at(groups: usize, stripe: usize) -> usize
+    requires groups { IsCount groups }
+    requires stripe { stripe < groups }
+    ensures group { result ≡ group_of_stripe groups stripe }
+    ensures within { result < groups }
+{
+    let product = FACTOR * stripe;
+    match groups {
+        16 => product % 16,
+        64 => product % 64,
+        _ => product % groups,
+    }
+}
+
+/// The group of a call, of so many: that of its key's stripe.
 fn group_of(groups: usize, call: &Call<'_>) -> usize
     requires { IsCount groups }
     ensures group { result ≡ group_seen groups (seen_call call.now) }
     ensures within { result < groups }
 {
-    stripe_of(groups, call.key())
+    group_at(groups, stripe_of(groups, call.key()))
 }
 
 /// Links the calls of each group, from the last one on.

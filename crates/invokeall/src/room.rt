@@ -8,7 +8,7 @@ ghost use Rattle.invokeall.specs.Rooms.{put_all, entries_of, seats_of, claimers_
 
 use crate::groups::{Groups, no_groups};
 use crate::job::JobReply;
-use crate::work::Worker;
+use crate::work::{Gap, Worker};
 use cache::{InvokeRefusal, Seat};
 use claims::{Claimer, Counter, open};
 use machine::Workspace;
@@ -104,6 +104,7 @@ pub fn hire<'a>(
             workspace: workspaces.remove(0),
             claimer: claimers.remove(0),
             answers: lists.remove(0),
+            gap: Gap::new(),
         });
     }
 }
@@ -131,6 +132,7 @@ pub fn gather<'a>(
             workspace,
             claimer,
             answers,
+            ..
         } = worker;
         seats.push_reserved(seat);
         workspaces.push_reserved(workspace);

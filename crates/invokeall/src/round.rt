@@ -21,7 +21,7 @@ use stripe::Call;
 
 /// Runs the jobs, by a worker at each seat, each with a workspace. A group is all jobs whose keys are of one stripe. A worker claims one group after the other and
 /// makes the calls of its jobs in their order, until there is no group left; the answers stand in the order of the jobs. There are as many threads as workers,
-/// jobs or stripes, whichever are fewest, the caller's own among them.
+/// jobs or stripes, whichever are fewest. A single one is the caller's own; of more than one none is.
 ///
 /// All memory of the round itself is taken before the first claim. After that a job may be refused, by its answer.
 pub fn run_round<'a, R: Threads + Wait + Sync, G: Gate + Sync, L: Loader + Sync>(

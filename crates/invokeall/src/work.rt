@@ -18,13 +18,28 @@ use machine::Workspace;
 use std::sync::Wait;
 use stripe::Call;
 
+/// What nothing uses, as long as two cache lines. Where it stands between two things, a processor that writes one of them takes no line
+/// from another that reads the other one.
+#[derive(Drop)]
+pub struct Gap {
+    words: [u64; 16],
+}
+
+impl Gap {
+    pub fn new() -> Gap {
+        Gap { words: [0; 16] }
+    }
+}
+
 /// A worker of a round: what it makes calls with, its share of the numbers, and the answers that it got, each with its call's number.
+/// Workers stand side by side, and each writes to its own at each call.
 #[derive(Drop)]
 pub struct Worker<'a> {
     pub seat: Seat<'a>,
     pub workspace: Workspace,
     pub claimer: Claimer,
     pub answers: Vec<(usize, JobReply)>,
+    pub gap: Gap,
 }
 
 /// Claims groups of calls and makes them, until there is no group left.
@@ -47,7 +62,7 @@ pub fn work<'a, R: Wait, G: Gate, L: Loader>(
     }
 }
 
-/// Makes the calls of one group, in their order.
+/// Makes the calls of one group, in their order. The stripe is taken for the first one and given back behind the last one.
 fn work_on<'a, R: Wait, G: Gate, L: Loader>(
     rt: &R,
     cache: &Cache<'a, '_, L>,
@@ -77,6 +92,7 @@ fn work_on<'a, R: Wait, G: Gate, L: Loader>(
         worker.answers.push_reserved((number, answer));
         number = groups.next(number);
     }
+    cache.leave(&mut worker.seat);
 }
 
 /// The call of this number.

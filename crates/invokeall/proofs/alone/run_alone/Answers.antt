@@ -53,5 +53,5 @@ returns g c =
     let all : c.loop-number.number ≡ length calls = omega (arith, many, i.count, c.loop-number-test.false, c.loop-number.auto.number-end) in
     let whole : take c.loop-number.number calls ≡ calls = take_all c.loop-number.number calls (omega (arith, all)) in
     let a : Sitting = c.expect.new.self in
-    subst (λ (s : Sitting). IsRound d calls (s ∷ []) (c.loop-number.seat ∷ []) xs) c.expect.ensures
+    subst (λ (x : Sitting × Sitting). IsRound d calls (x.0 ∷ []) (x.1 ∷ []) xs) (λ k. (c.expect.ensures k, sym c.leave.ensures k))
     (alone_round d calls a c.loop-number.seat xs (i.count ∙ all) i.later (i.receipts ∙ ap (λ (l : List Call). calls_told a.receipts ++ answered l (map reply_of xs)) whole) i.filed i.full)

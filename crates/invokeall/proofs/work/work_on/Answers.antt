@@ -73,7 +73,7 @@ loop-number-preserved g c =
     let xs : List (ℕ × Answer) = c.loop-number.worker.answers.items in
     let first : List ℕ = numbers c.args.worker.now.answers.items in
     let x : Answer = c.call_at-answer.result in
-    let worker : Worker = record { seat = after; workspace = c.call_at-answer.new.workspace; claimer = c.loop-number.worker.claimer; answers = c.push_reserved.new.self } in
+    let worker : Worker = record { seat = after; workspace = c.call_at-answer.new.workspace; claimer = c.loop-number.worker.claimer; answers = c.push_reserved.new.self; gap = c.loop-number.worker.gap } in
     let one = one_call c.args.cache.now (call_of c.call_numbered-call.result) before after x c.call_at-answer.ensures.ok c.call_at-answer.ensures.err in
     let items : c.push_reserved.new.self.items ≡ xs ++ (n, x) ∷ [] = c.push_reserved.ensures.items in
     record {
@@ -104,4 +104,6 @@ returns-clause-answered g c =
     let calls : List Call = all_seen c.args.calls.now in
     let of : List ℕ = groups_in c.args.groups.now calls in
     let all : c.loop-number.number ≡ length calls = omega (arith, i.few, c.loop-number-test.false, length-map c.args.calls.now call_of) in
-    λ v before h. subst (λ (k : ℕ). HasAnswered c.args.cache.now calls v c.loop-number.worker (before ++ members of c.args.group k)) all (i.answered v before h)
+    let w : Worker = c.loop-number.worker in
+    λ v before h. subst (λ (s : Sitting). HasAnswered c.args.cache.now calls v (record w { seat = s }) (before ++ members of c.args.group (length calls))) (sym c.leave.ensures)
+    (subst (λ (k : ℕ). HasAnswered c.args.cache.now calls v w (before ++ members of c.args.group k)) all (i.answered v before h))
