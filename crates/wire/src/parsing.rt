@@ -1,6 +1,6 @@
 //! The bodies of requests.
 
-ghost use Rattle.std.specs.Prelude.{◌≡◌, ◌≢◌, ◌⊎◌, ◌+◌, ◌*◌, ◌^◌, ◌<◌, List, [], ◌∷◌, ◌++◌, length, false};
+ghost use Rattle.std.specs.Prelude.{◌≡◌, ◌≢◌, ◌⊎◌, ◌+◌, ◌*◌, ◌^◌, ◌<◌, ◌≤◌, List, [], ◌∷◌, ◌++◌, length, true, false};
 ghost use Rattle.jtypes.specs.Layout.{Takes, Gives, first, many};
 ghost use Rattle.byteorder.specs.Endian.{big_bytes};
 ghost use Rattle.jtypes.specs.declared.types.Arg.{Arg};
@@ -191,7 +191,8 @@ fn small_request(kind: u8, body: &[u8], args: &mut Vec<Arg>) -> Result<Request, 
 
 /// Whether what follows the class and the count of an invocation on so many keys may have this length.
 pub fn may_hold(keys: u16, length: usize) -> bool
-    ensures { result ≡ false → (length < 8 * keys + 1) ⊎ (8 * keys + 73 < length) }
+    ensures yes { result ≡ true → (8 * keys + 1 ≤ length) × (length ≤ 8 * keys + 73) }
+    ensures no { result ≡ false → (length < 8 * keys + 1) ⊎ (8 * keys + 73 < length) }
 {
     let least = 8 * usize::from(keys) + 1;
     least <= length && length <= least + 72

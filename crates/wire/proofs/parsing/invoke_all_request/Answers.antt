@@ -13,4 +13,4 @@ returns-then-not-may_hold c =
     let body : List ℕ = c.args.body.now in
     let parts : head ++ rest ≡ body = ap (λ h. h ++ rest) c.split_at.ensures.front ∙ ap (λ t. take 6 body ++ t) c.split_at.ensures.back ∙ take-append-drop 6 body in
     let is : big_bytes 4 class ++ big_bytes 2 keys ++ rest ≡ body = sym (append_assoc (big_bytes 4 class) (big_bytes 2 keys) rest) ∙ ap (λ h. h ++ rest) (sym c.class_and_count-class.ensures.bytes) ∙ parts in
-    subst IsNoRequest (ap (λ t. 7 ∷ t) is) (other_length class keys rest c.class_and_count-class.ensures.small.0 c.class_and_count-class.ensures.small.1 (c.may_hold.ensures c.if-not-may_hold.true))
+    subst IsNoRequest (ap (λ t. 7 ∷ t) is) (other_length class keys rest c.class_and_count-class.ensures.small.0 c.class_and_count-class.ensures.small.1 (c.may_hold.ensures.no c.if-not-may_hold.true))
