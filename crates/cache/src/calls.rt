@@ -92,6 +92,7 @@ impl<'a, 'l, L: Loader> Cache<'a, 'l, L> {
     }
 
     /// A call that is neither an invocation nor a `get`.
+    #[inline(always)]
     fn plain<R: Wait, G: Gate>(
         &self,
         rt: &R,
@@ -274,6 +275,7 @@ impl<'a, 'l, L: Loader> Cache<'a, 'l, L> {
     }
 
     /// A `get`.
+    #[inline(always)]
     fn read<R: Wait, G: Gate>(
         &self,
         rt: &R,

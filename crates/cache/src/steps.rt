@@ -130,6 +130,7 @@ pub fn begin<'a, L: Loader>(
 }
 
 /// Ends the call that was begun on it. Answers its record and the record's place.
+#[inline(always)]
 pub fn commit<'a, L: Loader>(
     board: &Board<'a, L>,
     pass: &mut Place<'a>,

@@ -149,6 +149,7 @@ impl<'a> OpenCall<'a> {
     ghost use Rattle.stripe.specs.Seen.{call_of, begun_of, record_of};
 
     /// The record of the call. An invocation ended so, and a `get` had this answer of the loader.
+    #[inline(always)]
     pub(crate) fn record(&self, done: Option<Done>, asked: Option<LoadAnswer>) -> Record<'a>
         requires { IsEnd self.now.loads self.now.before (call_of self.now.call) done asked }
         ensures is { IsRecord (begun_of self.now) self.now.before (record_of result) }

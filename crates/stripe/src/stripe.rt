@@ -119,6 +119,7 @@ impl<'a> Stripe<'a> {
     }
 
     /// Ends the call that was begun. An invocation is given what its run answered, a `get` what the loader did if it was asked.
+    #[inline(always)]
     pub fn commit(&mut self, done: Option<Done>, asked: Option<LoadAnswer>) -> Record<'a>
         requires { CanCommit self.old done asked }
         ensures record { (b : Begun) → self.old.running ≡ Some b → IsRecord b (entry_of self.old (key_of b.call)) (record_of result) }
