@@ -9,7 +9,7 @@ use std::process::Abort;
 use std::sync::Wait;
 use std::test::Fail;
 use std::thread::Threads;
-use wire::Counted;
+use wire::{Counted, Plain};
 
 /// A put of 1 on key 5, an end, a get of key 5, an end.
 static REQUESTS: [u8; 44] = [
@@ -106,7 +106,8 @@ fn a_reader_that_fails_ends_the_stream(rt: HostRuntime) -> Result<(), Fail> {
         for most in [1, 3, 64] {
             for count in 0..=44 {
                 let rest = &REQUESTS[..count];
-                let mut reader = Counted::new(Failing { rest, most });
+                let inner = Failing { rest, most };
+                let mut reader = Counted::new(Plain { inner });
                 let mut writer = Counted::new(Vec::new(rt.alloc()));
                 let settings = settings(workers);
                 let result = serve(

@@ -1,5 +1,6 @@
 //! Requests that are read.
 
+mod hands;
 mod readers;
 
 use jtypes::Arg;

@@ -12,9 +12,8 @@ use crate::fault::{ServeFault, of_wire};
 use crate::plan::{Plan, Room, no_requests, room_of};
 use registry::{ClassId, Registry};
 use std::alloc::Global;
-use std::io::Read;
 use std::sync::Wait;
-use wire::{Counted, Request, read_request};
+use wire::{Ahead, Counted, Request, read_request};
 
 fn is_end(request: &Request) -> bool
     ensures yes { (args : List Arg) → result ≡ true → with_args args request.now ≡ RoundEnd }
@@ -25,7 +24,7 @@ fn is_end(request: &Request) -> bool
 
 /// Reads the requests of a round, up to its end; at the end of the input there is none. Classes are defined as they are read. The
 /// room is what the round before took, and then what this one takes.
-pub fn read_round<'r, T: Wait, R: Read>(
+pub fn read_round<'r, T: Wait, R: Ahead>(
     rt: &T,
     alloc: Global,
     registry: &'r Registry,

@@ -15,11 +15,11 @@ use cache::Gate;
 use jtypes::Loader;
 use registry::Registry;
 use std::alloc::Global;
-use std::io::{Read, Write};
+use std::io::Write;
 use std::sync::Wait;
 use std::thread::Threads;
 use stripe::{OpenRefusal, Tables};
-use wire::Counted;
+use wire::{Ahead, Counted};
 use workers::Kept;
 
 /// The most workers.
@@ -27,7 +27,7 @@ const MOST_WORKERS: usize = 16;
 
 /// Serves the requests of the reader, round by round, to its end. The writer is flushed behind each round. Where a fault ends the
 /// stream early, the replies to the rounds before stand.
-pub fn serve<T: Threads + Wait + Sync, R: Read, W: Write, G: Gate + Sync, L: Loader + Sync>(
+pub fn serve<T: Threads + Wait + Sync, R: Ahead, W: Write, G: Gate + Sync, L: Loader + Sync>(
     rt: &T,
     alloc: Global,
     reader: &mut Counted<R>,
@@ -63,7 +63,7 @@ pub fn serve<T: Threads + Wait + Sync, R: Read, W: Write, G: Gate + Sync, L: Loa
 }
 
 /// Serves the requests, on a cache that has no entries.
-fn stream<T: Threads + Wait + Sync, R: Read, W: Write, G: Gate + Sync, L: Loader + Sync>(
+fn stream<T: Threads + Wait + Sync, R: Ahead, W: Write, G: Gate + Sync, L: Loader + Sync>(
     rt: &T,
     alloc: Global,
     registry: &Registry,

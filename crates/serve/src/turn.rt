@@ -19,11 +19,11 @@ use cache::Gate;
 use jtypes::Loader;
 use registry::{ClassId, Registry};
 use std::alloc::{AllocError, Global};
-use std::io::{Read, Write};
+use std::io::Write;
 use std::sync::Wait;
 use std::thread::Threads;
 use stripe::Tables;
-use wire::{Counted, WriteFailed, write_bytes};
+use wire::{Ahead, Counted, WriteFailed, write_bytes};
 use workers::Kept;
 
 /// Writes all the bytes, and flushes.
@@ -82,7 +82,7 @@ fn run_round<T: Threads + Wait + Sync, G: Gate + Sync, L: Loader + Sync>(
 
 /// Reads a round, runs it and writes its replies. It gives the entries that the round left; at the end of the input there is none.
 /// The room is what the round before took, and what is kept what it left.
-pub fn one_round<T: Threads + Wait + Sync, R: Read, W: Write, G: Gate + Sync, L: Loader + Sync>(
+pub fn one_round<T: Threads + Wait + Sync, R: Ahead, W: Write, G: Gate + Sync, L: Loader + Sync>(
     rt: &T,
     alloc: Global,
     registry: &Registry,

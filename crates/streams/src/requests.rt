@@ -12,7 +12,7 @@ use std::io::{Read, Write};
 use std::sync::Wait;
 use std::test::Fail;
 use std::thread::Threads;
-use wire::Counted;
+use wire::{Ahead, Counted, Plain};
 
 /// What a stream came to.
 #[derive(Drop)]
@@ -36,7 +36,7 @@ fn serve_all<T: Threads + Wait + Sync>(
 }
 
 /// Serves what a reader gives to a writer, without a loader.
-fn served<T: Threads + Wait + Sync, R: Read, W: Write, G: Gate + Sync>(
+fn served<T: Threads + Wait + Sync, R: Ahead, W: Write, G: Gate + Sync>(
     rt: &T,
     alloc: Global,
     reader: &mut Counted<R>,
@@ -171,8 +171,10 @@ fn dropped<T: Threads + Wait + Sync>(
     if end > 5 {
         return (Ok(()), 0, 0);
     }
-    let mut reader = Counted::new(Drops {
-        rest: &ROUND_END[..end],
+    let mut reader = Counted::new(Plain {
+        inner: Drops {
+            rest: &ROUND_END[..end],
+        },
     });
     let mut writer = Counted::new(Vec::new(alloc));
     let result = served(rt, alloc, &mut reader, &mut writer, SETTINGS, &NoGate);

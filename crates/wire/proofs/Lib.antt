@@ -1,6 +1,7 @@
 pub mod Exact
 pub mod Found
 pub mod Framed
+pub mod Hand
 pub mod Lists
 pub mod Numbers
 pub mod Once

@@ -1,5 +1,6 @@
 //! A reader or a writer whose failures are counted.
 
+use crate::ahead::Ahead;
 use std::io;
 use std::io::{Read, Write};
 use std::marker::Model;
@@ -86,6 +87,26 @@ impl<T: Read> Read for Counted<T> {
                 Err(e)
             }
         }
+    }
+}
+
+impl<T: Ahead> Ahead for Counted<T> {
+    ghost use Rattle.std.specs.Prelude.{◌≤◌, length, take};
+    ghost use Rattle.std.specs.Io.KnownBytes.{Consumes};
+    ghost use Rattle.wire.specs.Counting.{StaysCounted};
+
+    ghost ahead = { λ c. T.ahead c.inner };
+
+    fn at_hand(&self) -> &[u8] {
+        self.inner.at_hand()
+    }
+
+    fn pass(&mut self, count: usize)
+        requires { count ≤ length (T.ahead self.old.inner) }
+        ensures bytes { Consumes (T.remaining self.old.inner) (T.remaining self.new.inner) (take count (T.ahead self.old.inner)) }
+        ensures kept { StaysCounted self.old self.new }
+    {
+        self.inner.pass(count);
     }
 }
 

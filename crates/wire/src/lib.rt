@@ -1,6 +1,7 @@
 //! The frames of the protocol: requests are read, and replies are written.
 #![tactic(auto)]
 
+mod ahead;
 mod counted;
 mod definitions;
 mod fault;
@@ -13,6 +14,7 @@ mod request;
 mod text;
 mod writing;
 
+pub use ahead::{Ahead, Plain};
 pub use counted::Counted;
 pub use definitions::all_definitions;
 pub use fault::WireFault;

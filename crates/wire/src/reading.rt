@@ -9,7 +9,7 @@ ghost use Rattle.wire.specs.Requests.{asked, next_asked};
 ghost use Rattle.wire.specs.Reading.{Took, TookSome, FaultCounts, ReadCounts, IsCut, IsCutOrLacks, IsPassed, Completes, HeadGives, ReadGives, Tells, found};
 
 use crate::parsing::{are_bytes, class_and_count, keys_request, may_hold, request_of};
-use crate::{Counted, Request, WireFault};
+use crate::{Ahead, Counted, Request, WireFault};
 use byteorder::{BigEndian, ByteOrder};
 use jtypes::{Arg, Items};
 use std::alloc::Global;
@@ -191,8 +191,8 @@ fn read_long<R: Read>(
     }
 }
 
-// A short text, which is read at once.
-fn read_short<R: Read>(
+// A short text: where all of it is at hand it is read there, and else at once.
+fn read_short<R: Ahead>(
     alloc: Global,
     reader: &mut Counted<R>,
     length: usize,
@@ -202,6 +202,11 @@ fn read_short<R: Read>(
     ensures bytes { TookSome R.remaining reader.old reader.new (λ left bytes. Completes [] length left bytes (asked args.new.items result)) }
     ensures counted { ReadCounts result reader.old reader.new }
 {
+    if reader.at_hand().len() >= length {
+        let request = request_of(alloc, &reader.at_hand()[..length], args);
+        reader.pass(length);
+        return request;
+    }
     let mut text = [0u8; SHORT];
     match read_part(reader, &mut text[..length]) {
         Ok(()) => request_of(alloc, &text[..length], args),
@@ -209,12 +214,28 @@ fn read_short<R: Read>(
     }
 }
 
+// The length that bytes begin with, if there are so many.
+fn length_in(bytes: &[u8]) -> Option<u32>
+    ensures { IfSome result (λ n. (take 4 bytes.now ≡ big_bytes 4 n) × (n < 2 ^ 32) × (4 ≤ length bytes.now)) }
+{
+    if bytes.len() < 4 {
+        return None;
+    }
+    let head = &bytes[..4];
+    are_bytes(head);
+    Some(BigEndian::read_u32(head))
+}
+
 // The length of the next frame; at the end of the input there is none.
-fn read_length<R: Read>(reader: &mut Counted<R>) -> Result<Option<u32>, WireFault>
+fn read_length<R: Ahead>(reader: &mut Counted<R>) -> Result<Option<u32>, WireFault>
     ensures ok { IfOk result (λ o. HeadGives (R.remaining reader.new.inner) (Took R.remaining reader.old reader.new) o) }
     ensures err { IfErr result (λ e. TookSome R.remaining reader.old reader.new (λ left bytes. ReadGives left bytes (Err e))) }
     ensures counted { ReadCounts result reader.old reader.new }
 {
+    if let Some(length) = length_in(reader.at_hand()) {
+        reader.pass(4);
+        return Ok(Some(length));
+    }
     let mut head = [0u8; 4];
     match fill(reader, &mut head) {
         Ok(0) => Ok(None),
@@ -228,7 +249,7 @@ fn read_length<R: Read>(reader: &mut Counted<R>) -> Result<Option<u32>, WireFaul
 }
 
 // The rest of a frame whose length is known.
-fn read_frame<R: Read>(
+fn read_frame<R: Ahead>(
     alloc: Global,
     reader: &mut Counted<R>,
     length: u32,
@@ -253,7 +274,7 @@ fn read_frame<R: Read>(
 
 /// Reads one frame, and answers its request; at the end of the input there is none. The arguments of an invocation are in the row
 /// afterwards, in the place of what it had. A read that answers an error is not tried again, whatever the error.
-pub fn read_request<R: Read>(
+pub fn read_request<R: Ahead>(
     alloc: Global,
     reader: &mut Counted<R>,
     args: &mut Vec<Arg>,

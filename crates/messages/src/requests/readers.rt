@@ -4,7 +4,7 @@ use super::PUT;
 use std::alloc::Global;
 use std::io;
 use std::io::Read;
-use wire::{Counted, Request, WireFault, read_request};
+use wire::{Counted, Plain, Request, WireFault, read_request};
 
 /// Gives its bytes one at a time, and then fails.
 #[derive(Drop)]
@@ -28,7 +28,8 @@ impl<'a> Read for Drops<'a> {
 
 /// What is read from such a reader: the fault, or whether it is the put; and how many reads failed.
 fn read_from(alloc: Global, rest: &[u8], error: io::ErrorKind) -> (Result<bool, WireFault>, u64) {
-    let mut reader = Counted::new(Drops { rest, error });
+    let inner = Drops { rest, error };
+    let mut reader = Counted::new(Plain { inner });
     let told = match read_request(alloc, &mut reader, &mut Vec::new(alloc)) {
         Ok(Some(Request::Put { key, value })) => Ok(key == 5 && value == 1),
         Ok(_) => Ok(false),
