@@ -64,7 +64,8 @@ fn class_at<'r>(registry: &'r Registry, ids: &[ClassId], class: usize) -> Option
     }
 }
 
-fn add_invoke<'r>(
+/// Adds an invocation of a class by its number, on this key with these arguments, to its round.
+pub fn add_invoke<'r>(
     registry: &'r Registry,
     ids: &[ClassId],
     plan: &mut Plan<'r>,

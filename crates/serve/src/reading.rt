@@ -7,13 +7,13 @@ ghost use Rattle.wire.specs.Requests.{with_args, RoundEnd};
 ghost use Rattle.serve.specs.Devices.{ReadsAreCounted};
 ghost use Rattle.serve.specs.Kept.{AreOf, classes_of, RoundRead, IsBroken};
 
-use crate::adding::add;
+use crate::adding::{add, add_invoke};
 use crate::fault::{ServeFault, of_wire};
 use crate::plan::{Plan, Room, no_requests, room_of};
 use registry::{ClassId, Registry};
 use std::alloc::Global;
 use std::sync::Wait;
-use wire::{Ahead, Counted, Request, read_request};
+use wire::{Ahead, Counted, Request, invocation_at_hand, read_request};
 
 fn is_end(request: &Request) -> bool
     ensures yes { (args : List Arg) → result ≡ true → with_args args request.now ≡ RoundEnd }
@@ -42,6 +42,19 @@ pub fn read_round<'r, T: Wait, R: Ahead>(
     let mut plan = no_requests(alloc, *room);
     let mut args = Vec::new(alloc);
     for _ in rt.forever() {
+        if let Some(invocation) = invocation_at_hand(reader, &mut args) {
+            let Ok(()) = add_invoke(
+                registry,
+                ids.as_slice(),
+                &mut plan,
+                invocation.class as usize,
+                &invocation.key,
+                args.as_slice(),
+            ) else {
+                return Err(ServeFault::NoMemory);
+            };
+            continue;
+        }
         match read_request(alloc, reader, &mut args) {
             Ok(Some(request)) => {
                 if is_end(&request) {

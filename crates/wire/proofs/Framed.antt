@@ -1,6 +1,7 @@
 -- What a length and the text behind it give.
-use Rattle.std.proofs.Common.{◌≡◌, ℕ, ◌≤◌, List, [], ◌∷◌, ◌++◌, length, take, drop, get_or, Option, Result, Ok, Err, refl, sym, ap, ◌∙◌, subst, arith, append-nil}
+use Rattle.std.proofs.Common.{◌≡◌, ℕ, ◌+◌, ◌≤◌, List, [], ◌∷◌, ◌++◌, length, take, drop, get_or, Option, Result, Ok, Err, refl, sym, ap, ◌∙◌, subst, arith, append-nil}
 use Rattle.std.proofs.lemmas.List.{take-append-drop, length-take-le, length-drop, take_all}
+use lib.Seq.{take-add}
 use Rattle.byteorder.specs.Endian.{big_bytes, big_number}
 use Rattle.byteorder.specs.Numbers.{big_from-take}
 use Rattle.wire.specs.Requests.{Request}
@@ -27,11 +28,19 @@ one_byte (x ∷ []) long = refl
 one_byte (x ∷ y ∷ xs) long = absurd (omega (arith, long))
 
 -- a length, and the text of a request
-frame_ok : (n : ℕ) (text : List ℕ) (r : Request) → n ≤ longest → IsText text r → length text ≡ n → IsRead (big_bytes 4 n ++ text) r []
+pub frame_ok : (n : ℕ) (text : List ℕ) (r : Request) → n ≤ longest → IsText text r → length text ≡ n → IsRead (big_bytes 4 n ++ text) r []
 frame_ok n text r short t long = record {
   parts = ap (λ m. big_bytes 4 m ++ text) (sym long) ∙ ap frame t.is ∙ sym (append-nil (request_frame r));
   request = record { in_range = t.in_range; short = omega (arith, short, long, ap length t.is) };
 }
+
+-- the same at the front of more bytes
+pub frame_at_front : (n : ℕ) (hand : List ℕ) (r : Request) → take 4 hand ≡ big_bytes 4 n → 4 + n ≤ length hand → n ≤ longest → IsText (take n (drop 4 hand)) r → IsRead (take (4 + n) hand) r []
+frame_at_front n hand r head within short t =
+    let text : List ℕ = take n (drop 4 hand) in
+    let parts : take (4 + n) hand ≡ big_bytes 4 n ++ text = take-add 4 n hand ∙ ap (λ l. l ++ text) head in
+    let long : length text ≡ n = length-take-le n (drop 4 hand) (omega (arith, within, length-drop 4 hand)) in
+    subst (λ l. IsRead l r []) (sym parts) (frame_ok n text r short t long)
 
 -- a length, and why there is no request behind it
 frame_err : (n : ℕ) (bytes : List ℕ) (left : Option (List ℕ)) (e : WireFault) → 1 ≤ n → n ≤ longest → Completes [] n left bytes (Err e) → ReadGives left (big_bytes 4 n ++ bytes) (Err e)

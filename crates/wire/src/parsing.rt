@@ -1,15 +1,15 @@
 //! The bodies of requests.
 
-ghost use Rattle.std.specs.Prelude.{◌≡◌, ◌≢◌, ◌⊎◌, ◌+◌, ◌*◌, ◌^◌, ◌<◌, ◌≤◌, List, [], ◌∷◌, ◌++◌, length, true, false};
+ghost use Rattle.std.specs.Prelude.{◌≡◌, ◌≢◌, ◌⊎◌, ◌+◌, ◌*◌, ◌^◌, ◌<◌, ◌≤◌, List, [], ◌∷◌, ◌++◌, length, true, false, IfSome};
 ghost use Rattle.jtypes.specs.Layout.{Takes, Gives, first, many};
 ghost use Rattle.byteorder.specs.Endian.{big_bytes};
 ghost use Rattle.jtypes.specs.declared.types.Arg.{Arg};
-ghost use Rattle.wire.specs.Frames.{AreBytes};
-ghost use Rattle.wire.specs.Requests.{with_args, asked};
+ghost use Rattle.wire.specs.Frames.{AreBytes, IsText};
+ghost use Rattle.wire.specs.Requests.{Invoke, with_args, asked};
 ghost use Rattle.wire.specs.Reading.{Parses, IsFaultOf};
 ghost use Rattle.wire.specs.Bodies.{long, int, arg_of, argument, arguments, put, invoke, small, keys_and_arguments, alone};
 
-use crate::{Request, WireFault};
+use crate::{Invocation, Request, WireFault};
 use byteorder::{BigEndian, ByteOrder};
 use jtypes::{Arg, Args, Cursor, Items, Reader, Refusal, row};
 use std::alloc::Global;
@@ -85,12 +85,19 @@ fn read_args(cursor: &mut Cursor<'_>, args: &mut Vec<Arg>) -> Result<(), Refusal
 }
 
 #[tactic(auto, unfolding(crate::specs::Bodies::invoke))]
-fn read_invoke(cursor: &mut Cursor<'_>, args: &mut Vec<Arg>) -> Result<Request, Refusal>
-    ensures { Takes (with_args args.new.items) result (first invoke cursor.old) cursor.new }
+fn read_invocation(cursor: &mut Cursor<'_>, args: &mut Vec<Arg>) -> Result<Invocation, Refusal>
+    ensures { Takes (λ i. Invoke i.class i.key args.new.items) result (first invoke cursor.old) cursor.new }
 {
     let class = cursor.u32()?;
     let key = read_long(cursor)?;
     read_args(cursor, args)?;
+    Ok(Invocation { class, key })
+}
+
+fn read_invoke(cursor: &mut Cursor<'_>, args: &mut Vec<Arg>) -> Result<Request, Refusal>
+    ensures { Takes (with_args args.new.items) result (first invoke cursor.old) cursor.new }
+{
+    let Invocation { class, key } = read_invocation(cursor, args)?;
     Ok(Request::Invoke { class, key })
 }
 
@@ -150,6 +157,16 @@ fn all_small(kind: u8, body: &[u8], args: &mut Vec<Arg>) -> Result<Request, Refu
     let request = read_small(kind, &mut cursor, args)?;
     cursor.end()?;
     Ok(request)
+}
+
+#[tactic(auto, unfolding(crate::specs::Bodies::alone, crate::specs::Bodies::small))]
+fn all_invocation(body: &[u8], args: &mut Vec<Arg>) -> Result<Invocation, Refusal>
+    ensures { Gives (λ i. (Invoke i.class i.key args.new.items, [])) result (first (alone (small 6)) body.now) }
+{
+    let mut cursor = Cursor::new(body);
+    let invocation = read_invocation(&mut cursor, args)?;
+    cursor.end()?;
+    Ok(invocation)
 }
 
 #[tactic(auto, unfolding(crate::specs::Bodies::alone))]
@@ -252,6 +269,20 @@ fn define_request(alloc: Global, body: &[u8]) -> Result<Request, WireFault>
     match Vec::from_slice(alloc, body) {
         Ok(bytes) => Ok(Request::Define(Items::new(bytes))),
         Err(_) => Err(WireFault::NoMemory),
+    }
+}
+
+/// The invocation with this text, if it has one. The row has its arguments afterwards.
+pub fn invocation_of(text: &[u8], args: &mut Vec<Arg>) -> Option<Invocation>
+    ensures { IfSome result (λ i. IsText text.now (Invoke i.class i.key args.new.items)) }
+{
+    let (kind, body) = text.split_first()?;
+    if *kind != 6 {
+        return None;
+    }
+    match all_invocation(body, args) {
+        Ok(invocation) => Some(invocation),
+        Err(_) => None,
     }
 }
 

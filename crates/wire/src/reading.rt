@@ -1,15 +1,18 @@
 //! Requests are read.
 
-ghost use Rattle.std.specs.Prelude.{◌≡◌, ◌<◌, ◌≤◌, ◌^◌, ℕ, List, [], ◌∷◌, ◌++◌, length, take, IfSome, IfOk, IfErr, OnOk, OnErr, Err};
+ghost use Rattle.std.specs.Prelude.{◌≡◌, ◌<◌, ◌≤◌, ◌^◌, ◌+◌, ℕ, List, [], ◌∷◌, ◌++◌, length, take, IfSome, IfNone, IfOk, IfErr, OnOk, OnErr, Err};
 ghost use Rattle.std.specs.Io.KnownBytes.{IsAtEnd};
 ghost use Rattle.byteorder.specs.Endian.{big_bytes};
 ghost use Rattle.jtypes.specs.declared.types.Arg.{Arg};
-ghost use Rattle.wire.specs.Frames.{Front, IsFront};
-ghost use Rattle.wire.specs.Requests.{asked, next_asked};
+ghost use Rattle.wire.specs.Frames.{Front, IsFront, IsRead};
+ghost use Rattle.wire.specs.Requests.{Invoke, asked, next_asked};
+ghost use Rattle.wire.specs.Counting.{StaysCounted};
 ghost use Rattle.wire.specs.Reading.{Took, TookSome, FaultCounts, ReadCounts, IsCut, IsCutOrLacks, IsPassed, Completes, HeadGives, ReadGives, Tells, found};
 
-use crate::parsing::{are_bytes, class_and_count, keys_request, may_hold, request_of};
-use crate::{Ahead, Counted, Request, WireFault};
+use crate::parsing::{
+    are_bytes, class_and_count, invocation_of, keys_request, may_hold, request_of,
+};
+use crate::{Ahead, Counted, Invocation, Request, WireFault};
 use byteorder::{BigEndian, ByteOrder};
 use jtypes::{Arg, Items};
 use std::alloc::Global;
@@ -246,6 +249,34 @@ fn read_length<R: Ahead>(reader: &mut Counted<R>) -> Result<Option<u32>, WireFau
         }
         Err(e) => Err(e),
     }
+}
+
+// The length of a short text, which isn't empty, where these bytes begin with its frame.
+fn short_length_in(bytes: &[u8]) -> Option<usize>
+    ensures { IfSome result (λ n. (take 4 bytes.now ≡ big_bytes 4 n) × (1 ≤ n) × (n ≤ 86) × (4 + n ≤ length bytes.now)) }
+{
+    let length = length_in(bytes)? as usize;
+    if length == 0 || length > SHORT || length > bytes.len() - 4 {
+        return None;
+    }
+    Some(length)
+}
+
+/// Takes the invocation whose frame the bytes at hand begin with, if they begin with one. Its arguments are in the row afterwards. Where
+/// they don't, and where there is no memory for the arguments, nothing is taken, and the row may have changed.
+pub fn invocation_at_hand<R: Ahead>(
+    reader: &mut Counted<R>,
+    args: &mut Vec<Arg>,
+) -> Option<Invocation>
+    ensures some { IfSome result (λ i. TookSome R.remaining reader.old reader.new (λ _ bytes. IsRead bytes (Invoke i.class i.key args.new.items) [])) }
+    ensures none { IfNone result (reader.new ≡ reader.old) }
+    ensures counted { StaysCounted reader.old reader.new }
+{
+    let hand = reader.at_hand();
+    let length = short_length_in(hand)?;
+    let invocation = invocation_of(&hand[4..4 + length], args)?;
+    reader.pass(4 + length);
+    Some(invocation)
 }
 
 // The rest of a frame whose length is known.

@@ -2,6 +2,13 @@
 
 use jtypes::Items;
 
+/// An invocation of the class with this number on one key. Its arguments stand beside it.
+#[derive(Clone, Copy, Debug)]
+pub struct Invocation {
+    pub class: u32,
+    pub key: i64,
+}
+
 /// What a client asks. The arguments of an invocation stand beside it.
 #[derive(Debug, Drop)]
 pub enum Request {

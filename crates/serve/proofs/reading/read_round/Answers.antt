@@ -3,7 +3,8 @@ use Rattle.std.proofs.lemmas.List.{length-map}
 use Rattle.std.specs.Io.KnownBytes.{Consumes, IsAtEnd}
 use Rattle.std.proofs.KnownBytes.{Consumes-nil, Consumes-trans}
 use Rattle.jtypes.specs.declared.types.Arg.{Arg}
-use Rattle.wire.specs.Requests.{Request, RoundEnd, with_args, next_asked}
+use Rattle.wire.specs.Requests.{Request, Invoke, RoundEnd, with_args, next_asked}
+use Rattle.wire.specs.Counting.{Counting}
 use Rattle.wire.specs.declared.request.Request.{Request as Head}
 use Rattle.wire.specs.Frames.{IsRequest, IsRead}
 use Rattle.wire.specs.Reading.{ReadGives}
@@ -20,6 +21,10 @@ frame_read left bytes args o r e h = subst (λ (x : Option Head). ReadGives left
 end_read : (left : Option (List ℕ)) (bytes : List ℕ) (args : List Arg) (o : Option Head) → o ≡ None → ReadGives left bytes (next_asked args (Ok o)) → (bytes ≡ []) × IsAtEnd left
 end_read left bytes args o e h = subst (λ (x : Option Head). ReadGives left bytes (next_asked args (Ok x))) e h
 
+-- what was taken before a reader that stayed
+took_before : {R : Type 0} (remaining : R → Option (List ℕ)) (first : Option (List ℕ)) (old new : Counting R) (bytes : List ℕ) → new ≡ old → Consumes first (remaining old.inner) bytes → Consumes first (remaining new.inner) bytes
+took_before remaining first old new bytes same took = subst (λ x. Consumes first (remaining x.inner) bytes) (sym same) took
+
 pub loop-init : goal.loop-init
 loop-init g c = record {
   known = c.requires;
@@ -35,27 +40,61 @@ loop-init g c = record {
 pub loop-preserved : goal.loop-preserved
 loop-preserved g c =
     let i = c.loop.invariant in
+    let took = took_before g.R.Read.remaining (g.R.Read.remaining c.args.reader.now.inner) c.loop.reader c.invocation_at_hand.new.reader (requests_text i.requests) c.in_default.ensures.none i.took in
     let b = c.in-Ok-Some.ensures.bytes in
     let args : List Arg = c.read_request.new.args.items in
     let r : Request = with_args args c.in-Ok-Some.request in
     let f = frame_read (g.R.Read.remaining c.read_request.new.reader.inner) b.0 args c.in-Ok-Some.field-0 c.in-Ok-Some.request c.in-Ok-Some.field-0-is b.2 in
     let apart : r ≢ RoundEnd = c.is_end.ensures.no args c.if-is_end.false in
     let added : Adding (classes_of c.loop.ids.items) c.loop.plan (with_args args c.in-Ok-Some.request) c.add.new.plan (classes_of c.add.new.ids.items) =
-    subst (λ l. Adding (classes_of c.loop.ids.items) c.loop.plan (with_args l c.in-Ok-Some.request) c.add.new.plan (classes_of c.add.new.ids.items)) c.as_slice.ensures.value c.in-Ok.ensures.ok in
+    subst (λ l. Adding (classes_of c.loop.ids.items) c.loop.plan (with_args l c.in-Ok-Some.request) c.add.new.plan (classes_of c.add.new.ids.items)) c.as_slice-in-Ok-Some.ensures.value c.in-Ok-add.ensures.ok in
     record {
       known = c.add.ensures.known;
-      kept = stays_on c.args.reader.now c.loop.reader c.read_request.new.reader i.kept c.in-Ok-Some.ensures.counted;
+      kept = stays_on c.args.reader.now c.invocation_at_hand.new.reader c.read_request.new.reader (stays_on c.args.reader.now c.loop.reader c.invocation_at_hand.new.reader i.kept c.invocation_at_hand.ensures.counted) c.in-Ok-Some.ensures.counted;
       requests = i.requests ++ r ∷ [];
       calls = i.calls ++ added.part.calls;
       are = each_more (λ x. IsRequest x × (x ≢ RoundEnd)) i.requests r i.are (f.request, apart);
-      took = took_more _ _ _ i.requests r b.0 i.took b.1 f;
+      took = took_more _ _ _ i.requests r b.0 took b.1 f;
       gathered = gathered_more (classes_of c.args.ids.now.items) (classes_of c.loop.ids.items) (classes_of c.add.new.ids.items) i.requests i.calls r c.loop.plan c.add.new.plan i.gathered i.called added;
       called = added.calls i.calls i.called;
+    }
+
+pub loop-preserved-in-Some-invocation_at_hand : goal.loop-preserved-in-Some-invocation_at_hand
+loop-preserved-in-Some-invocation_at_hand g c =
+    let i = c.loop.invariant in
+    let args : List Arg = c.invocation_at_hand.new.args.items in
+    let r : Request = Invoke c.in-Some-invocation_at_hand.invocation.class c.in-Some-invocation_at_hand.invocation.key args in
+    let (bytes, took, f) = c.in-Some-invocation_at_hand.ensures.some in
+    let added : Adding (classes_of c.loop.ids.items) c.loop.plan r c.add_invoke.new.plan (classes_of c.loop.ids.items) = rw (c.as_slice.ensures.value, c.as_slice-in-Some-invocation_at_hand.ensures.value) at c.in-Ok.ensures in
+    record {
+      known = i.known;
+      kept = stays_on c.args.reader.now c.loop.reader c.invocation_at_hand.new.reader i.kept c.invocation_at_hand.ensures.counted;
+      requests = i.requests ++ r ∷ [];
+      calls = i.calls ++ added.part.calls;
+      are = each_more (λ x. IsRequest x × (x ≢ RoundEnd)) i.requests r i.are (f.request, λ e. cc);
+      took = took_more _ _ _ i.requests r bytes i.took took f;
+      gathered = gathered_more (classes_of c.args.ids.now.items) (classes_of c.loop.ids.items) (classes_of c.loop.ids.items) i.requests i.calls r c.loop.plan c.add_invoke.new.plan i.gathered i.called added;
+      called = added.calls i.calls i.called;
+    }
+
+pub returns-in_default-add_invoke-clause-err : goal.returns-in_default-add_invoke-clause-err
+returns-in_default-add_invoke-clause-err g c =
+    let i = c.loop.invariant in
+    let args : List Arg = c.invocation_at_hand.new.args.items in
+    let r : Request = Invoke c.in-Some-invocation_at_hand.invocation.class c.in-Some-invocation_at_hand.invocation.key args in
+    let (bytes, took, f) = c.in-Some-invocation_at_hand.ensures.some in
+    record {
+      requests = i.requests ++ r ∷ [];
+      extra = [];
+      are = each_more (λ x. IsRequest x × (x ≢ RoundEnd)) i.requests r i.are (f.request, λ e. cc);
+      took = subst (λ l. Consumes (g.R.Read.remaining c.args.reader.now.inner) (g.R.Read.remaining c.invocation_at_hand.new.reader.inner) l) (sym (append-nil (requests_text (i.requests ++ r ∷ [])))) (took_more _ _ _ i.requests r bytes i.took took f);
+      stops = memory;
     }
 
 pub returns-then-is_end-clause-ok : goal.returns-then-is_end-clause-ok
 returns-then-is_end-clause-ok g c =
     let i = c.loop.invariant in
+    let took = took_before g.R.Read.remaining (g.R.Read.remaining c.args.reader.now.inner) c.loop.reader c.invocation_at_hand.new.reader (requests_text i.requests) c.in_default.ensures.none i.took in
     let b = c.in-Ok-Some.ensures.bytes in
     let args : List Arg = c.read_request.new.args.items in
     let r : Request = with_args args c.in-Ok-Some.request in
@@ -65,14 +104,15 @@ returns-then-is_end-clause-ok g c =
       requests = i.requests;
       calls = i.calls;
       are = i.are;
-      took = took_more _ _ _ i.requests RoundEnd b.0 i.took b.1 (subst (λ (x : Request). IsRead b.0 x []) is f);
+      took = took_more _ _ _ i.requests RoundEnd b.0 took b.1 (subst (λ (x : Request). IsRead b.0 x []) is f);
       gathered = i.gathered;
       called = i.called;
     }
 
-pub returns-in_default-clause-err : goal.returns-in_default-clause-err
-returns-in_default-clause-err g c =
+pub returns-in_default-add-clause-err : goal.returns-in_default-add-clause-err
+returns-in_default-add-clause-err g c =
     let i = c.loop.invariant in
+    let took = took_before g.R.Read.remaining (g.R.Read.remaining c.args.reader.now.inner) c.loop.reader c.invocation_at_hand.new.reader (requests_text i.requests) c.in_default.ensures.none i.took in
     let b = c.in-Ok-Some.ensures.bytes in
     let args : List Arg = c.read_request.new.args.items in
     let r : Request = with_args args c.in-Ok-Some.request in
@@ -82,24 +122,26 @@ returns-in_default-clause-err g c =
       requests = i.requests ++ r ∷ [];
       extra = [];
       are = each_more (λ x. IsRequest x × (x ≢ RoundEnd)) i.requests r i.are (f.request, apart);
-      took = subst (λ l. Consumes (g.R.Read.remaining c.args.reader.now.inner) (g.R.Read.remaining c.read_request.new.reader.inner) l) (sym (append-nil (requests_text (i.requests ++ r ∷ [])))) (took_more _ _ _ i.requests r b.0 i.took b.1 f);
+      took = subst (λ l. Consumes (g.R.Read.remaining c.args.reader.now.inner) (g.R.Read.remaining c.read_request.new.reader.inner) l) (sym (append-nil (requests_text (i.requests ++ r ∷ [])))) (took_more _ _ _ i.requests r b.0 took b.1 f);
       stops = memory;
     }
 
 pub returns-then-is_empty-clause-ok : goal.returns-then-is_empty-clause-ok
 returns-then-is_empty-clause-ok g c =
     let i = c.loop.invariant in
+    let took = took_before g.R.Read.remaining (g.R.Read.remaining c.args.reader.now.inner) c.loop.reader c.invocation_at_hand.new.reader (requests_text i.requests) c.in_default.ensures.none i.took in
     let b = c.in-Ok-None.ensures.bytes in
     let e = end_read (g.R.Read.remaining c.read_request.new.reader.inner) b.0 c.read_request.new.args.items c.in-Ok-None.field-0 c.in-Ok-None.field-0-is b.2 in
     let count = is_none _ c.is_empty.result c.is_empty.ensures c.if-is_empty.true in
     let empty : i.requests ≡ [] = nil_of i.requests (sym (as_many i.gathered) ∙ length-map c.loop.plan.works.items work_of ∙ omega (arith, count, c.loop.plan.works.ok.0)) in
-    let first : Consumes (g.R.Read.remaining c.args.reader.now.inner) (g.R.Read.remaining c.loop.reader.inner) [] = subst (λ l. Consumes (g.R.Read.remaining c.args.reader.now.inner) (g.R.Read.remaining c.loop.reader.inner) (requests_text l)) empty i.took in
-    let second : Consumes (g.R.Read.remaining c.loop.reader.inner) (g.R.Read.remaining c.read_request.new.reader.inner) [] = subst (λ l. Consumes (g.R.Read.remaining c.loop.reader.inner) (g.R.Read.remaining c.read_request.new.reader.inner) l) e.0 b.1 in
+    let first : Consumes (g.R.Read.remaining c.args.reader.now.inner) (g.R.Read.remaining c.invocation_at_hand.new.reader.inner) [] = subst (λ l. Consumes (g.R.Read.remaining c.args.reader.now.inner) (g.R.Read.remaining c.invocation_at_hand.new.reader.inner) (requests_text l)) empty took in
+    let second : Consumes (g.R.Read.remaining c.invocation_at_hand.new.reader.inner) (g.R.Read.remaining c.read_request.new.reader.inner) [] = subst (λ l. Consumes (g.R.Read.remaining c.invocation_at_hand.new.reader.inner) (g.R.Read.remaining c.read_request.new.reader.inner) l) e.0 b.1 in
     (Consumes-trans _ _ _ [] [] first second, e.1)
 
 pub returns-in-Ok-None-clause-err : goal.returns-in-Ok-None-clause-err
 returns-in-Ok-None-clause-err g c =
     let i = c.loop.invariant in
+    let took = took_before g.R.Read.remaining (g.R.Read.remaining c.args.reader.now.inner) c.loop.reader c.invocation_at_hand.new.reader (requests_text i.requests) c.in_default.ensures.none i.took in
     let b = c.in-Ok-None.ensures.bytes in
     let e = end_read (g.R.Read.remaining c.read_request.new.reader.inner) b.0 c.read_request.new.args.items c.in-Ok-None.field-0 c.in-Ok-None.field-0-is b.2 in
     let count = is_some _ c.is_empty.result c.is_empty.ensures c.if-is_empty.false in
@@ -109,19 +151,20 @@ returns-in-Ok-None-clause-err g c =
       requests = i.requests;
       extra = [];
       are = i.are;
-      took = Consumes-trans _ _ _ (requests_text i.requests) [] i.took (subst (λ l. Consumes (g.R.Read.remaining c.loop.reader.inner) (g.R.Read.remaining c.read_request.new.reader.inner) l) e.0 b.1);
+      took = Consumes-trans _ _ _ (requests_text i.requests) [] took (subst (λ l. Consumes (g.R.Read.remaining c.invocation_at_hand.new.reader.inner) (g.R.Read.remaining c.read_request.new.reader.inner) l) e.0 b.1);
       stops = input_ended (λ h. let n = ap (λ (l : List Request). length l) h in absurd (count (omega (arith, n, same, works, c.loop.plan.works.ok.0))));
     }
 
 pub returns-in-Err-clause-err : goal.returns-in-Err-clause-err
 returns-in-Err-clause-err g c =
     let i = c.loop.invariant in
+    let took = took_before g.R.Read.remaining (g.R.Read.remaining c.args.reader.now.inner) c.loop.reader c.invocation_at_hand.new.reader (requests_text i.requests) c.in_default.ensures.none i.took in
     let b = c.in-Err.ensures.bytes in
     let left = g.R.Read.remaining c.read_request.new.reader.inner in
     record {
       requests = i.requests;
       extra = b.0;
       are = i.are;
-      took = Consumes-trans _ _ _ (requests_text i.requests) b.0 i.took b.1;
+      took = Consumes-trans _ _ _ (requests_text i.requests) b.0 took b.1;
       stops = subst (λ f. Stops i.requests b.0 f) (sym c.of_wire.ensures) (stops_of left i.requests b.0 c.in-Err.e b.2);
     }
