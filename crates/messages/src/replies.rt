@@ -8,7 +8,7 @@ mod writers;
 use jtypes::{Arg, Items, JavaFault, Outcome, Refusal};
 use std::alloc::{AllocError, Global};
 use std::test::Fail;
-use wire::{Counted, Denial, JobOutcome, Reply, write_reply};
+use wire::{Counted, Denial, JobOutcome, Reply, add_result, write_reply};
 
 /// Whether the frame of a reply is these bytes.
 fn is_written(alloc: Global, reply: Reply, frame: &[u8]) -> bool
@@ -78,6 +78,25 @@ fn outcomes_are_written(rt: HostRuntime) {
     for (outcome, frame) in OUTCOMES {
         assert!(rt; is_written(rt.alloc(), Reply::Result(outcome), frame));
     }
+}
+
+/// Whether such a frame stands behind a byte that was there.
+fn is_added(alloc: Global, outcome: Outcome, frame: &[u8]) -> Result<bool, AllocError> {
+    let mut bytes = Vec::new(alloc);
+    bytes.push(9)?;
+    add_result(&mut bytes, outcome)?;
+    Ok(match bytes.as_slice() {
+        [9, added @ ..] => added == frame,
+        _ => false,
+    })
+}
+
+#[test]
+fn outcomes_are_added_as_they_are_written(rt: HostRuntime) -> Result<(), Fail> {
+    for (outcome, frame) in OUTCOMES {
+        assert!(rt; is_added(rt.alloc(), outcome, frame)?);
+    }
+    Ok(())
 }
 
 #[test]

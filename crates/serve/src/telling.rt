@@ -14,27 +14,56 @@ use cache::InvokeRefusal;
 use invokeall::JobReply;
 use jtypes::{Arg, Items, Outcome};
 use std::alloc::{AllocError, Global};
+use std::mem;
 use stripe::Reply as Answer;
-use wire::{Counted, Denial, JobOutcome, Reply, write_reply};
+use wire::{Counted, Denial, JobOutcome, Reply, add_result, write_reply};
 
 /// The frames of the replies to a round's requests, and of its end.
 pub fn text_of(alloc: Global, works: Vec<Work>, answers: &[JobReply]) -> Result<Vec<u8>, AllocError>
     requires { All HasPlace answers.now }
     ensures { IfOk result (λ text. text.items ≡ replies_text (all_told (map (work_reply (map reply_of answers.now)) (map work_of works.items)))) }
 {
-    let mut text = Counted::new(Vec::new(alloc));
+    let mut text = Vec::new(alloc);
     for work in works {
-        add_reply(&mut text, reply_to(alloc, work, answers)?)?;
+        tell(alloc, &mut text, work, answers)?;
     }
-    add_reply(&mut text, Reply::RoundEnd)?;
-    Ok(text.into_inner())
+    add_reply(alloc, &mut text, Reply::RoundEnd)?;
+    Ok(text)
 }
 
-fn add_reply(text: &mut Counted<Vec<u8>>, reply: Reply) -> Result<(), AllocError>
-    requires { IsReply reply }
-    ensures { OnOk result (text.new.inner.items ≡ text.old.inner.items ++ reply_frame reply) }
+/// Puts the frame of the reply to a request behind the text.
+fn tell(
+    alloc: Global,
+    text: &mut Vec<u8>,
+    work: Work,
+    answers: &[JobReply],
+) -> Result<(), AllocError>
+    requires { All HasPlace answers.now }
+    ensures { OnOk result (text.new.items ≡ text.old.items ++ reply_frame (work_reply (map reply_of answers.now) (work_of work))) }
 {
-    match write_reply(text, &reply) {
+    match work {
+        Work::Job(at) => tell_job(alloc, text, answer_at(answers, at)),
+        work => add_reply(alloc, text, reply_to(alloc, work, answers)?),
+    }
+}
+
+fn tell_job(alloc: Global, text: &mut Vec<u8>, answer: Option<Answer>) -> Result<(), AllocError>
+    ensures { OnOk result (text.new.items ≡ text.old.items ++ reply_frame (reply_of_answer answer)) }
+{
+    match answer {
+        Some(Answer::Result(outcome)) => add_result(text, outcome),
+        answer => add_reply(alloc, text, job_reply(answer)),
+    }
+}
+
+fn add_reply(alloc: Global, text: &mut Vec<u8>, reply: Reply) -> Result<(), AllocError>
+    requires { IsReply reply }
+    ensures { OnOk result (text.new.items ≡ text.old.items ++ reply_frame reply) }
+{
+    let mut writer = Counted::new(mem::replace(text, Vec::new(alloc)));
+    let result = write_reply(&mut writer, &reply);
+    *text = writer.into_inner();
+    match result {
         Ok(()) => Ok(()),
         Err(_) => Err(AllocError),
     }

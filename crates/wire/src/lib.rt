@@ -22,4 +22,4 @@ pub use laws::one_front;
 pub use reading::{invocation_at_hand, read_request};
 pub use reply::{Denial, JobOutcome, Reply};
 pub use request::{Invocation, Request};
-pub use writing::{WriteFailed, write_bytes, write_reply};
+pub use writing::{WriteFailed, add_result, write_bytes, write_reply};

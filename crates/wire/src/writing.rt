@@ -3,12 +3,17 @@
 ghost use Rattle.std.specs.Prelude.{◌≡◌, ◌*◌, ◌<◌, ◌≤◌, ◌^◌, ◌++◌, length, OnOk, OnErr};
 ghost use Rattle.wire.specs.Frames.{frame, texts, job_text, reply_frame, results_text, IsReply, most_outcomes};
 ghost use Rattle.wire.specs.Streams.{Wrote, WrotePart};
+ghost use Rattle.wire.specs.declared.reply.Reply.TheVariants.{Result};
+ghost use Rattle.jtypes.specs.declared.types.Outcome.TheVariants.{Returned};
+ghost use Rattle.jtypes.specs.declared.types.Arg.TheVariants.{Long};
 
 use crate::reply_texts::{
     byte_text, defined_text, job_text, kind_text, refused_text, result_text, value_text,
 };
 use crate::text::Text;
 use crate::{Counted, JobOutcome, Reply};
+use jtypes::{Arg, Outcome};
+use std::alloc::AllocError;
 use std::io::Write;
 
 /// A write or a flush answered an error, or a write took no byte.
@@ -53,6 +58,24 @@ pub fn write_reply<W: Write>(writer: &mut Counted<W>, reply: &Reply) -> Result<(
         Reply::Denied(denial) => write_text(writer, byte_text(8, denial.number())),
         Reply::RoundEnd => write_text(writer, kind_text(9)),
     }
+}
+
+/// Puts the frame of what an invocation came to behind these bytes, as `write_reply` writes it. Most replies are of one kind, and
+/// their frames are put together where they are to stand.
+pub fn add_result(bytes: &mut Vec<u8>, outcome: Outcome) -> Result<(), AllocError>
+    ensures { OnOk result (bytes.new.items ≡ bytes.old.items ++ reply_frame (Result outcome)) }
+{
+    match outcome {
+        Outcome::Returned(Arg::Long(n)) => add_returned_long(bytes, n),
+        _ => bytes.extend_from_slice(result_text(outcome).framed().as_slice()),
+    }
+}
+
+fn add_returned_long(bytes: &mut Vec<u8>, n: i64) -> Result<(), AllocError>
+    ensures { OnOk result (bytes.new.items ≡ bytes.old.items ++ reply_frame (Result (Returned (Long n)))) }
+{
+    bytes.extend_from_slice(&[0, 0, 0, 11, 6, 0, 1])?;
+    bytes.extend_from_slice(&n.cast_unsigned().to_be_bytes())
 }
 
 fn write_text<W: Write>(writer: &mut Counted<W>, text: Text) -> Result<(), WriteFailed>

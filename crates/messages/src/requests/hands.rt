@@ -5,7 +5,7 @@ use jtypes::Arg;
 use std::alloc::{AllocError, Global};
 use std::io::BufReader;
 use std::test::Fail;
-use wire::{Ahead, Counted, Plain, WireFault, read_request};
+use wire::{Ahead, Counted, Invocation, Plain, WireFault, invocation_at_hand, read_request};
 
 /// What is read of a stream.
 #[derive(Drop)]
@@ -57,6 +57,32 @@ fn the_frames_are_these(rt: HostRuntime) -> Result<(), Fail> {
     let args = heard.args.as_slice();
     assert!(rt; matches!(args, [Arg::Long(7), Arg::Null, Arg::Integer(-2), ..]));
     Ok(())
+}
+
+/// The class, the key and the count of arguments of an invocation that is taken, and what is read behind it.
+fn taken<R: Ahead + Drop>(alloc: Global, reader: R) -> (Option<(u32, i64, usize)>, Told) {
+    let mut reader = Counted::new(reader);
+    let mut args = Vec::new(alloc);
+    let invocation = match invocation_at_hand(&mut reader, &mut args) {
+        Some(Invocation { class, key }) => Some((class, key, args.len())),
+        None => None,
+    };
+    (
+        invocation,
+        front_of(&read_request(alloc, &mut reader, &mut args)),
+    )
+}
+
+#[test]
+fn an_invocation_at_hand_is_taken(rt: HostRuntime) {
+    let both = (Some((3, 5, 3)), Told::Put(9, 1));
+    assert_eq!(rt; taken(rt.alloc(), &FRAMES[..]), both);
+    let next = (None, Told::Put(9, 1));
+    assert_eq!(rt; taken(rt.alloc(), &FRAMES[33..]), next);
+    let cut = (None, Told::Fault(WireFault::Truncated));
+    assert_eq!(rt; taken(rt.alloc(), &FRAMES[..32]), cut);
+    let elsewhere = Plain { inner: &FRAMES[..] };
+    assert_eq!(rt; taken(rt.alloc(), elsewhere), (None, Told::WithRows));
 }
 
 #[test]

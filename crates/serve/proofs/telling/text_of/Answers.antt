@@ -1,4 +1,4 @@
-use Rattle.std.proofs.Common.{◌≡◌, ◌++◌, ◌∷◌, [], List, map, arith, sym, ap, ◌∙◌, append_assoc, append-nil}
+use Rattle.std.proofs.Common.{◌≡◌, ◌++◌, ◌∷◌, [], List, map, arith, refl, sym, ap, ◌∙◌, append_assoc, append-nil}
 use Rattle.std.specs.Vec.Iter.{into_iter_items}
 use Rattle.wire.specs.declared.reply.Reply.{Reply}
 use Rattle.serve.specs.declared.plan.Work.{Work}
@@ -15,7 +15,7 @@ loop-work-preserved c =
     let ys = c.loop-work.yielded in
     let steps : into_iter_items c.loop-work.work-iterator ≡ c.in-Some.work ∷ into_iter_items c.next.new.self = c.in-Some.ensures.steps.0 in (
       append_assoc ys (c.in-Some.work ∷ []) (into_iter_items c.next.new.self) ∙ ap (λ (l : List Work). ys ++ l) (sym steps) ∙ c.loop-work.invariant.0,
-      told_more (work_reply (map reply_of c.args.answers.now)) c.loop-work.yielded c.in-Some.work c.loop-work.text.inner.items c.add_reply.new.text.inner.items c.in_ok-reply_to.field-0 c.loop-work.invariant.1 c.in_ok-add_reply.ensures c.in_ok-reply_to.ensures.reply,
+      told_more (work_reply (map reply_of c.args.answers.now)) c.loop-work.yielded c.in-Some.work c.loop-work.text.items c.tell.new.text.items (work_reply (map reply_of c.args.answers.now) (work_of c.in-Some.work)) c.loop-work.invariant.1 c.in_ok-tell.ensures refl,
     )
 
 pub returns : goal.returns
@@ -25,4 +25,4 @@ returns c =
     let all : c.loop-work.yielded ≡ c.args.works.items = sym (append-nil c.loop-work.yielded) ∙ ap (λ (l : List Work). c.loop-work.yielded ++ l) (sym none) ∙ i.0 ∙ c.into_iter-work-iterator.ensures.into_iter_gives.0 in
     let replies : List Reply = map (work_reply (map reply_of c.args.answers.now)) (map work_of c.args.works.items) in
     let told = i.1 ∙ ap (λ ws. replies_text (map (work_reply (map reply_of c.args.answers.now)) (map work_of ws))) all in
-    all_texts replies c.loop-work.text.inner.items c.into_inner.result.items told (ap (λ v. v.items) c.into_inner.ensures ∙ c.in_ok-add_reply-2.ensures)
+    all_texts replies c.loop-work.text.items c.add_reply.new.text.items told c.in_ok-add_reply.ensures

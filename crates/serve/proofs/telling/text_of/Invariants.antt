@@ -8,4 +8,4 @@ use Rattle.serve.specs.Kept.{work_of}
 use Rattle.serve.proofs.telling.text_of.Given as goal
 
 abbrev pub invariant-loop-work : goal.invariant-loop-work
-invariant-loop-work l = (l.yielded ++ into_iter_items l.work-iterator ≡ into_iter_items l.initial.work-iterator) × (l.text.inner.items ≡ replies_text (map (work_reply (map reply_of l.answers)) (map work_of l.yielded)))
+invariant-loop-work l = (l.yielded ++ into_iter_items l.work-iterator ≡ into_iter_items l.initial.work-iterator) × (l.text.items ≡ replies_text (map (work_reply (map reply_of l.answers)) (map work_of l.yielded)))
