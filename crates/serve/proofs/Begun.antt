@@ -1,8 +1,9 @@
 -- At first there are no entries.
-use Rattle.std.proofs.Common.{◌≡◌, ◌≢◌, ◌==◌, [], ◌∷◌, Bool, true, false, arith, ℕ, ℤ, List, None, length, slice_get, replicate, zero, suc, refl, ap, ◌∙◌}
+use Rattle.std.proofs.Common.{◌≡◌, ◌≢◌, ◌==◌, [], ◌∷◌, Result, Ok, Err, IfErr, Bool, true, false, arith, ℕ, ℤ, List, None, length, slice_get, replicate, zero, suc, refl, ap, ◌∙◌}
 use Rattle.std.specs.FinMap as map
 use Rattle.std.specs.Prelude.{option_and_then}
 use Rattle.std.specs.Option.{option_flatten}
+use Rattle.std.specs.Result.{IsErrAnd}
 use Rattle.std.specs.Ordering.{int_cmp}
 use Rattle.jtypes.specs.Entry.{Entry}
 use Rattle.stripe.specs.Stored.{Stored, entry_in, entry_among}
@@ -26,3 +27,8 @@ is_some n b e f = grind (arith, nat_tests)
 pub nil_of : {A : Type 0} (xs : List A) → length xs ≡ 0 → xs ≡ []
 nil_of [] e = refl
 nil_of (x ∷ xs) e = absurd (omega (arith, e))
+
+-- what is so of whatever error there is
+pub err_as : {A E : Type 0} (res : Result A E) {P Q : E → Type 0} → IsErrAnd res P → ((e : E) → P e → Q e) → IfErr res Q
+err_as (Ok x) h f = tt
+err_as (Err e) h f = f e h

@@ -19,14 +19,16 @@ use Rattle.wire.specs.Requests.{Request, Define, Put, Get, Remove, Contains, Inv
 use Rattle.wire.specs.Frames.{IsInRange}
 use Rattle.wire.specs.declared.reply.Reply.TheVariants as reply
 use Rattle.wire.specs.declared.reply.Denial.TheVariants.{UnknownClass, TooManyJobs}
-use Rattle.serve.specs.declared.plan.Ask.{Ask}
-use Rattle.serve.specs.declared.plan.Ask.TheVariants as ask
+use Rattle.stripe.specs.declared.call.Call.{Call as CallTaken}
+use Rattle.stripe.specs.Seen.{call_of as seen_call}
+use Rattle.invokeall.specs.Jobs.{all_seen}
 use Rattle.invokeall.specs.Collected.{different, invocations}
 use Rattle.serve.specs.Rounds.{most_classes, Part, part, Job, JobForEach, Adds, Gathers, Work, most_jobs, with_room, told, of_class, one, each, defines, refuses, lacks_memory, too_many, puts, gets, removes, looks, invokes, invokes_all}
 use Rattle.serve.specs.Rounds as rounds
 use Rattle.serve.specs.declared.plan.Plan.{Plan}
 use Rattle.serve.specs.declared.plan.Work.{Work as Planned}
-use Rattle.serve.specs.Kept.{HasFew, args_at, invocation_of, call_in, calls_in, AreCalls, IsWithin, call_of, calls_of, Grows, Adding, work_of, works_of}
+use Rattle.serve.specs.declared.plan.Work.TheVariants as planned
+use Rattle.serve.specs.Kept.{HasFew, Grows, Adding, work_of, works_of, calls_of}
 use Rattle.jtypes.specs.Profile.{Second}
 
 -- ---- arguments
@@ -40,113 +42,6 @@ few_of (Contains key) h = tt
 few_of (Invoke class key args) h = h.2.few
 few_of (InvokeAll class keys args) h = h.3.few
 few_of RoundEnd h = tt
-
--- ---- calls
-
-pub as_many_calls : (row : List Arg) (asks : List Ask) (calls : List Call) → AreCalls row asks calls → length asks ≡ length calls
-as_many_calls row asks calls h = sym (length-map asks (call_in row)) ∙ ap length h ∙ length-map calls Some
-
--- arguments that are there lie within
-args_within : (row : List Arg) (at count : ℕ) (xs : List Arg) → args_at row at count ≡ Some xs → at + count ≤ length row
-args_within row at count xs h = go (nat_le (at + count) (length row)) refl h
-  where
-    go : (b : Bool) → nat_le (at + count) (length row) ≡ b → (if b then Some (take count (drop at row)) else None) ≡ Some xs → at + count ≤ length row
-    go true e g = leb-true (at + count) (length row) e
-    go false e g = absurd cc
-
--- so many that lie within are there
-pub args_there : (row : List Arg) (at count : ℕ) → at + count ≤ length row → args_at row at count ≡ Some (take count (drop at row))
-args_there row at count h = ap (λ (b : Bool). if b then Some (take count (drop at row)) else None) (le-leb (at + count) (length row) h)
-
-front_args : (row more : List Arg) (at count : ℕ) (xs : List Arg) → args_at row at count ≡ Some xs → args_at (row ++ more) at count ≡ Some xs
-front_args row more at count xs h =
-    let within = args_within row at count xs h in
-    let rest : count ≤ length (drop at row) = omega (arith, within, length-drop at row) in
-    args_there (row ++ more) at count (omega (arith, within, length-append row more))
-    ∙ ap (λ l. Some (take count l)) (drop-append-le at row more (omega (arith, within)))
-    ∙ ap Some (take-append-le count (drop at row) more rest)
-    ∙ sym (args_there row at count within) ∙ h
-
--- those that were put behind the others
-pub last_args : (row more : List Arg) → args_at (row ++ more) (length row) (length more) ≡ Some more
-last_args row more =
-    args_there (row ++ more) (length row) (length more) (omega (arith, length-append row more))
-    ∙ ap (λ l. Some (take (length more) l)) (drop-append_seam row more)
-    ∙ ap Some (take_all (length more) more (omega arith))
-
--- an invocation has arguments
-record IsInvocation (class : Class) (key : ℤ) (a : Option (List Arg)) (c : Call) : Type 0 where
-  args : List Arg
-  args_are : a ≡ Some args
-  is : call.Invoke class key args ≡ c
-
-invoked : (class : Class) (key : ℤ) (a : Option (List Arg)) (c : Call) → invocation_of class key a ≡ Some c → IsInvocation class key a c
-invoked class key (Some args) c h = record { args = args; args_are = refl; is = cc }
-invoked class key None c h = absurd cc
-
-later_call : (row behind : List Arg) (a : Ask) (c : Call) → call_in row a ≡ Some c → call_in (row ++ behind) a ≡ Some c
-later_call row behind (ask.Invoke class key span) c h =
-    let i = invoked class.now key (args_at row span.at span.count) c h in
-    let args = front_args row behind span.at span.count i.args i.args_are in
-    ap (λ a. invocation_of class.now key a) args ∙ ap Some i.is
-later_call row behind (ask.Get key) c h = h
-later_call row behind (ask.Put key value) c h = h
-later_call row behind (ask.Remove key) c h = h
-later_call row behind (ask.Contains key) c h = h
-
--- arguments that come later are no job's
-pub later_calls : (row behind : List Arg) (asks : List Ask) (calls : List Call) → AreCalls row asks calls → AreCalls (row ++ behind) asks calls
-later_calls row behind [] [] h = refl
-later_calls row behind [] (c ∷ calls) h = absurd cc
-later_calls row behind (a ∷ asks) [] h = absurd cc
-later_calls row behind (a ∷ asks) (c ∷ calls) h =
-    let first : call_in row a ≡ Some c = cc in
-    let rest : calls_in row asks ≡ map Some calls = cc in
-    let head = later_call row behind a c first in
-    let tail = later_calls row behind asks calls rest in
-    cc
-
--- the arguments of a job that has a call are there
-within_call : (row : List Arg) (a : Ask) (c : Call) → call_in row a ≡ Some c → IsWithin (length row) a
-within_call row (ask.Invoke class key span) c h =
-    let i = invoked class.now key (args_at row span.at span.count) c h in
-    args_within row span.at span.count i.args i.args_are
-within_call row (ask.Get key) c h = tt
-within_call row (ask.Put key value) c h = tt
-within_call row (ask.Remove key) c h = tt
-within_call row (ask.Contains key) c h = tt
-
-pub within_calls : (row : List Arg) (asks : List Ask) (calls : List Call) → AreCalls row asks calls → All (IsWithin (length row)) asks
-within_calls row [] calls h = All-nil (IsWithin (length row))
-within_calls row (a ∷ asks) [] h = absurd cc
-within_calls row (a ∷ asks) (c ∷ calls) h =
-    let first : call_in row a ≡ Some c = cc in
-    let rest : calls_in row asks ≡ map Some calls = cc in
-    All-cons (IsWithin (length row)) a asks (within_call row a c first) (within_calls row asks calls rest)
-
--- and the call is the one that has them
-same_call : (row : List Arg) (a : Ask) (c : Call) → call_in row a ≡ Some c → call_of row a ≡ c
-same_call row (ask.Invoke class key span) c h =
-    let i = invoked class.now key (args_at row span.at span.count) c h in
-    let within = args_within row span.at span.count i.args i.args_are in
-    let found : Some (take span.count (drop span.at row)) ≡ Some i.args = sym (args_there row span.at span.count within) ∙ i.args_are in
-    let same : take span.count (drop span.at row) ≡ i.args = cc in
-    ap (λ l. call.Invoke class.now key l) same ∙ i.is
-same_call row (ask.Get key) c h = cc
-same_call row (ask.Put key value) c h = cc
-same_call row (ask.Remove key) c h = cc
-same_call row (ask.Contains key) c h = cc
-
-pub same_calls : (row : List Arg) (asks : List Ask) (calls : List Call) → AreCalls row asks calls → calls_of row asks ≡ calls
-same_calls row [] [] h = refl
-same_calls row [] (c ∷ calls) h = absurd cc
-same_calls row (a ∷ asks) [] h = absurd cc
-same_calls row (a ∷ asks) (c ∷ calls) h =
-    let first : call_in row a ≡ Some c = cc in
-    let rest : calls_in row asks ≡ map Some calls = cc in
-    let head = same_call row a c first in
-    let tail = same_calls row asks calls rest in
-    cc
 
 -- ---- a round has no more jobs than it may have
 
@@ -194,47 +89,61 @@ lacks_room at p h = ap (λ (b : Bool). if b then p else told (reply.Denied TooMa
 
 -- ---- what a call adds to a plan
 
-pub grows_jobs : {E : Type 0} (res : Result (Unit {0}) E) (old new : Plan) (w : Planned) (q : Part) (more : List Arg) → OnOk res (new.works.items ≡ old.works.items ++ w ∷ []) → work_of w ≡ q.work
-    → new.args.items ≡ old.args.items ++ more → calls_in new.args.items new.asks.items ≡ calls_in new.args.items old.asks.items ++ map Some q.calls → OnOk res (Grows old new q)
-grows_jobs (Ok x) old new w q more works is row calls = record {
+pub grows_jobs : {E : Type 0} (res : Result (Unit {0}) E) (old new : Plan) (w : Planned) (q : Part) → OnOk res (new.works.items ≡ old.works.items ++ w ∷ []) → work_of w ≡ q.work
+    → calls_of new ≡ calls_of old ++ q.calls → OnOk res (Grows old new q)
+grows_jobs (Ok x) old new w q works is calls = record {
   works = ap (λ l. map work_of l) works ∙ map-append work_of old.works.items (w ∷ []) ∙ ap (λ y. works_of old ++ y ∷ []) is;
-  calls = λ cs h. calls ∙ ap (λ l. l ++ map Some q.calls) (subst (λ l. AreCalls l old.asks.items cs) (sym row) (later_calls old.args.items more old.asks.items cs h)) ∙ sym (map-append Some cs q.calls);
+  calls = calls;
 }
-grows_jobs (Err e) old new w q more works is row calls = tt
+grows_jobs (Err e) old new w q works is calls = tt
 
-pub grows_told : {E : Type 0} (res : Result (Unit {0}) E) (old new : Plan) (w : Planned) → OnOk res (new.works.items ≡ old.works.items ++ w ∷ []) → new.asks ≡ old.asks → new.args ≡ old.args
+-- a work without a job
+one_more_told : (old new : Plan) (w : Planned) → new.works.items ≡ old.works.items ++ w ∷ [] → new.calls ≡ old.calls → Grows old new (part (work_of w) [])
+one_more_told old new w works calls = record {
+  works = ap (λ l. map work_of l) works ∙ map-append work_of old.works.items (w ∷ []);
+  calls = ap (λ v. all_seen v.items) calls ∙ sym (append-nil (calls_of old));
+}
+
+pub grows_told : {E : Type 0} (res : Result (Unit {0}) E) (old new : Plan) (w : Planned) → OnOk res (new.works.items ≡ old.works.items ++ w ∷ []) → new.calls ≡ old.calls
     → OnOk res (Grows old new (part (work_of w) []))
-grows_told res old new w works asks args =
-    grows_jobs res old new w (part (work_of w) []) [] works refl (ap (λ v. v.items) args ∙ sym (append-nil old.args.items)) (ap (λ v. calls_in new.args.items v.items) asks ∙ sym (append-nil (calls_in new.args.items old.asks.items)))
+grows_told (Ok x) old new w works calls = one_more_told old new w works calls
+grows_told (Err x) old new w works calls = tt
 
 -- what is told of a plan whose works are those of another
 pub grown : {E : Type 0} (res : Result (Unit {0}) E) (new : List Planned) (w : Planned) (old middle : Vec Planned Global) → middle ≡ old → OnOk res (new ≡ middle.items ++ w ∷ []) → OnOk res (new ≡ old.items ++ w ∷ [])
 grown (Ok x) new w old middle e h = h ∙ ap (λ (v : Vec Planned Global). v.items ++ w ∷ []) e
 grown (Err x) new w old middle e h = tt
 
--- one more job
-pub one_more_call : (row : List Arg) (old new : List Ask) (a : Ask) (c : Call) → new ≡ old ++ a ∷ [] → call_in row a ≡ Some c → calls_in row new ≡ calls_in row old ++ map Some (c ∷ [])
-one_more_call row old new a c is called = ap (calls_in row) is ∙ map-append (call_in row) old (a ∷ []) ∙ ap (λ o. calls_in row old ++ o ∷ []) called
+-- one more call
+pub one_more_call : (old new : List CallTaken) (c : CallTaken) → new ≡ old ++ c ∷ [] → all_seen new ≡ all_seen old ++ seen_call c ∷ []
+one_more_call old new c is = ap all_seen is ∙ map-append seen_call old (c ∷ [])
 
 pub adds_jobs : {E : Type 0} (res : Result (Unit {0}) E) (classes : List Class) (old new : Plan) (r s : Request) (p : Part) → r ≡ s → OnOk res (Grows old new p)
-    → Adds classes (length old.asks.items) s p classes → OnOk res (Adding classes old r new classes)
-adds_jobs (Ok x) classes old new r s p e g a = subst (λ (z : Request). Adding classes old z new classes) (sym e) (record {
-  part = p;
-  adds = a;
-  works = g.works;
-  calls = g.calls;
-})
+    → Adds classes (length (calls_of old)) s p classes → OnOk res (Adding classes old r new classes)
+adds_jobs (Ok x) classes old new r s p e g a = subst (λ (z : Request). Adding classes old z new classes) (sym e) (record { part = p; adds = a; grows = g })
 adds_jobs (Err x) classes old new r s p e g a = tt
 
 pub adds_told : {E : Type 0} (res : Result (Unit {0}) E) (classes later : List Class) (old new : Plan) (r s : Request) (w : Planned) → r ≡ s → OnOk res (new.works.items ≡ old.works.items ++ w ∷ [])
-    → new.asks ≡ old.asks → new.args ≡ old.args → Adds classes (length old.asks.items) s (part (work_of w) []) later → OnOk res (Adding classes old r new later)
-adds_told (Ok x) classes later old new r s w e works asks args a = subst (λ (z : Request). Adding classes old z new later) (sym e) (record {
-  part = part (work_of w) [];
-  adds = a;
-  works = ap (λ l. map work_of l) works ∙ map-append work_of old.works.items (w ∷ []);
-  calls = λ calls h. ap (λ v. calls_in new.args.items v.items) asks ∙ ap (λ v. calls_in v.items old.asks.items) args ∙ h ∙ ap (λ l. map Some l) (sym (append-nil calls));
-})
-adds_told (Err x) classes later old new r s w e works asks args a = tt
+    → new.calls ≡ old.calls → Adds classes (length (calls_of old)) s (part (work_of w) []) later → OnOk res (Adding classes old r new later)
+adds_told (Ok x) classes later old new r s w e works calls a =
+    subst (λ (z : Request). Adding classes old z new later) (sym e) (record { part = part (work_of w) []; adds = a; grows = one_more_told old new w works calls })
+adds_told (Err x) classes later old new r s w e works calls a = tt
+
+-- there are as many calls as the definitions see
+pub as_many_calls : (p : Plan) → length (calls_of p) ≡ length p.calls.items
+as_many_calls p = length-map p.calls.items seen_call
+
+-- a job for which there is room, and one for which there is none
+pub grows_one : {E : Type 0} (res : Result (Unit {0}) E) (old new : Plan) (c : Call) → length old.calls.items < most_jobs → OnOk res (Grows old new (part (Job (length (calls_of old))) (c ∷ []))) → OnOk res (Grows old new (one (length (calls_of old)) c))
+grows_one res old new c few g =
+    let at : ℕ = length (calls_of old) in
+    subst (λ p. OnOk res (Grows old new p)) (sym (has_room at (part (Job at) (c ∷ [])) (omega (arith, few, as_many_calls old)))) g
+
+pub denies_one : {E : Type 0} (res : Result (Unit {0}) E) (old new : Plan) (c : Call) → most_jobs ≤ length old.calls.items → OnOk res (new.works.items ≡ old.works.items ++ planned.Denied TooManyJobs ∷ []) → new.calls ≡ old.calls
+    → OnOk res (Grows old new (one (length (calls_of old)) c))
+denies_one res old new c many works calls =
+    let at : ℕ = length (calls_of old) in
+    subst (λ p. OnOk res (Grows old new p)) (sym (lacks_room at (part (Job at) (c ∷ [])) (omega (arith, many, as_many_calls old)))) (grows_told res old new (planned.Denied TooManyJobs) works calls)
 
 -- what stands below the length is there
 pub there : {A : Type 0} (xs : List A) (n : ℕ) → n < length xs → (x : A) × (slice_get xs n ≡ Some x)
@@ -281,20 +190,12 @@ map_step f front xs i d y all h e g =
 pub of_ok : {A E P : Type 0} (res : Result A E) (x : A) → res ≡ Ok x → OnOk res P → P
 of_ok {P = P} res x e h = subst (λ r. OnOk r P) e h
 
--- a job for one more key
-pub pushed : (row : List Arg) (make : ℤ → Ask) (x : Class) (args : List Arg) (old new : List Ask) (keys : List ℤ) (i : ℕ) (d : ℤ) (all : List (Option Call)) → i < length keys → ((k : ℤ) → call_in row (make k) ≡ Some (call.Invoke x k args))
-    → new ≡ old ++ make (get_or keys i d) ∷ [] → calls_in row old ++ map Some (invocations x args (drop i keys)) ≡ all → calls_in row new ++ map Some (invocations x args (drop (i + 1) keys)) ≡ all
-pushed row make x args old new keys i d all h called is g =
-    let f : ℤ → Option Call = λ k. Some (call.Invoke x k args) in
-    let a : Ask = make (get_or keys i d) in
-    ap (λ l. calls_in row l ++ map Some (invocations x args (drop (i + 1) keys))) is
-    ∙ ap (λ l. l ++ map Some (invocations x args (drop (i + 1) keys))) (map-append (call_in row) old (a ∷ []))
-    ∙ ap (λ l. (calls_in row old ++ call_in row a ∷ []) ++ l) (map-map (drop (i + 1) keys))
-    ∙ map_step f (calls_in row old) keys i d (call_in row a) all h (called (get_or keys i d)) (ap (λ l. calls_in row old ++ l) (sym (map-map (drop i keys))) ∙ g)
-  where
-    map-map : (ks : List ℤ) → map {B = Option Call} Some (invocations x args ks) ≡ map (λ k. Some (call.Invoke x k args)) ks
-    map-map [] = refl
-    map-map (k ∷ ks) = ap (λ l. Some (call.Invoke x k args) ∷ l) (map-map ks)
+-- a call for one more key
+pub pushed : (x : Class) (args : List Arg) (old new : List CallTaken) (c : CallTaken) (keys : List ℤ) (i : ℕ) (d : ℤ) (all : List Call) → i < length keys → seen_call c ≡ call.Invoke x (get_or keys i d) args
+    → new ≡ old ++ c ∷ [] → all_seen old ++ invocations x args (drop i keys) ≡ all → all_seen new ++ invocations x args (drop (i + 1) keys) ≡ all
+pushed x args old new c keys i d all h called is g =
+    ap (λ l. l ++ invocations x args (drop (i + 1) keys)) (one_more_call old new c is)
+    ∙ map_step (λ k. call.Invoke x k args) (all_seen old) keys i d (seen_call c) all h called g
 
 pub refused_as : (classes : List Class) (at : ℕ) (bytes : List ℕ) (r : Refusal) → length classes < most_classes → (r ≡ refusal.NoMemory) ⊎ IsRefused Second bytes r → Adds classes at (Define bytes) (told (reply.Refused r)) classes
 refused_as classes at bytes r few (inl e) = subst (λ x. Adds classes at (Define bytes) (told (reply.Refused x)) classes) (sym e) (lacks_memory bytes few)

@@ -7,6 +7,8 @@ use Rattle.std.proofs.KnownBytes.{Consumes-trans}
 use Rattle.jtypes.specs.declared.loader.LoadAnswer.{LoadAnswer}
 use Rattle.typecheck.specs.Typing.{Class}
 use Rattle.stripe.specs.History.{Call, Entries}
+use Rattle.stripe.specs.declared.call.Call.{Call as CallTaken}
+use Rattle.invokeall.specs.Jobs.{all_seen}
 use Rattle.wire.specs.Requests.{Request, RoundEnd}
 use Rattle.wire.specs.declared.reply.Reply.{Reply}
 use Rattle.wire.specs.declared.reply.Reply.TheVariants as reply
@@ -21,8 +23,7 @@ use Rattle.serve.specs.Rounds.{Part, Gathers, Work}
 use Rattle.serve.specs.Rounds as rounds
 use Rattle.serve.specs.Served as served
 use Rattle.serve.specs.Served.{requests_text, replies_text, Stand, stand, first_stand, IsRound, ended, all_told, AreOpen, Answers, Serves, Stops, Fails, IsCutShort}
-use Rattle.serve.specs.Kept.{fault_of_wire, work_of, works_of, AreCalls, Adding, IsWhole, IsRun}
-use Rattle.serve.proofs.Plans.{as_many_calls}
+use Rattle.serve.specs.Kept.{fault_of_wire, work_of, works_of, calls_of, Adding, IsWhole, IsRun}
 
 pub each_more : {A : Type 0} (P : A → Type 0) (xs : List A) (x : A) → AllByRecursion P xs → P x → AllByRecursion P (xs ++ x ∷ [])
 each_more P [] x h p = (p, tt)
@@ -54,14 +55,14 @@ pub as_many : {first later : List Class} {requests : List Request} {works : List
 as_many rounds.none = refl
 as_many (rounds.more requests works calls now later r p g a) = length-append works (p.work ∷ []) ∙ ap (λ n. n + 1) (as_many g) ∙ sym (length-append requests (r ∷ []))
 
-pub begun : (first : List Class) (works : List Planned) → works ≡ [] → Gathers first [] (map work_of works) [] first
-begun first works e = subst (λ l. Gathers first [] (map work_of l) [] first) (sym e) rounds.none
+pub begun : (first : List Class) (works : List Planned) (calls : List CallTaken) → works ≡ [] → calls ≡ [] → Gathers first [] (map work_of works) (all_seen calls) first
+begun first works calls e c = subst (λ l. Gathers first [] (map work_of l) (all_seen calls) first) (sym e) (subst (λ l. Gathers first [] [] (all_seen l) first) (sym c) rounds.none)
 
-pub gathered_more : (first now later : List Class) (xs : List Request) (calls : List Call) (r : Request) (old new : Plan) → Gathers first xs (works_of old) calls now → AreCalls old.args.items old.asks.items calls
-    → (a : Adding now old r new later) → Gathers first (xs ++ r ∷ []) (works_of new) (calls ++ a.part.calls) later
-gathered_more first now later xs calls r old new g c a =
-    let adds = subst (λ n. rounds.Adds now n r a.part later) (as_many_calls old.args.items old.asks.items calls c) a.adds in
-    subst (λ l. Gathers first (xs ++ r ∷ []) l (calls ++ a.part.calls) later) (sym a.works) (rounds.more xs (works_of old) calls now later r a.part g adds)
+pub gathered_more : (first now later : List Class) (xs : List Request) (r : Request) (old new : Plan) → Gathers first xs (works_of old) (calls_of old) now → Adding now old r new later
+    → Gathers first (xs ++ r ∷ []) (works_of new) (calls_of new) later
+gathered_more first now later xs r old new g a =
+    subst (λ l. Gathers first (xs ++ r ∷ []) l (calls_of new) later) (sym a.grows.works)
+    (subst (λ l. Gathers first (xs ++ r ∷ []) (works_of old ++ a.part.work ∷ []) l later) (sym a.grows.calls) (rounds.more xs (works_of old) (calls_of old) now later r a.part g a.adds))
 
 pub stops_of : (left : Option (List ℕ)) (requests : List Request) (bytes : List ℕ) (e : WireFault) → ReadGives left bytes (Err e) → Stops requests bytes (fault_of_wire e)
 stops_of left requests bytes wire.TooLong gives = served.too_long bytes gives
@@ -107,9 +108,9 @@ nothing_served loads gives = record {
 }
 
 -- a round that was read and run
-pub round_of : {loads : Bool} {gives : ℤ → LoadAnswer → Type 0} {old new : Option (List ℕ)} {first later : List Class} {plan : Plan} (w : IsWhole old new first plan later) (before after : Entries) (text : List ℕ) (run : IsRun loads gives before w.calls (works_of plan) after text)
+pub round_of : {loads : Bool} {gives : ℤ → LoadAnswer → Type 0} {old new : Option (List ℕ)} {first later : List Class} {plan : Plan} (w : IsWhole old new first plan later) (before after : Entries) (text : List ℕ) (run : IsRun loads gives before (calls_of plan) (works_of plan) after text)
     → IsRound loads gives (stand first before) w.requests (map (rounds.work_reply run.answers) (works_of plan)) (stand later after)
-round_of {plan = plan} w before after text run = record { works = works_of plan; calls = w.calls; answers = run.answers; gathered = w.gathered; done = run.done; told = refl }
+round_of {plan = plan} w before after text run = record { works = works_of plan; calls = calls_of plan; answers = run.answers; gathered = w.gathered; done = run.done; told = refl }
 
 -- ---- texts
 

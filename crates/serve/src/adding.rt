@@ -8,6 +8,7 @@ ghost use Rattle.serve.specs.Kept.{AreOf, HasFew, classes_of, work_of, Adding};
 use crate::plan::{
     Plan, Work, contains, get, many_jobs, one_invocation, one_job, put, remove, tell,
 };
+use bumpalo::Bump;
 use jtypes::{Arg, Refusal};
 use registry::{ClassId, Registry};
 use std::alloc::{AllocError, Global};
@@ -25,7 +26,7 @@ fn define<T: Wait>(
     registry: &Registry,
     ids: &mut Vec<ClassId>,
     bytes: &[u8],
-) -> Work
+) -> Work<'static>
     requires { AreOf registry.now ids.old.items }
     ensures adds { (at : ℕ) → Adds (classes_of ids.old.items) at (Define bytes.now) (part (work_of result) []) (classes_of ids.new.items) }
     ensures known { AreOf registry.now ids.new.items }
@@ -66,6 +67,7 @@ fn class_at<'r>(registry: &'r Registry, ids: &[ClassId], class: usize) -> Option
 
 /// Adds an invocation of a class by its number, on this key with these arguments, to its round.
 pub fn add_invoke<'r>(
+    arena: &'r Bump,
     registry: &'r Registry,
     ids: &[ClassId],
     plan: &mut Plan<'r>,
@@ -78,13 +80,14 @@ pub fn add_invoke<'r>(
     ensures { OnOk result (Adding (classes_of ids.now) plan.old (Invoke class key.now args.now) plan.new (classes_of ids.now)) }
 {
     match class_at(registry, ids, class) {
-        Some(class) => one_invocation(plan, class, key, args),
+        Some(class) => one_invocation(arena, plan, class, key, args),
         None => tell(plan, Work::Denied(Denial::UnknownClass)),
     }
 }
 
 fn add_invoke_all<'r>(
     alloc: Global,
+    arena: &'r Bump,
     registry: &'r Registry,
     ids: &[ClassId],
     plan: &mut Plan<'r>,
@@ -97,7 +100,7 @@ fn add_invoke_all<'r>(
     ensures { OnOk result (Adding (classes_of ids.now) plan.old (InvokeAll class keys.now args.now) plan.new (classes_of ids.now)) }
 {
     match class_at(registry, ids, class) {
-        Some(class) => many_jobs(alloc, plan, class, keys, args),
+        Some(class) => many_jobs(alloc, arena, plan, class, keys, args),
         None => tell(plan, Work::Denied(Denial::UnknownClass)),
     }
 }
@@ -106,6 +109,7 @@ fn add_invoke_all<'r>(
 pub fn add<'r, T: Wait>(
     rt: &T,
     alloc: Global,
+    arena: &'r Bump,
     registry: &'r Registry,
     ids: &mut Vec<ClassId>,
     plan: &mut Plan<'r>,
@@ -118,12 +122,13 @@ pub fn add<'r, T: Wait>(
     ensures ok { OnOk result (Adding (classes_of ids.old.items) plan.old (with_args args.now request) plan.new (classes_of ids.new.items)) }
     ensures known { AreOf registry.now ids.new.items }
 {
-    add_behind(rt, alloc, registry, ids, plan, &request, args)
+    add_behind(rt, alloc, arena, registry, ids, plan, &request, args)
 }
 
 fn add_behind<'r, T: Wait>(
     rt: &T,
     alloc: Global,
+    arena: &'r Bump,
     registry: &'r Registry,
     ids: &mut Vec<ClassId>,
     plan: &mut Plan<'r>,
@@ -146,10 +151,19 @@ fn add_behind<'r, T: Wait>(
         Request::Remove { key } => one_job(plan, remove(key)),
         Request::Contains { key } => one_job(plan, contains(key)),
         Request::Invoke { class, key } => {
-            add_invoke(registry, ids.as_slice(), plan, *class as usize, key, args)
+            add_invoke(
+                arena,
+                registry,
+                ids.as_slice(),
+                plan,
+                *class as usize,
+                key,
+                args,
+            )
         }
         Request::InvokeAll { class, keys } => add_invoke_all(
             alloc,
+            arena,
             registry,
             ids.as_slice(),
             plan,

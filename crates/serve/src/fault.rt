@@ -2,9 +2,9 @@
 
 ghost use Rattle.std.specs.Prelude.{◌≡◌};
 ghost use Rattle.serve.specs.Settings.{fault_number, fault_name};
-ghost use Rattle.serve.specs.Kept.{fault_of_wire};
 
-use wire::WireFault;
+use std::alloc::AllocError;
+use wire::{WireFault, WriteFailed};
 
 /// Why a stream ends early.
 #[derive(Clone, Copy, PartialEq, Eq, Debug)]
@@ -56,15 +56,42 @@ impl ServeFault {
     }
 }
 
-/// The fault of a frame, as one of its stream.
-pub fn of_wire(fault: WireFault) -> ServeFault
-    ensures { result ≡ fault_of_wire fault }
-{
-    match fault {
-        WireFault::TooLong => ServeFault::TooLong,
-        WireFault::Truncated => ServeFault::Truncated,
-        WireFault::Malformed => ServeFault::Malformed,
-        WireFault::Read => ServeFault::Read,
-        WireFault::NoMemory => ServeFault::NoMemory,
+impl From<AllocError> for ServeFault {
+    ghost use Rattle.std.specs.Prelude.{◌≡◌};
+    ghost use Rattle.serve.specs.declared.fault.ServeFault.TheVariants.{NoMemory};
+
+    ghost from_gives = { λ _ fault. fault ≡ NoMemory };
+
+    fn from(_: AllocError) -> ServeFault {
+        ServeFault::NoMemory
+    }
+}
+
+impl From<WriteFailed> for ServeFault {
+    ghost use Rattle.std.specs.Prelude.{◌≡◌};
+    ghost use Rattle.serve.specs.declared.fault.ServeFault.TheVariants.{Write};
+
+    ghost from_gives = { λ _ fault. fault ≡ Write };
+
+    fn from(_: WriteFailed) -> ServeFault {
+        ServeFault::Write
+    }
+}
+
+/// The fault of a frame is one of its stream.
+impl From<WireFault> for ServeFault {
+    ghost use Rattle.std.specs.Prelude.{◌≡◌};
+    ghost use Rattle.serve.specs.Kept.{fault_of_wire};
+
+    ghost from_gives = { λ cause fault. fault ≡ fault_of_wire cause };
+
+    fn from(cause: WireFault) -> ServeFault {
+        match cause {
+            WireFault::TooLong => ServeFault::TooLong,
+            WireFault::Truncated => ServeFault::Truncated,
+            WireFault::Malformed => ServeFault::Malformed,
+            WireFault::Read => ServeFault::Read,
+            WireFault::NoMemory => ServeFault::NoMemory,
+        }
     }
 }

@@ -3,21 +3,18 @@
 ghost use Rattle.std.specs.Prelude.{◌≡◌, ◌≤◌, length, map, IfOk, IfErr};
 ghost use Rattle.std.specs.List.{All};
 ghost use Rattle.stripe.specs.Stored.{entry_among};
-ghost use Rattle.stripe.specs.Seen.{call_of as seen_call};
 ghost use Rattle.outcome.specs.Outcome.{IsDone};
 ghost use Rattle.invokeall.specs.Jobs.{all_seen};
 ghost use Rattle.invokeall.specs.Rounds.{reply_of};
 ghost use Rattle.invokeall.specs.Rooms.{HasRoom};
 ghost use Rattle.workers.specs.Rooms.{HasPlace};
-ghost use Rattle.serve.specs.Kept.{IsWithin, call_of, calls_of};
 
-use crate::plan::Ask;
 use crate::settings::Settings;
 use cache::{Gate, InvokeRefusal};
 use invokeall::JobReply;
-use jtypes::{Arg, Loader};
+use jtypes::Loader;
 use registry::Registry;
-use std::alloc::{AllocError, Global};
+use std::alloc::Global;
 use std::sync::Wait;
 use std::thread::Threads;
 use stripe::{Call, Reply, Tables};
@@ -29,43 +26,6 @@ use workers::{Kept, run_by_workers, worth};
 pub struct RoundLeft {
     pub tables: Tables,
     pub answers: Vec<JobReply>,
-}
-
-/// The call of a job, with its arguments.
-fn call_for<'a>(row: &'a [Arg], ask: &Ask<'a>) -> Call<'a>
-    requires { IsWithin (length row.now) ask.now }
-    ensures { seen_call result ≡ call_of row.now ask.now }
-{
-    match ask {
-        Ask::Invoke { class, key, args } => Call::Invoke {
-            class: *class,
-            key: *key,
-            args: args.among(row),
-        },
-        Ask::Get { key } => Call::Get { key: *key },
-        Ask::Put { key, value } => Call::Put {
-            key: *key,
-            value: *value,
-        },
-        Ask::Remove { key } => Call::Remove { key: *key },
-        Ask::Contains { key } => Call::Contains { key: *key },
-    }
-}
-
-/// The calls of the jobs, in their order, with their arguments among these.
-pub fn calls_for<'a>(
-    alloc: Global,
-    row: &'a [Arg],
-    asks: &[Ask<'a>],
-) -> Result<Vec<Call<'a>>, AllocError>
-    requires { All (IsWithin (length row.now)) asks.now }
-    ensures { IfOk result (λ calls. all_seen calls.items ≡ calls_of row.now asks.now) }
-{
-    let mut calls = Vec::with_capacity(alloc, asks.len())?;
-    for ask in asks {
-        calls.push_reserved(call_for(row, ask));
-    }
-    Ok(calls)
 }
 
 /// The answer with this reply. A job without one found no memory.

@@ -4,11 +4,11 @@
 mod adding;
 mod fault;
 mod jobs;
+mod keys;
 mod laws;
 mod plan;
 mod reading;
 mod settings;
-mod span;
 mod stream;
 mod telling;
 mod turn;

@@ -8,8 +8,9 @@ ghost use Rattle.serve.specs.Devices.{ReadsAreCounted};
 ghost use Rattle.serve.specs.Kept.{AreOf, classes_of, RoundRead, IsBroken};
 
 use crate::adding::{add, add_invoke};
-use crate::fault::{ServeFault, of_wire};
+use crate::fault::ServeFault;
 use crate::plan::{Plan, Room, no_requests, room_of};
+use bumpalo::Bump;
 use registry::{ClassId, Registry};
 use std::alloc::Global;
 use std::sync::Wait;
@@ -27,6 +28,7 @@ fn is_end(request: &Request) -> bool
 pub fn read_round<'r, T: Wait, R: Ahead>(
     rt: &T,
     alloc: Global,
+    arena: &'r Bump,
     registry: &'r Registry,
     ids: &mut Vec<ClassId>,
     room: &mut Room,
@@ -43,43 +45,42 @@ pub fn read_round<'r, T: Wait, R: Ahead>(
     let mut args = Vec::new(alloc);
     for _ in rt.forever() {
         if let Some(invocation) = invocation_at_hand(reader, &mut args) {
-            let Ok(()) = add_invoke(
+            let class = invocation.class as usize;
+            let key = &invocation.key;
+            add_invoke(
+                arena,
                 registry,
                 ids.as_slice(),
                 &mut plan,
-                invocation.class as usize,
-                &invocation.key,
+                class,
+                key,
                 args.as_slice(),
-            ) else {
-                return Err(ServeFault::NoMemory);
-            };
+            )?;
             continue;
         }
-        match read_request(alloc, reader, &mut args) {
-            Ok(Some(request)) => {
+        match read_request(alloc, reader, &mut args)? {
+            Some(request) => {
                 if is_end(&request) {
                     *room = room_of(&plan);
                     return Ok(Some(plan));
                 }
-                let Ok(()) = add(
+                add(
                     rt,
                     alloc,
+                    arena,
                     registry,
                     ids,
                     &mut plan,
                     request,
                     args.as_slice(),
-                ) else {
-                    return Err(ServeFault::NoMemory);
-                };
+                )?;
             }
-            Ok(None) => {
+            None => {
                 if plan.works.is_empty() {
                     return Ok(None);
                 }
                 return Err(ServeFault::Truncated);
             }
-            Err(e) => return Err(of_wire(e)),
         }
     }
     unreachable!()

@@ -11,6 +11,7 @@ use crate::fault::ServeFault;
 use crate::plan::Room;
 use crate::settings::Settings;
 use crate::turn::one_round;
+use bumpalo::Bump;
 use cache::Gate;
 use jtypes::Loader;
 use registry::Registry;
@@ -54,9 +55,7 @@ pub fn serve<T: Threads + Wait + Sync, R: Ahead, W: Write, G: Gate + Sync, L: Lo
         Err(OpenRefusal::BadCount) => return Err(ServeFault::BadCount),
         Err(OpenRefusal::NoMemory) => return Err(ServeFault::NoMemory),
     };
-    let Ok(registry) = Registry::new(alloc) else {
-        return Err(ServeFault::NoMemory);
-    };
+    let registry = Registry::new(alloc)?;
     stream(
         rt, alloc, &registry, tables, settings, reader, writer, gate, loader,
     )
@@ -84,22 +83,19 @@ fn stream<T: Threads + Wait + Sync, R: Ahead, W: Write, G: Gate + Sync, L: Loade
     ensures writes { WritesAreCounted result writer.old writer.new }
 {
     let mut ids = Vec::new(alloc);
-    let mut room = Room {
-        works: 0,
-        asks: 0,
-        args: 0,
-    };
+    let mut arena = Bump::new(alloc);
+    let mut room = Room { works: 0, calls: 0 };
     let mut kept = Kept::new(alloc);
     let mut tables = tables;
     for _ in rt.forever() {
         match one_round(
-            rt, alloc, registry, &mut ids, &mut room, &mut kept, tables, settings, reader, writer,
-            gate, loader,
-        ) {
-            Ok(Some(left)) => tables = left,
-            Ok(None) => return Ok(()),
-            Err(e) => return Err(e),
+            rt, alloc, &arena, registry, &mut ids, &mut room, &mut kept, tables, settings, reader,
+            writer, gate, loader,
+        )? {
+            Some(left) => tables = left,
+            None => return Ok(()),
         }
+        let _ = arena.reset();
     }
     unreachable!()
 }

@@ -9,7 +9,7 @@ ghost use Rattle.serve.specs.Rounds.{work_reply, job_reply as reply_of_answer, a
 ghost use Rattle.serve.specs.Served.{all_told, replies_text};
 ghost use Rattle.serve.specs.Kept.{work_of};
 
-use crate::plan::Work;
+use crate::plan::{Work, no_items};
 use cache::InvokeRefusal;
 use invokeall::JobReply;
 use jtypes::{Arg, Items, Outcome};
@@ -18,12 +18,20 @@ use std::mem;
 use stripe::Reply as Answer;
 use wire::{Counted, Denial, JobOutcome, Reply, add_result, write_reply};
 
+/// The bytes that are kept free for each reply, and for the round's end. Most frames have one byte less.
+const REPLY: usize = 16;
+
 /// The frames of the replies to a round's requests, and of its end.
-pub fn text_of(alloc: Global, works: Vec<Work>, answers: &[JobReply]) -> Result<Vec<u8>, AllocError>
+pub fn text_of(
+    alloc: Global,
+    works: &[Work<'_>],
+    answers: &[JobReply],
+) -> Result<Vec<u8>, AllocError>
     requires { All HasPlace answers.now }
-    ensures { IfOk result (λ text. text.items ≡ replies_text (all_told (map (work_reply (map reply_of answers.now)) (map work_of works.items)))) }
+    ensures { IfOk result (λ text. text.items ≡ replies_text (all_told (map (work_reply (map reply_of answers.now)) (map work_of works.now)))) }
 {
-    let mut text = Vec::new(alloc);
+    let frames = works.len().saturating_add(1);
+    let mut text = no_items(alloc, frames.saturating_mul(REPLY));
     for work in works {
         tell(alloc, &mut text, work, answers)?;
     }
@@ -35,14 +43,14 @@ pub fn text_of(alloc: Global, works: Vec<Work>, answers: &[JobReply]) -> Result<
 fn tell(
     alloc: Global,
     text: &mut Vec<u8>,
-    work: Work,
+    work: &Work<'_>,
     answers: &[JobReply],
 ) -> Result<(), AllocError>
     requires { All HasPlace answers.now }
-    ensures { OnOk result (text.new.items ≡ text.old.items ++ reply_frame (work_reply (map reply_of answers.now) (work_of work))) }
+    ensures { OnOk result (text.new.items ≡ text.old.items ++ reply_frame (work_reply (map reply_of answers.now) (work_of work.now))) }
 {
     match work {
-        Work::Job(at) => tell_job(alloc, text, answer_at(answers, at)),
+        Work::Job(at) => tell_job(alloc, text, answer_at(answers, *at as usize)),
         work => add_reply(alloc, text, reply_to(alloc, work, answers)?),
     }
 }
@@ -69,12 +77,12 @@ fn add_reply(alloc: Global, text: &mut Vec<u8>, reply: Reply) -> Result<(), Allo
     }
 }
 
-fn reply_to(alloc: Global, work: Work, answers: &[JobReply]) -> Result<Reply, AllocError>
+fn reply_to(alloc: Global, work: &Work<'_>, answers: &[JobReply]) -> Result<Reply, AllocError>
     requires { All HasPlace answers.now }
-    ensures reply { IfOk result (λ reply. reply ≡ work_reply (map reply_of answers.now) (work_of work)) }
+    ensures reply { IfOk result (λ reply. reply ≡ work_reply (map reply_of answers.now) (work_of work.now)) }
     ensures framed { IfOk result IsReply }
 {
-    match work {
+    match *work {
         Work::Defined {
             class,
             steps,
@@ -86,9 +94,9 @@ fn reply_to(alloc: Global, work: Work, answers: &[JobReply]) -> Result<Reply, Al
         }),
         Work::Refused(refusal) => Ok(Reply::Refused(refusal)),
         Work::Denied(denial) => Ok(Reply::Denied(denial)),
-        Work::Job(at) => Ok(job_reply(answer_at(answers, at))),
+        Work::Job(at) => Ok(job_reply(answer_at(answers, at as usize))),
         Work::JobForEach(at, keys) => {
-            let list = results(alloc, answers_from(answers, at), keys.as_slice())?;
+            let list = results(alloc, answers_from(answers, at as usize), keys.items)?;
             Ok(Reply::Results(Items::new(list)))
         }
     }

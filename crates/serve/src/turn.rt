@@ -1,20 +1,20 @@
 //! One round.
 
-ghost use Rattle.std.specs.Prelude.{◌≡◌, ◌≤◌, List, IfOk, IfErr, OnOk, OnErr, Err};
+ghost use Rattle.std.specs.Prelude.{◌≡◌, ◌≤◌, List, length, IfOk, IfErr, OnOk, OnErr, Err};
 ghost use Rattle.std.specs.Io.KnownBytes.{IsAtEnd};
-ghost use Rattle.stripe.specs.History.{Call};
 ghost use Rattle.stripe.specs.Stored.{entry_among};
 ghost use Rattle.wire.specs.Streams.{Wrote, WrotePart};
 ghost use Rattle.serve.specs.Served.{stand};
 ghost use Rattle.serve.specs.Devices.{ReadsAreCounted, WritesAreCounted};
-ghost use Rattle.serve.specs.Kept.{AreOf, AreCalls, HasCalls, IsRun, classes_of, works_of, RoundServed, RoundFailed};
+ghost use Rattle.serve.specs.Kept.{AreOf, IsRun, calls_of, classes_of, works_of, RoundServed, RoundFailed};
 
 use crate::fault::ServeFault;
-use crate::jobs::{RoundLeft, calls_for, run_jobs};
+use crate::jobs::{RoundLeft, run_jobs};
 use crate::plan::{Plan, Room};
 use crate::reading::read_round;
 use crate::settings::Settings;
 use crate::telling::text_of;
+use bumpalo::Bump;
 use cache::Gate;
 use jtypes::Loader;
 use registry::{ClassId, Registry};
@@ -50,17 +50,15 @@ fn run_round<T: Threads + Wait + Sync, G: Gate + Sync, L: Loader + Sync>(
     gate: &G,
     loader: &L,
 ) -> Result<(Tables, Vec<u8>), AllocError>
-    requires called { HasCalls plan }
+    requires few { length plan.calls.items ≤ 4096 }
     requires workers { settings.workers ≤ 16 }
-    ensures { IfOk result (λ run. (calls : List Call) → AreCalls plan.entry.args.items plan.entry.asks.items calls → IsRun L.ASKS (L.gives loader.now) (entry_among tables) calls (works_of plan.entry) (entry_among run.0) run.1.items) }
+    ensures { IfOk result (λ run. IsRun L.ASKS (L.gives loader.now) (entry_among tables) (calls_of plan.entry) (works_of plan.entry) (entry_among run.0) run.1.items) }
 {
     let Plan {
         works,
-        asks,
-        args,
+        calls,
         steps,
     } = plan;
-    let calls = calls_for(alloc, args.as_slice(), asks.as_slice())?;
     let Ok(left) = run_jobs(
         rt,
         alloc,
@@ -76,15 +74,16 @@ fn run_round<T: Threads + Wait + Sync, G: Gate + Sync, L: Loader + Sync>(
         return Err(AllocError);
     };
     let RoundLeft { tables, answers } = left;
-    let text = text_of(alloc, works, answers.as_slice())?;
+    let text = text_of(alloc, works.as_slice(), answers.as_slice())?;
     Ok((tables, text))
 }
 
 /// Reads a round, runs it and writes its replies. It gives the entries that the round left; at the end of the input there is none.
-/// The room is what the round before took, and what is kept what it left.
+/// The room is what the round before took, and what is kept what it left. The arena is empty.
 pub fn one_round<T: Threads + Wait + Sync, R: Ahead, W: Write, G: Gate + Sync, L: Loader + Sync>(
     rt: &T,
     alloc: Global,
+    arena: &Bump,
     registry: &Registry,
     ids: &mut Vec<ClassId>,
     room: &mut Room,
@@ -105,19 +104,12 @@ pub fn one_round<T: Threads + Wait + Sync, R: Ahead, W: Write, G: Gate + Sync, L
     ensures writes { WritesAreCounted result writer.old writer.new }
     ensures known { AreOf registry.now ids.new.items }
 {
-    let plan = match read_round(rt, alloc, registry, ids, room, reader) {
-        Ok(Some(plan)) => plan,
-        Ok(None) => return Ok(None),
-        Err(e) => return Err(e),
+    let Some(plan) = read_round(rt, alloc, arena, registry, ids, room, reader)? else {
+        return Ok(None);
     };
-    let Ok(ran) = run_round(
+    let (left, text) = run_round(
         rt, alloc, registry, tables, settings, plan, kept, gate, loader,
-    ) else {
-        return Err(ServeFault::NoMemory);
-    };
-    let (left, text) = ran;
-    match write_all(writer, text.as_slice()) {
-        Ok(()) => Ok(Some(left)),
-        Err(_) => Err(ServeFault::Write),
-    }
+    )?;
+    write_all(writer, text.as_slice())?;
+    Ok(Some(left))
 }

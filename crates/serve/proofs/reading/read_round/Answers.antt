@@ -9,9 +9,9 @@ use Rattle.wire.specs.declared.request.Request.{Request as Head}
 use Rattle.wire.specs.Frames.{IsRequest, IsRead}
 use Rattle.wire.specs.Reading.{ReadGives}
 use Rattle.serve.specs.Served.{requests_text, Stops, memory, input_ended}
-use Rattle.serve.specs.Kept.{Adding, classes_of, calls_in, work_of}
+use Rattle.serve.specs.Kept.{Adding, classes_of, work_of}
 use Rattle.serve.proofs.Rounds.{each_more, took_more, as_many, begun, gathered_more, stops_of}
-use Rattle.serve.proofs.Begun.{is_none, is_some, nil_of}
+use Rattle.serve.proofs.Begun.{is_none, is_some, nil_of, err_as}
 use Rattle.serve.proofs.Devices.{stays_on}
 use Rattle.serve.proofs.reading.read_round.Goals as goal
 
@@ -30,33 +30,29 @@ loop-init g c = record {
   known = c.requires;
   kept = (refl, refl);
   requests = [];
-  calls = [];
   are = tt;
   took = Consumes-nil (g.R.Read.remaining c.args.reader.now.inner);
-  gathered = begun (classes_of c.args.ids.now.items) c.no_requests-plan.result.works.items c.no_requests-plan.ensures.works;
-  called = ap (calls_in c.no_requests-plan.result.args.items) c.no_requests-plan.ensures.asks;
+  gathered = begun (classes_of c.args.ids.now.items) c.no_requests-plan.result.works.items c.no_requests-plan.result.calls.items c.no_requests-plan.ensures.works c.no_requests-plan.ensures.calls;
 }
 
 pub loop-preserved : goal.loop-preserved
 loop-preserved g c =
     let i = c.loop.invariant in
     let took = took_before g.R.Read.remaining (g.R.Read.remaining c.args.reader.now.inner) c.loop.reader c.invocation_at_hand.new.reader (requests_text i.requests) c.in_default.ensures.none i.took in
-    let b = c.in-Ok-Some.ensures.bytes in
+    let b = c.in_ok-request.ensures.bytes in
     let args : List Arg = c.read_request.new.args.items in
-    let r : Request = with_args args c.in-Ok-Some.request in
-    let f = frame_read (g.R.Read.remaining c.read_request.new.reader.inner) b.0 args c.in-Ok-Some.field-0 c.in-Ok-Some.request c.in-Ok-Some.field-0-is b.2 in
+    let r : Request = with_args args c.in-Some-2.request in
+    let f = frame_read (g.R.Read.remaining c.read_request.new.reader.inner) b.0 args c.in_ok-request.field-0 c.in-Some-2.request c.in-Some-2.is b.2 in
     let apart : r ≢ RoundEnd = c.is_end.ensures.no args c.if-is_end.false in
-    let added : Adding (classes_of c.loop.ids.items) c.loop.plan (with_args args c.in-Ok-Some.request) c.add.new.plan (classes_of c.add.new.ids.items) =
-    subst (λ l. Adding (classes_of c.loop.ids.items) c.loop.plan (with_args l c.in-Ok-Some.request) c.add.new.plan (classes_of c.add.new.ids.items)) c.as_slice-in-Ok-Some.ensures.value c.in-Ok-add.ensures.ok in
+    let added : Adding (classes_of c.loop.ids.items) c.loop.plan (with_args args c.in-Some-2.request) c.add.new.plan (classes_of c.add.new.ids.items) =
+    subst (λ l. Adding (classes_of c.loop.ids.items) c.loop.plan (with_args l c.in-Some-2.request) c.add.new.plan (classes_of c.add.new.ids.items)) c.as_slice-in-Some-2.ensures.value c.in_ok-add-in-Some-2.ensures.ok in
     record {
       known = c.add.ensures.known;
-      kept = stays_on c.args.reader.now c.invocation_at_hand.new.reader c.read_request.new.reader (stays_on c.args.reader.now c.loop.reader c.invocation_at_hand.new.reader i.kept c.invocation_at_hand.ensures.counted) c.in-Ok-Some.ensures.counted;
+      kept = stays_on c.args.reader.now c.invocation_at_hand.new.reader c.read_request.new.reader (stays_on c.args.reader.now c.loop.reader c.invocation_at_hand.new.reader i.kept c.invocation_at_hand.ensures.counted) c.in_ok-request.ensures.counted;
       requests = i.requests ++ r ∷ [];
-      calls = i.calls ++ added.part.calls;
       are = each_more (λ x. IsRequest x × (x ≢ RoundEnd)) i.requests r i.are (f.request, apart);
       took = took_more _ _ _ i.requests r b.0 took b.1 f;
-      gathered = gathered_more (classes_of c.args.ids.now.items) (classes_of c.loop.ids.items) (classes_of c.add.new.ids.items) i.requests i.calls r c.loop.plan c.add.new.plan i.gathered i.called added;
-      called = added.calls i.calls i.called;
+      gathered = gathered_more (classes_of c.args.ids.now.items) (classes_of c.loop.ids.items) (classes_of c.add.new.ids.items) i.requests r c.loop.plan c.add.new.plan i.gathered added;
     }
 
 pub loop-preserved-in-Some-invocation_at_hand : goal.loop-preserved-in-Some-invocation_at_hand
@@ -65,85 +61,81 @@ loop-preserved-in-Some-invocation_at_hand g c =
     let args : List Arg = c.invocation_at_hand.new.args.items in
     let r : Request = Invoke c.in-Some-invocation_at_hand.invocation.class c.in-Some-invocation_at_hand.invocation.key args in
     let (bytes, took, f) = c.in-Some-invocation_at_hand.ensures.some in
-    let added : Adding (classes_of c.loop.ids.items) c.loop.plan r c.add_invoke.new.plan (classes_of c.loop.ids.items) = rw (c.as_slice.ensures.value, c.as_slice-in-Some-invocation_at_hand.ensures.value) at c.in-Ok.ensures in
+    let added : Adding (classes_of c.loop.ids.items) c.loop.plan r c.add_invoke.new.plan (classes_of c.loop.ids.items) = rw (c.as_slice.ensures.value, c.as_slice-in-Some-invocation_at_hand.ensures.value) at c.in_ok-add_invoke.ensures in
     record {
       known = i.known;
       kept = stays_on c.args.reader.now c.loop.reader c.invocation_at_hand.new.reader i.kept c.invocation_at_hand.ensures.counted;
       requests = i.requests ++ r ∷ [];
-      calls = i.calls ++ added.part.calls;
       are = each_more (λ x. IsRequest x × (x ≢ RoundEnd)) i.requests r i.are (f.request, λ e. cc);
       took = took_more _ _ _ i.requests r bytes i.took took f;
-      gathered = gathered_more (classes_of c.args.ids.now.items) (classes_of c.loop.ids.items) (classes_of c.loop.ids.items) i.requests i.calls r c.loop.plan c.add_invoke.new.plan i.gathered i.called added;
-      called = added.calls i.calls i.called;
+      gathered = gathered_more (classes_of c.args.ids.now.items) (classes_of c.loop.ids.items) (classes_of c.loop.ids.items) i.requests r c.loop.plan c.add_invoke.new.plan i.gathered added;
     }
 
-pub returns-in_default-add_invoke-clause-err : goal.returns-in_default-add_invoke-clause-err
-returns-in_default-add_invoke-clause-err g c =
+pub returns-in_err-add_invoke-clause-err : goal.returns-in_err-add_invoke-clause-err
+returns-in_err-add_invoke-clause-err g c =
     let i = c.loop.invariant in
     let args : List Arg = c.invocation_at_hand.new.args.items in
     let r : Request = Invoke c.in-Some-invocation_at_hand.invocation.class c.in-Some-invocation_at_hand.invocation.key args in
     let (bytes, took, f) = c.in-Some-invocation_at_hand.ensures.some in
-    record {
+    err_as c.from_residual.result c.from_residual.ensures.1 (λ e h. record {
       requests = i.requests ++ r ∷ [];
       extra = [];
       are = each_more (λ x. IsRequest x × (x ≢ RoundEnd)) i.requests r i.are (f.request, λ e. cc);
       took = subst (λ l. Consumes (g.R.Read.remaining c.args.reader.now.inner) (g.R.Read.remaining c.invocation_at_hand.new.reader.inner) l) (sym (append-nil (requests_text (i.requests ++ r ∷ [])))) (took_more _ _ _ i.requests r bytes i.took took f);
-      stops = memory;
-    }
+      stops = subst (λ f. Stops (i.requests ++ r ∷ []) [] f) (sym h) memory;
+    })
 
 pub returns-then-is_end-clause-ok : goal.returns-then-is_end-clause-ok
 returns-then-is_end-clause-ok g c =
     let i = c.loop.invariant in
     let took = took_before g.R.Read.remaining (g.R.Read.remaining c.args.reader.now.inner) c.loop.reader c.invocation_at_hand.new.reader (requests_text i.requests) c.in_default.ensures.none i.took in
-    let b = c.in-Ok-Some.ensures.bytes in
+    let b = c.in_ok-request.ensures.bytes in
     let args : List Arg = c.read_request.new.args.items in
-    let r : Request = with_args args c.in-Ok-Some.request in
-    let f = frame_read (g.R.Read.remaining c.read_request.new.reader.inner) b.0 args c.in-Ok-Some.field-0 c.in-Ok-Some.request c.in-Ok-Some.field-0-is b.2 in
+    let r : Request = with_args args c.in-Some-2.request in
+    let f = frame_read (g.R.Read.remaining c.read_request.new.reader.inner) b.0 args c.in_ok-request.field-0 c.in-Some-2.request c.in-Some-2.is b.2 in
     let is : r ≡ RoundEnd = c.is_end.ensures.yes args c.if-is_end.true in
     record {
       requests = i.requests;
-      calls = i.calls;
       are = i.are;
       took = took_more _ _ _ i.requests RoundEnd b.0 took b.1 (subst (λ (x : Request). IsRead b.0 x []) is f);
       gathered = i.gathered;
-      called = i.called;
     }
 
-pub returns-in_default-add-clause-err : goal.returns-in_default-add-clause-err
-returns-in_default-add-clause-err g c =
+pub returns-in_err-add-in-Some-2-clause-err : goal.returns-in_err-add-in-Some-2-clause-err
+returns-in_err-add-in-Some-2-clause-err g c =
     let i = c.loop.invariant in
     let took = took_before g.R.Read.remaining (g.R.Read.remaining c.args.reader.now.inner) c.loop.reader c.invocation_at_hand.new.reader (requests_text i.requests) c.in_default.ensures.none i.took in
-    let b = c.in-Ok-Some.ensures.bytes in
+    let b = c.in_ok-request.ensures.bytes in
     let args : List Arg = c.read_request.new.args.items in
-    let r : Request = with_args args c.in-Ok-Some.request in
-    let f = frame_read (g.R.Read.remaining c.read_request.new.reader.inner) b.0 args c.in-Ok-Some.field-0 c.in-Ok-Some.request c.in-Ok-Some.field-0-is b.2 in
+    let r : Request = with_args args c.in-Some-2.request in
+    let f = frame_read (g.R.Read.remaining c.read_request.new.reader.inner) b.0 args c.in_ok-request.field-0 c.in-Some-2.request c.in-Some-2.is b.2 in
     let apart : r ≢ RoundEnd = c.is_end.ensures.no args c.if-is_end.false in
-    record {
+    err_as c.from_residual-in_err-add-in-Some-2.result c.from_residual-in_err-add-in-Some-2.ensures.1 (λ e h. record {
       requests = i.requests ++ r ∷ [];
       extra = [];
       are = each_more (λ x. IsRequest x × (x ≢ RoundEnd)) i.requests r i.are (f.request, apart);
       took = subst (λ l. Consumes (g.R.Read.remaining c.args.reader.now.inner) (g.R.Read.remaining c.read_request.new.reader.inner) l) (sym (append-nil (requests_text (i.requests ++ r ∷ [])))) (took_more _ _ _ i.requests r b.0 took b.1 f);
-      stops = memory;
-    }
+      stops = subst (λ f. Stops (i.requests ++ r ∷ []) [] f) (sym h) memory;
+    })
 
 pub returns-then-is_empty-clause-ok : goal.returns-then-is_empty-clause-ok
 returns-then-is_empty-clause-ok g c =
     let i = c.loop.invariant in
     let took = took_before g.R.Read.remaining (g.R.Read.remaining c.args.reader.now.inner) c.loop.reader c.invocation_at_hand.new.reader (requests_text i.requests) c.in_default.ensures.none i.took in
-    let b = c.in-Ok-None.ensures.bytes in
-    let e = end_read (g.R.Read.remaining c.read_request.new.reader.inner) b.0 c.read_request.new.args.items c.in-Ok-None.field-0 c.in-Ok-None.field-0-is b.2 in
+    let b = c.in_ok-request.ensures.bytes in
+    let e = end_read (g.R.Read.remaining c.read_request.new.reader.inner) b.0 c.read_request.new.args.items c.in_ok-request.field-0 c.in-None-2.is b.2 in
     let count = is_none _ c.is_empty.result c.is_empty.ensures c.if-is_empty.true in
     let empty : i.requests ≡ [] = nil_of i.requests (sym (as_many i.gathered) ∙ length-map c.loop.plan.works.items work_of ∙ omega (arith, count, c.loop.plan.works.ok.0)) in
     let first : Consumes (g.R.Read.remaining c.args.reader.now.inner) (g.R.Read.remaining c.invocation_at_hand.new.reader.inner) [] = subst (λ l. Consumes (g.R.Read.remaining c.args.reader.now.inner) (g.R.Read.remaining c.invocation_at_hand.new.reader.inner) (requests_text l)) empty took in
     let second : Consumes (g.R.Read.remaining c.invocation_at_hand.new.reader.inner) (g.R.Read.remaining c.read_request.new.reader.inner) [] = subst (λ l. Consumes (g.R.Read.remaining c.invocation_at_hand.new.reader.inner) (g.R.Read.remaining c.read_request.new.reader.inner) l) e.0 b.1 in
     (Consumes-trans _ _ _ [] [] first second, e.1)
 
-pub returns-in-Ok-None-clause-err : goal.returns-in-Ok-None-clause-err
-returns-in-Ok-None-clause-err g c =
+pub returns-in-None-2-clause-err : goal.returns-in-None-2-clause-err
+returns-in-None-2-clause-err g c =
     let i = c.loop.invariant in
     let took = took_before g.R.Read.remaining (g.R.Read.remaining c.args.reader.now.inner) c.loop.reader c.invocation_at_hand.new.reader (requests_text i.requests) c.in_default.ensures.none i.took in
-    let b = c.in-Ok-None.ensures.bytes in
-    let e = end_read (g.R.Read.remaining c.read_request.new.reader.inner) b.0 c.read_request.new.args.items c.in-Ok-None.field-0 c.in-Ok-None.field-0-is b.2 in
+    let b = c.in_ok-request.ensures.bytes in
+    let e = end_read (g.R.Read.remaining c.read_request.new.reader.inner) b.0 c.read_request.new.args.items c.in_ok-request.field-0 c.in-None-2.is b.2 in
     let count = is_some _ c.is_empty.result c.is_empty.ensures c.if-is_empty.false in
     let same = as_many i.gathered in
     let works = length-map c.loop.plan.works.items work_of in
@@ -155,16 +147,16 @@ returns-in-Ok-None-clause-err g c =
       stops = input_ended (λ h. let n = ap (λ (l : List Request). length l) h in absurd (count (omega (arith, n, same, works, c.loop.plan.works.ok.0))));
     }
 
-pub returns-in-Err-clause-err : goal.returns-in-Err-clause-err
-returns-in-Err-clause-err g c =
+pub returns-in_err-request-clause-err : goal.returns-in_err-request-clause-err
+returns-in_err-request-clause-err g c =
     let i = c.loop.invariant in
     let took = took_before g.R.Read.remaining (g.R.Read.remaining c.args.reader.now.inner) c.loop.reader c.invocation_at_hand.new.reader (requests_text i.requests) c.in_default.ensures.none i.took in
-    let b = c.in-Err.ensures.bytes in
+    let b = c.in_err-request.ensures.bytes in
     let left = g.R.Read.remaining c.read_request.new.reader.inner in
-    record {
+    err_as c.from_residual-in_err-request.result c.from_residual-in_err-request.ensures.1 (λ e h. record {
       requests = i.requests;
       extra = b.0;
       are = i.are;
       took = Consumes-trans _ _ _ (requests_text i.requests) b.0 took b.1;
-      stops = subst (λ f. Stops i.requests b.0 f) (sym c.of_wire.ensures) (stops_of left i.requests b.0 c.in-Err.e b.2);
-    }
+      stops = subst (λ f. Stops i.requests b.0 f) (sym h) (stops_of left i.requests b.0 c.in_err-request.field-0.0 b.2);
+    })

@@ -1,12 +1,11 @@
 -- The requests so far were read and gathered, and no read failed.
 use Rattle.std.proofs.Common.{List}
 use Rattle.std.specs.Io.KnownBytes.{Consumes}
-use Rattle.stripe.specs.History.{Call}
 use Rattle.wire.specs.Requests.{Request}
 use Rattle.wire.specs.Counting.{StaysCounted}
 use Rattle.serve.specs.Rounds.{Gathers}
 use Rattle.serve.specs.Served.{AreOpen, requests_text}
-use Rattle.serve.specs.Kept.{AreOf, AreCalls, classes_of, works_of}
+use Rattle.serve.specs.Kept.{AreOf, classes_of, works_of, calls_of}
 use Rattle.serve.proofs.reading.read_round.Given as goal
 
 abbrev pub invariant-loop : goal.invariant-loop
@@ -14,9 +13,7 @@ invariant-loop g l = record {
   known : AreOf l.registry l.ids.items;
   kept : StaysCounted l.initial.reader l.reader;
   requests : List Request;
-  calls : List Call;
   are : AreOpen requests;
   took : Consumes (g.R.Read.remaining l.initial.reader.inner) (g.R.Read.remaining l.reader.inner) (requests_text requests);
-  gathered : Gathers (classes_of l.initial.ids.items) requests (works_of l.plan) calls (classes_of l.ids.items);
-  called : AreCalls l.plan.args.items l.plan.asks.items calls;
+  gathered : Gathers (classes_of l.initial.ids.items) requests (works_of l.plan) (calls_of l.plan) (classes_of l.ids.items);
 }

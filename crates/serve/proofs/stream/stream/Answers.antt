@@ -6,9 +6,11 @@ use Rattle.jtypes.specs.declared.loader.LoadAnswer.{LoadAnswer}
 use Rattle.typecheck.specs.Typing.{Class}
 use Rattle.registry.specs.Ids.{IsOf}
 use Rattle.stripe.specs.Stored.{Stored, entry_among}
-use Rattle.serve.specs.Served.{Stand, stand, ended, all_told, requests_text, replies_text}
+use Rattle.serve.specs.declared.fault.ServeFault.{ServeFault}
+use Rattle.serve.specs.Served.{Fails, Stand, stand, ended, all_told, requests_text, replies_text}
 use Rattle.serve.specs.Kept.{RoundServed, IsAnswered, AreOf, classes_of}
 use Rattle.serve.proofs.Rounds.{serves_more, nothing_yet}
+use Rattle.serve.proofs.Begun.{err_as}
 use Rattle.serve.proofs.Devices.{stays_on}
 use Rattle.serve.proofs.stream.stream.Goals as goal
 
@@ -32,12 +34,12 @@ pub loop-preserved : goal.loop-preserved
 loop-preserved g c =
     let i = c.loop.invariant in
     let s : Stand = stand (classes_of c.loop.ids.items) (entry_among c.loop.tables) in
-    let t : Stand = stand (classes_of c.one_round.new.ids.items) (entry_among c.in-Ok-Some.left) in
-    let o = one_more g.L.Loader.ASKS (g.L.Loader.gives c.args.loader.now) _ _ _ _ s (classes_of c.one_round.new.ids.items) c.in-Ok-Some.field-0 c.in-Ok-Some.left c.in-Ok-Some.field-0-is c.in-Ok-Some.ensures.ok in
+    let t : Stand = stand (classes_of c.one_round.new.ids.items) (entry_among c.in-Some-2.left) in
+    let o = one_more g.L.Loader.ASKS (g.L.Loader.gives c.args.loader.now) _ _ _ _ s (classes_of c.one_round.new.ids.items) c.in_ok-left.field-0 c.in-Some-2.left c.in-Some-2.is c.in_ok-left.ensures.ok in
     record {
       known = c.one_round.ensures.known;
-      read = stays_on c.args.reader.now c.loop.reader c.one_round.new.reader i.read c.in-Ok-Some.ensures.reads;
-      wrote = stays_on c.args.writer.now c.loop.writer c.one_round.new.writer i.wrote c.in-Ok-Some.ensures.writes;
+      read = stays_on c.args.reader.now c.loop.reader c.one_round.new.reader i.read c.in_ok-left.ensures.reads;
+      wrote = stays_on c.args.writer.now c.loop.writer c.one_round.new.writer i.wrote c.in_ok-left.ensures.writes;
       taken = i.taken ++ requests_text (ended o.requests);
       given = i.given ++ replies_text (all_told o.replies);
       took = Consumes-trans _ _ _ i.taken (requests_text (ended o.requests)) i.took o.took;
@@ -45,10 +47,11 @@ loop-preserved g c =
       serves = serves_more g.L.Loader.ASKS (g.L.Loader.gives c.args.loader.now) i.taken i.given s t o.requests o.replies i.serves o.are o.round;
     }
 
-pub returns-in-Err-clause-cut : goal.returns-in-Err-clause-cut
-returns-in-Err-clause-cut g c =
+pub returns-in_err-left-clause-cut : goal.returns-in_err-left-clause-cut
+returns-in_err-left-clause-cut g c = err_as c.from_residual.result c.from_residual.ensures.1 (λ e h.
     let i = c.loop.invariant in
-    let f = c.in-Err.ensures.err in (
+    let f = c.in_err-left.ensures.err in
+    let s = stand (classes_of c.loop.ids.items) (entry_among c.loop.tables) in (
       i.taken ++ f.taken,
       i.given ++ f.given,
       Consumes-trans _ _ _ i.taken f.taken i.took f.took,
@@ -60,8 +63,8 @@ returns-in-Err-clause-cut g c =
         told = i.given;
         part = f.given;
         output_is = refl;
-        left = stand (classes_of c.loop.ids.items) (entry_among c.loop.tables);
+        left = s;
         serves = i.serves;
-        fails = f.fails;
+        fails = subst (λ (x : ServeFault). Fails g.L.Loader.ASKS (g.L.Loader.gives c.args.loader.now) s f.taken f.given x) (sym h) f.fails;
       },
-    )
+    ))

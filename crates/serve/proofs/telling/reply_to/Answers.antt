@@ -6,8 +6,7 @@ use Rattle.serve.proofs.telling.reply_to.Goals as goal
 
 pub returns-in_ok-list-in-JobForEach-clause-framed : goal.returns-in_ok-list-in-JobForEach-clause-framed
 returns-in_ok-list-in-JobForEach-clause-framed c =
-    let few = few_listed (map reply_of c.answers_from.result.now) c.as_slice.result.now in
+    let few = few_listed (map reply_of c.answers_from.result.now) c.in-JobForEach.keys.items.now in
     let same = ap (λ (l : List (ℤ × JobOutcome)). length l) c.in_ok-list-in-JobForEach.ensures in
-    let keys = ap (λ (l : List ℤ). length l) c.as_slice.ensures.keys in
     let items = ap (λ (l : List (ℤ × JobOutcome)). length l) c.new.ensures in
-    omega (arith, few, same, keys, items, c.as_slice.ensures.few)
+    omega (arith, few, same, items, c.in-JobForEach.keys.few)
