@@ -66,6 +66,7 @@ fn class_at<'r>(registry: &'r Registry, ids: &[ClassId], class: usize) -> Option
 }
 
 /// Adds an invocation of a class by its number, on this key with these arguments, to its round.
+#[inline(always)]
 pub fn add_invoke<'r>(
     arena: &'r Bump,
     registry: &'r Registry,

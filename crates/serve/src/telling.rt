@@ -50,18 +50,27 @@ fn tell(
     ensures { OnOk result (text.new.items ≡ text.old.items ++ reply_frame (work_reply (map reply_of answers.now) (work_of work.now))) }
 {
     match work {
-        Work::Job(at) => tell_job(alloc, text, answer_at(answers, *at as usize)),
+        Work::Job(at) => tell_job(alloc, text, answers, *at as usize),
         work => add_reply(alloc, text, reply_to(alloc, work, answers)?),
     }
 }
 
-fn tell_job(alloc: Global, text: &mut Vec<u8>, answer: Option<Answer>) -> Result<(), AllocError>
-    ensures { OnOk result (text.new.items ≡ text.old.items ++ reply_frame (reply_of_answer answer)) }
+/// Puts the frame of the reply to a request of one job behind the text.
+fn tell_job(
+    alloc: Global,
+    text: &mut Vec<u8>,
+    answers: &[JobReply],
+    at: usize,
+) -> Result<(), AllocError>
+    requires { All HasPlace answers.now }
+    ensures { OnOk result (text.new.items ≡ text.old.items ++ reply_frame (reply_of_answer (slice_index_or (map reply_of answers.now) at None))) }
 {
-    match answer {
-        Some(Answer::Result(outcome)) => add_result(text, outcome),
-        answer => add_reply(alloc, text, job_reply(answer)),
+    if at < answers.len() {
+        if let Ok(Answer::Result(outcome)) = &answers[at] {
+            return add_result(text, *outcome);
+        }
     }
+    add_reply(alloc, text, job_reply(answer_at(answers, at)))
 }
 
 fn add_reply(alloc: Global, text: &mut Vec<u8>, reply: Reply) -> Result<(), AllocError>
