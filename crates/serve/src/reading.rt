@@ -44,7 +44,7 @@ pub fn read_round<'r, T: Wait, R: Ahead>(
     let mut plan = no_requests(alloc, *room);
     let mut args = Vec::new(alloc);
     for _ in rt.forever() {
-        if let Some(invocation) = invocation_at_hand(reader, &mut args) {
+        if let Some(invocation) = invocation_at_hand(reader, &mut args)? {
             let class = invocation.class as usize;
             let key = &invocation.key;
             add_invoke(

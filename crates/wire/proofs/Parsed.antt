@@ -1,6 +1,7 @@
 -- What the parsing of a body says of its text.
-use Rattle.std.proofs.Common.{◌≡◌, ◌≢◌, ◌⊎◌, ℕ, suc, ◌+◌, ◌*◌, ◌^◌, ◌<◌, ◌≤◌, ℤ, List, [], ◌∷◌, ◌++◌, length, Result, Ok, Err, refl, sym, ap, ◌∙◌, subst, arith, inl, inr}
-use Rattle.std.proofs.lemmas.List.{length-append}
+use Rattle.std.proofs.Common.{◌≡◌, ◌≢◌, ◌⊎◌, ℕ, suc, ◌+◌, ◌*◌, ◌^◌, ◌<◌, ◌≤◌, ℤ, List, [], ◌∷◌, ◌++◌, length, take, drop, append_assoc, Result, Ok, Err, refl, sym, ap, ◌∙◌, subst, arith, inl, inr}
+use Rattle.std.proofs.lemmas.List.{length-append, take-append-drop}
+use lib.Seq.{take-append_seam}
 use Rattle.byteorder.specs.Endian.{big_bytes}
 use Rattle.jtypes.specs.declared.types.Arg.{Arg}
 use Rattle.jtypes.specs.declared.types.Arg.TheVariants as arg
@@ -10,9 +11,9 @@ use Rattle.jtypes.specs.Layout.{Layout, first, Gives, number}
 use Rattle.jtypes.proofs.Laws.{whole_found, stands_from_fails, first_stands}
 use Rattle.wire.specs.Requests.{Request, Define, Put, Get, Remove, Contains, Invoke, InvokeAll, RoundEnd}
 use Rattle.wire.specs.declared.fault.WireFault.{WireFault}
-use Rattle.wire.specs.Frames.{AreBytes, long_text, arg_text, texts, args_text, request_text, IsText, IsNoRequest, AreArgs}
+use Rattle.wire.specs.Frames.{AreBytes, long_text, arg_text, texts, args_text, request_text, IsText, IsNoRequest, IsRead, AreArgs}
 use Rattle.wire.specs.Bodies.{small, keys_and_arguments, alone}
-use Rattle.wire.specs.Reading.{Parses, IsFaultOf}
+use Rattle.wire.specs.Reading.{Parses, IsFaultOf, BeginsNoInvocation}
 use Rattle.wire.proofs.Found.{found_small, found_keys, alone_found}
 use Rattle.wire.proofs.Read.{read_small, read_keys, read_alone, read_number}
 
@@ -149,3 +150,41 @@ short_body body h r t = go r t.is
     go (Invoke class key args) e = seven_is_not 6 _ _ e (omega arith)
     go (InvokeAll class keys args) e = let n = ap length (same_tail 7 7 body _ e).1 in omega (arith, n, h, length-append (texts long_text keys) (args_text args))
     go RoundEnd e = seven_is_not 8 _ _ e (omega arith)
+
+-- ---- no invocation
+
+pub other_kind : (kind : ℕ) (body : List ℕ) → kind ≢ 6 → (class : ℕ) (key : ℤ) (args : List Arg) → IsText (kind ∷ body) (Invoke class key args) → ⊥
+other_kind kind body other class key args t = other (same_tail kind 6 body _ t.is).0
+
+pub no_text : (class : ℕ) (key : ℤ) (args : List Arg) → IsText [] (Invoke class key args) → ⊥
+no_text class key args t = let n = ap length t.is in omega (arith, n)
+
+-- an invocation's frame tells a short length, and is as long
+pub other_frame : (bytes : List ℕ) (n : ℕ) → take 4 bytes ≡ big_bytes 4 n → n < 2 ^ 32 → (n ≡ 0) ⊎ ((86 < n) ⊎ (length bytes < 4 + n)) → BeginsNoInvocation bytes
+other_frame bytes n head fits other class key args rest h =
+    let r : Request = Invoke class key args in
+    let text : List ℕ = request_text r in
+    let body : List ℕ = big_bytes 4 class ++ long_text key ++ args_text args in
+    let whole : big_bytes 4 n ++ drop 4 bytes ≡ big_bytes 4 (length text) ++ (text ++ rest) =
+    ap (λ l. l ++ drop 4 bytes) (sym head) ∙ take-append-drop 4 bytes ∙ h.parts ∙ append_assoc (big_bytes 4 (length text)) text rest in
+    let short = h.request.short in
+    let same = same_numbers 4 n (length text) (drop 4 bytes) (text ++ rest) (omega (arith, fits)) (omega (arith, short)) whole in
+    let count : length bytes ≡ 4 + (length text + length rest) = ap length (h.parts ∙ append_assoc (big_bytes 4 (length text)) text rest) ∙ length-append (big_bytes 4 (length text)) (text ++ rest) ∙ ap (λ m. 4 + m) (length-append text rest) in
+    let is : n ≡ length text = same.0 in
+    elim other [
+      | inl none ↦ omega (arith, none, is)
+      | inr more ↦ elim more [
+        | inl long ↦ long_body 6 body (omega arith) (omega arith) (omega (arith, long, is)) r (record { is = refl; in_range = h.request.in_range })
+        | inr cut ↦ omega (arith, cut, is, count)
+      ]
+    ]
+
+-- what an invocation's frame tells stands behind its length
+pub text_of_frame : (bytes : List ℕ) (n : ℕ) (r : Request) (rest : List ℕ) → take 4 bytes ≡ big_bytes 4 n → n < 2 ^ 32 → IsRead bytes r rest → IsText (take n (drop 4 bytes)) r
+text_of_frame bytes n r rest head fits h =
+    let text : List ℕ = request_text r in
+    let whole : big_bytes 4 n ++ drop 4 bytes ≡ big_bytes 4 (length text) ++ (text ++ rest) =
+    ap (λ l. l ++ drop 4 bytes) (sym head) ∙ take-append-drop 4 bytes ∙ h.parts ∙ append_assoc (big_bytes 4 (length text)) text rest in
+    let short = h.request.short in
+    let same = same_numbers 4 n (length text) (drop 4 bytes) (text ++ rest) (omega (arith, fits)) (omega (arith, short)) whole in
+    record { is = ap (λ m. take m (drop 4 bytes)) same.0 ∙ ap (take (length text)) same.1 ∙ take-append_seam text rest; in_range = h.request.in_range }

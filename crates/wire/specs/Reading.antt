@@ -1,10 +1,12 @@
 -- What a reading answers, by the bytes that it took and by those that are left.
-use Rattle.std.specs.Prelude.{◌≡◌, ◌≢◌, ◌⊎◌, ℕ, ◌<◌, ◌≤◌, ◌^◌, List, [], ◌++◌, length, Option, Some, None, Result, Ok, Err}
+use Rattle.std.specs.Prelude.{◌≡◌, ◌≢◌, ◌⊎◌, ℕ, ℤ, ◌<◌, ◌≤◌, ◌^◌, List, [], ◌++◌, length, Option, Some, None, Result, Ok, Err}
 use Rattle.std.specs.Io.KnownBytes.{IsAtEnd, Consumes}
 use Rattle.byteorder.specs.Endian.{big_bytes}
 use Rattle.jtypes.specs.declared.refusal.Refusal.{Refusal}
 use Rattle.jtypes.specs.declared.refusal.Refusal.TheVariants as refusal
-use Rattle.wire.specs.Requests.{Request}
+use Rattle.jtypes.specs.declared.types.Arg.{Arg}
+use Rattle.wire.specs.Requests.{Request, Invoke}
+use Rattle.wire.specs.declared.request.Invocation.{Invocation}
 use Rattle.wire.specs.declared.fault.WireFault.{WireFault}
 use Rattle.wire.specs.declared.fault.WireFault.TheVariants as fault
 use Rattle.wire.specs.Counting.{Counting, HasRisen, StaysCounted}
@@ -49,6 +51,15 @@ IsCutOrLacks n left bytes e = IsCut n left bytes e
 abbrev pub IsPassed : ℕ → Option (List ℕ) → List ℕ → WireFault → Type 0
 IsPassed n left bytes fault.Malformed = length bytes ≡ n
 IsPassed n left bytes e = IsCut n left bytes e
+
+-- the bytes begin with no invocation's frame
+abbrev pub BeginsNoInvocation : List ℕ → Type 0
+BeginsNoInvocation bytes = (class : ℕ) (key : ℤ) (args : List Arg) (rest : List ℕ) → IsRead bytes (Invoke class key args) rest → ⊥
+
+-- the invocation of a text, with these arguments, if it has one
+abbrev pub InvocationIs : List ℕ → List Arg → Option Invocation → Type 0
+InvocationIs text args (Some i) = IsText text (Invoke i.class i.key args)
+InvocationIs text args None = (class : ℕ) (key : ℤ) (others : List Arg) → IsText text (Invoke class key others) → ⊥
 
 -- what a refusal of a body's reading says of the frame
 abbrev pub IsFaultOf : Refusal → WireFault → Type 0

@@ -1,18 +1,18 @@
 //! The bodies of requests.
 
-ghost use Rattle.std.specs.Prelude.{◌≡◌, ◌≢◌, ◌⊎◌, ◌+◌, ◌*◌, ◌^◌, ◌<◌, ◌≤◌, List, [], ◌∷◌, ◌++◌, length, true, false, IfSome};
+ghost use Rattle.std.specs.Prelude.{◌≡◌, ◌≢◌, ◌⊎◌, ◌+◌, ◌*◌, ◌^◌, ◌<◌, ◌≤◌, List, [], ◌∷◌, ◌++◌, length, true, false, IfOk};
 ghost use Rattle.jtypes.specs.Layout.{Takes, Gives, first, many};
 ghost use Rattle.byteorder.specs.Endian.{big_bytes};
 ghost use Rattle.jtypes.specs.declared.types.Arg.{Arg};
 ghost use Rattle.wire.specs.Frames.{AreBytes, IsText};
 ghost use Rattle.wire.specs.Requests.{Invoke, with_args, asked};
-ghost use Rattle.wire.specs.Reading.{Parses, IsFaultOf};
+ghost use Rattle.wire.specs.Reading.{Parses, IsFaultOf, InvocationIs};
 ghost use Rattle.wire.specs.Bodies.{long, int, arg_of, argument, arguments, put, invoke, small, keys_and_arguments, alone};
 
 use crate::{Invocation, Request, WireFault};
 use byteorder::{BigEndian, ByteOrder};
 use jtypes::{Arg, Args, Cursor, Items, Reader, Refusal, row};
-use std::alloc::Global;
+use std::alloc::{AllocError, Global};
 
 #[tactic(auto, unfolding(crate::specs::Bodies::long))]
 fn read_long(cursor: &mut Cursor<'_>) -> Result<i64, Refusal>
@@ -273,16 +273,21 @@ fn define_request(alloc: Global, body: &[u8]) -> Result<Request, WireFault>
 }
 
 /// The invocation with this text, if it has one. The row has its arguments afterwards.
-pub fn invocation_of(text: &[u8], args: &mut Vec<Arg>) -> Option<Invocation>
-    ensures { IfSome result (λ i. IsText text.now (Invoke i.class i.key args.new.items)) }
+pub fn invocation_of(text: &[u8], args: &mut Vec<Arg>) -> Result<Option<Invocation>, AllocError>
+    ensures { IfOk result (InvocationIs text.now args.new.items) }
 {
-    let (kind, body) = text.split_first()?;
+    let Some((kind, body)) = text.split_first() else {
+        return Ok(None);
+    };
     if *kind != 6 {
-        return None;
+        return Ok(None);
     }
     match all_invocation(body, args) {
-        Ok(invocation) => Some(invocation),
-        Err(_) => None,
+        Ok(invocation) => Ok(Some(invocation)),
+        Err(refusal) => match refusal {
+            Refusal::NoMemory => Err(AllocError),
+            _ => Ok(None),
+        },
     }
 }
 

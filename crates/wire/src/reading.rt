@@ -7,7 +7,7 @@ ghost use Rattle.jtypes.specs.declared.types.Arg.{Arg};
 ghost use Rattle.wire.specs.Frames.{Front, IsFront, IsRead};
 ghost use Rattle.wire.specs.Requests.{Invoke, asked, next_asked};
 ghost use Rattle.wire.specs.Counting.{StaysCounted};
-ghost use Rattle.wire.specs.Reading.{Took, TookSome, FaultCounts, ReadCounts, IsCut, IsCutOrLacks, IsPassed, Completes, HeadGives, ReadGives, Tells, found};
+ghost use Rattle.wire.specs.Reading.{Took, TookSome, FaultCounts, ReadCounts, IsCut, IsCutOrLacks, IsPassed, Completes, HeadGives, ReadGives, Tells, BeginsNoInvocation, found};
 
 use crate::parsing::{
     are_bytes, class_and_count, invocation_of, keys_request, may_hold, request_of,
@@ -15,7 +15,7 @@ use crate::parsing::{
 use crate::{Ahead, Counted, Invocation, Request, WireFault};
 use byteorder::{BigEndian, ByteOrder};
 use jtypes::{Arg, Items};
-use std::alloc::Global;
+use std::alloc::{AllocError, Global};
 use std::io::Read;
 
 /// The longest text of a request.
@@ -219,7 +219,8 @@ fn read_short<R: Ahead>(
 
 // The length that bytes begin with, if there are so many.
 fn length_in(bytes: &[u8]) -> Option<u32>
-    ensures { IfSome result (λ n. (take 4 bytes.now ≡ big_bytes 4 n) × (n < 2 ^ 32) × (4 ≤ length bytes.now)) }
+    ensures some { IfSome result (λ n. (take 4 bytes.now ≡ big_bytes 4 n) × (n < 2 ^ 32) × (4 ≤ length bytes.now)) }
+    ensures none { IfNone result (length bytes.now < 4) }
 {
     if bytes.len() < 4 {
         return None;
@@ -251,9 +252,10 @@ fn read_length<R: Ahead>(reader: &mut Counted<R>) -> Result<Option<u32>, WireFau
     }
 }
 
-// The length of a short text, which isn't empty, where these bytes begin with its frame.
+// The length of a short text, which isn't empty, where these bytes begin with its frame. An invocation's text is short.
 fn short_length_in(bytes: &[u8]) -> Option<usize>
-    ensures { IfSome result (λ n. (take 4 bytes.now ≡ big_bytes 4 n) × (1 ≤ n) × (n ≤ 86) × (4 + n ≤ length bytes.now)) }
+    ensures some { IfSome result (λ n. (take 4 bytes.now ≡ big_bytes 4 n) × (1 ≤ n) × (n ≤ 86) × (4 + n ≤ length bytes.now)) }
+    ensures none { IfNone result (BeginsNoInvocation bytes.now) }
 {
     let length = length_in(bytes)? as usize;
     if length == 0 || length > SHORT || length > bytes.len() - 4 {
@@ -267,16 +269,21 @@ fn short_length_in(bytes: &[u8]) -> Option<usize>
 pub fn invocation_at_hand<R: Ahead>(
     reader: &mut Counted<R>,
     args: &mut Vec<Arg>,
-) -> Option<Invocation>
-    ensures some { IfSome result (λ i. TookSome R.remaining reader.old reader.new (λ _ bytes. IsRead bytes (Invoke i.class i.key args.new.items) [])) }
-    ensures none { IfNone result (reader.new ≡ reader.old) }
+) -> Result<Option<Invocation>, AllocError>
+    ensures some { IfOk result (λ o. IfSome o (λ i. TookSome R.remaining reader.old reader.new (λ _ bytes. IsRead bytes (Invoke i.class i.key args.new.items) []))) }
+    ensures none { IfOk result (λ o. IfNone o ((reader.new ≡ reader.old) × BeginsNoInvocation (R.ahead reader.old.inner))) }
+    ensures err { OnErr result (reader.new ≡ reader.old) }
     ensures counted { StaysCounted reader.old reader.new }
 {
     let hand = reader.at_hand();
-    let length = short_length_in(hand)?;
-    let invocation = invocation_of(&hand[4..4 + length], args)?;
+    let Some(length) = short_length_in(hand) else {
+        return Ok(None);
+    };
+    let Some(invocation) = invocation_of(&hand[4..4 + length], args)? else {
+        return Ok(None);
+    };
     reader.pass(4 + length);
-    Some(invocation)
+    Ok(Some(invocation))
 }
 
 // The rest of a frame whose length is known.

@@ -59,13 +59,17 @@ fn the_frames_are_these(rt: HostRuntime) -> Result<(), Fail> {
     Ok(())
 }
 
-/// The class, the key and the count of arguments of an invocation that is taken, and what is read behind it.
-fn taken<R: Ahead + Drop>(alloc: Global, reader: R) -> (Option<(u32, i64, usize)>, Told) {
+/// The class, the key and the count of arguments of an invocation, if one is taken; nothing at want of memory.
+type Taken = Option<Option<(u32, i64, usize)>>;
+
+/// What is taken at hand, and what is read behind it.
+fn taken<R: Ahead + Drop>(alloc: Global, reader: R) -> (Taken, Told) {
     let mut reader = Counted::new(reader);
     let mut args = Vec::new(alloc);
     let invocation = match invocation_at_hand(&mut reader, &mut args) {
-        Some(Invocation { class, key }) => Some((class, key, args.len())),
-        None => None,
+        Ok(Some(Invocation { class, key })) => Some(Some((class, key, args.len()))),
+        Ok(None) => Some(None),
+        Err(_) => None,
     };
     (
         invocation,
@@ -75,14 +79,14 @@ fn taken<R: Ahead + Drop>(alloc: Global, reader: R) -> (Option<(u32, i64, usize)
 
 #[test]
 fn an_invocation_at_hand_is_taken(rt: HostRuntime) {
-    let both = (Some((3, 5, 3)), Told::Put(9, 1));
+    let both = (Some(Some((3, 5, 3))), Told::Put(9, 1));
     assert_eq!(rt; taken(rt.alloc(), &FRAMES[..]), both);
-    let next = (None, Told::Put(9, 1));
+    let next = (Some(None), Told::Put(9, 1));
     assert_eq!(rt; taken(rt.alloc(), &FRAMES[33..]), next);
-    let cut = (None, Told::Fault(WireFault::Truncated));
+    let cut = (Some(None), Told::Fault(WireFault::Truncated));
     assert_eq!(rt; taken(rt.alloc(), &FRAMES[..32]), cut);
     let elsewhere = Plain { inner: &FRAMES[..] };
-    assert_eq!(rt; taken(rt.alloc(), elsewhere), (None, Told::WithRows));
+    assert_eq!(rt; taken(rt.alloc(), elsewhere), (Some(None), Told::WithRows));
 }
 
 #[test]

@@ -1,4 +1,4 @@
-use Rattle.std.proofs.Common.{◌≡◌, ◌≢◌, ℕ, List, [], ◌∷◌, ◌++◌, length, Option, Some, None, Ok, arith, refl, sym, ap, ◌∙◌, subst, append-nil}
+use Rattle.std.proofs.Common.{◌≡◌, ◌≢◌, ℕ, List, [], ◌∷◌, ◌++◌, length, Option, Some, None, IfSome, IfNone, Ok, arith, refl, sym, ap, ◌∙◌, subst, append-nil}
 use Rattle.std.proofs.lemmas.List.{length-map}
 use Rattle.std.specs.Io.KnownBytes.{Consumes, IsAtEnd}
 use Rattle.std.proofs.KnownBytes.{Consumes-nil, Consumes-trans}
@@ -7,7 +7,8 @@ use Rattle.wire.specs.Requests.{Request, Invoke, RoundEnd, with_args, next_asked
 use Rattle.wire.specs.Counting.{Counting}
 use Rattle.wire.specs.declared.request.Request.{Request as Head}
 use Rattle.wire.specs.Frames.{IsRequest, IsRead}
-use Rattle.wire.specs.Reading.{ReadGives}
+use Rattle.wire.specs.declared.request.Invocation.{Invocation}
+use Rattle.wire.specs.Reading.{ReadGives, TookSome}
 use Rattle.serve.specs.Served.{requests_text, Stops, memory, input_ended}
 use Rattle.serve.specs.Kept.{Adding, classes_of, work_of}
 use Rattle.serve.proofs.Rounds.{each_more, took_more, as_many, begun, gathered_more, stops_of}
@@ -25,6 +26,14 @@ end_read left bytes args o e h = subst (λ (x : Option Head). ReadGives left byt
 took_before : {R : Type 0} (remaining : R → Option (List ℕ)) (first : Option (List ℕ)) (old new : Counting R) (bytes : List ℕ) → new ≡ old → Consumes first (remaining old.inner) bytes → Consumes first (remaining new.inner) bytes
 took_before remaining first old new bytes same took = subst (λ x. Consumes first (remaining x.inner) bytes) (sym same) took
 
+-- what an invocation at hand took, and what is so where there is none
+taken_at_hand : {R : Type 0} (remaining : R → Option (List ℕ)) (old new : Counting R) (args : List Arg) (o : Option Invocation) (i : Invocation) → o ≡ Some i
+    → IfSome o (λ x. TookSome remaining old new (λ _ bytes. IsRead bytes (Invoke x.class x.key args) [])) → TookSome remaining old new (λ _ bytes. IsRead bytes (Invoke i.class i.key args) [])
+taken_at_hand remaining old new args o i e h = subst (λ (y : Option Invocation). IfSome y (λ x. TookSome remaining old new (λ _ bytes. IsRead bytes (Invoke x.class x.key args) []))) e h
+
+is_none_of : {A P : Type 0} (o : Option A) → o ≡ None → IfNone o P → P
+is_none_of {P = P} o e h = subst (λ o. IfNone o P) e h
+
 pub loop-init : goal.loop-init
 loop-init g c = record {
   known = c.requires;
@@ -38,14 +47,14 @@ loop-init g c = record {
 pub loop-preserved : goal.loop-preserved
 loop-preserved g c =
     let i = c.loop.invariant in
-    let took = took_before g.R.Read.remaining (g.R.Read.remaining c.args.reader.now.inner) c.loop.reader c.invocation_at_hand.new.reader (requests_text i.requests) c.in_default.ensures.none i.took in
+    let took = took_before g.R.Read.remaining (g.R.Read.remaining c.args.reader.now.inner) c.loop.reader c.invocation_at_hand.new.reader (requests_text i.requests) (is_none_of c.in_ok-invocation.field-0 c.in_default.is c.in_ok-invocation.ensures.none).0 i.took in
     let b = c.in_ok-request.ensures.bytes in
     let args : List Arg = c.read_request.new.args.items in
-    let r : Request = with_args args c.in-Some-2.request in
-    let f = frame_read (g.R.Read.remaining c.read_request.new.reader.inner) b.0 args c.in_ok-request.field-0 c.in-Some-2.request c.in-Some-2.is b.2 in
+    let r : Request = with_args args c.in-Some-3.request in
+    let f = frame_read (g.R.Read.remaining c.read_request.new.reader.inner) b.0 args c.in_ok-request.field-0 c.in-Some-3.request c.in-Some-3.is b.2 in
     let apart : r ≢ RoundEnd = c.is_end.ensures.no args c.if-is_end.false in
-    let added : Adding (classes_of c.loop.ids.items) c.loop.plan (with_args args c.in-Some-2.request) c.add.new.plan (classes_of c.add.new.ids.items) =
-    subst (λ l. Adding (classes_of c.loop.ids.items) c.loop.plan (with_args l c.in-Some-2.request) c.add.new.plan (classes_of c.add.new.ids.items)) c.as_slice-in-Some-2.ensures.value c.in_ok-add-in-Some-2.ensures.ok in
+    let added : Adding (classes_of c.loop.ids.items) c.loop.plan (with_args args c.in-Some-3.request) c.add.new.plan (classes_of c.add.new.ids.items) =
+    subst (λ l. Adding (classes_of c.loop.ids.items) c.loop.plan (with_args l c.in-Some-3.request) c.add.new.plan (classes_of c.add.new.ids.items)) c.as_slice-in-Some-3.ensures.value c.in_ok-add-in-Some-3.ensures.ok in
     record {
       known = c.add.ensures.known;
       kept = stays_on c.args.reader.now c.invocation_at_hand.new.reader c.read_request.new.reader (stays_on c.args.reader.now c.loop.reader c.invocation_at_hand.new.reader i.kept c.invocation_at_hand.ensures.counted) c.in_ok-request.ensures.counted;
@@ -55,13 +64,13 @@ loop-preserved g c =
       gathered = gathered_more (classes_of c.args.ids.now.items) (classes_of c.loop.ids.items) (classes_of c.add.new.ids.items) i.requests r c.loop.plan c.add.new.plan i.gathered added;
     }
 
-pub loop-preserved-in-Some-invocation_at_hand : goal.loop-preserved-in-Some-invocation_at_hand
-loop-preserved-in-Some-invocation_at_hand g c =
+pub loop-preserved-in-Some-2 : goal.loop-preserved-in-Some-2
+loop-preserved-in-Some-2 g c =
     let i = c.loop.invariant in
     let args : List Arg = c.invocation_at_hand.new.args.items in
-    let r : Request = Invoke c.in-Some-invocation_at_hand.invocation.class c.in-Some-invocation_at_hand.invocation.key args in
-    let (bytes, took, f) = c.in-Some-invocation_at_hand.ensures.some in
-    let added : Adding (classes_of c.loop.ids.items) c.loop.plan r c.add_invoke.new.plan (classes_of c.loop.ids.items) = rw (c.as_slice.ensures.value, c.as_slice-in-Some-invocation_at_hand.ensures.value) at c.in_ok-add_invoke.ensures in
+    let r : Request = Invoke c.in-Some-2.invocation.class c.in-Some-2.invocation.key args in
+    let (bytes, took, f) = taken_at_hand g.R.Read.remaining c.loop.reader c.invocation_at_hand.new.reader args c.in_ok-invocation.field-0 c.in-Some-2.invocation c.in-Some-2.is c.in_ok-invocation.ensures.some in
+    let added : Adding (classes_of c.loop.ids.items) c.loop.plan r c.add_invoke.new.plan (classes_of c.loop.ids.items) = rw (c.as_slice.ensures.value, c.as_slice-in-Some-2.ensures.value) at c.in_ok-add_invoke.ensures in
     record {
       known = i.known;
       kept = stays_on c.args.reader.now c.loop.reader c.invocation_at_hand.new.reader i.kept c.invocation_at_hand.ensures.counted;
@@ -75,9 +84,9 @@ pub returns-in_err-add_invoke-clause-err : goal.returns-in_err-add_invoke-clause
 returns-in_err-add_invoke-clause-err g c =
     let i = c.loop.invariant in
     let args : List Arg = c.invocation_at_hand.new.args.items in
-    let r : Request = Invoke c.in-Some-invocation_at_hand.invocation.class c.in-Some-invocation_at_hand.invocation.key args in
-    let (bytes, took, f) = c.in-Some-invocation_at_hand.ensures.some in
-    err_as c.from_residual.result c.from_residual.ensures.1 (λ e h. record {
+    let r : Request = Invoke c.in-Some-2.invocation.class c.in-Some-2.invocation.key args in
+    let (bytes, took, f) = taken_at_hand g.R.Read.remaining c.loop.reader c.invocation_at_hand.new.reader args c.in_ok-invocation.field-0 c.in-Some-2.invocation c.in-Some-2.is c.in_ok-invocation.ensures.some in
+    err_as c.from_residual-in_err-add_invoke.result c.from_residual-in_err-add_invoke.ensures.1 (λ e h. record {
       requests = i.requests ++ r ∷ [];
       extra = [];
       are = each_more (λ x. IsRequest x × (x ≢ RoundEnd)) i.requests r i.are (f.request, λ e. cc);
@@ -88,11 +97,11 @@ returns-in_err-add_invoke-clause-err g c =
 pub returns-then-is_end-clause-ok : goal.returns-then-is_end-clause-ok
 returns-then-is_end-clause-ok g c =
     let i = c.loop.invariant in
-    let took = took_before g.R.Read.remaining (g.R.Read.remaining c.args.reader.now.inner) c.loop.reader c.invocation_at_hand.new.reader (requests_text i.requests) c.in_default.ensures.none i.took in
+    let took = took_before g.R.Read.remaining (g.R.Read.remaining c.args.reader.now.inner) c.loop.reader c.invocation_at_hand.new.reader (requests_text i.requests) (is_none_of c.in_ok-invocation.field-0 c.in_default.is c.in_ok-invocation.ensures.none).0 i.took in
     let b = c.in_ok-request.ensures.bytes in
     let args : List Arg = c.read_request.new.args.items in
-    let r : Request = with_args args c.in-Some-2.request in
-    let f = frame_read (g.R.Read.remaining c.read_request.new.reader.inner) b.0 args c.in_ok-request.field-0 c.in-Some-2.request c.in-Some-2.is b.2 in
+    let r : Request = with_args args c.in-Some-3.request in
+    let f = frame_read (g.R.Read.remaining c.read_request.new.reader.inner) b.0 args c.in_ok-request.field-0 c.in-Some-3.request c.in-Some-3.is b.2 in
     let is : r ≡ RoundEnd = c.is_end.ensures.yes args c.if-is_end.true in
     record {
       requests = i.requests;
@@ -101,16 +110,16 @@ returns-then-is_end-clause-ok g c =
       gathered = i.gathered;
     }
 
-pub returns-in_err-add-in-Some-2-clause-err : goal.returns-in_err-add-in-Some-2-clause-err
-returns-in_err-add-in-Some-2-clause-err g c =
+pub returns-in_err-add-in-Some-3-clause-err : goal.returns-in_err-add-in-Some-3-clause-err
+returns-in_err-add-in-Some-3-clause-err g c =
     let i = c.loop.invariant in
-    let took = took_before g.R.Read.remaining (g.R.Read.remaining c.args.reader.now.inner) c.loop.reader c.invocation_at_hand.new.reader (requests_text i.requests) c.in_default.ensures.none i.took in
+    let took = took_before g.R.Read.remaining (g.R.Read.remaining c.args.reader.now.inner) c.loop.reader c.invocation_at_hand.new.reader (requests_text i.requests) (is_none_of c.in_ok-invocation.field-0 c.in_default.is c.in_ok-invocation.ensures.none).0 i.took in
     let b = c.in_ok-request.ensures.bytes in
     let args : List Arg = c.read_request.new.args.items in
-    let r : Request = with_args args c.in-Some-2.request in
-    let f = frame_read (g.R.Read.remaining c.read_request.new.reader.inner) b.0 args c.in_ok-request.field-0 c.in-Some-2.request c.in-Some-2.is b.2 in
+    let r : Request = with_args args c.in-Some-3.request in
+    let f = frame_read (g.R.Read.remaining c.read_request.new.reader.inner) b.0 args c.in_ok-request.field-0 c.in-Some-3.request c.in-Some-3.is b.2 in
     let apart : r ≢ RoundEnd = c.is_end.ensures.no args c.if-is_end.false in
-    err_as c.from_residual-in_err-add-in-Some-2.result c.from_residual-in_err-add-in-Some-2.ensures.1 (λ e h. record {
+    err_as c.from_residual-in_err-add-in-Some-3.result c.from_residual-in_err-add-in-Some-3.ensures.1 (λ e h. record {
       requests = i.requests ++ r ∷ [];
       extra = [];
       are = each_more (λ x. IsRequest x × (x ≢ RoundEnd)) i.requests r i.are (f.request, apart);
@@ -121,7 +130,7 @@ returns-in_err-add-in-Some-2-clause-err g c =
 pub returns-then-is_empty-clause-ok : goal.returns-then-is_empty-clause-ok
 returns-then-is_empty-clause-ok g c =
     let i = c.loop.invariant in
-    let took = took_before g.R.Read.remaining (g.R.Read.remaining c.args.reader.now.inner) c.loop.reader c.invocation_at_hand.new.reader (requests_text i.requests) c.in_default.ensures.none i.took in
+    let took = took_before g.R.Read.remaining (g.R.Read.remaining c.args.reader.now.inner) c.loop.reader c.invocation_at_hand.new.reader (requests_text i.requests) (is_none_of c.in_ok-invocation.field-0 c.in_default.is c.in_ok-invocation.ensures.none).0 i.took in
     let b = c.in_ok-request.ensures.bytes in
     let e = end_read (g.R.Read.remaining c.read_request.new.reader.inner) b.0 c.read_request.new.args.items c.in_ok-request.field-0 c.in-None-2.is b.2 in
     let count = is_none _ c.is_empty.result c.is_empty.ensures c.if-is_empty.true in
@@ -133,7 +142,7 @@ returns-then-is_empty-clause-ok g c =
 pub returns-in-None-2-clause-err : goal.returns-in-None-2-clause-err
 returns-in-None-2-clause-err g c =
     let i = c.loop.invariant in
-    let took = took_before g.R.Read.remaining (g.R.Read.remaining c.args.reader.now.inner) c.loop.reader c.invocation_at_hand.new.reader (requests_text i.requests) c.in_default.ensures.none i.took in
+    let took = took_before g.R.Read.remaining (g.R.Read.remaining c.args.reader.now.inner) c.loop.reader c.invocation_at_hand.new.reader (requests_text i.requests) (is_none_of c.in_ok-invocation.field-0 c.in_default.is c.in_ok-invocation.ensures.none).0 i.took in
     let b = c.in_ok-request.ensures.bytes in
     let e = end_read (g.R.Read.remaining c.read_request.new.reader.inner) b.0 c.read_request.new.args.items c.in_ok-request.field-0 c.in-None-2.is b.2 in
     let count = is_some _ c.is_empty.result c.is_empty.ensures c.if-is_empty.false in
@@ -147,10 +156,22 @@ returns-in-None-2-clause-err g c =
       stops = input_ended (λ h. let n = ap (λ (l : List Request). length l) h in absurd (count (omega (arith, n, same, works, c.loop.plan.works.ok.0))));
     }
 
+pub returns-in_err-invocation-clause-err : goal.returns-in_err-invocation-clause-err
+returns-in_err-invocation-clause-err g c = err_as c.from_residual.result c.from_residual.ensures.1 (λ e h.
+    let i = c.loop.invariant in
+    let took = took_before g.R.Read.remaining (g.R.Read.remaining c.args.reader.now.inner) c.loop.reader c.invocation_at_hand.new.reader (requests_text i.requests) c.in_err-invocation.ensures.err i.took in
+    record {
+      requests = i.requests;
+      extra = [];
+      are = i.are;
+      took = subst (λ l. Consumes (g.R.Read.remaining c.args.reader.now.inner) (g.R.Read.remaining c.invocation_at_hand.new.reader.inner) l) (sym (append-nil (requests_text i.requests))) took;
+      stops = subst (λ f. Stops i.requests [] f) (sym h) memory;
+    })
+
 pub returns-in_err-request-clause-err : goal.returns-in_err-request-clause-err
 returns-in_err-request-clause-err g c =
     let i = c.loop.invariant in
-    let took = took_before g.R.Read.remaining (g.R.Read.remaining c.args.reader.now.inner) c.loop.reader c.invocation_at_hand.new.reader (requests_text i.requests) c.in_default.ensures.none i.took in
+    let took = took_before g.R.Read.remaining (g.R.Read.remaining c.args.reader.now.inner) c.loop.reader c.invocation_at_hand.new.reader (requests_text i.requests) (is_none_of c.in_ok-invocation.field-0 c.in_default.is c.in_ok-invocation.ensures.none).0 i.took in
     let b = c.in_err-request.ensures.bytes in
     let left = g.R.Read.remaining c.read_request.new.reader.inner in
     err_as c.from_residual-in_err-request.result c.from_residual-in_err-request.ensures.1 (λ e h. record {
