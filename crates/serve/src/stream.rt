@@ -95,6 +95,7 @@ fn stream<T: Threads + Wait + Sync, R: Ahead, W: Write, G: Gate + Sync, L: Loade
             Some(left) => tables = left,
             None => return Ok(()),
         }
+        // Where that fails the next round is put behind this one.
         let _ = arena.reset();
     }
     unreachable!()

@@ -153,12 +153,6 @@ short_body body h r t = go r t.is
 
 -- ---- no invocation
 
-pub other_kind : (kind : ℕ) (body : List ℕ) → kind ≢ 6 → (class : ℕ) (key : ℤ) (args : List Arg) → IsText (kind ∷ body) (Invoke class key args) → ⊥
-other_kind kind body other class key args t = other (same_tail kind 6 body _ t.is).0
-
-pub no_text : (class : ℕ) (key : ℤ) (args : List Arg) → IsText [] (Invoke class key args) → ⊥
-no_text class key args t = let n = ap length t.is in omega (arith, n)
-
 -- an invocation's frame tells a short length, and is as long
 pub other_frame : (bytes : List ℕ) (n : ℕ) → take 4 bytes ≡ big_bytes 4 n → n < 2 ^ 32 → (n ≡ 0) ⊎ ((86 < n) ⊎ (length bytes < 4 + n)) → BeginsNoInvocation bytes
 other_frame bytes n head fits other class key args rest h =

@@ -1,4 +1,4 @@
-use Rattle.std.proofs.Common.{◌+◌, ◌-◌, ◌≡◌, ℕ, List, Option, None, take, drop, refl, subst, sym, arith}
+use Rattle.std.proofs.Common.{◌+◌, ◌-◌, ◌≡◌, ℕ, List, Option, take, drop, refl, subst, sym, arith}
 use Rattle.jtypes.specs.declared.types.Arg.{Arg}
 use Rattle.wire.specs.Requests.{Request, Invoke}
 use Rattle.wire.specs.declared.request.Invocation.{Invocation}
