@@ -50,8 +50,11 @@ module _ {L : Type 0} (loads : Bool) (may : ℤ → LoadAnswer → Type 0) (k : 
   tables = k.tables.value
 
   module _ (made : ℕ) (p : Part) where
-    may_take : (word : ℕ) → 0 < word → n ≡ length tables → IsCount (length tables) → IsJournal k.journal → i < length tables → Allows (Guarded loads may k) n id (seat_view made p, []) i (λ _. word) (on_take (step n i word 0 none) (seat_view made p, []))
-    may_take word above slots count size below s g long at fits =
+    -- whatever the word becomes, which is not 0
+    may_take : (f : ℕ → ℕ) (a b : ℕ) → ((found : ℕ) → 0 < f found) → n ≡ length tables → IsCount (length tables) → IsJournal k.journal → i < length tables → Allows (Guarded loads may k) n id (seat_view made p, []) i f (on_take (step n i a b none) (seat_view made p, []))
+    may_take f a b positive slots count size below s g long at fits =
+        let word : ℕ = f (get_or s.words i 0) in
+        let above : 0 < word = positive (get_or s.words i 0) in
         let of = (g.each_view id (seat_view made p) at).parts 0 p refl in
         let few : length p.receipts ≤ 262144 = subst (λ (l : List Receipt). length l ≤ 262144) (sym of.receipts_are) (few_receipts loads may tables k.journal s g p.caller count size) in
         ⊎_elim
@@ -85,8 +88,8 @@ module _ {L : Type 0} (loads : Bool) (may : ℤ → LoadAnswer → Type 0) (k : 
         (g.each_stripe i below)
 
     -- the same, at what the seat is known to be
-    pub may_take_as : (word : ℕ) → 0 < word → (m : Sat) → m ≡ (seat_view made p, []) → n ≡ length tables → IsCount (length tables) → IsJournal k.journal → i < length tables → Allows (Guarded loads may k) n id m i (λ _. word) (on_take (step n i word 0 none) m)
-    may_take_as word above m is slots count size below = subst (λ (x : Sat). Allows (Guarded loads may k) n id x i (λ _. word) (on_take (step n i word 0 none) x)) (sym is) (may_take word above slots count size below)
+    pub may_take_as : (f : ℕ → ℕ) (a b : ℕ) → ((found : ℕ) → 0 < f found) → (m : Sat) → m ≡ (seat_view made p, []) → n ≡ length tables → IsCount (length tables) → IsJournal k.journal → i < length tables → Allows (Guarded loads may k) n id m i f (on_take (step n i a b none) m)
+    may_take_as f a b positive m is slots count size below = subst (λ (x : Sat). Allows (Guarded loads may k) n id x i f (on_take (step n i a b none) x)) (sym is) (may_take f a b positive slots count size below)
 
     module _ (y z : Kept) (later : IsLater loads may y z) where
       may_return : z.records ≡ y.records → Allows (Guarded loads may k) n id (holding made p i y, (i, z) ∷ []) i (λ _. 0) (on_return (step n i 0 0 none) (holding made p i y, (i, z) ∷ []))

@@ -9,11 +9,12 @@ use crate::gate::{Gate, NoGate};
 use crate::receipt::Receipt;
 use crate::refusal::InvokeRefusal;
 use crate::seat::Seat;
-use crate::steps::{begin, commit, give_full, hold, leave, note};
+use crate::steps::{begin, commit, give_full, hold, hold_within, leave, note};
 use jtypes::{LoadAnswer, Loader};
 use machine::{Done, Workspace, run};
 use registry::ClassId;
 use std::sync::Wait;
+use std::time::Duration;
 use stripe::{ArgSlice, BeginRefusal, Call, Reply, ask, stripe_of};
 use verify::Verified;
 
@@ -133,7 +134,30 @@ impl<'a, 'l, L: Loader> Cache<'a, 'l, L> {
         answer
     }
 
-    /// Gives back the stripe that the seat holds, if `call_at` left it one.
+    /// Has the seat hold the stripe of this key, if no other seat holds it or it is given back within so long: whether it does. Without
+    /// any time it waits for nothing. The seat gives back the stripe that it held before, and this one as it does behind `call_at`.
+    pub fn hold_within<R: Wait>(
+        &self,
+        rt: &R,
+        seat: &mut Seat<'a>,
+        key: i64,
+        patience: Duration,
+    ) -> bool
+        requires { seat.old.table ≡ self.now.table }
+        ensures { seat.new ≡ seat.old }
+    {
+        let index = stripe_of(self.stripes, key);
+        hold_within(
+            rt,
+            &self.table.shared,
+            &mut seat.pass,
+            &mut seat.held,
+            index,
+            patience,
+        )
+    }
+
+    /// Gives back the stripe that the seat holds, if `call_at` or `hold_within` left it one.
     pub fn leave(&self, seat: &mut Seat<'a>)
         requires { seat.old.table ≡ self.now.table }
         ensures { seat.new ≡ seat.old }

@@ -16,6 +16,7 @@ use jtypes::{LoadAnswer, Loader};
 use machine::Done;
 use std::hint;
 use std::sync::Wait;
+use std::time::Duration;
 use stripe::{BeginRefusal, Call, Record, Stripe};
 
 /// The stripes, under their locks.
@@ -54,6 +55,19 @@ fn try_take<'a, L: Loader>(
     ensures left { IsFalse result → pass.new.me ≡ pass.old.me }
 {
     board.swap::<Take>(pass, index, mark) == FREE
+}
+
+/// Takes a stripe if it is free. Its word stays as it was otherwise, so that it tells still whether a seat may sleep.
+fn take_free<'a, L: Loader>(board: &Board<'a, L>, pass: &mut Place<'a>, index: usize) -> bool
+    requires table { pass.old.table_id ≡ board.now.table_id }
+    requires board { IsBoard board.now.table_id board.now.key }
+    requires index { index < board.now.table_id.words }
+    requires idle { IsIdle pass.old.me }
+    ensures table { pass.new.table_id ≡ pass.old.table_id }
+    ensures taken { IsTrue result → (made : ℕ) (p : Part) → pass.old.me ≡ (seat_view made p, []) → Holds board.now.table_id.slots index made p pass.new.me }
+    ensures left { IsFalse result → pass.new.me ≡ pass.old.me }
+{
+    board.compare_exchange::<Take>(pass, index, FREE, HELD) == FREE
 }
 
 /// Wakes a seat that sleeps until the stripe is given back, where its word told that one may.
@@ -105,6 +119,38 @@ pub fn take<'a, L: Loader, R: Wait>(
         board.park(rt, index, AWAITED as u32);
     }
     unreachable!()
+}
+
+/// Takes a stripe, if it is free or is given back within so long: whether it did. Without any time it waits for nothing.
+///
+/// Who was woken takes it as one that is awaited, or marks it so, since others may sleep still.
+fn take_within<'a, L: Loader, R: Wait>(
+    rt: &R,
+    board: &Board<'a, L>,
+    pass: &mut Place<'a>,
+    index: usize,
+    patience: Duration,
+) -> bool
+    requires table { pass.old.table_id ≡ board.now.table_id }
+    requires board { IsBoard board.now.table_id board.now.key }
+    requires index { index < board.now.table_id.words }
+    requires idle { IsIdle pass.old.me }
+    ensures table { pass.new.table_id ≡ pass.old.table_id }
+    ensures taken { IsTrue result → (made : ℕ) (p : Part) → pass.old.me ≡ (seat_view made p, []) → Holds board.now.table_id.slots index made p pass.new.me }
+    ensures left { IsFalse result → pass.new.me ≡ pass.old.me }
+{
+    if take_free(board, pass, index) {
+        return true;
+    }
+    if patience.is_zero() {
+        return false;
+    }
+    watch(board, index);
+    if try_take(board, pass, index, AWAITED) {
+        return true;
+    }
+    board.park_timeout(rt, index, AWAITED as u32, patience);
+    try_take(board, pass, index, AWAITED)
 }
 
 /// Begins a call on the stripe that the seat holds.
@@ -225,4 +271,31 @@ pub fn hold<'a, L: Loader, R: Wait>(
     leave(board, pass, held);
     take(rt, board, pass, index);
     *held = Some(index);
+}
+
+/// Has the seat hold this stripe and no other, if it is free or is given back within so long: whether it does. Otherwise the seat holds
+/// none.
+pub fn hold_within<'a, L: Loader, R: Wait>(
+    rt: &R,
+    board: &Board<'a, L>,
+    pass: &mut Place<'a>,
+    held: &mut Option<usize>,
+    index: usize,
+    patience: Duration,
+) -> bool
+    requires table { pass.old.table_id ≡ board.now.table_id }
+    requires board { IsBoard board.now.table_id board.now.key }
+    requires index { index < board.now.table_id.words }
+    requires known { (made : ℕ) × (p : Part) × IsKnown board.now.table_id.slots made p held.old pass.old.me }
+    ensures table { pass.new.table_id ≡ pass.old.table_id }
+    ensures held { IsTrue result → held.new ≡ Some index }
+    ensures none { IsFalse result → held.new ≡ None }
+    ensures known { (made : ℕ) (p : Part) → IsKnown board.now.table_id.slots made p held.old pass.old.me → IsKnown board.now.table_id.slots made p held.new pass.new.me }
+{
+    leave(board, pass, held);
+    if !take_within(rt, board, pass, index, patience) {
+        return false;
+    }
+    *held = Some(index);
+    true
 }

@@ -12,6 +12,7 @@ use rowclasses as rows;
 use std::alloc::{AllocError, Global};
 use std::sync::Wait;
 use std::test::Fail;
+use std::time::Duration;
 use stripe::{ArgSlice, Call, OpenRefusal, Record, Reply, Tables};
 
 /// What a call was told.
@@ -379,5 +380,31 @@ fn a_stripe_is_held_on_until_it_is_left(rt: HostRuntime) -> Result<(), Fail> {
     let five = Ok(Reply::Value(Some(5)));
     let six = Ok(Reply::Value(Some(6)));
     assert!(rt; held_and_left(&rt, rt.alloc(), &registry) == Some([done, five, done, five, six]));
+    Ok(())
+}
+
+/// Whether seats could hold stripes of two, at once or within a millisecond. The first seat holds that of key 1. So the second one can't
+/// hold it, which has that of key 3 too, at once or soon, but that of key 2; behind `leave` of the first it holds the other one, and the
+/// first that of key 2.
+fn held_within<R: Wait>(rt: &R, alloc: Global, registry: &Registry) -> Option<[bool; 6]> {
+    let Ok((cache, mut first, mut second)) = opened_for_two(alloc, registry) else {
+        return None;
+    };
+    let soon = Duration::from_millis(1);
+    let one = cache.hold_within(rt, &mut first, 1, Duration::ZERO);
+    let at_once = cache.hold_within(rt, &mut second, 3, Duration::ZERO);
+    let later = cache.hold_within(rt, &mut second, 1, soon);
+    let other = cache.hold_within(rt, &mut second, 2, soon);
+    cache.leave(&mut first);
+    let left = cache.hold_within(rt, &mut second, 1, Duration::ZERO);
+    let back = cache.hold_within(rt, &mut first, 2, Duration::ZERO);
+    Some([one, at_once, later, other, left, back])
+}
+
+#[test]
+fn a_stripe_is_held_within_a_time(rt: HostRuntime) -> Result<(), Fail> {
+    let registry = Registry::new(rt.alloc())?;
+    let held = [true, false, false, true, true, true];
+    assert!(rt; held_within(&rt, rt.alloc(), &registry) == Some(held));
     Ok(())
 }

@@ -10,7 +10,7 @@ swap-requires g c =
     let board = c.requires.board in (
       c.requires.table,
       search rules,
-      may_take_as g.L.Loader.ASKS (g.L.Loader.gives c.args.board.now.key.loader.value) c.args.board.now.key c.args.board.now.table_id.slots c.args.pass.now.id c.args.index idle.made idle.part c.args.mark c.requires.some c.args.pass.now.me idle.is board.slots board.count board.journal (subst (λ (n : ℕ). c.args.index < n) board.words c.requires.index),
+      may_take_as g.L.Loader.ASKS (g.L.Loader.gives c.args.board.now.key.loader.value) c.args.board.now.key c.args.board.now.table_id.slots c.args.pass.now.id c.args.index idle.made idle.part (λ _. c.args.mark) c.args.mark 0 (λ _. c.requires.some) c.args.pass.now.me idle.is board.slots board.count board.journal (subst (λ (n : ℕ). c.args.index < n) board.words c.requires.index),
     )
 
 pub returns-clause-taken : goal.returns-clause-taken
