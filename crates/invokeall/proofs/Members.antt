@@ -8,10 +8,10 @@ use Rattle.claims.specs.Counters.{one_if, times, IsAbove}
 use Rattle.claims.proofs.Totals.{total_append}
 use Rattle.invokeall.specs.Groups.{members, members_of_all, IsFirst, AreLinked, AreDifferent}
 
-same_test : (a b : ℕ) → a ≡ b → (a == b) ≡ true
+pub same_test : (a b : ℕ) → a ≡ b → (a == b) ≡ true
 same_test a b e = grind (arith, nat_tests)
 
-other_test : (a b : ℕ) → a ≢ b → (a == b) ≡ false
+pub other_test : (a b : ℕ) → a ≢ b → (a == b) ≡ false
 other_test a b e = grind (arith, nat_tests)
 
 -- ---- how often a number is a member

@@ -135,7 +135,9 @@ module _ {L : Type 0} (d : Opened L) (counter : Numbering) (groups : Groups) (ca
   drawn_entries (v ∷ vs) [] a x = absurd a
   drawn_entries (v ∷ vs) (w ∷ ws) a x =
       let e = ap (times x) a.0.answered.numbers_are in
-      let f = times_all_members of w.claimer.drawn (length calls) x in
+      let f = times_all_members of a.0.order (length calls) x in
+      let same = a.0.claimed (get_or of x 0) in
+      let chosen = ap (λ (n : ℕ). if ltb x (length calls) then n else 0) same in
       let g = drawn_entries vs ws a.1 x in
       let h = more_entries x w ws in
       let i = sum_if (ltb x (length calls)) (times (get_or of x 0) w.claimer.drawn) (times_drawn (get_or of x 0) (claimers_of ws)) in omega arith

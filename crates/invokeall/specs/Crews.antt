@@ -1,10 +1,10 @@
 -- Workers before and after their work.
-use Rattle.std.specs.Prelude.{◌≡◌, ℕ, zero, suc, ◌≤◌, List, [], ◌∷◌, ◌++◌, map, flat_map, length, vec_capacity, Ok, Err, true}
+use Rattle.std.specs.Prelude.{◌≡◌, ℕ, zero, suc, ◌+◌, ◌≤◌, List, [], ◌∷◌, ◌++◌, map, flat_map, length, slice_index_or, vec_capacity, Ok, Err, Bool, true, false}
 use mathlib.Core.Option.{some}
 use lib.ListN.{get_elem?}
 use Rattle.stripe.specs.declared.call.Reply.{Reply}
 use Rattle.stripe.specs.History.{Call}
-use Rattle.claims.specs.Counters.{Numbering, fresh}
+use Rattle.claims.specs.Counters.{Numbering, fresh, one_if, times}
 use Rattle.cache.specs.declared.refusal.InvokeRefusal.TheVariants.{JournalFull}
 use Rattle.cache.specs.Opened.{Opened, Sitting}
 use Rattle.outcome.specs.Closed.{calls_told, AreFiled}
@@ -50,8 +50,16 @@ pub record HasAnswered {L : Type 0} (d : Opened L) (calls : List Call) (v w : Wo
   pub full : ShowsFull d calls w.seat w.answers.items
   pub room : vec_capacity v.answers ≤ vec_capacity w.answers
 
--- a worker that found no group left: it has an answer to each call of the groups that it claimed
+-- a worker that put off those groups that are marked: it has an answer to each call of the others that it claimed, in some order of these
+pub record HasPutOff {L : Type 0} (d : Opened L) (groups : Groups) (calls : List Call) (v w : Worker) (later : List Bool) : Type 0 where
+  pub order : List ℕ
+  pub claimed : (x : ℕ) → times x order + one_if (slice_index_or later x false) ≡ times x w.claimer.drawn
+  pub answered : HasAnswered d calls v w (members_of_all (groups_in groups calls) (length calls) order)
+
+-- a worker that found no group left: it has an answer to each call of the groups that it claimed, in some order of these
 pub record HasWorked {L : Type 0} (d : Opened L) (counter : Numbering) (groups : Groups) (calls : List Call) (v w : Worker) : Type 0 where
   pub at : w.claimer.counter ≡ counter
   pub done : w.claimer.done ≡ true
-  pub answered : HasAnswered d calls v w (members_of_all (groups_in groups calls) (length calls) w.claimer.drawn)
+  pub order : List ℕ
+  pub claimed : (x : ℕ) → times x order ≡ times x w.claimer.drawn
+  pub answered : HasAnswered d calls v w (members_of_all (groups_in groups calls) (length calls) order)

@@ -1,6 +1,6 @@
 //! The workers of a round, at work.
 
-ghost use Rattle.std.specs.Prelude.{◌≡◌, ◌<◌, ℕ, length, slice_index_or};
+ghost use Rattle.std.specs.Prelude.{◌≡◌, ◌<◌, ◌≤◌, ℕ, length, slice_index_or};
 ghost use Rattle.std.specs.List.{All};
 ghost use Rattle.invokeall.specs.declared.work.Worker.{Worker};
 ghost use Rattle.invokeall.specs.Jobs.{all_seen};
@@ -29,12 +29,12 @@ pub struct Day<'s, 'a, 'l, R, G, L: Loader> {
 }
 
 impl<'s, 'a, 'l, R: Wait, G: Gate, L: Loader> Shift<Worker<'a>> for Day<'s, 'a, 'l, R, G, L> {
-    ghost use Rattle.std.specs.Prelude.{◌≡◌, length};
+    ghost use Rattle.std.specs.Prelude.{◌≡◌, ◌≤◌, length};
     ghost use Rattle.invokeall.specs.Jobs.{all_seen};
     ghost use Rattle.invokeall.specs.Groups.{AreGroups};
     ghost use Rattle.invokeall.specs.Crews.{IsReady, HasWorked};
 
-    ghost accepts = { λ s w. IsReady s.cache.now s.counter.now (length (all_seen s.calls.now)) w × (s.counter.now.jobs ≡ length s.groups.now.firsts.items) × AreGroups (all_seen s.calls.now) s.groups.now };
+    ghost accepts = { λ s w. IsReady s.cache.now s.counter.now (length (all_seen s.calls.now)) w × (s.counter.now.jobs ≡ length s.groups.now.firsts.items) × (s.counter.now.jobs ≤ 64) × AreGroups (all_seen s.calls.now) s.groups.now };
 
     ghost leaves = { λ s v w. HasWorked s.cache.now s.counter.now s.groups.now (all_seen s.calls.now) v w };
 
@@ -51,9 +51,9 @@ impl<'s, 'a, 'l, R: Wait, G: Gate, L: Loader> Shift<Worker<'a>> for Day<'s, 'a, 
     }
 }
 
-/// How many threads serve: one a worker, but no more than there are calls or groups of them.
-fn threads_for(calls: usize, groups: usize, workers: usize) -> usize {
-    calls.min(groups).min(workers)
+/// How many threads serve: one a worker, but no more than there are calls or stripes.
+fn threads_for(calls: usize, stripes: usize, workers: usize) -> usize {
+    calls.min(stripes).min(workers)
 }
 
 /// Has all workers work.
@@ -67,6 +67,7 @@ pub fn run_all<'a, R: Threads + Wait + Sync, G: Gate + Sync, L: Loader + Sync>(
     gate: &G,
 )
     requires counter { counter.now.jobs ≡ length groups.now.firsts.items }
+    requires few { counter.now.jobs ≤ 64 }
     requires groups { AreGroups (all_seen calls.now) groups.now }
     requires ready { All (IsReady cache.now counter.now (length (all_seen calls.now))) workers.old }
     ensures { (i : ℕ) (d : Worker) → i < length workers.old → HasWorked cache.now counter.now groups.now (all_seen calls.now) (slice_index_or workers.old i d) (slice_index_or workers.new i d) }
@@ -79,6 +80,6 @@ pub fn run_all<'a, R: Threads + Wait + Sync, G: Gate + Sync, L: Loader + Sync>(
         calls,
         gate,
     };
-    let threads = threads_for(calls.len(), groups.firsts.len(), workers.len());
+    let threads = threads_for(calls.len(), cache.stripes(), workers.len());
     serve_all(rt, &day, threads, workers);
 }

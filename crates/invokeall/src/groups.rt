@@ -9,14 +9,30 @@ ghost use Rattle.invokeall.specs.Groups.{AreBlank, AreGroups, AreLinked, group_a
 use std::alloc::{AllocError, Global};
 use stripe::{Call, stripe_of};
 
-/// The calls of a round in groups, by their numbers: a group is all calls whose keys are of one stripe, in their order. Workers claim
-/// groups as they are numbered, so that at one time they are at groups that follow one another; the stripes of these stand apart.
+/// The calls of a round in groups, by their numbers: a group is all calls whose keys are of one stripe, or of one half of a stripe, in
+/// their order. Workers claim groups as they are numbered, so that at one time they are at groups that follow one another; the stripes of
+/// these stand apart.
 #[derive(Drop)]
 pub struct Groups {
     /// The first call of each group; the count of calls stands for none.
     pub firsts: Vec<usize>,
     /// For each call the next one of its group, in the same way.
     pub nexts: Vec<usize>,
+}
+
+/// How many groups calls on so many stripes are put into: two of each stripe where that makes no more than 64 of them. A key's half of
+/// its stripe is the stripe that it would have if there were so many. Where there are more and smaller groups than stripes, workers that
+/// have made their last ones wait less for one another; but what a stripe stores goes from one processor to another for each half. A
+/// single worker has the stripes as groups.
+pub fn groups_for(stripes: usize, workers: usize) -> usize
+    requires { IsCount stripes }
+    ensures { IsCount result }
+{
+    if workers == 1 || stripes > 32 {
+        stripes
+    } else {
+        2 * stripes
+    }
 }
 
 /// So many groups without a call, and room for so many calls.
@@ -31,8 +47,8 @@ pub fn no_groups(alloc: Global, calls: usize, groups: usize) -> Result<Groups, A
 /// A prime that is greater than any count of stripes.
 const FACTOR: usize = 71;
 
-/// The group of a stripe, of so many of both: the remainder of a product, so that no two stripes have one group. By 16 and by 64 it takes
-/// no division.
+/// The group of a stripe, of so many of both: the remainder of a product, so that no two stripes have one group. By 16, 32 and 64 it
+/// takes no division.
 fn group_at(groups: usize, stripe: usize) -> usize
     requires groups { IsCount groups }
     requires stripe { stripe < groups }
@@ -42,18 +58,25 @@ fn group_at(groups: usize, stripe: usize) -> usize
     let product = FACTOR * stripe;
     match groups {
         16 => product % 16,
+        32 => product % 32,
         64 => product % 64,
         _ => product % groups,
     }
 }
 
-/// The group of a call, of so many: that of its key's stripe.
+/// The group of a call, of so many: that of its key's stripe. The counts by default are written out, so that what depends on them alone
+/// is known where this is compiled.
 fn group_of(groups: usize, call: &Call<'_>) -> usize
     requires { IsCount groups }
     ensures group { result ≡ group_seen groups (seen_call call.now) }
     ensures within { result < groups }
 {
-    group_at(groups, stripe_of(groups, call.key()))
+    let key = call.key();
+    match groups {
+        16 => group_at(16, stripe_of(16, key)),
+        32 => group_at(32, stripe_of(32, key)),
+        _ => group_at(groups, stripe_of(groups, key)),
+    }
 }
 
 /// Links the calls of each group, from the last one on.

@@ -6,7 +6,7 @@ ghost use Rattle.stripe.specs.Tables.{IsCount};
 ghost use Rattle.claims.specs.Counters.{IsJobCount, IsWorkerCount};
 ghost use Rattle.invokeall.specs.Rooms.{put_all, entries_of, seats_of, claimers_of, rows_of, HasRoom, IsRoom};
 
-use crate::groups::{Groups, no_groups};
+use crate::groups::{Groups, groups_for, no_groups};
 use crate::job::JobReply;
 use crate::work::{Gap, Worker};
 use cache::{InvokeRefusal, Seat};
@@ -43,9 +43,10 @@ pub fn room_for<'a>(
     requires jobs { IsJobCount jobs }
     requires stripes { IsCount stripes }
     requires workers { IsWorkerCount count }
-    ensures { IfOk result (IsRoom jobs stripes count) }
+    ensures { IfOk result (λ room. IsRoom jobs room.counter.jobs count room) }
 {
-    let groups = no_groups(alloc, jobs, stripes)?;
+    let many = groups_for(stripes, count);
+    let groups = no_groups(alloc, jobs, many)?;
     let lists = empty_rows(alloc, jobs, count)?;
     let workers = Vec::with_capacity(alloc, count)?;
     let rows = Vec::with_capacity(alloc, count)?;
@@ -53,7 +54,7 @@ pub fn room_for<'a>(
     let workspaces = Vec::with_capacity(alloc, count)?;
     let spent = Vec::with_capacity(alloc, count)?;
     let answers = vec![in alloc; Err(InvokeRefusal::NoMemory); jobs]?;
-    let (counter, claimers) = open(alloc, stripes, count)?;
+    let (counter, claimers) = open(alloc, many, count)?;
     Ok(RoundRoom {
         counter,
         groups,

@@ -19,9 +19,10 @@ use std::sync::Wait;
 use std::thread::Threads;
 use stripe::Call;
 
-/// Runs the jobs, by a worker at each seat, each with a workspace. A group is all jobs whose keys are of one stripe. A worker claims one group after the other and
-/// makes the calls of its jobs in their order, until there is no group left; the answers stand in the order of the jobs. There are as many threads as workers,
-/// jobs or stripes, whichever are fewest. A single one is the caller's own; of more than one none is.
+/// Runs the jobs, by a worker at each seat, each with a workspace. A group is all jobs whose keys are of one stripe, or of one half of it.
+/// A worker claims one group after the other and makes the calls of its jobs in their order, until there is no group left;
+/// a group whose stripe another worker holds it makes behind the others. The answers stand in the order of the jobs. There are as many
+/// threads as workers, jobs or stripes, whichever are fewest. A single one is the caller's own; of more than one none is.
 ///
 /// All memory of the round itself is taken before the first claim. After that a job may be refused, by its answer.
 pub fn run_round<'a, R: Threads + Wait + Sync, G: Gate + Sync, L: Loader + Sync>(
@@ -61,7 +62,7 @@ pub fn run_in<'a, R: Threads + Wait + Sync, G: Gate + Sync, L: Loader + Sync>(
     requires some_seat { 0 < length seats.old.items }
     requires workspaces { length workspaces.old.items ≡ length seats.old.items }
     requires home { All (IsAtHome cache.now) seats.old.items }
-    requires room { IsRoom (length (all_seen calls.now)) (length cache.now.tables) (length seats.old.items) room }
+    requires room { IsRoom (length (all_seen calls.now)) room.counter.jobs (length seats.old.items) room }
     ensures round { IsRound cache.now (all_seen calls.now) seats.old.items seats.new.items result.items }
     ensures workspaces { length workspaces.new.items ≡ length workspaces.old.items }
 {

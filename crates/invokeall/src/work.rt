@@ -1,6 +1,6 @@
 //! One worker.
 
-ghost use Rattle.std.specs.Prelude.{◌≡◌, ◌<◌, ◌≤◌, ◌++◌, ℕ, List, length, vec_capacity};
+ghost use Rattle.std.specs.Prelude.{◌≡◌, ◌<◌, ◌≤◌, ◌++◌, ℕ, List, length, vec_capacity, IsTrue, IsFalse};
 ghost use mathlib.Core.Option.{some};
 ghost use lib.ListN.{get_elem?};
 ghost use Rattle.stripe.specs.Seen.{call_of as seen_call};
@@ -16,6 +16,7 @@ use claims::{Claimer, Counter};
 use jtypes::Loader;
 use machine::Workspace;
 use std::sync::Wait;
+use std::time::Duration;
 use stripe::Call;
 
 /// What nothing uses, as long as two cache lines. Where it stands between two things, a processor that writes one of them takes no line
@@ -42,7 +43,11 @@ pub struct Worker<'a> {
     pub gap: Gap,
 }
 
-/// Claims groups of calls and makes them, until there is no group left.
+/// The milliseconds that a worker waits at most for the stripe of a group that it put off, before it goes on to the next one of these.
+const PATIENCE: u64 = 1;
+
+/// Claims groups of calls and makes them, until there is no group left. A group whose stripe another worker holds is put off until all
+/// are claimed: so a worker waits for a stripe only where it can make no call of another one.
 pub fn work<'a, R: Wait, G: Gate, L: Loader>(
     rt: &R,
     cache: &Cache<'a, '_, L>,
@@ -53,16 +58,78 @@ pub fn work<'a, R: Wait, G: Gate, L: Loader>(
     gate: &G,
 )
     requires counter { counter.now.jobs ≡ length groups.now.firsts.items }
+    requires few { counter.now.jobs ≤ 64 }
     requires groups { AreGroups (all_seen calls.now) groups.now }
     requires ready { IsReady cache.now counter.now (length (all_seen calls.now)) worker.old }
     ensures { HasWorked cache.now counter.now groups.now (all_seen calls.now) worker.old worker.new }
 {
+    let mut later = [false; 64];
     while let Some(group) = worker.claimer.claim(counter) {
-        work_on(rt, cache, groups, group, calls, worker, gate);
+        later[group] = !work_within(
+            rt,
+            cache,
+            groups,
+            group,
+            calls,
+            worker,
+            gate,
+            Duration::ZERO,
+        );
     }
+    let patience = Duration::from_millis(PATIENCE);
+    for _ in rt.forever() {
+        let mut is_done = true;
+        for put_off in 0..groups.firsts.len() {
+            if later[put_off] {
+                later[put_off] = !work_within(
+                    rt, cache, groups, put_off, calls, worker, gate, patience,
+                );
+                is_done = is_done && !later[put_off];
+            }
+        }
+        if is_done {
+            return;
+        }
+    }
+    unreachable!()
 }
 
-/// Makes the calls of one group, in their order. The stripe is taken for the first one and given back behind the last one.
+/// Makes the calls of one group, if its stripe is free or is given back within so long: whether it did. A group without a call has no
+/// stripe.
+#[inline(always)]
+fn work_within<'a, R: Wait, G: Gate, L: Loader>(
+    rt: &R,
+    cache: &Cache<'a, '_, L>,
+    groups: &Groups,
+    group: usize,
+    calls: &[Call<'a>],
+    worker: &mut Worker<'a>,
+    gate: &G,
+    patience: Duration,
+) -> bool
+    requires group { group < length groups.now.firsts.items }
+    requires groups { AreGroups (all_seen calls.now) groups.now }
+    requires home { worker.old.seat.table ≡ cache.now.table }
+    requires free { AreDifferent (length (all_seen calls.now)) (numbers worker.old.answers.items ++ members (groups_in groups.now (all_seen calls.now)) group (length (all_seen calls.now))) }
+    requires room { length (all_seen calls.now) ≤ vec_capacity worker.old.answers }
+    ensures claimer { worker.new.claimer ≡ worker.old.claimer }
+    ensures made { IsTrue result → (v : Worker) (before : List ℕ) → HasAnswered cache.now (all_seen calls.now) v worker.old before → HasAnswered cache.now (all_seen calls.now) v worker.new (before ++ members (groups_in groups.now (all_seen calls.now)) group (length (all_seen calls.now))) }
+    ensures put_off { IsFalse result → (v : Worker) (before : List ℕ) → HasAnswered cache.now (all_seen calls.now) v worker.old before → HasAnswered cache.now (all_seen calls.now) v worker.new before }
+{
+    let first = groups.first(group);
+    if first < calls.len() {
+        let key = calls[first].key();
+        if !cache.hold_within(rt, &mut worker.seat, key, patience) {
+            return false;
+        }
+    }
+    work_on(rt, cache, groups, group, calls, worker, gate);
+    true
+}
+
+/// Makes the calls of one group, in their order. The stripe is held from the first one on, and given back behind the
+/// last one.
+#[inline(always)]
 fn work_on<'a, R: Wait, G: Gate, L: Loader>(
     rt: &R,
     cache: &Cache<'a, '_, L>,

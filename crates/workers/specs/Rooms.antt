@@ -5,9 +5,9 @@ use Rattle.invokeall.specs.Rounds.{Answer}
 use Rattle.invokeall.specs.Rooms as rooms
 use Rattle.workers.specs.declared.room.CrewRoom.{CrewRoom}
 
--- room for a round of so many jobs in so many groups by so many workers, with a workspace for each worker
-pub record IsRoom (jobs groups workers : ℕ) (r : CrewRoom) : Type 0 where
-  pub round : rooms.IsRoom jobs groups workers r.round
+-- room for a round of so many jobs by so many workers, with a workspace for each worker
+pub record IsRoom (jobs workers : ℕ) (r : CrewRoom) : Type 0 where
+  pub round : rooms.IsRoom jobs r.round.counter.jobs workers r.round
   pub workspaces : length r.workspaces.items ≡ workers
 
 -- the job wasn't refused for a full history

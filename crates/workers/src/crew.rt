@@ -102,7 +102,7 @@ fn run_on<'a, R: Threads + Wait + Sync, G: Gate + Sync, L: Loader + Sync>(
     requires count { IsSeatCount cache.seats }
     requires journal { length (all_seen calls.now) ≤ cache.journal }
     requires seats { AreFresh cache.table cache.seats seats.items }
-    requires room { IsRoom (length (all_seen calls.now)) (length cache.tables) cache.seats room }
+    requires room { IsRoom (length (all_seen calls.now)) cache.seats room }
     ensures done { IsDone L.ASKS (L.gives cache.entry.loader) (entry_among cache.entry.tables) (all_seen calls.now) (map reply_of result.answers.items) (entry_among result.tables) }
     ensures placed { All HasPlace result.answers.items }
     ensures stripes { length result.tables ≡ length cache.entry.tables }

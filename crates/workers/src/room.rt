@@ -63,7 +63,7 @@ pub fn room_for<'a>(
     requires jobs { IsJobCount jobs }
     requires stripes { IsCount stripes }
     requires workers { IsSeatCount workers }
-    ensures { IfOk result (IsRoom jobs stripes workers) }
+    ensures { IfOk result (IsRoom jobs workers) }
 {
     let round = invokeall::room_for(alloc, jobs, stripes, workers)?;
     let workspaces = workspaces(alloc, workers, kept)?;
