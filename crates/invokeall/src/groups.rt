@@ -9,7 +9,7 @@ ghost use Rattle.invokeall.specs.Groups.{AreBlank, AreGroups, AreLinked, group_a
 use std::alloc::{AllocError, Global};
 use stripe::{Call, stripe_of};
 
-/// The calls of a round in groups, by their numbers: a group is all calls whose keys are of one stripe, or of one half of a stripe, in
+/// The calls of a round in groups, by their numbers: a group is all calls whose keys are of one stripe, or of one part of a stripe, in
 /// their order. Workers claim groups as they are numbered, so that at one time they are at groups that follow one another; the stripes of
 /// these stand apart.
 #[derive(Drop)]
@@ -20,18 +20,19 @@ pub struct Groups {
     pub nexts: Vec<usize>,
 }
 
-/// How many groups calls on so many stripes are put into: two of each stripe where that makes no more than 64 of them. A key's half of
-/// its stripe is the stripe that it would have if there were so many. Where there are more and smaller groups than stripes, workers that
-/// have made their last ones wait less for one another; but what a stripe stores goes from one processor to another for each half. A
-/// single worker has the stripes as groups.
+/// How many groups calls on so many stripes are put into: four of each stripe, or two where there would be more than 64 groups, or one.
+/// A key's part of its stripe is the stripe that it would have if there were so many. Where there are more and smaller groups than
+/// stripes, workers that have made their last ones wait less for one another. A single worker has the stripes as groups.
 pub fn groups_for(stripes: usize, workers: usize) -> usize
     requires { IsCount stripes }
     ensures { IsCount result }
 {
     if workers == 1 || stripes > 32 {
         stripes
-    } else {
+    } else if stripes > 16 {
         2 * stripes
+    } else {
+        4 * stripes
     }
 }
 
@@ -74,7 +75,7 @@ fn group_of(groups: usize, call: &Call<'_>) -> usize
     let key = call.key();
     match groups {
         16 => group_at(16, stripe_of(16, key)),
-        32 => group_at(32, stripe_of(32, key)),
+        64 => group_at(64, stripe_of(64, key)),
         _ => group_at(groups, stripe_of(groups, key)),
     }
 }

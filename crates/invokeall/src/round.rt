@@ -19,7 +19,7 @@ use std::sync::Wait;
 use std::thread::Threads;
 use stripe::Call;
 
-/// Runs the jobs, by a worker at each seat, each with a workspace. A group is all jobs whose keys are of one stripe, or of one half of it.
+/// Runs the jobs, by a worker at each seat, each with a workspace. A group is all jobs whose keys are of one stripe, or of one part of it.
 /// A worker claims one group after the other and makes the calls of its jobs in their order, until there is no group left;
 /// a group whose stripe another worker holds it makes behind the others. The answers stand in the order of the jobs. There are as many
 /// threads as workers, jobs or stripes, whichever are fewest. A single one is the caller's own; of more than one none is.
