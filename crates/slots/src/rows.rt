@@ -5,6 +5,10 @@ ghost use Rattle.std.specs.Prelude.{◌≡◌, ◌<◌, ◌+◌, [], ◌∷◌, 
 use std::alloc::{AllocError, Global};
 use std::marker::Model;
 
+/// For how many items more there is memory behind the last cell, which nothing uses. The last cell is written most, and so no other
+/// memory shares a cache line with it, which another processor would have to wait for.
+const BEHIND: usize = 8;
+
 /// A row of items, seen with the latest first, and how many more there may be. It fills its cells from the last one on.
 #[derive(Debug, Drop)]
 pub struct Rows<T> {
@@ -27,8 +31,10 @@ impl<T: Copy> Rows<T> {
     pub fn new(alloc: Global, blank: T, count: usize) -> Result<Rows<T>, AllocError>
         ensures { IfOk result (λ c. c ≡ ([], count)) }
     {
+        let mut cells = vec![in alloc; blank; count]?;
+        cells.reserve_exact(BEHIND)?;
         Ok(Rows {
-            cells: vec![in alloc; blank; count]?,
+            cells,
             start: count,
         })
     }
