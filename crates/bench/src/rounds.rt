@@ -88,7 +88,7 @@ fn timed<R: Threads + Wait + Clock + Sync>(
     requires callable { All (IsCallable registry.now) jobs.now }
 {
     let mut times = [0u128; ROUNDS];
-    let mut kept = Kept::new(alloc);
+    let mut kept = Kept::with_workspaces(alloc, seats);
     for time in times.iter_mut() {
         let (taken, left) = one(rt, alloc, registry, tables, seats, steps, jobs, &mut kept)?;
         *time = tenths(taken, 1);

@@ -85,7 +85,7 @@ fn stream<T: Threads + Wait + Sync, R: Ahead, W: Write, G: Gate + Sync, L: Loade
     let mut ids = Vec::new(alloc);
     let mut arena = Bump::new(alloc);
     let mut room = Room { works: 0, calls: 0 };
-    let mut kept = Kept::new(alloc);
+    let mut kept = Kept::with_workspaces(alloc, settings.workers);
     let mut tables = tables;
     for _ in rt.forever() {
         match one_round(

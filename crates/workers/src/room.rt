@@ -24,6 +24,19 @@ impl Kept {
         }
     }
 
+    /// A workspace for each of so many workers, as far as there is memory. Made before all else that lives as long, their rows stand side
+    /// by side in memory, rather than between what other workers read and write.
+    pub fn with_workspaces(alloc: Global, workers: usize) -> Kept {
+        let mut kept = Kept::new(alloc);
+        for _ in 0..workers {
+            let Ok(workspace) = Workspace::new(alloc) else {
+                return kept;
+            };
+            kept.keep(workspace);
+        }
+        kept
+    }
+
     /// Keeps a workspace, if there is memory for it.
     pub fn keep(&mut self, workspace: Workspace) {
         let _ = self.workspaces.push(workspace);
