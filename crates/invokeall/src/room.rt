@@ -101,11 +101,12 @@ pub fn hire<'a>(
     for mut seat in seats {
         seat.expect(calls);
         workers.push_reserved(Worker {
+            before: Gap::new(),
             seat,
             workspace: workspaces.remove(0),
             claimer: claimers.remove(0),
             answers: lists.remove(0),
-            gap: Gap::new(),
+            behind: Gap::new(),
         });
     }
 }

@@ -33,14 +33,15 @@ impl Gap {
 }
 
 /// A worker of a round: what it makes calls with, its share of the numbers, and the answers that it got, each with its call's number.
-/// Workers stand side by side, and each writes to its own at each call.
+/// Workers stand side by side, and each writes to its own at each call; so it has a gap on either side.
 #[derive(Drop)]
 pub struct Worker<'a> {
+    pub before: Gap,
     pub seat: Seat<'a>,
     pub workspace: Workspace,
     pub claimer: Claimer,
     pub answers: Vec<(usize, JobReply)>,
-    pub gap: Gap,
+    pub behind: Gap,
 }
 
 /// The milliseconds that a worker waits at most for the stripe of a group that it put off, before it goes on to the next one of these.

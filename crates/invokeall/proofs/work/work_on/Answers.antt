@@ -73,7 +73,7 @@ loop-number-preserved g c =
     let xs : List (ℕ × Answer) = c.loop-number.worker.answers.items in
     let first : List ℕ = numbers c.args.worker.now.answers.items in
     let x : Answer = c.call_at-answer.result in
-    let worker : Worker = record { seat = after; workspace = c.call_at-answer.new.workspace; claimer = c.loop-number.worker.claimer; answers = c.push_reserved.new.self; gap = c.loop-number.worker.gap } in
+    let worker : Worker = record { before = c.loop-number.worker.before; seat = after; workspace = c.call_at-answer.new.workspace; claimer = c.loop-number.worker.claimer; answers = c.push_reserved.new.self; behind = c.loop-number.worker.behind } in
     let one = one_call c.args.cache.now (call_of c.call_numbered-call.result) before after x c.call_at-answer.ensures.ok c.call_at-answer.ensures.err in
     let items : c.push_reserved.new.self.items ≡ xs ++ (n, x) ∷ [] = c.push_reserved.ensures.items in
     record {
