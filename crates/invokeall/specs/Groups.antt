@@ -1,6 +1,6 @@
 -- The calls of a round in groups, which workers claim.
 use Rattle.std.specs.Prelude.{◌≡◌, ◌≢◌, ℕ, zero, suc, ◌+◌, ◌*◌, ◌%◌, ◌<◌, ◌≤◌, ◌==◌, ltb, List, [], ◌∷◌, ◌++◌, if◌then◌else◌, map, flat_map, length, replicate, slice_index}
-use Rattle.claims.specs.Counters.{one_if, times}
+use Rattle.claims.specs.Counters.{IsJobCount, one_if, times}
 use Rattle.stripe.specs.History.{Call, key_of, stripe_of}
 use Rattle.invokeall.specs.declared.groups.Groups.{Groups}
 
@@ -44,9 +44,9 @@ pub record AreLinked (of : List ℕ) (groups j : ℕ) (firsts nexts : List ℕ) 
 abbrev pub AreGroups : List Call → Groups → Type 0
 AreGroups calls g = AreLinked (groups_in g calls) (length g.firsts.items) 0 g.firsts.items g.nexts.items
 
--- so many groups have no first call yet, and there is room for so many calls
+-- so many groups have no first call yet, and there is room for so many calls, as few as a round has
 abbrev pub AreBlank : ℕ → ℕ → Groups → Type 0
-AreBlank calls groups g = (g.firsts.items ≡ replicate groups calls) × (length g.nexts.items ≡ calls)
+AreBlank calls groups g = (g.firsts.items ≡ replicate groups calls) × (length g.nexts.items ≡ calls) × IsJobCount calls
 
 -- numbers below n, none of them twice
 abbrev pub AreDifferent : ℕ → List ℕ → Type 0

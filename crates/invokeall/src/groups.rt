@@ -1,6 +1,7 @@
 //! Which calls of a round are of one stripe.
 
 ghost use Rattle.std.specs.Prelude.{◌≡◌, ◌<◌, length, map, replicate, slice_index, IfOk};
+ghost use Rattle.claims.specs.Counters.{IsJobCount};
 ghost use Rattle.stripe.specs.Seen.{call_of as seen_call};
 ghost use Rattle.stripe.specs.Tables.{IsCount};
 ghost use Rattle.invokeall.specs.Jobs.{all_seen};
@@ -16,8 +17,8 @@ use stripe::{Call, stripe_of};
 pub struct Groups {
     /// The first call of each group; the count of calls stands for none.
     pub firsts: Vec<usize>,
-    /// For each call the next one of its group, in the same way.
-    pub nexts: Vec<usize>,
+    /// For each call the next one of its group, in the same way. Each worker reads from all parts of this row, so its items are short.
+    pub nexts: Vec<u16>,
 }
 
 /// How many groups calls on so many stripes are put into: four of each stripe, or two where there would be more than 64 groups, or one.
@@ -38,10 +39,11 @@ pub fn groups_for(stripes: usize, workers: usize) -> usize
 
 /// So many groups without a call, and room for so many calls.
 pub fn no_groups(alloc: Global, calls: usize, groups: usize) -> Result<Groups, AllocError>
+    requires few { IsJobCount calls }
     ensures { IfOk result (AreBlank calls groups) }
 {
     let firsts = vec![in alloc; calls; groups]?;
-    let nexts = vec![in alloc; calls; calls]?;
+    let nexts = vec![in alloc; 0; calls]?;
     Ok(Groups { firsts, nexts })
 }
 
@@ -81,17 +83,18 @@ fn group_of(groups: usize, call: &Call<'_>) -> usize
 }
 
 /// Links the calls of each group, from the last one on.
-fn link(calls: &[Call<'_>], firsts: &mut [usize], nexts: &mut [usize])
+fn link(calls: &[Call<'_>], firsts: &mut [usize], nexts: &mut [u16])
     requires groups { IsCount (length firsts.old) }
     requires none { firsts.old ≡ replicate (length firsts.old) (length (all_seen calls.now)) }
     requires calls { length nexts.old ≡ length (all_seen calls.now) }
+    requires few { IsJobCount (length (all_seen calls.now)) }
     ensures { AreLinked (map (group_seen (length firsts.old)) (all_seen calls.now)) (length firsts.old) 0 firsts.new nexts.new }
 {
     let mut left = calls.len();
     while left > 0 {
         left -= 1;
         let group = group_of(firsts.len(), &calls[left]);
-        nexts[left] = firsts[group];
+        nexts[left] = firsts[group] as u16;
         firsts[group] = left;
     }
 }
@@ -130,6 +133,6 @@ impl Groups {
         requires { number < length self.now.nexts.items }
         ensures { result ≡ slice_index self.now.nexts.items number }
     {
-        self.nexts[number]
+        usize::from(self.nexts[number])
     }
 }
