@@ -171,6 +171,7 @@ fn invocation<'r>(class: &'r Verified, key: &i64, args: ArgSlice<'r>) -> Call<'r
 }
 
 /// The request has an invocation of a class, if there is room.
+#[inline(always)]
 pub fn one_invocation<'r>(
     arena: &'r Bump,
     plan: &mut Plan<'r>,
