@@ -5,8 +5,8 @@ ghost use Rattle.std.specs.Prelude.{◌≡◌, ◌<◌, ◌+◌, [], ◌∷◌, 
 use std::alloc::{AllocError, Global};
 use std::marker::Model;
 
-/// For how many items more there is memory behind the last cell, which nothing uses. The last cell is written most, and so no other
-/// memory shares a cache line with it, which another processor would have to wait for.
+/// For how many items more there is memory behind the last cell, which nothing uses: of callers, two cache lines. The last cell is
+/// written most, and no other processor then has to wait for what would share a line with it.
 const BEHIND: usize = 8;
 
 /// A row of items, seen with the latest first, and how many more there may be. It fills its cells from the last one on.
