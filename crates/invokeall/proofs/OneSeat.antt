@@ -8,8 +8,8 @@ use Rattle.stripe.specs.declared.call.Reply.{Reply}
 use Rattle.stripe.specs.History.{Call}
 use Rattle.cache.specs.declared.refusal.InvokeRefusal.TheVariants.{JournalFull}
 use Rattle.cache.specs.Opened.{Opened, Sitting, stripe_in}
-use Rattle.outcome.specs.Outcome.{answered}
-use Rattle.outcome.specs.Closed.{calls_told, calls_at, AreFiled, AllAreFiled}
+use Rattle.round_outcome.specs.Outcome.{answered}
+use Rattle.round_outcome.specs.Closed.{calls_told, calls_at, AreFiled, AllAreFiled}
 use Rattle.invokeall.specs.Rounds.{Answer, reply_of, IsLaterSeat, IsFull, IsRound}
 use Rattle.invokeall.specs.Crews.{told_answer}
 use Rattle.invokeall.proofs.Turns.{OneCall}

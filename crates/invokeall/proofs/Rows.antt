@@ -15,7 +15,7 @@ use Rattle.stripe.specs.declared.call.Reply.{Reply}
 use Rattle.stripe.specs.History.{Call}
 use Rattle.claims.specs.Counters.{one_if, times}
 use Rattle.cache.specs.declared.refusal.InvokeRefusal.TheVariants.{NoMemory}
-use Rattle.outcome.specs.Outcome.{answered}
+use Rattle.round_outcome.specs.Outcome.{answered}
 use Rattle.invokeall.specs.Rounds.{Answer, reply_of}
 use Rattle.invokeall.specs.Crews.{told_at, told_row, numbers}
 use Rattle.invokeall.specs.Rooms.{Places, blanks, placed, shown_place, shown, put_all, IsThere}

@@ -11,8 +11,8 @@ use Rattle.stripe.specs.History.{Call}
 use Rattle.cache.specs.Receipts.{Receipt}
 use Rattle.cache.specs.declared.refusal.InvokeRefusal.TheVariants.{JournalFull, NoMemory}
 use Rattle.cache.specs.Opened.{Opened, Sitting, IsAnswered, IsTurnedAway, stripe_in}
-use Rattle.outcome.specs.Closed.{calls_told, AreFiled}
-use Rattle.outcome.proofs.Handed.{filed_by_calls, filed_by_refusals}
+use Rattle.round_outcome.specs.Closed.{calls_told, AreFiled}
+use Rattle.round_outcome.proofs.Handed.{filed_by_calls, filed_by_refusals}
 use Rattle.invokeall.specs.declared.work.Worker.{Worker}
 use Rattle.invokeall.specs.Rounds.{Answer, IsLaterSeat, IsFull}
 use Rattle.invokeall.specs.Crews.{told_answer, told_at, told_row, numbers, ShowsFull, HasAnswered}

@@ -16,8 +16,8 @@ use Rattle.stripe.specs.History.{Call}
 use Rattle.cache.specs.Receipts.{Receipt}
 use Rattle.cache.specs.declared.refusal.InvokeRefusal.TheVariants.{JournalFull}
 use Rattle.cache.specs.Opened.{Opened, Sitting}
-use Rattle.outcome.specs.Outcome.{answered}
-use Rattle.outcome.specs.Closed.{all_receipts, calls_told, calls_at, AreFiled, AllAreFiled}
+use Rattle.round_outcome.specs.Outcome.{answered}
+use Rattle.round_outcome.specs.Closed.{all_receipts, calls_told, calls_at, AreFiled, AllAreFiled}
 use Rattle.invokeall.specs.declared.groups.Groups.{Groups}
 use Rattle.invokeall.specs.declared.job.Job.{Job}
 use Rattle.invokeall.specs.declared.work.Worker.{Worker}

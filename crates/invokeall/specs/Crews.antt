@@ -7,7 +7,7 @@ use Rattle.stripe.specs.History.{Call}
 use Rattle.claims.specs.Counters.{Numbering, fresh, one_if, times}
 use Rattle.cache.specs.declared.refusal.InvokeRefusal.TheVariants.{JournalFull}
 use Rattle.cache.specs.Opened.{Opened, Sitting}
-use Rattle.outcome.specs.Closed.{calls_told, AreFiled}
+use Rattle.round_outcome.specs.Closed.{calls_told, AreFiled}
 use Rattle.invokeall.specs.declared.groups.Groups.{Groups}
 use Rattle.invokeall.specs.declared.work.Worker.{Worker}
 use Rattle.invokeall.specs.Groups.{groups_in, members_of_all}

@@ -8,8 +8,8 @@ use Rattle.cache.specs.Receipts.{Receipt}
 use Rattle.cache.specs.declared.refusal.InvokeRefusal.{InvokeRefusal}
 use Rattle.cache.specs.declared.refusal.InvokeRefusal.TheVariants.{JournalFull}
 use Rattle.cache.specs.Opened.{Opened, Sitting, stripe_in}
-use Rattle.outcome.specs.Outcome.{answered}
-use Rattle.outcome.specs.Closed.{calls_at, AllAreFiled}
+use Rattle.round_outcome.specs.Outcome.{answered}
+use Rattle.round_outcome.specs.Closed.{calls_at, AllAreFiled}
 
 -- what a round answers to a job
 abbrev pub Answer : Type 0

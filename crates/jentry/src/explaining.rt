@@ -3,8 +3,8 @@
 use crate::files::{Files, MOST_CLASS};
 use crate::output::{Answer, Failure, accepted, refused};
 use explain::{Explained, explain};
+use explain_text::{refusal_of, report};
 use std::alloc::Global;
-use telling::{refusal_of, report};
 
 /// The answer to a class that is to be explained: the line of `check`, and what is told beside it.
 pub fn explain_answer<'a>(

@@ -6,13 +6,13 @@ use crate::line::{Request, parse};
 use crate::output::{Answer, Failure, OK, accepted, ran, refused};
 use cache::NoGate;
 use jtypes::{Args, Loader, NoLoader, Refusal};
-use loading::Table;
 use machine::{Workspace, run};
 use serve::{Settings, serve};
 use std::alloc::{AllocError, Global};
 use std::io::{BufReader, Read, Write};
 use std::sync::Wait;
 use std::thread::Threads;
+use table_loader::Table;
 use verify::{Verified, verify};
 use wire::Counted;
 

@@ -2,13 +2,13 @@ pub mod Taken
 pub mod Onward
 pub mod Leading
 pub mod Families
-pub mod Turning
+pub mod Stepping
 pub mod Gets
 pub mod Informing
 pub mod Quotients
 pub mod Bounded
 pub mod Performing
-pub mod DidCommon
+pub mod DidFast
 pub mod UnderWay
 pub mod Rows
 pub mod Counted
@@ -26,7 +26,7 @@ pub mod Switched
 pub mod Replying
 pub mod Arity
 pub mod Passing
-pub mod Absorbing
+pub mod Folding
 pub mod Keeping
 pub mod Putting
 pub mod Numbers
@@ -37,6 +37,6 @@ pub mod Items
 pub mod Divisions
 pub mod Boxing
 pub mod EntryCalls
-pub mod Landing
-pub mod Leaping
+pub mod Exiting
+pub mod Dispatching
 pub mod Tails

@@ -6,7 +6,7 @@ ghost use Rattle.jtypes.specs.Values.{value_of_arg, item_at};
 ghost use Rattle.arena.specs.Placing.{FitsElement};
 ghost use Rattle.slots.specs.declared.slots.Slots.{Slots};
 ghost use Rattle.slots.specs.Seen.{IsSame, seen};
-ghost use Rattle.machine.specs.Elements.{CanPushElement, PushesElement, CanPopElement, PopsElement};
+ghost use Rattle.machine.specs.RegArrays.{CanPushElement, PushesElement, CanPopElement, PopsElement};
 ghost use Rattle.machine.specs.Holds.{Keeps};
 ghost use Rattle.machine.specs.Within.{AreWordsKept, within};
 ghost use Rattle.machine.specs.Acts.{CanTake, Takes, CanTakeAnywhere, TakesAnywhere, threw, array_made, item_loaded, item_stored, argument_loaded, length_measured};

@@ -1,34 +1,34 @@
 //! The machine that runs accepted classes.
 #![tactic(auto)]
 
-mod act;
 mod arithmetic;
 mod arrays;
-mod asking;
-mod boxes;
+mod ask_loader;
 mod branches;
 mod calls;
 mod casts;
-mod cells;
-mod common;
-mod dividing;
+mod control;
+mod dispatch;
 mod done;
-mod elements;
-mod entries;
-mod flight;
-mod forking;
-mod leap;
-mod leapt;
+mod exec_plain;
+mod fast_path;
 mod library;
 mod machine;
-mod operands;
-mod over_slots;
-mod plain;
+mod operand_access;
+mod reg_arith;
+mod reg_array;
+mod reg_binary;
+mod reg_box;
+mod reg_branch;
+mod reg_div;
+mod reg_entry;
+mod reg_loop;
+mod reg_move;
 mod returns;
-mod setting;
-mod sources;
+mod slot_access;
+mod slow_path;
+mod stack_loop;
 mod switches;
-mod turn;
 mod workspace;
 
 pub use done::{Done, Going};

@@ -10,7 +10,7 @@ use Rattle.jtypes.specs.Loading.{IsGiven}
 use Rattle.typecheck.specs.Typing.{Class}
 use Rattle.stripe.specs.History.{Call, Entries, Record, key_of}
 use Rattle.stripe.specs.declared.call.Reply.{Reply as Answer}
-use Rattle.outcome.specs.Outcome.{IsDone, IsHistoryOf, answered}
+use Rattle.round_outcome.specs.Outcome.{IsDone, IsHistoryOf, answered}
 use Rattle.wire.specs.Requests.{Request, Define, Put, Get, Remove, Contains, Invoke, InvokeAll, RoundEnd}
 use Rattle.wire.specs.declared.reply.Denial.TheVariants.{TooManyClasses}
 use Rattle.wire.specs.declared.reply.Reply.{Reply}

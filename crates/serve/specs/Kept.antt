@@ -8,7 +8,7 @@ use Rattle.registry.specs.Ids.{IsOf, class_of}
 use Rattle.stripe.specs.History.{Call, Entries}
 use Rattle.stripe.specs.Stored.{Stored, entry_among}
 use Rattle.stripe.specs.declared.call.Reply.{Reply as Answer}
-use Rattle.outcome.specs.Outcome.{IsDone}
+use Rattle.round_outcome.specs.Outcome.{IsDone}
 use Rattle.invokeall.specs.Jobs.{all_seen}
 use Rattle.wire.specs.Requests.{Request, Invoke, InvokeAll}
 use Rattle.wire.specs.declared.reply.Reply.{Reply}

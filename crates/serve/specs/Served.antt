@@ -5,7 +5,7 @@ use Rattle.jtypes.specs.declared.loader.LoadAnswer.{LoadAnswer}
 use Rattle.typecheck.specs.Typing.{Class}
 use Rattle.stripe.specs.History.{Call, Entries}
 use Rattle.stripe.specs.declared.call.Reply.{Reply as Answer}
-use Rattle.outcome.specs.Outcome.{IsDone}
+use Rattle.round_outcome.specs.Outcome.{IsDone}
 use Rattle.wire.specs.Requests.{Request, RoundEnd}
 use Rattle.wire.specs.declared.reply.Reply.{Reply}
 use Rattle.wire.specs.declared.reply.Reply.TheVariants as reply

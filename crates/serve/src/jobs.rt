@@ -3,7 +3,7 @@
 ghost use Rattle.std.specs.Prelude.{◌≡◌, ◌≤◌, length, map, IfOk, IfErr};
 ghost use Rattle.std.specs.List.{All};
 ghost use Rattle.stripe.specs.Stored.{entry_among};
-ghost use Rattle.outcome.specs.Outcome.{IsDone};
+ghost use Rattle.round_outcome.specs.Outcome.{IsDone};
 ghost use Rattle.invokeall.specs.Jobs.{all_seen};
 ghost use Rattle.invokeall.specs.Rounds.{reply_of};
 ghost use Rattle.invokeall.specs.Rooms.{HasRoom};
@@ -14,11 +14,11 @@ use cache::{Gate, InvokeRefusal};
 use invokeall::JobReply;
 use jtypes::Loader;
 use registry::Registry;
+use round_robin::run_in_turns;
 use std::alloc::Global;
 use std::sync::Wait;
 use std::thread::Threads;
 use stripe::{Call, Reply, Tables};
-use turns::run_in_turns;
 use workers::{Kept, run_by_workers, worth};
 
 /// What a round leaves: the entries, and the answer to each job. A job that was refused found no memory.
@@ -67,7 +67,7 @@ fn run_alone<L: Loader>(
         return Err(tables);
     };
     match run_in_turns(alloc, tables, calls, loader) {
-        Ok(turns::TurnsLeft { tables, replies }) => {
+        Ok(round_robin::TurnsLeft { tables, replies }) => {
             answer_all(replies.as_slice(), &mut answers);
             Ok(RoundLeft { tables, answers })
         }

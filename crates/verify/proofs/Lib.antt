@@ -1,4 +1,4 @@
-pub mod Making
+pub mod Emitting
 pub mod Places
 pub mod Counting
 pub mod Named
@@ -7,8 +7,8 @@ pub mod Switched
 pub mod Linked
 pub mod Widths
 pub mod Extending
-pub mod Shaping
+pub mod AbstractStack
 pub mod Owning
 pub mod Standing
 pub mod Staying
-pub mod Ahead
+pub mod Offsets

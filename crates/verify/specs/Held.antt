@@ -6,9 +6,9 @@ use Rattle.bounds.specs.Limits.{IsWithinLimits}
 use Rattle.bounds.specs.Paths.{AreBounds}
 use Rattle.bounds.specs.Rows.{bounds_in}
 use Rattle.verdict.specs.Verdict.{IsAccepted, IsClassOf}
-use Rattle.linked.specs.declared.linked.LinkedClass.{LinkedClass}
-use Rattle.linked.specs.Linking.{IsLinked, IsEntry}
-use Rattle.linked.specs.Numbering.{index_of}
+use Rattle.vmcode.specs.declared.stack_instr.LinkedClass.{LinkedClass}
+use Rattle.vmcode.specs.Linking.{IsLinked, IsEntry}
+use Rattle.vmcode.specs.Numbering.{index_of}
 use Rattle.jtypes.specs.Profile.{Second}
 
 -- the class was accepted by its bytes, has these bounds, and is linked so

@@ -9,8 +9,8 @@ ghost use Rattle.bounds.specs.Rows.{bounds_in};
 ghost use Rattle.verdict.specs.Verdict.{IsAccepted, IsClassOf, IsRefused};
 ghost use Rattle.verdict.specs.Sound.{IsSafe};
 ghost use Rattle.verdict.specs.Checked.{IsChecked};
-ghost use Rattle.linked.specs.Linking.{IsLinked, IsEntry};
-ghost use Rattle.linked.specs.Numbering.{index_of};
+ghost use Rattle.vmcode.specs.Linking.{IsLinked, IsEntry};
+ghost use Rattle.vmcode.specs.Numbering.{index_of};
 ghost use Rattle.verify.specs.First.{HasFirstSteps};
 ghost use Rattle.verify.specs.TheClass.{TheClass, TheClass-prop};
 ghost use Rattle.jtypes.specs.Profile.{First, Second};
@@ -19,7 +19,6 @@ use crate::link::link;
 use bounds::Bounds;
 use classfile::ClassFile;
 use jtypes::Refusal;
-use linked::LinkedClass;
 use soundness::{
     accepted_has_bounds, accepted_is_checked, accepted_is_ordered, first_profile_is_kept,
     type_soundness,
@@ -28,6 +27,7 @@ use std::alloc::{AllocError, Global};
 use std::fmt;
 use std::marker::Model;
 use verdict::judge;
+use vmcode::LinkedClass;
 
 /// A class that was accepted, with its linked code. It is seen as the class itself, which its bytes are.
 #[derive(Drop)]

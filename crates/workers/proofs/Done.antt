@@ -8,9 +8,9 @@ use Rattle.stripe.specs.Stored.{Stored, entry_among}
 use Rattle.cache.specs.Receipts.{Receipt}
 use Rattle.cache.specs.Opened.{Opened, Sitting, AreFresh}
 use Rattle.cache.specs.Closing.{Settles}
-use Rattle.outcome.specs.Outcome.{IsDone, IsHistoryOf, answered}
-use Rattle.outcome.specs.Closed.{all_records, all_receipts, calls_told, calls_at, AreFiled, AllAreFiled}
-use Rattle.outcome.proofs.Handed.{caches_hand_out_histories, none_is_filed, rounds_are_done}
+use Rattle.round_outcome.specs.Outcome.{IsDone, IsHistoryOf, answered}
+use Rattle.round_outcome.specs.Closed.{all_records, all_receipts, calls_told, calls_at, AreFiled, AllAreFiled}
+use Rattle.round_outcome.proofs.Handed.{caches_hand_out_histories, none_is_filed, rounds_are_done}
 use Rattle.invokeall.specs.Rounds.{Answer, reply_of, IsRound}
 
 -- seats without a receipt

@@ -12,8 +12,8 @@ use Rattle.cache.specs.declared.refusal.InvokeRefusal.{InvokeRefusal}
 use Rattle.cache.specs.declared.refusal.InvokeRefusal.TheVariants.{JournalFull}
 use Rattle.cache.specs.Opened.{Opened, Sitting, AreFresh, stripe_in}
 use Rattle.cache.specs.Closing.{Settles, history_at, full_at}
-use Rattle.outcome.specs.Outcome.{answered, calls_in}
-use Rattle.outcome.specs.Closed.{all_records, calls_at}
+use Rattle.round_outcome.specs.Outcome.{answered, calls_in}
+use Rattle.round_outcome.specs.Closed.{all_records, calls_at}
 use Rattle.invokeall.specs.Rounds.{Answer, reply_of, IsRound, ShowsAtSeats}
 use Rattle.workers.specs.Rooms.{HasPlace}
 use Rattle.workers.proofs.Done.{once_told, history_left}

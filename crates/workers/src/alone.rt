@@ -4,7 +4,7 @@ ghost use Rattle.std.specs.Prelude.{◌≡◌, ◌≤◌, length, map, IfOk, IfE
 ghost use Rattle.std.specs.List.{All};
 ghost use Rattle.stripe.specs.Stored.{entry_among};
 ghost use Rattle.cache.specs.Opened.{AreFresh};
-ghost use Rattle.outcome.specs.Outcome.{IsDone};
+ghost use Rattle.round_outcome.specs.Outcome.{IsDone};
 ghost use Rattle.invokeall.specs.Jobs.{all_seen};
 ghost use Rattle.invokeall.specs.Rounds.{reply_of};
 ghost use Rattle.invokeall.specs.Rooms.{HasRoom};

@@ -5,7 +5,7 @@ ghost use Rattle.std.specs.List.{All};
 ghost use Rattle.claims.specs.Counters.{IsJobCount};
 ghost use Rattle.stripe.specs.Stored.{entry_among};
 ghost use Rattle.cache.specs.Opened.{IsSeatCount, AreFresh};
-ghost use Rattle.outcome.specs.Outcome.{IsDone};
+ghost use Rattle.round_outcome.specs.Outcome.{IsDone};
 ghost use Rattle.invokeall.specs.Jobs.{all_seen};
 ghost use Rattle.invokeall.specs.Rounds.{reply_of};
 ghost use Rattle.workers.specs.Rooms.{HasPlace, IsRoom};

@@ -12,7 +12,7 @@ use Rattle.verdict.specs.Meaning.{Means}
 use Rattle.machine.specs.declared.machine.Machine.{Machine}
 use Rattle.machine.specs.declared.done.Done.{Done}
 use Rattle.machine.specs.declared.done.Going.TheVariants as going
-use Rattle.machine.specs.Asking.{KeepsGiven}
+use Rattle.machine.specs.AskLoader.{KeepsGiven}
 use Rattle.machine.specs.Running.{IsRunningWith, IsStarted, IsFinal}
 use Rattle.stripe.specs.declared.call.OpenCall.{OpenCall}
 use Rattle.stripe.specs.History.{Call, Invoke, Begun, Record, Answers, key_of, invocation}

@@ -15,7 +15,7 @@ use Rattle.machine.specs.declared.machine.Machine.{Machine}
 use Rattle.machine.specs.declared.done.Done.{Done}
 use Rattle.machine.specs.declared.done.Going.{Going}
 use Rattle.machine.specs.declared.done.Going.TheVariants as going
-use Rattle.machine.specs.Asking.{KeepsGiven}
+use Rattle.machine.specs.AskLoader.{KeepsGiven}
 use Rattle.machine.specs.Running.{IsRunning, Follows}
 use Rattle.world.specs.World.{MayAnswer}
 use Rattle.world.specs.Going.{known, state_in}

@@ -5,7 +5,7 @@ ghost use Rattle.jtypes.specs.Profile.{Second};
 ghost use Rattle.bounds.specs.Paths.{step_limit};
 ghost use Rattle.verdict.specs.Machine.{State};
 ghost use Rattle.machine.specs.declared.done.Done.{Done as DoneSeen};
-ghost use Rattle.machine.specs.Asking.{KeepsGiven};
+ghost use Rattle.machine.specs.AskLoader.{KeepsGiven};
 ghost use Rattle.machine.specs.Running.{IsRunningWith};
 ghost use Rattle.stripe.specs.Seen.{call_of};
 ghost use Rattle.world.specs.Going.{is_ended};

@@ -4,8 +4,8 @@ use Rattle.stripe.specs.declared.call.Reply.{Reply}
 use Rattle.stripe.specs.History.{Call}
 use Rattle.stripe.specs.Seen.{call_of}
 use Rattle.cache.specs.Opened.{Opened, Sitting}
-use Rattle.outcome.specs.Outcome.{answered}
-use Rattle.outcome.specs.Closed.{calls_told}
+use Rattle.round_outcome.specs.Outcome.{answered}
+use Rattle.round_outcome.specs.Closed.{calls_told}
 use Rattle.invokeall.specs.Jobs.{all_seen}
 use Rattle.invokeall.specs.Rounds.{Answer, reply_of, IsRound}
 use Rattle.invokeall.specs.Crews.{told_answer}

@@ -1,6 +1,6 @@
 use Rattle.std.proofs.Common.{◌≡◌, ◌≤◌, ◌++◌, length, take, map, vec_capacity}
-use Rattle.outcome.specs.Outcome.{answered}
-use Rattle.outcome.specs.Closed.{calls_told, AreFiled}
+use Rattle.round_outcome.specs.Outcome.{answered}
+use Rattle.round_outcome.specs.Closed.{calls_told, AreFiled}
 use Rattle.invokeall.specs.Jobs.{all_seen}
 use Rattle.invokeall.specs.Rounds.{reply_of, IsLaterSeat}
 use Rattle.invokeall.proofs.OneSeat.{IsShown}

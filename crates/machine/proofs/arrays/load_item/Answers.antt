@@ -12,8 +12,8 @@ use Rattle.jtypes.specs.declared.types.Outcome.TheVariants.{Threw}
 use Rattle.verdict.specs.Machine.{load_item, push_item, element_value, ends}
 use Rattle.slots.specs.Seen.{seen}
 use Rattle.slots.proofs.Seen.{same_seen}
-use Rattle.machine.specs.Elements.{IsPushable}
-use Rattle.machine.specs.Holds.{at_spot}
+use Rattle.machine.specs.RegArrays.{IsPushable}
+use Rattle.machine.specs.Holds.{at_regs}
 use Rattle.machine.specs.Within.{within}
 use Rattle.machine.proofs.Taken.{reads_as, same_same}
 use Rattle.machine.proofs.Onward.{told_slots, has_room, same_room, with_values}
@@ -23,7 +23,7 @@ use Rattle.machine.proofs.arrays.load_item.Goals as goal
 pub pop_array-requires : goal.pop_array-requires
 pop_array-requires c =
     let (mm, (place, steps, (k, r))) = c.requires in
-    let m = at_spot (within mm c.args.window.now c.args.arena.now) place steps in
+    let m = at_regs (within mm c.args.window.now c.args.arena.now) place steps in
     let t = item_there k c.args.kind k.top.operands r.next r.is in
     let h = c.pop_int-index.ensures.reads k.state.arrays mm.slots.callers.0 k.top.locals t.0 (Ref t.1 ∷ t.2) k.below (reads_as k.state.arrays m.slots k.top.locals k.top.operands _ k.below t.3 r.at.reads) in
     let from = item_from k c.args.kind t.0 t.1 t.2 r.next (ap (load_item k.class k.state k.top k.below c.args.kind) (sym t.3) ∙ r.is) in
@@ -31,7 +31,7 @@ pop_array-requires c =
 
 pub returns-in-None-clause-told : goal.returns-in-None-clause-told
 returns-in-None-clause-told c mm place steps k r =
-    let m = at_spot (within mm c.args.window.now c.args.arena.now) place steps in
+    let m = at_regs (within mm c.args.window.now c.args.arena.now) place steps in
     let t = item_there k c.args.kind k.top.operands r.next r.is in
     let h = c.pop_int-index.ensures.reads k.state.arrays mm.slots.callers.0 k.top.locals t.0 (Ref t.1 ∷ t.2) k.below (reads_as k.state.arrays m.slots k.top.locals k.top.operands _ k.below t.3 r.at.reads) in
     let from = item_from k c.args.kind t.0 t.1 t.2 r.next (ap (load_item k.class k.state k.top k.below c.args.kind) (sym t.3) ∙ r.is) in
@@ -43,7 +43,7 @@ returns-in-None-clause-told c mm place steps k r =
 pub get-requires : goal.get-requires
 get-requires c =
     let (mm, (place, steps, (k, r))) = c.requires in
-    let m = at_spot (within mm c.args.window.now c.args.arena.now) place steps in
+    let m = at_regs (within mm c.args.window.now c.args.arena.now) place steps in
     let t = item_there k c.args.kind k.top.operands r.next r.is in
     let h = c.pop_int-index.ensures.reads k.state.arrays mm.slots.callers.0 k.top.locals t.0 (Ref t.1 ∷ t.2) k.below (reads_as k.state.arrays m.slots k.top.locals k.top.operands _ k.below t.3 r.at.reads) in
     let from = item_from k c.args.kind t.0 t.1 t.2 r.next (ap (load_item k.class k.state k.top k.below c.args.kind) (sym t.3) ∙ r.is) in
@@ -54,7 +54,7 @@ get-requires c =
 pub push_element-requires : goal.push_element-requires
 push_element-requires c =
     let (mm, (place, steps, (k, r))) = c.requires in
-    let m = at_spot (within mm c.args.window.now c.args.arena.now) place steps in
+    let m = at_regs (within mm c.args.window.now c.args.arena.now) place steps in
     let t = item_there k c.args.kind k.top.operands r.next r.is in
     let h = c.pop_int-index.ensures.reads k.state.arrays mm.slots.callers.0 k.top.locals t.0 (Ref t.1 ∷ t.2) k.below (reads_as k.state.arrays m.slots k.top.locals k.top.operands _ k.below t.3 r.at.reads) in
     let from = item_from k c.args.kind t.0 t.1 t.2 r.next (ap (load_item k.class k.state k.top k.below c.args.kind) (sym t.3) ∙ r.is) in
@@ -79,7 +79,7 @@ push_element-requires c =
 
 pub returns-in-Ok-clause-told : goal.returns-in-Ok-clause-told
 returns-in-Ok-clause-told c mm place steps k r =
-    let m = at_spot (within mm c.args.window.now c.args.arena.now) place steps in
+    let m = at_regs (within mm c.args.window.now c.args.arena.now) place steps in
     let t = item_there k c.args.kind k.top.operands r.next r.is in
     let h = c.pop_int-index.ensures.reads k.state.arrays mm.slots.callers.0 k.top.locals t.0 (Ref t.1 ∷ t.2) k.below (reads_as k.state.arrays m.slots k.top.locals k.top.operands _ k.below t.3 r.at.reads) in
     let from = item_from k c.args.kind t.0 t.1 t.2 r.next (ap (load_item k.class k.state k.top k.below c.args.kind) (sym t.3) ∙ r.is) in
@@ -102,7 +102,7 @@ returns-in-Ok-clause-told c mm place steps k r =
 
 pub returns-in-Err-clause-told : goal.returns-in-Err-clause-told
 returns-in-Err-clause-told c mm place steps k r =
-    let m = at_spot (within mm c.args.window.now c.args.arena.now) place steps in
+    let m = at_regs (within mm c.args.window.now c.args.arena.now) place steps in
     let t = item_there k c.args.kind k.top.operands r.next r.is in
     let h = c.pop_int-index.ensures.reads k.state.arrays mm.slots.callers.0 k.top.locals t.0 (Ref t.1 ∷ t.2) k.below (reads_as k.state.arrays m.slots k.top.locals k.top.operands _ k.below t.3 r.at.reads) in
     let from = item_from k c.args.kind t.0 t.1 t.2 r.next (ap (load_item k.class k.state k.top k.below c.args.kind) (sym t.3) ∙ r.is) in

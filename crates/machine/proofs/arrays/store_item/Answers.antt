@@ -13,7 +13,7 @@ use Rattle.slots.proofs.Arrays.{reads_changed}
 use Rattle.verdict.specs.Machine.{store_item, store_number, with_element, next_with, throws, ends}
 use Rattle.slots.specs.Seen.{seen}
 use Rattle.slots.proofs.Seen.{same_seen}
-use Rattle.machine.specs.Holds.{at_spot}
+use Rattle.machine.specs.Holds.{at_regs}
 use Rattle.machine.specs.Within.{within}
 use Rattle.machine.proofs.Allotted.{told_arena}
 use Rattle.machine.proofs.Taken.{reads_as, same_same}
@@ -23,14 +23,14 @@ use Rattle.machine.proofs.arrays.store_item.Goals as goal
 pub pop_element-n-requires : goal.pop_element-n-requires
 pop_element-n-requires c =
     let (mm, (place, steps, (k, r))) = c.requires in
-    let m = at_spot (within mm c.args.window.now c.args.arena.now) place steps in
+    let m = at_regs (within mm c.args.window.now c.args.arena.now) place steps in
     let t = stored_there k c.args.kind k.top.operands r.next r.is in
     (mm.slots, (k.state.arrays, k.top.locals, t.number, Int t.at ∷ Ref t.value ∷ t.rest, k.below, reads_as k.state.arrays m.slots k.top.locals k.top.operands _ k.below t.operands r.at.reads))
 
 pub pop_int-index-requires : goal.pop_int-index-requires
 pop_int-index-requires c =
     let (mm, (place, steps, (k, r))) = c.requires in
-    let m = at_spot (within mm c.args.window.now c.args.arena.now) place steps in
+    let m = at_regs (within mm c.args.window.now c.args.arena.now) place steps in
     let t = stored_there k c.args.kind k.top.operands r.next r.is in
     let popped = c.pop_element-n.ensures.pops mm.slots k.state.arrays k.top.locals t.number (Int t.at ∷ Ref t.value ∷ t.rest) k.below (reads_as k.state.arrays m.slots k.top.locals k.top.operands _ k.below t.operands r.at.reads) in
     (k.state.arrays, mm.slots.callers.0, k.top.locals, t.at, Ref t.value ∷ t.rest, k.below, popped.2)
@@ -38,7 +38,7 @@ pop_int-index-requires c =
 pub pop_array-requires : goal.pop_array-requires
 pop_array-requires c =
     let (mm, (place, steps, (k, r))) = c.requires in
-    let m = at_spot (within mm c.args.window.now c.args.arena.now) place steps in
+    let m = at_regs (within mm c.args.window.now c.args.arena.now) place steps in
     let t = stored_there k c.args.kind k.top.operands r.next r.is in
     let popped = c.pop_element-n.ensures.pops mm.slots k.state.arrays k.top.locals t.number (Int t.at ∷ Ref t.value ∷ t.rest) k.below (reads_as k.state.arrays m.slots k.top.locals k.top.operands _ k.below t.operands r.at.reads) in
     let h = c.pop_int-index.ensures.reads k.state.arrays mm.slots.callers.0 k.top.locals t.at (Ref t.value ∷ t.rest) k.below popped.2 in
@@ -47,7 +47,7 @@ pop_array-requires c =
 
 pub returns-in-None-clause-told : goal.returns-in-None-clause-told
 returns-in-None-clause-told c mm place steps k r =
-    let m = at_spot (within mm c.args.window.now c.args.arena.now) place steps in
+    let m = at_regs (within mm c.args.window.now c.args.arena.now) place steps in
     let t = stored_there k c.args.kind k.top.operands r.next r.is in
     let popped = c.pop_element-n.ensures.pops mm.slots k.state.arrays k.top.locals t.number (Int t.at ∷ Ref t.value ∷ t.rest) k.below (reads_as k.state.arrays m.slots k.top.locals k.top.operands _ k.below t.operands r.at.reads) in
     let h = c.pop_int-index.ensures.reads k.state.arrays mm.slots.callers.0 k.top.locals t.at (Ref t.value ∷ t.rest) k.below popped.2 in
@@ -60,7 +60,7 @@ returns-in-None-clause-told c mm place steps k r =
 pub set-requires : goal.set-requires
 set-requires c =
     let (mm, (place, steps, (k, r))) = c.requires in
-    let m = at_spot (within mm c.args.window.now c.args.arena.now) place steps in
+    let m = at_regs (within mm c.args.window.now c.args.arena.now) place steps in
     let t = stored_there k c.args.kind k.top.operands r.next r.is in
     let popped = c.pop_element-n.ensures.pops mm.slots k.state.arrays k.top.locals t.number (Int t.at ∷ Ref t.value ∷ t.rest) k.below (reads_as k.state.arrays m.slots k.top.locals k.top.operands _ k.below t.operands r.at.reads) in
     let h = c.pop_int-index.ensures.reads k.state.arrays mm.slots.callers.0 k.top.locals t.at (Ref t.value ∷ t.rest) k.below popped.2 in
@@ -81,7 +81,7 @@ set-requires c =
 
 pub returns-in-Ok-clause-told : goal.returns-in-Ok-clause-told
 returns-in-Ok-clause-told c mm place steps k r =
-    let m = at_spot (within mm c.args.window.now c.args.arena.now) place steps in
+    let m = at_regs (within mm c.args.window.now c.args.arena.now) place steps in
     let t = stored_there k c.args.kind k.top.operands r.next r.is in
     let popped = c.pop_element-n.ensures.pops mm.slots k.state.arrays k.top.locals t.number (Int t.at ∷ Ref t.value ∷ t.rest) k.below (reads_as k.state.arrays m.slots k.top.locals k.top.operands _ k.below t.operands r.at.reads) in
     let h = c.pop_int-index.ensures.reads k.state.arrays mm.slots.callers.0 k.top.locals t.at (Ref t.value ∷ t.rest) k.below popped.2 in
@@ -112,7 +112,7 @@ returns-in-Ok-clause-told c mm place steps k r =
 pub returns-in-Ok-clause-words : goal.returns-in-Ok-clause-words
 returns-in-Ok-clause-words c =
     let (mm, (place, steps, (k, r))) = c.requires in
-    let m = at_spot (within mm c.args.window.now c.args.arena.now) place steps in
+    let m = at_regs (within mm c.args.window.now c.args.arena.now) place steps in
     let t = stored_there k c.args.kind k.top.operands r.next r.is in
     let popped = c.pop_element-n.ensures.pops mm.slots k.state.arrays k.top.locals t.number (Int t.at ∷ Ref t.value ∷ t.rest) k.below (reads_as k.state.arrays m.slots k.top.locals k.top.operands _ k.below t.operands r.at.reads) in
     let h = c.pop_int-index.ensures.reads k.state.arrays mm.slots.callers.0 k.top.locals t.at (Ref t.value ∷ t.rest) k.below popped.2 in
@@ -137,7 +137,7 @@ returns-in-Ok-clause-words c =
 
 pub returns-in-Err-clause-told : goal.returns-in-Err-clause-told
 returns-in-Err-clause-told c mm place steps k r =
-    let m = at_spot (within mm c.args.window.now c.args.arena.now) place steps in
+    let m = at_regs (within mm c.args.window.now c.args.arena.now) place steps in
     let t = stored_there k c.args.kind k.top.operands r.next r.is in
     let popped = c.pop_element-n.ensures.pops mm.slots k.state.arrays k.top.locals t.number (Int t.at ∷ Ref t.value ∷ t.rest) k.below (reads_as k.state.arrays m.slots k.top.locals k.top.operands _ k.below t.operands r.at.reads) in
     let h = c.pop_int-index.ensures.reads k.state.arrays mm.slots.callers.0 k.top.locals t.at (Ref t.value ∷ t.rest) k.below popped.2 in

@@ -2,7 +2,7 @@ use Rattle.std.proofs.Common.{◌≡◌, List, map, length, ap, ◌∙◌, subst
 use Rattle.stripe.specs.History.{Call}
 use Rattle.stripe.specs.Stored.{entry_among}
 use Rattle.stripe.specs.declared.call.Call.{Call as CallTaken}
-use Rattle.outcome.specs.Outcome.{IsDone}
+use Rattle.round_outcome.specs.Outcome.{IsDone}
 use Rattle.invokeall.specs.Jobs.{all_seen}
 use Rattle.invokeall.specs.Rounds.{Answer, reply_of}
 use Rattle.serve.specs.declared.plan.Work.{Work}

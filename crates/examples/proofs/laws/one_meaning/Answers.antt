@@ -1,5 +1,0 @@
-use Rattle.examples.proofs.laws.one_meaning.Goals as goal
-use Rattle.soundness.proofs.OneMeaning.{one_meaning}
-
-pub returns : goal.returns
-returns c = one_meaning

@@ -1,5 +1,0 @@
-use Rattle.examples.proofs.laws.ordered_ends.Goals as goal
-use Rattle.examples.proofs.MeaningAndRanks.{ordered_not_recursive}
-
-pub returns : goal.returns
-returns c = ordered_not_recursive

@@ -1,5 +1,0 @@
-use Rattle.examples.proofs.laws.runs_mean.Goals as goal
-use Rattle.examples.proofs.MeaningAndRanks.{run_means}
-
-pub returns : goal.returns
-returns c = run_means

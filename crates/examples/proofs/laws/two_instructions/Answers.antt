@@ -1,5 +1,0 @@
-use Rattle.examples.proofs.laws.two_instructions.Goals as goal
-use Rattle.examples.proofs.Small.{gives_entry}
-
-pub returns : goal.returns
-returns c = gives_entry

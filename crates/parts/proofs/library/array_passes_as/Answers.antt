@@ -1,5 +1,0 @@
-use Rattle.jtypes.specs.declared.types.RefValue.TheVariants as reference
-use Rattle.parts.proofs.library.array_passes_as.Goals as goal
-
-pub passes-requires : goal.passes-requires
-passes-requires c = (reference.Array c.requires.0, c.requires.1)

@@ -1,4 +1,0 @@
-use Rattle.parts.proofs.library.passes_as.Goals as goal
-
-pub passes-requires : goal.passes-requires
-passes-requires c = (c.args.value, c.requires)

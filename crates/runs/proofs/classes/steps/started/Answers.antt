@@ -1,8 +1,0 @@
-use Rattle.std.proofs.Common.{false, ap}
-use Rattle.verdict.specs.Machine.{Invocation}
-use Rattle.runs.proofs.classes.steps.started.Goals as goal
-
-pub stepped-requires : goal.stepped-requires
-stepped-requires c =
-    let h = c.start.ensures.started false in
-    (h.state, (h.running, ap (λ (i : Invocation). i.loads) h.call_is))

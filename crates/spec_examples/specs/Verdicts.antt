@@ -1,0 +1,64 @@
+-- The verdicts of small classes, with their bounds.
+use Rattle.std.specs.Prelude.{◌≡◌, refl}
+use Rattle.spec_examples.specs.Judge.{judge, Accepted}
+use Rattle.spec_examples.specs.Opened.{opened}
+use Rattle.spec_examples.specs.Bytes.{plus_bytes, counter_bytes, nest_fault_bytes, unbox_bytes, set_remove_bytes, div_least_bytes, rem_least_bytes, shift64_bytes, shift_neg_bytes, bridge_bytes, loose_bytes, arr_zero_bytes, ratio_bytes, give_entry_bytes}
+
+pub plus_verdict : judge plus_bytes ≡ Accepted 14 0 9 1
+unfolding opened plus_bytes
+plus_verdict = refl
+
+pub counter_verdict : judge counter_bytes ≡ Accepted 24 0 11 1
+unfolding opened counter_bytes
+counter_verdict = refl
+
+pub nest_fault_verdict : judge nest_fault_bytes ≡ Accepted 13 0 12 2
+unfolding opened nest_fault_bytes
+nest_fault_verdict = refl
+
+pub unbox_verdict : judge unbox_bytes ≡ Accepted 6 0 5 1
+unfolding opened unbox_bytes
+unbox_verdict = refl
+
+pub set_remove_verdict : judge set_remove_bytes ≡ Accepted 21 0 7 1
+unfolding opened set_remove_bytes
+set_remove_verdict = refl
+
+pub div_least_verdict : judge div_least_bytes ≡ Accepted 6 0 7 1
+unfolding opened div_least_bytes
+div_least_verdict = refl
+
+pub rem_least_verdict : judge rem_least_bytes ≡ Accepted 6 0 7 1
+unfolding opened rem_least_bytes
+rem_least_verdict = refl
+
+pub shift64_verdict : judge shift64_bytes ≡ Accepted 5 0 6 1
+unfolding opened shift64_bytes
+shift64_verdict = refl
+
+pub shift_neg_verdict : judge shift_neg_bytes ≡ Accepted 5 0 6 1
+unfolding opened shift_neg_bytes
+shift_neg_verdict = refl
+
+pub bridge_verdict : judge bridge_bytes ≡ Accepted 8 0 11 2
+unfolding opened bridge_bytes
+bridge_verdict = refl
+
+pub loose_verdict : judge loose_bytes ≡ Accepted 5 0 5 1
+unfolding opened loose_bytes
+loose_verdict = refl
+
+pub arr_zero_verdict : judge arr_zero_bytes ≡ Accepted 6 1 5 1
+unfolding opened arr_zero_bytes
+arr_zero_verdict = refl
+
+pub ratio_verdict : judge ratio_bytes ≡ Accepted 14 0 9 1
+unfolding opened ratio_bytes
+ratio_verdict = refl
+
+pub give_entry_verdict : judge give_entry_bytes ≡ Accepted 2 0 4 1
+unfolding opened give_entry_bytes
+give_entry_verdict = refl
+
+abbrev pub judged : Unit {0}
+judged = tt

@@ -1,0 +1,31 @@
+//! Laws of the definitions.
+
+ghost use Rattle.spec_examples.specs.Statements.{FitsAssignable, OneMeaning, OrderedEnds, PassedFits, RunsMean};
+ghost use Rattle.spec_examples.specs.Small.{GivesEntry};
+
+/// What a run computes is the meaning.
+pub fn runs_mean()
+    ensures { RunsMean }
+{}
+
+/// A call has one meaning at most, for what a loader answered if it was asked: one outcome, one entry that it leaves, and one
+/// count of steps and of words.
+pub fn one_meaning()
+    ensures { OneMeaning }
+{}
+
+/// Ranks of methods exclude recursion.
+pub fn ordered_ends()
+    ensures { OrderedEnds }
+{}
+
+/// A method of two instructions is well typed, has a path, and fails without room.
+pub fn two_instructions()
+    ensures { GivesEntry }
+{}
+
+/// Casts and assignments keep to what fits.
+pub fn references_fit()
+    ensures casts { PassedFits }
+    ensures assignments { FitsAssignable }
+{}

@@ -1,0 +1,28 @@
+//! The worked rows, and the definitions that no contract cites yet.
+
+ghost use Rattle.std.specs.Prelude.{◌≡◌, ℕ, List};
+ghost use Rattle.jtypes.specs.declared.refusal.Refusal.{Refusal};
+ghost use Rattle.typecheck.specs.Typing.{Class};
+ghost use Rattle.verdict.specs.Verdict.{IsRefused, IsAccepted, IsClassOf};
+ghost use Rattle.verdict.specs.Promise.{TypeSoundness, AcceptedIsChecked, AcceptedIsOrdered};
+ghost use Rattle.verdict.specs.Sound.{SoundnessOfClasses};
+ghost use Rattle.spec_examples.specs.Plain.{class_of};
+ghost use Rattle.spec_examples.specs.Judge.{judge};
+ghost use Rattle.spec_examples.specs.Rows.{checked};
+ghost use Rattle.spec_examples.specs.Verdicts.{judged};
+ghost use Rattle.jtypes.specs.Profile.{Second};
+
+/// Names the rows, so that a check computes them.
+pub fn all_examples()
+    ensures classes { (bytes : List ℕ) → class_of bytes ≡ class_of bytes }
+    ensures verdicts { (bytes : List ℕ) → judge bytes ≡ judge bytes }
+    ensures runs { checked ≡ checked }
+    ensures judged { judged ≡ judged }
+{}
+
+/// Names the verdict and the statement of soundness, so that a check elaborates them. It claims nothing of them.
+pub fn all_definitions()
+    ensures verdicts { (bytes : List ℕ) (r : Refusal) → IsRefused Second bytes r → IsRefused Second bytes r }
+    ensures classes { (bytes : List ℕ) (c : Class) → IsAccepted Second bytes → IsClassOf Second bytes c → IsClassOf Second bytes c }
+    ensures soundness { AcceptedIsChecked → AcceptedIsOrdered → SoundnessOfClasses → TypeSoundness → TypeSoundness }
+{}
