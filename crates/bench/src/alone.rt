@@ -21,7 +21,7 @@ use verify::Verified;
 const CALLS: u32 = MOST_RECORDS as u32;
 
 /// What each call of a round is.
-#[derive(Clone, Copy, Debug)]
+#[derive(Clone, Copy)]
 pub enum Kind<'a> {
     Put,
     Remove,
@@ -29,7 +29,7 @@ pub enum Kind<'a> {
 }
 
 /// What the calls take, in tenths of a nanosecond: a put on a key that is there and on one that is absent, an invocation, and of an invocation the run of its class.
-#[derive(Clone, Copy, Debug)]
+#[derive(Clone, Copy)]
 pub struct StripeTimes {
     pub there: Times,
     pub absent: Times,

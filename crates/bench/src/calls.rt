@@ -33,7 +33,7 @@ pub const MOST_KEYS: u32 = 1_000_000;
 
 /// What an invocation and a put take, in tenths of a nanosecond: the time of all seats' calls, shared out among them all. And what the entries add up to
 /// after the invocations and after the puts.
-#[derive(Clone, Copy, Debug)]
+#[derive(Clone, Copy)]
 pub struct CallTimes {
     pub invoke: Times,
     pub put: Times,

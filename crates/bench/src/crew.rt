@@ -15,7 +15,7 @@ use std::thread::Threads;
 use stripe::ArgSlice;
 
 /// What each call of a round is.
-#[derive(Clone, Copy, Debug)]
+#[derive(Clone, Copy)]
 pub enum Kind {
     Invoke,
     Put,

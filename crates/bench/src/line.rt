@@ -3,7 +3,7 @@
 use jtypes::{Arg, Args};
 
 /// What an invocation is made with.
-#[derive(Clone, Copy, Debug)]
+#[derive(Clone, Copy)]
 pub struct Call {
     pub key: i64,
     pub before: Option<i64>,
@@ -11,7 +11,7 @@ pub struct Call {
 }
 
 /// What is to be measured.
-#[derive(Clone, Copy, Debug)]
+#[derive(Clone, Copy)]
 pub enum Work {
     Verifying,
     Running(Call),
@@ -24,7 +24,7 @@ pub enum Work {
 }
 
 /// A class file, and a count: how often a round does the work, or of how many keys or jobs it is. A count of 0 asks what one invocation takes.
-#[derive(Clone, Copy, Debug)]
+#[derive(Clone, Copy)]
 pub struct Request<'a> {
     pub file: &'a str,
     pub count: u32,

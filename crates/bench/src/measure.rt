@@ -15,7 +15,7 @@ use verify::{Verified, verify};
 pub const ROUNDS: usize = 9;
 
 /// What one piece of work takes, in tenths of a nanosecond, in the fastest round and in the median one.
-#[derive(Clone, Copy, Debug, PartialEq, Eq)]
+#[derive(Clone, Copy, PartialEq, Eq)]
 pub struct Times {
     pub least: u128,
     pub median: u128,

@@ -6,7 +6,7 @@ use crate::measure::Times;
 use std::alloc::{AllocError, Global};
 
 /// Why nothing was measured.
-#[derive(Clone, Copy, Debug, PartialEq, Eq)]
+#[derive(Clone, Copy, PartialEq, Eq)]
 pub enum Failure {
     BadCommandLine,
     CannotRead,

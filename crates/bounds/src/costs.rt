@@ -15,7 +15,7 @@ use std::alloc::{AllocError, Global};
 use typecheck::Typed;
 
 /// Steps and words, and the greatest slots and depth of nested activations. Sums saturate, far above every limit.
-#[derive(Clone, Copy, Debug, PartialEq, Eq)]
+#[derive(Clone, Copy, PartialEq, Eq)]
 pub struct Cost {
     pub steps: u32,
     pub words: u32,

@@ -3,7 +3,7 @@ use Rattle.std.specs.Prelude.{◌≡◌, Bool, Option, Some, ◌≢◌, ℕ, ℤ
 use Rattle.jtypes.specs.declared.loader.LoadAnswer.{LoadAnswer}
 use Rattle.jtypes.specs.Entry.{Entry}
 use Rattle.jtypes.specs.Loading.{IsGiven}
-use Rattle.machine.specs.declared.done.Done.{Done}
+use Rattle.ended.specs.declared.done.Done.{Done}
 use Rattle.stripe.specs.History.{Call, Begun, Record, Entries, key_of}
 use Rattle.stripe.specs.Kept.{Kept, IsEnd, asked_by, IsKept, IsOf, IsRecord, begun, committed, entry_of}
 use Rattle.cache.specs.Receipts.{receipt_behind}

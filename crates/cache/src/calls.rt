@@ -33,7 +33,7 @@ type Ended = (Option<Done>, Option<LoadAnswer>);
 
 impl<'a, 'l, L: Loader> Cache<'a, 'l, L> {
     ghost use Rattle.std.specs.Prelude.{◌≡◌, ℤ, Option, None, IfOk, IfErr};
-    ghost use Rattle.machine.specs.declared.done.Done.{Done as DoneSeen};
+    ghost use Rattle.ended.specs.declared.done.Done.{Done as DoneSeen};
     ghost use Rattle.jtypes.specs.declared.loader.LoadAnswer.{LoadAnswer as AnswerSeen};
     ghost use Rattle.stripe.specs.History.{Call as CallSeen, Invoke, Get, Put, Remove, Contains};
     ghost use Rattle.stripe.specs.Kept.{IsPlain};

@@ -3,7 +3,7 @@
 use stripe::{Call, Reply};
 
 /// A call that was answered. Its record stands at this place of this stripe's history.
-#[derive(Clone, Copy, Debug)]
+#[derive(Clone, Copy)]
 pub struct Receipt<'a> {
     pub stripe: usize,
     pub place: usize,

@@ -8,7 +8,7 @@ use constpool::Pool;
 use std::marker::Model;
 
 /// A method, by what calls of it name.
-#[derive(Clone, Copy, Debug)]
+#[derive(Clone, Copy)]
 pub struct MethodView<'a> {
     pub flags: u16,
     pub name: &'a [u8],
@@ -16,7 +16,7 @@ pub struct MethodView<'a> {
 }
 
 /// The pool of a class, its own name, and its methods in their order.
-#[derive(Debug, Drop)]
+#[derive(Drop)]
 pub struct ClassView<'a> {
     class: &'a ClassFile,
 }

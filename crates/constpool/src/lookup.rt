@@ -7,7 +7,7 @@ ghost use Rattle.constpool.specs.Lookup.{constant_at, utf8_at, integer_at, long_
 use crate::{Constant, Pool};
 
 /// A method that a class names in its pool (JVMS §4.4.2).
-#[derive(Clone, Copy, Debug)]
+#[derive(Clone, Copy)]
 pub struct MemberRef<'a> {
     pub class: &'a [u8],
     pub name: &'a [u8],

@@ -16,7 +16,7 @@ use std::marker::Model;
 /// A constant pool: what stands at each index from 1 (JVMS §4.4).
 ///
 /// The second index of a `long` or a `double` has no constant (JVMS §4.4.5).
-#[derive(Debug, Drop)]
+#[derive(Drop)]
 pub struct Pool {
     slots: Vec<Option<Constant>>,
 }

@@ -7,7 +7,7 @@ use jtypes::Refusal;
 use std::alloc::{AllocError, AllocFailed};
 
 /// A refusal, and the place where the instruction begins at which it stands. Of want of memory the place says nothing.
-#[derive(Clone, Copy, Debug, PartialEq, Eq)]
+#[derive(Clone, Copy, PartialEq, Eq)]
 pub struct Fault {
     pub refusal: Refusal,
     pub place: usize,

@@ -13,7 +13,7 @@ use jtypes::Refusal;
 use std::marker::Model;
 
 /// The instructions of a code, in the order of their places.
-#[derive(Debug, Drop)]
+#[derive(Drop)]
 pub struct Code {
     placed: Vec<Placed>,
 }

@@ -9,7 +9,7 @@ use std::alloc::{AllocError, Global};
 use typecheck::Typed;
 
 /// A call of one of the class's own methods: the number of the method that it stands in, and its place.
-#[derive(Clone, Copy, Debug, PartialEq, Eq)]
+#[derive(Clone, Copy, PartialEq, Eq)]
 pub struct OwnCall {
     pub method: usize,
     pub place: usize,

@@ -10,7 +10,7 @@ use std::alloc::{AllocError, Global};
 use typecheck::Typed;
 
 /// What the paths of a method take at most, with what passes 32 bits cut off.
-#[derive(Clone, Copy, Debug, PartialEq, Eq)]
+#[derive(Clone, Copy, PartialEq, Eq)]
 pub struct MethodCost {
     /// Its number among the methods of its class, from 0.
     pub number: usize,

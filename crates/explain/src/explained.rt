@@ -18,7 +18,7 @@ use typecheck::Typed;
 use verdict::{Located, Spot, type_class};
 
 /// What is told of the bytes of a class.
-#[derive(Debug, Drop)]
+#[derive(Drop)]
 pub enum Explained {
     /// It is accepted, with these bounds, and its methods but the constructor take so much each.
     Accepted {

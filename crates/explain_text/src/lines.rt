@@ -8,7 +8,7 @@ use std::alloc::{AllocError, Global};
 const LINE_NUMBER_TABLE: &[u8] = b"LineNumberTable";
 
 /// A line, and the place from which on the code is of it.
-#[derive(Clone, Copy, Debug, PartialEq, Eq)]
+#[derive(Clone, Copy, PartialEq, Eq)]
 struct Line {
     place: usize,
     number: u16,

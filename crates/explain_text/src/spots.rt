@@ -7,7 +7,7 @@ use jtypes::{Cursor, Refusal};
 use std::alloc::{AllocError, Global};
 
 /// A place of a code, and whether it is an instruction that is refused there; else it stands for the method.
-#[derive(Clone, Copy, Debug, PartialEq, Eq)]
+#[derive(Clone, Copy, PartialEq, Eq)]
 pub struct Shown {
     pub place: usize,
     pub is_instruction: bool,

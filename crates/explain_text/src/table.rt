@@ -5,7 +5,7 @@ use frames::constant_type;
 use jtypes::Cursor;
 
 /// A type that a frame can't have here.
-#[derive(Clone, Copy, Debug, PartialEq, Eq)]
+#[derive(Clone, Copy, PartialEq, Eq)]
 pub enum Stranger {
     /// A class or an array type, by its index.
     Class(u16),
@@ -16,7 +16,7 @@ pub enum Stranger {
 }
 
 /// Where a table has such a type.
-#[derive(Clone, Copy, Debug, PartialEq, Eq)]
+#[derive(Clone, Copy, PartialEq, Eq)]
 pub struct BadEntry {
     pub place: usize,
     pub stranger: Stranger,

@@ -10,7 +10,7 @@ use jtypes::{Cursor, Items, JType, Reader, Refusal, row};
 use std::alloc::Global;
 
 /// How an entry's frame differs from the one before it. The stack's bottom comes first, and a long is one local.
-#[derive(Debug, Drop)]
+#[derive(Drop)]
 pub enum Change {
     Same,
     OneItem(JType),
@@ -20,7 +20,7 @@ pub enum Change {
 }
 
 /// An entry of a StackMapTable (JVMS §4.7.4).
-#[derive(Debug, Drop)]
+#[derive(Drop)]
 pub struct Entry {
     pub delta: u16,
     pub change: Change,

@@ -13,7 +13,7 @@ use std::alloc::{AllocError, Global};
 use std::marker::Model;
 
 /// What an instruction knows of its method (JVMS §4.10.1.6).
-#[derive(Debug, Drop)]
+#[derive(Drop)]
 pub struct Environment {
     pub signature: Signature,
     pub max_stack: u16,
@@ -21,7 +21,7 @@ pub struct Environment {
 }
 
 /// The environment of a method whose parameters have room among its locals, so that it has a first frame (JVMS §4.10.1.6).
-#[derive(Debug, Drop)]
+#[derive(Drop)]
 pub struct MethodStart {
     environment: Environment,
 }
@@ -39,7 +39,7 @@ impl Model for MethodStart {
 
 /// A frame that is written in place: the types of a method's locals, of which there are max_locals, and of its operands (JVMS
 /// §4.10.1.4). A long is one operand, and two locals of which the second is `Top`.
-#[derive(Debug, Drop)]
+#[derive(Drop)]
 pub struct Flow {
     pub locals: Locals,
     pub stack: TypeStack,

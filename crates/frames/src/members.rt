@@ -14,7 +14,7 @@ use jtypes::{Invoke, Items, JType, Native, RefType};
 use std::alloc::{AllocError, Global};
 
 /// What a call reaches.
-#[derive(Clone, Copy, Debug, PartialEq, Eq)]
+#[derive(Clone, Copy, PartialEq, Eq)]
 pub enum Reached {
     Library(Native),
     /// A method of the class, by its number.
@@ -22,7 +22,7 @@ pub enum Reached {
 }
 
 /// A method that is called: what it takes, the receiver first, and what it gives.
-#[derive(Debug, Drop)]
+#[derive(Drop)]
 pub struct Callee {
     pub reached: Reached,
     pub params: Items<JType>,

@@ -9,7 +9,7 @@ use jtypes::{Items, JType, RefType, Refusal};
 use std::alloc::{AllocError, Global};
 
 /// The types of a method's parameters, the receiver first, and of its result (JVMS §4.3.3). A boolean is an int.
-#[derive(Debug, Drop)]
+#[derive(Drop)]
 pub struct Signature {
     pub params: Items<JType>,
     pub result: Option<JType>,

@@ -12,7 +12,7 @@ use std::alloc::{AllocError, Global};
 use std::marker::Model;
 
 /// A method with its signature, which is none where its descriptor is outside the profile.
-#[derive(Debug, Drop)]
+#[derive(Drop)]
 pub struct SignedMethod<'a> {
     pub method: MethodView<'a>,
     pub signature: Option<Signature>,
@@ -22,7 +22,7 @@ pub struct SignedMethod<'a> {
 
 /// A class as its methods' instructions see it, with its methods' signatures and equal names found once: 64 KB have room for
 /// thousands of calls of a method whose name or descriptor is half as long.
-#[derive(Debug, Drop)]
+#[derive(Drop)]
 pub struct MemberView<'a> {
     class: ClassView<'a>,
     methods: Vec<SignedMethod<'a>>,

@@ -9,7 +9,7 @@ use std::marker::Model;
 
 /// The types of a method's operands, seen as their list with the top first; a long is one of them, and takes two
 /// slots (JVMS §2.6.2).
-#[derive(Debug, Drop)]
+#[derive(Drop)]
 pub struct TypeStack {
     types: Vec<JType>,
     slots: u16,

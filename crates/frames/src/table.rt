@@ -17,7 +17,7 @@ use jtypes::{Cursor, Items, Refusal};
 use std::alloc::{AllocError, Global};
 
 /// A frame, and the place of the instruction that it is declared for (JVMS §4.7.4). Its locals are a row that was kept.
-#[derive(Debug, Drop)]
+#[derive(Drop)]
 pub struct Declared {
     pub place: usize,
     /// The number of the row.
@@ -26,7 +26,7 @@ pub struct Declared {
 }
 
 /// The frames that a method's tables declare, by rising places, and the method's first frame. Their rows are kept in its locals.
-#[derive(Debug, Drop)]
+#[derive(Drop)]
 pub struct Frames {
     pub declared: Vec<Declared>,
     pub first: Flow,

@@ -13,7 +13,7 @@ const WORKERS: usize = 4;
 const STRIPES: usize = 16;
 
 /// What is asked of the program.
-#[derive(Debug, Drop)]
+#[derive(Drop)]
 pub enum Request<'a> {
     /// Judge the class in this file.
     Check {

@@ -4,7 +4,7 @@ ghost use Rattle.std.specs.Prelude.{◌≡◌, false};
 ghost use Rattle.jtypes.specs.declared.loader.LoadAnswer.TheVariants as load;
 
 /// What a loader answered when it was asked.
-#[derive(Clone, Copy, PartialEq, Eq, Debug)]
+#[derive(Clone, Copy, Debug, PartialEq, Eq)]
 pub enum LoadAnswer {
     /// There is no value.
     None,
@@ -13,7 +13,7 @@ pub enum LoadAnswer {
 }
 
 /// A load that failed.
-#[derive(Clone, Copy, PartialEq, Eq, Debug)]
+#[derive(Clone, Copy, PartialEq, Eq)]
 pub struct LoadFailed;
 
 /// What is asked for the value of a key that has no entry (JSR 107, `CacheLoader`). It returns, and takes no lock and no memory.
@@ -36,7 +36,7 @@ pub trait Loader {
 }
 
 /// No loader: none is asked.
-#[derive(Clone, Copy, Debug)]
+#[derive(Clone, Copy)]
 pub struct NoLoader;
 
 impl Loader for NoLoader {

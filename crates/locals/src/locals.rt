@@ -14,7 +14,7 @@ use std::marker::Model;
 ///
 /// A row is cut into pages, which are never written: a page that is changed is a new one, and what two rows have in common
 /// they share. So equal numbers are equal pages.
-#[derive(Debug, Drop)]
+#[derive(Drop)]
 pub struct Locals {
     alloc: Global,
     pages: Vec<Items<JType>>,

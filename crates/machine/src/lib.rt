@@ -1,35 +1,7 @@
 //! The machine that runs accepted classes.
 #![tactic(auto)]
 
-mod arithmetic;
-mod arrays;
-mod ask_loader;
-mod branches;
-mod calls;
-mod casts;
-mod control;
-mod dispatch;
-mod done;
-mod exec_plain;
-mod fast_path;
-mod library;
-mod machine;
-mod operand_access;
-mod reg_arith;
-mod reg_array;
-mod reg_binary;
-mod reg_box;
-mod reg_branch;
-mod reg_div;
-mod reg_entry;
-mod reg_loop;
-mod reg_move;
-mod returns;
-mod slot_access;
-mod slow_path;
-mod stack_loop;
-mod switches;
 mod workspace;
 
-pub use done::{Done, Going};
+pub use ended::{Done, Going};
 pub use workspace::{Workspace, one_state_runs, run};

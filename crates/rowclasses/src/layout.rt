@@ -4,14 +4,14 @@ use crate::pool::{Constant, POOL};
 use std::alloc::{AllocError, Global};
 
 /// The entries of a StackMapTable, and their count (JVMS §4.7.4).
-#[derive(Clone, Copy, Debug)]
+#[derive(Clone, Copy)]
 pub struct Frames<'a> {
     pub count: u16,
     pub entries: &'a [u8],
 }
 
 /// A method with the one attribute Code, by the pool's indexes.
-#[derive(Clone, Copy, Debug)]
+#[derive(Clone, Copy)]
 pub struct Method<'a> {
     pub flags: u16,
     pub name: u16,

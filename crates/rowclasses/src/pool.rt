@@ -1,7 +1,7 @@
 //! The constant pool of the classes.
 
 /// A constant (JVMS §4.4). Numbers of two bytes are indexes.
-#[derive(Clone, Copy, Debug)]
+#[derive(Clone, Copy)]
 pub enum Constant {
     Utf8(&'static [u8]),
     /// The text of `m` and a number in decimal.

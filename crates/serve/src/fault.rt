@@ -7,7 +7,7 @@ use std::alloc::AllocError;
 use wire::{WireFault, WriteFailed};
 
 /// Why a stream ends early.
-#[derive(Clone, Copy, PartialEq, Eq, Debug)]
+#[derive(Clone, Copy, Debug, PartialEq, Eq)]
 pub enum ServeFault {
     /// A frame is longer than a frame may be.
     TooLong,

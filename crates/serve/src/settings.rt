@@ -3,7 +3,7 @@
 /// By how many workers rounds are run, and in how many stripes the entries are kept. With no workers the calls of a round run in turn.
 ///
 /// A round has no more workers than it is worth, one for each `share` instructions that its jobs take at most.
-#[derive(Clone, Copy, PartialEq, Eq, Debug)]
+#[derive(Clone, Copy, PartialEq, Eq)]
 pub struct Settings {
     /// 0 to 16.
     pub workers: usize,

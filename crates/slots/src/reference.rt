@@ -10,7 +10,7 @@ ghost use Rattle.slots.specs.Standing.{IsWordOf, IsArrayOrNull, array_or_null, k
 use jtypes::{ArrayId, RefValue};
 
 /// What a reference is; its number stands in a word beside it.
-#[derive(Clone, Copy, PartialEq, Eq, Debug)]
+#[derive(Clone, Copy, PartialEq, Eq)]
 pub enum Reference {
     Null,
     Long,

@@ -10,7 +10,7 @@ use std::marker::Model;
 const BEHIND: usize = 8;
 
 /// A row of items, seen with the latest first, and how many more there may be. It fills its cells from the last one on.
-#[derive(Debug, Drop)]
+#[derive(Drop)]
 pub struct Rows<T> {
     cells: Vec<T>,
     start: usize,

@@ -4,7 +4,7 @@ use Rattle.jtypes.specs.Entry.{Entry, effect, after_effect}
 use Rattle.jtypes.specs.declared.types.Arg.{Arg}
 use Rattle.jtypes.specs.declared.loader.LoadAnswer.{LoadAnswer}
 use Rattle.typecheck.specs.Typing.{Class}
-use Rattle.machine.specs.declared.done.Done.{Done}
+use Rattle.ended.specs.declared.done.Done.{Done}
 use Rattle.stripe.specs.declared.call.Reply.{Reply}
 use Rattle.stripe.specs.declared.call.Reply.TheVariants.{Result}
 use Rattle.stripe.specs.declared.call.OpenCall.{OpenCall}

@@ -3,8 +3,8 @@ use Rattle.std.specs.Prelude.{◌≡◌, ℕ, ℤ, Bool, true, false, List, [], 
 use Rattle.std.specs.FinMap as map
 use Rattle.jtypes.specs.Entry.{Entry}
 use Rattle.jtypes.specs.declared.loader.LoadAnswer.{LoadAnswer}
-use Rattle.machine.specs.declared.done.Done.{Done}
-use Rattle.machine.specs.Running.{IsMeant}
+use Rattle.ended.specs.declared.done.Done.{Done}
+use Rattle.ended.specs.Ended.{IsMeant}
 use Rattle.stripe.specs.History.{Call, Invoke, Get, Put, Remove, Contains, Begun, Record, Entries, key_of, entries_after, invocation, Answers, IsLegal, stripe_of}
 use Rattle.stripe.specs.Stored.{Stored, entry_in, left}
 

@@ -5,7 +5,7 @@ ghost use Rattle.std.specs.Prelude.{◌≡◌, ◌≤◌, [], length};
 use jtypes::{Arg, Args};
 
 /// The arguments of an invocation, where its caller has them: at most eight. Whoever keeps the call keeps no copy of them.
-#[derive(Clone, Copy, Debug)]
+#[derive(Clone, Copy)]
 pub struct ArgSlice<'a> {
     pub items: &'a [Arg],
     pub ghost few: { length items.now ≤ 8 },

@@ -7,13 +7,13 @@ ghost use Rattle.stripe.specs.History.{IsGot};
 ghost use Rattle.stripe.specs.Kept.{IsAsked};
 
 use crate::args::ArgSlice;
+use ended::Done;
 use jtypes::{Effect, JavaFault, LoadAnswer, Loader, Outcome};
-use machine::Done;
 use mutentry::effect_leads_from_before_to_now;
 use verify::Verified;
 
 /// What a caller asks (JSR 107, `Cache`).
-#[derive(Clone, Copy, Debug)]
+#[derive(Clone, Copy)]
 pub enum Call<'a> {
     /// `invoke`, of an entry processor of this class.
     Invoke {
@@ -41,7 +41,7 @@ pub enum Call<'a> {
 }
 
 /// What a caller is told.
-#[derive(Clone, Copy, Debug, PartialEq, Eq)]
+#[derive(Clone, Copy, PartialEq, Eq)]
 pub enum Reply {
     /// How an invocation ended.
     Result(Outcome),
@@ -54,7 +54,7 @@ pub enum Reply {
 }
 
 /// A call that was made, with its reply and the entry that it left.
-#[derive(Clone, Copy, Debug)]
+#[derive(Clone, Copy)]
 pub struct Record<'a> {
     pub caller: u8,
     /// The number of the call among its caller's, from 0.
@@ -67,7 +67,7 @@ pub struct Record<'a> {
 }
 
 /// A call that is open, with the entry that it found.
-#[derive(Clone, Copy, Debug)]
+#[derive(Clone, Copy)]
 pub struct OpenCall<'a> {
     pub caller: u8,
     pub number: u32,

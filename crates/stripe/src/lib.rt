@@ -17,6 +17,3 @@ pub use refusal::{BeginRefusal, OpenRefusal};
 pub use rest::Rest;
 pub use stripe::Stripe;
 pub use tables::{MOST_RECORDS, Tables};
-
-#[cfg(test)]
-mod tests;

@@ -1,6 +1,6 @@
 //! Stripes that come back.
 
-ghost use Rattle.std.specs.Prelude.{◌≡◌, None, length, map};
+ghost use Rattle.std.specs.Prelude.{◌≡◌, ◌↔◌, IsTrue, None, length, map};
 
 use crate::call::Record;
 use crate::stripe::Stripe;
@@ -33,9 +33,26 @@ impl<'a> Model for Rest<'a> {
 }
 
 impl<'a> Rest<'a> {
-    ghost use Rattle.std.specs.Prelude.{◌≡◌, None, length, map};
+    ghost use Rattle.std.specs.Prelude.{◌≡◌, ◌↔◌, IsTrue, None, length, map};
     ghost use Rattle.stripe.specs.Seen.{record_of};
     ghost use Rattle.stripe.specs.Tables.{IsNext, added};
+
+    /// Whether a stripe is the next one, and no call is open on it.
+    pub fn is_next(&self, stripe: &Stripe<'a>) -> bool
+        ensures next { IsTrue result → IsNext self.now stripe.now }
+        ensures idle { IsTrue result → stripe.now.running ≡ None }
+    {
+        stripe.stripes == self.stripes
+            && stripe.place == self.tables.len()
+            && stripe.running.is_none()
+    }
+
+    /// Whether all stripes are back.
+    pub fn is_whole(&self) -> bool
+        ensures { IsTrue result ↔ (length self.now.tables ≡ self.now.stripes) }
+    {
+        self.tables.len() == self.stripes
+    }
 
     /// Takes the next stripe back. No call is open on it.
     pub fn add(&mut self, stripe: Stripe<'a>)

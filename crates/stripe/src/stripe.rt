@@ -4,10 +4,11 @@ ghost use Rattle.std.specs.Prelude.{◌≡◌, ◌↔◌, ℕ, ℤ, ◌<◌, ◌
 ghost use Rattle.std.specs.FinMap as stored;
 
 use crate::call::{Call, OpenCall, Record, ask};
+use crate::key::stripe_of;
 use crate::refusal::BeginRefusal;
 use crate::table::Table;
+use ended::Done;
 use jtypes::{LoadAnswer, Loader, NoLoader};
-use machine::Done;
 use std::marker::Model;
 
 /// A stripe of a cache: the entries of its keys, the call that is open on it, if any, and the history of its calls.
@@ -82,6 +83,16 @@ impl<'a> Stripe<'a> {
         ensures { result ≡ entry_of self.now key }
     {
         self.table.entry(key)
+    }
+
+    /// Whether a call on a key may begin: none is open, and the key is one of this stripe.
+    pub fn is_ready(&self, key: i64) -> bool
+        ensures idle { IsTrue result → self.now.running ≡ None }
+        ensures of { IsTrue result → IsOf self.now key }
+    {
+        let stripes = self.stripes;
+        let place = self.place;
+        self.running.is_none() && stripes > 0 && stripes <= 64 && stripe_of(stripes, key) == place
     }
 
     /// Begins a call, and answers the entry that it finds. An Invoke or a Put that finds none has a place made for one, and so

@@ -3,7 +3,5 @@
 
 mod file;
 mod table;
-#[cfg(test)]
-mod tests;
 
 pub use table::{Pair, Table};

@@ -258,7 +258,7 @@ fn counts(alloc: Global, closed: &Closed<'_>) -> Result<Vec<i64>, AllocError> {
 }
 
 /// What is left of the work of so many callers.
-#[derive(Clone, Copy, PartialEq, Eq, Debug)]
+#[derive(Clone, Copy, Debug, PartialEq, Eq)]
 struct Sums {
     /// How many seats have as many receipts as were asked for.
     seats: usize,

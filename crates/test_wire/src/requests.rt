@@ -11,7 +11,7 @@ use wire::{Counted, Request, WireFault, read_request};
 type Answer = Result<Option<Request>, WireFault>;
 
 /// What is read, where it has no rows.
-#[derive(Clone, Copy, PartialEq, Eq, Debug)]
+#[derive(Clone, Copy, Debug, PartialEq, Eq)]
 enum Told {
     End,
     RoundEnd,

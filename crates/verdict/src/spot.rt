@@ -8,7 +8,7 @@ use jtypes::Refusal;
 use std::alloc::{AllocError, AllocFailed};
 
 /// A part of a class. Methods are numbered in the file's order, from 0.
-#[derive(Clone, Copy, Debug, PartialEq, Eq)]
+#[derive(Clone, Copy, PartialEq, Eq)]
 pub enum Spot {
     /// The class as a whole.
     Whole,
@@ -19,7 +19,7 @@ pub enum Spot {
 }
 
 /// A refusal, and where it stands. Want of memory stands nowhere.
-#[derive(Clone, Copy, Debug, PartialEq, Eq)]
+#[derive(Clone, Copy, PartialEq, Eq)]
 pub struct Located {
     pub refusal: Refusal,
     pub spot: Spot,

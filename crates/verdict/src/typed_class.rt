@@ -23,7 +23,7 @@ use std::alloc::Global;
 use typecheck::{Called, Typed, check_method};
 
 /// A class whose methods are well typed: its file, and the rows of its methods but the constructor, by rising numbers.
-#[derive(Debug, Drop)]
+#[derive(Drop)]
 pub struct TypedClass {
     pub class: ClassFile,
     pub methods: Vec<Typed>,

@@ -24,7 +24,7 @@ use std::marker::Model;
 use typecheck::Typed;
 
 /// A class that was accepted.
-#[derive(Debug, Drop)]
+#[derive(Drop)]
 pub struct JudgedClass {
     class: ClassFile,
     methods: Vec<Typed>,

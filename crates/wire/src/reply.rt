@@ -6,7 +6,7 @@ ghost use Rattle.wire.specs.Frames.{denial_number};
 use jtypes::{Items, Outcome, Refusal};
 
 /// Why a request isn't done.
-#[derive(Clone, Copy, PartialEq, Eq, Debug)]
+#[derive(Clone, Copy, PartialEq, Eq)]
 pub enum Denial {
     /// No class that was accepted has the number.
     UnknownClass,
@@ -34,14 +34,14 @@ impl Denial {
 }
 
 /// What the invocation on one of several keys came to.
-#[derive(Clone, Copy, PartialEq, Eq, Debug)]
+#[derive(Clone, Copy, PartialEq, Eq)]
 pub enum JobOutcome {
     Ended(Outcome),
     Denied(Denial),
 }
 
 /// What a client is answered.
-#[derive(Debug, Drop)]
+#[derive(Drop)]
 pub enum Reply {
     /// A class is accepted: its number among those accepted, and its bounds.
     Defined { class: u32, steps: u32, words: u32 },

@@ -3,14 +3,14 @@
 use jtypes::Items;
 
 /// An invocation of the class with this number on one key. Its arguments stand beside it.
-#[derive(Clone, Copy, Debug)]
+#[derive(Clone, Copy)]
 pub struct Invocation {
     pub class: u32,
     pub key: i64,
 }
 
 /// What a client asks. The arguments of an invocation stand beside it.
-#[derive(Debug, Drop)]
+#[derive(Drop)]
 pub enum Request {
     /// The bytes of a class file, which needn't be one.
     Define(Items<u8>),

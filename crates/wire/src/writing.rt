@@ -17,7 +17,7 @@ use std::alloc::AllocError;
 use std::io::Write;
 
 /// A write or a flush answered an error, or a write took no byte.
-#[derive(Clone, Copy, PartialEq, Eq, Debug)]
+#[derive(Clone, Copy, Debug, PartialEq, Eq)]
 pub struct WriteFailed;
 
 /// Writes all the bytes. Where that fails, a beginning of them is written.

@@ -10,9 +10,9 @@ use Rattle.verdict.specs.Meaning.{Means}
 use Rattle.soundness.proofs.Answered.{state_after}
 use Rattle.soundness.proofs.OneMeaning.{one_meaning}
 use Rattle.std.specs.List.{slice_get}
-use Rattle.machine.specs.declared.machine.Machine.{Machine}
-use Rattle.machine.specs.declared.done.Done.{Done}
-use Rattle.machine.specs.Running.{IsFinal}
+use Rattle.interpreter.specs.declared.machine.Machine.{Machine}
+use Rattle.ended.specs.declared.done.Done.{Done}
+use Rattle.ended.specs.Ended.{IsFinal}
 use Rattle.stripe.specs.declared.call.Reply.{Reply}
 use Rattle.stripe.specs.declared.call.Reply.TheVariants as reply
 use Rattle.stripe.specs.History.{Call, Invoke, Get, Put, Remove, Contains, IsGot, Answers, invocation}

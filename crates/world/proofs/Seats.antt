@@ -9,11 +9,12 @@ use Rattle.bounds.specs.Paths.{step_limit}
 use Rattle.typecheck.specs.Typing.{Class}
 use Rattle.verdict.specs.Machine.{Invocation, State}
 use Rattle.verdict.specs.Meaning.{Means}
-use Rattle.machine.specs.declared.machine.Machine.{Machine}
-use Rattle.machine.specs.declared.done.Done.{Done}
-use Rattle.machine.specs.declared.done.Going.TheVariants as going
-use Rattle.machine.specs.AskLoader.{KeepsGiven}
-use Rattle.machine.specs.Running.{IsRunningWith, IsStarted, IsFinal}
+use Rattle.interpreter.specs.declared.machine.Machine.{Machine}
+use Rattle.ended.specs.declared.done.Done.{Done}
+use Rattle.ended.specs.declared.done.Going.TheVariants as going
+use Rattle.interpreter.specs.AskLoader.{KeepsGiven}
+use Rattle.ended.specs.Ended.{IsFinal}
+use Rattle.machine.specs.Running.{IsRunningWith, IsStarted}
 use Rattle.stripe.specs.declared.call.OpenCall.{OpenCall}
 use Rattle.stripe.specs.History.{Call, Invoke, Begun, Record, Answers, key_of, invocation}
 use Rattle.stripe.specs.Seen.{call_of, begun_of}

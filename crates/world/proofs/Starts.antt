@@ -4,7 +4,7 @@ use Rattle.jtypes.specs.declared.loader.LoadAnswer.{LoadAnswer}
 use Rattle.jtypes.specs.declared.loader.LoadAnswer.TheVariants as load
 use Rattle.jtypes.specs.Entry.{Entry}
 use Rattle.jtypes.specs.Loading.{IsGiven}
-use Rattle.machine.specs.declared.machine.Machine.{Machine}
+use Rattle.interpreter.specs.declared.machine.Machine.{Machine}
 use Rattle.stripe.specs.History.{Call, Invoke, Get, Put, Remove, Contains, Begun, key_of}
 use Rattle.stripe.specs.Kept.{Kept, IsAsked, IsPlain, entry_of, begun}
 use Rattle.stripe.specs.declared.call.Reply.TheVariants as reply

@@ -11,11 +11,11 @@ use Rattle.verdict.specs.Machine.{Invocation, State, Final, Goes, Ends, start, a
 use Rattle.soundness.specs.Counting.{EachStepCounts}
 use Rattle.soundness.proofs.Answered.{Agrees, unasked_before, counted, state_after}
 use Rattle.soundness.proofs.OneMeaning.{goes_after, ends_after}
-use Rattle.machine.specs.declared.machine.Machine.{Machine}
-use Rattle.machine.specs.declared.done.Done.{Done}
-use Rattle.machine.specs.declared.done.Going.{Going}
-use Rattle.machine.specs.declared.done.Going.TheVariants as going
-use Rattle.machine.specs.AskLoader.{KeepsGiven}
+use Rattle.interpreter.specs.declared.machine.Machine.{Machine}
+use Rattle.ended.specs.declared.done.Done.{Done}
+use Rattle.ended.specs.declared.done.Going.{Going}
+use Rattle.ended.specs.declared.done.Going.TheVariants as going
+use Rattle.interpreter.specs.AskLoader.{KeepsGiven}
 use Rattle.machine.specs.Running.{IsRunning, Follows}
 use Rattle.world.specs.World.{MayAnswer}
 use Rattle.world.specs.Going.{known, state_in}

@@ -8,9 +8,10 @@ use Rattle.jtypes.specs.declared.loader.LoadAnswer.TheVariants as load
 use Rattle.typecheck.specs.Typing.{Class}
 use Rattle.verdict.specs.Machine.{Invocation, State, start}
 use Rattle.soundness.proofs.Answered.{state_after}
-use Rattle.machine.specs.declared.machine.Machine.{Machine}
-use Rattle.machine.specs.declared.done.Done.{Done}
-use Rattle.machine.specs.Running.{IsRunning, IsMeant}
+use Rattle.interpreter.specs.declared.machine.Machine.{Machine}
+use Rattle.ended.specs.declared.done.Done.{Done}
+use Rattle.ended.specs.Ended.{IsMeant}
+use Rattle.machine.specs.Running.{IsRunning}
 use Rattle.stripe.specs.declared.call.Reply.TheVariants.{Result, Value}
 use Rattle.stripe.specs.History.{Call, Invoke, Get, Put, Remove, Contains, invocation, told_by}
 use Rattle.stripe.specs.Kept.{IsAsked}

@@ -1,8 +1,8 @@
 -- What is true of every seat.
 use Rattle.std.specs.Prelude.{◌≡◌, Option, Some, None, option_map}
 use Rattle.jtypes.specs.declared.loader.LoadAnswer.{LoadAnswer}
-use Rattle.machine.specs.declared.machine.Machine.{Machine}
-use Rattle.machine.specs.declared.done.Done.{Done}
+use Rattle.interpreter.specs.declared.machine.Machine.{Machine}
+use Rattle.ended.specs.declared.done.Done.{Done}
 use Rattle.stripe.specs.History.{Begun, key_of}
 use Rattle.stripe.specs.Kept.{Kept, entry_of}
 use Rattle.world.specs.declared.seat.Seat.TheInside.{Inside}

@@ -5,10 +5,11 @@ use Rattle.jtypes.specs.Lists.{only_if}
 use Rattle.typecheck.specs.Typing.{Class}
 use Rattle.verdict.specs.Machine.{State, Final, Goes, Ends, asks, step_with}
 use Rattle.verdict.specs.Meaning.{Means}
-use Rattle.machine.specs.declared.machine.Machine.{Machine}
-use Rattle.machine.specs.declared.done.Going.{Going}
-use Rattle.machine.specs.declared.done.Going.TheVariants as going
-use Rattle.machine.specs.Running.{IsRunning, IsFinal}
+use Rattle.interpreter.specs.declared.machine.Machine.{Machine}
+use Rattle.ended.specs.declared.done.Going.{Going}
+use Rattle.ended.specs.declared.done.Going.TheVariants as going
+use Rattle.ended.specs.Ended.{IsFinal}
+use Rattle.machine.specs.Running.{IsRunning}
 use Rattle.world.specs.World.{MayAnswer}
 use Rattle.world.specs.Going.{known, state_in}
 

@@ -3,7 +3,7 @@
 use stripe::{BeginRefusal, Call};
 
 /// Something that happens.
-#[derive(Clone, Copy, Debug)]
+#[derive(Clone, Copy)]
 pub enum Event<'a> {
     /// A caller's call begins.
     Start { caller: u8, call: Call<'a> },

@@ -4,8 +4,8 @@ ghost use Rattle.std.specs.Prelude.{◌≡◌, ◌↔◌, ◌≤◌, IfSome, IfN
 ghost use Rattle.jtypes.specs.Profile.{Second};
 ghost use Rattle.bounds.specs.Paths.{step_limit};
 ghost use Rattle.verdict.specs.Machine.{State};
-ghost use Rattle.machine.specs.declared.done.Done.{Done as DoneSeen};
-ghost use Rattle.machine.specs.AskLoader.{KeepsGiven};
+ghost use Rattle.ended.specs.declared.done.Done.{Done as DoneSeen};
+ghost use Rattle.interpreter.specs.AskLoader.{KeepsGiven};
 ghost use Rattle.machine.specs.Running.{IsRunningWith};
 ghost use Rattle.stripe.specs.Seen.{call_of};
 ghost use Rattle.world.specs.Going.{is_ended};

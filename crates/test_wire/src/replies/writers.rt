@@ -35,7 +35,7 @@ impl Write for Sink {
 }
 
 /// What a writer was given.
-#[derive(Clone, Copy, PartialEq, Eq, Debug)]
+#[derive(Clone, Copy, Debug, PartialEq, Eq)]
 struct Given {
     result: Result<(), WriteFailed>,
     failures: u64,

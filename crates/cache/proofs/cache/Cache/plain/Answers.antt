@@ -1,6 +1,6 @@
 use Rattle.std.proofs.Common.{sym, subst, Option}
 use Rattle.jtypes.specs.declared.loader.LoadAnswer.{LoadAnswer}
-use Rattle.machine.specs.declared.done.Done.{Done}
+use Rattle.ended.specs.declared.done.Done.{Done}
 use Rattle.stripe.specs.Seen.{call_of}
 use Rattle.cache.specs.Steps.{EndsSo}
 use Rattle.cache.proofs.Moves.{plain_ends}
