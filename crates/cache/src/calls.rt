@@ -110,9 +110,7 @@ impl<'a, 'l, L: Loader> Cache<'a, 'l, L> {
         let end = |_before: Option<i64>| -> Ended
             ensures { result ≡ (None, None) }
         { (None, None) };
-        let answer = self.locked(rt, seat, call, end, job, gate);
-        gate.answered(job);
-        answer
+        self.locked(rt, seat, call, end, job, gate)
     }
 
     /// The same, behind which the seat holds no stripe.
@@ -131,6 +129,7 @@ impl<'a, 'l, L: Loader> Cache<'a, 'l, L> {
     {
         let answer = self.plain(rt, seat, call, job, gate);
         self.leave(seat);
+        gate.answered(job);
         answer
     }
 
@@ -203,6 +202,7 @@ impl<'a, 'l, L: Loader> Cache<'a, 'l, L> {
         let class = self.registry.class(class);
         let answer = self.run_at(rt, seat, workspace, class, key, args, job, gate);
         self.leave(seat);
+        gate.answered(job);
         answer
     }
 
@@ -232,15 +232,15 @@ impl<'a, 'l, L: Loader> Cache<'a, 'l, L> {
                 None,
             )
         };
-        let answer = self.locked(rt, seat, call, end, job, gate);
-        gate.answered(job);
-        answer
+        self.locked(rt, seat, call, end, job, gate)
     }
 
-    /// Any of the calls, as a job, whose gate is told of it. The class of an invocation may be of any registry that lives as long.
+    /// Any of the calls, as a job. The class of an invocation may be of any registry that lives as long.
     ///
-    /// The seat holds the stripe of the call's key on, so that a call on the same stripe finds it held; no other seat makes a call on it
-    /// meanwhile. The seat gives it back before a call on another stripe, behind each call that isn't this one, and by `leave`.
+    /// The seat keeps the lock of the key's stripe, so that its next call on the same stripe doesn't lock it again; no other seat makes a
+    /// call on it meanwhile. The seat unlocks it before a call on another stripe, after each call that isn't this one, and by `leave`.
+    ///
+    /// The gate hears `started` alone: `answered` is for the caller to call, after the stripe is unlocked.
     #[inline(always)]
     pub fn call_at<R: Wait, G: Gate>(
         &self,
@@ -295,6 +295,7 @@ impl<'a, 'l, L: Loader> Cache<'a, 'l, L> {
     {
         let answer = self.read(rt, seat, key, job, gate);
         self.leave(seat);
+        gate.answered(job);
         answer
     }
 
@@ -314,9 +315,7 @@ impl<'a, 'l, L: Loader> Cache<'a, 'l, L> {
     {
         let loader = self.loader;
         let end = |before: Option<i64>| (None, ask(loader, key, before));
-        let answer = self.locked(rt, seat, Call::Get { key }, end, job, gate);
-        gate.answered(job);
-        answer
+        self.locked(rt, seat, Call::Get { key }, end, job, gate)
     }
 
     /// `put` (JSR 107, `Cache`).

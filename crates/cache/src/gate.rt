@@ -1,11 +1,14 @@
-//! What is told while calls run.
+//! Observers of calls.
 
-/// Is told how far a call has come. It may hold the call up.
+/// An observer of calls. It may hold a call up.
 pub trait Gate {
     /// The call of this job has begun, and its stripe is locked.
     fn started(&self, job: usize);
 
-    /// The call of this job has ended, by a reply or a refusal, and its stripe is free.
+    /// The call of this job has ended, by a reply or a refusal, and its stripe is unlocked: the call's last act.
+    ///
+    /// After `Cache::call_at` the seat keeps the lock for its next call, so the caller reports the call once it has unlocked the stripe:
+    /// a round does so at the end of each group of calls, and a round by one worker at its own end.
     fn answered(&self, job: usize);
 }
 

@@ -13,8 +13,8 @@ use machine::Workspace;
 use std::sync::Wait;
 use stripe::Call;
 
-/// Makes the calls in their order at one seat, and puts the answers into the room for them. It makes room for their receipts at once, if
-/// there is memory for it.
+/// Makes the calls in their order at one seat, and pushes their answers, for which there is capacity. It reserves their receipts at once, if
+/// there is memory for it. The gate hears of the ends behind the last call, when no stripe is locked.
 pub fn run_alone<'a, R: Wait, G: Gate, L: Loader>(
     rt: &R,
     cache: &Cache<'a, '_, L>,
@@ -35,4 +35,12 @@ pub fn run_alone<'a, R: Wait, G: Gate, L: Loader>(
         answers.push_reserved(answer);
     }
     cache.leave(seat);
+    report_all(gate, calls.len());
+}
+
+/// Reports this many calls. Their stripes are unlocked by now.
+fn report_all<G: Gate>(gate: &G, count: usize) {
+    for number in 0..count {
+        gate.answered(number);
+    }
 }

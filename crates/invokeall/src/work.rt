@@ -128,8 +128,8 @@ fn work_within<'a, R: Wait, G: Gate, L: Loader>(
     true
 }
 
-/// Makes the calls of one group, in their order. The stripe is held from the first one on, and given back behind the
-/// last one.
+/// Makes the calls of one group, in their order. The stripe is locked from the first one on and unlocked after the last one; then the
+/// gate hears of each of them.
 #[inline(always)]
 fn work_on<'a, R: Wait, G: Gate, L: Loader>(
     rt: &R,
@@ -148,6 +148,7 @@ fn work_on<'a, R: Wait, G: Gate, L: Loader>(
     ensures claimer { worker.new.claimer ≡ worker.old.claimer }
     ensures answered { (v : Worker) (before : List ℕ) → HasAnswered cache.now (all_seen calls.now) v worker.old before → HasAnswered cache.now (all_seen calls.now) v worker.new (before ++ members (groups_in groups.now (all_seen calls.now)) group (length (all_seen calls.now))) }
 {
+    let before = worker.answers.len();
     let mut number = groups.first(group);
     while number < calls.len() {
         let Worker {
@@ -161,6 +162,14 @@ fn work_on<'a, R: Wait, G: Gate, L: Loader>(
         number = groups.next(number);
     }
     cache.leave(&mut worker.seat);
+    report_answered(gate, worker.answers.as_slice(), before);
+}
+
+/// Reports the calls whose answers a worker has got since it had `before` of them. Their stripe is unlocked by now.
+fn report_answered<G: Gate>(gate: &G, answers: &[(usize, JobReply)], before: usize) {
+    for (number, _) in answers.iter().skip(before) {
+        gate.answered(*number);
+    }
 }
 
 /// The call of this number.
