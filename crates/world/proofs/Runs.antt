@@ -6,10 +6,10 @@ use Rattle.world.specs.declared.event.Applied.TheVariants.{Refused}
 use Rattle.jtypes.specs.declared.loader.LoadAnswer.{LoadAnswer}
 use Rattle.stripe.specs.History.{key_of}
 use Rattle.world.specs.World.{World, Running, Progress, Working, Settled, Event, Start, Step, Finish, entries_now, stripe_in, progress_of, after_begin, after_start, stepped, after_step, finished, after_finish, apply, Happens, Runs, none, more}
-use Rattle.world.specs.Refused.{is_start_on_full, is_start_on_absent, RunsWithRoom, IsRefusable}
+use Rattle.world.specs.Refused.{is_start_on_full, is_start_on_absent, KeepsEntries, RunsWithRoom, IsRefusable}
 
-pub room_more : {gives : ℤ → LoadAnswer → Type 0} {w v u : World} {es : List Event} (e : Event) → RunsWithRoom gives w es v → Happens gives v e u → is_start_on_full v e ≡ false → RunsWithRoom gives w (es ++ e ∷ []) u
-room_more e (runs, room) happens f = (more e runs happens, (room, f))
+pub room_more : {gives : ℤ → LoadAnswer → Type 0} {w v u : World} {es : List Event} (e : Event) → RunsWithRoom gives w es v → Happens gives v e u → is_start_on_full v e ≡ false → KeepsEntries v u → RunsWithRoom gives w (es ++ e ∷ []) u
+room_more e (runs, room) happens f keeps = (more e runs happens, (room, f, keeps))
 
 pub take_one : {X Y : Type 0} (f : X → Y) (xs : List X) (i : ℕ) (x : X) → slice_get xs i ≡ Some x → map f (take (suc i) xs) ≡ map f (take i xs) ++ f x ∷ []
 take_one f [] i x e = absurd (cc)

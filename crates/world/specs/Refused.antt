@@ -51,12 +51,23 @@ abbrev pub IsRefusable : World → Event → BeginRefusal → Type 0
 IsRefusable w e JournalFull = IsTrue (is_start_on_full w e)
 IsRefusable w e NoMemory = IsTrue (is_start_on_absent w e)
 
--- none of the events that led to the other world stood on a full history
+-- a call on this key runs
+pub record RunsOn (w : World) (k : ℤ) : Type 0 where
+  pub stripe : ℕ
+  pub running : Running
+  pub there : slice_get w.running stripe ≡ Some (Some running)
+  pub key : key_of running.call ≡ k
+
+-- no key's entry changes while a call on it runs
+abbrev pub KeepsEntries : World → World → Type 0
+KeepsEntries old new = (k : ℤ) → RunsOn old k → RunsOn new k → entries_now new k ≡ entries_now old k
+
+-- none of the events that led to the other world was a start on a full history, and none changed the entry of a key on which a call runs
 abbrev pub HadRoom : {gives : ℤ → LoadAnswer → Type 0} {w : World} {events : List Event} {v : World} → Runs gives w events v → Type 0
 HadRoom none = Unit {0}
-HadRoom (more {v} e runs happens) = HadRoom runs × (is_start_on_full v e ≡ false)
+HadRoom (more {v} {u} e runs happens) = HadRoom runs × (is_start_on_full v e ≡ false) × KeepsEntries v u
 
--- these events lead from the one world to the other, and had room
+-- these events lead from the one world to the other, had room, and kept the entries of running calls
 abbrev pub RunsWithRoom : (ℤ → LoadAnswer → Type 0) → World → List Event → World → Type 0
 RunsWithRoom gives w events v = (runs : Runs gives w events v) × HadRoom runs
 
@@ -67,13 +78,6 @@ pub record IsStopped (gives : ℤ → LoadAnswer → Type 0) (w : World) (events
   pub before : RunsWithRoom gives w (take place events) new
   pub refused : IsRefusable new event refusal
 
--- a call on this key runs
-pub record RunsOn (w : World) (k : ℤ) : Type 0 where
-  pub stripe : ℕ
-  pub running : Running
-  pub there : slice_get w.running stripe ≡ Some (Some running)
-  pub key : key_of running.call ≡ k
-
 -- what became of an event
 pub record IsApplied (gives : ℤ → LoadAnswer → Type 0) (w : World) (e : Event) (a : Applied) (new : World) : Type 0 where
   pub world : ((r : BeginRefusal) → ¬ (a ≡ Refused r)) → Happens gives w e new
@@ -81,10 +85,6 @@ pub record IsApplied (gives : ℤ → LoadAnswer → Type 0) (w : World) (e : Ev
   pub ignored : (a ≡ Ignored) ↔ (is_possible w e ≡ false)
   pub full : (a ≡ Refused JournalFull) ↔ IsTrue (is_start_on_full w e)
   pub memory : a ≡ Refused NoMemory → IsTrue (is_start_on_absent w e)
-
--- no key's entry changes while a call on it runs
-abbrev pub KeepsEntries : World → World → Type 0
-KeepsEntries old new = (k : ℤ) → RunsOn old k → RunsOn new k → entries_now new k ≡ entries_now old k
 
 -- no call runs
 abbrev pub NoneRuns : World → Type 0

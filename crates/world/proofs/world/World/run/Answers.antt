@@ -53,7 +53,7 @@ loop-place-preserved g c =
     let happens : Happens gives before (event_of e) c.apply.new.self.world =
     subst (λ l. Happens (g.L.Loader.gives l) before (event_of e) c.apply.new.self.world) c.loop-place.invariant.loader (applied.world (λ r q. c.in_default.not-Refused r q)) in
     record {
-      runs = subst (λ es. RunsWithRoom gives w es c.apply.new.self.world) (sym more) (room_more (event_of e) c.loop-place.invariant.runs happens room);
+      runs = subst (λ es. RunsWithRoom gives w es c.apply.new.self.world) (sym more) (room_more (event_of e) c.loop-place.invariant.runs happens room c.apply.ensures.held);
       loader = c.apply.ensures.loader ∙ c.loop-place.invariant.loader;
     }
 
