@@ -20,7 +20,7 @@ use std::sync::Wait;
 use std::thread::Threads;
 use std::time::{Clock, Duration};
 use stripe::{ArgSlice, Tables};
-use workers::{Kept, SHARE, run_by_workers, steps_of, worth};
+use workers::{STEPS_PER_WORKER, WorkspacePool, cost_of, run_by_workers, workers_for};
 
 /// How many rounds there are.
 const ROUNDS: usize = 201;
@@ -52,7 +52,7 @@ pub fn one<R: Threads + Wait + Clock + Sync>(
     seats: usize,
     steps: u64,
     jobs: &[Job<'_>],
-    kept: &mut Kept,
+    kept: &mut WorkspacePool,
 ) -> Result<(Duration, Tables), Failure>
     requires seats { IsSeatCount seats }
     requires jobs { IsJobCount (length jobs.now) }
@@ -60,7 +60,7 @@ pub fn one<R: Threads + Wait + Clock + Sync>(
 {
     let calls = calls_for(alloc, registry, jobs)?;
     let begin = now(rt)?;
-    let workers = worth(steps, seats, SHARE);
+    let workers = workers_for(steps, seats, STEPS_PER_WORKER);
     let Ok(left) = run_by_workers(
         rt, alloc, registry, tables, workers, &calls, kept, &NoGate, &NoLoader,
     ) else {
@@ -88,7 +88,7 @@ fn timed<R: Threads + Wait + Clock + Sync>(
     requires callable { All (IsCallable registry.now) jobs.now }
 {
     let mut times = [0u128; ROUNDS];
-    let mut kept = Kept::with_workspaces(alloc, seats);
+    let mut kept = WorkspacePool::with_workspaces(alloc, seats);
     for time in times.iter_mut() {
         let (taken, left) = one(rt, alloc, registry, tables, seats, steps, jobs, &mut kept)?;
         *time = tenths(taken, 1);
@@ -112,7 +112,7 @@ fn timed_on<R: Threads + Wait + Clock + Sync>(
 {
     let list = jobs_of(alloc, class, ArgSlice::none(), jobs)?;
     let tables = filled(rt, alloc, registry, class, jobs)?;
-    let steps = steps_of(registry.class(class)).saturating_mul(u64::from(jobs));
+    let steps = cost_of(registry.class(class)).saturating_mul(u64::from(jobs));
     let (times, tables) = timed(rt, alloc, registry, tables, seats, steps, &list)?;
     Ok((times, sum_of(&tables, jobs)))
 }

@@ -8,7 +8,7 @@ use Rattle.claims.proofs.Totals.{total_append}
 use Rattle.stripe.specs.History.{Call}
 use Rattle.cache.specs.Opened.{Opened}
 use Rattle.invokeall.specs.declared.groups.Groups.{Groups}
-use Rattle.invokeall.specs.declared.work.Worker.{Worker}
+use Rattle.invokeall.specs.declared.worker.Worker.{Worker}
 use Rattle.invokeall.specs.Groups.{groups_in, members, members_of_all, AreDifferent}
 use Rattle.invokeall.specs.Crews.{numbers, IsReady, HasAnswered, HasPutOff}
 use Rattle.invokeall.proofs.Members.{same_test, other_test, claimed_once, different_members, members_more}

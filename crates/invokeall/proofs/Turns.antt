@@ -13,7 +13,7 @@ use Rattle.cache.specs.declared.refusal.InvokeRefusal.TheVariants.{JournalFull, 
 use Rattle.cache.specs.Opened.{Opened, Sitting, IsAnswered, IsTurnedAway, stripe_in}
 use Rattle.round_outcome.specs.Closed.{calls_told, AreFiled}
 use Rattle.round_outcome.proofs.Handed.{filed_by_calls, filed_by_refusals}
-use Rattle.invokeall.specs.declared.work.Worker.{Worker}
+use Rattle.invokeall.specs.declared.worker.Worker.{Worker}
 use Rattle.invokeall.specs.Rounds.{Answer, IsLaterSeat, IsFull}
 use Rattle.invokeall.specs.Crews.{told_answer, told_at, told_row, numbers, ShowsFull, HasAnswered}
 

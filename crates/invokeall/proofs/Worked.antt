@@ -20,7 +20,7 @@ use Rattle.round_outcome.specs.Outcome.{answered}
 use Rattle.round_outcome.specs.Closed.{all_receipts, calls_told, calls_at, AreFiled, AllAreFiled}
 use Rattle.invokeall.specs.declared.groups.Groups.{Groups}
 use Rattle.invokeall.specs.declared.job.Job.{Job}
-use Rattle.invokeall.specs.declared.work.Worker.{Worker}
+use Rattle.invokeall.specs.declared.worker.Worker.{Worker}
 use Rattle.invokeall.specs.Jobs.{calls_of}
 use Rattle.invokeall.specs.Groups.{group_of, groups_in, AreGroups}
 use Rattle.invokeall.specs.Rounds.{Answer, reply_of, IsLaterSeat, IsFull, IsRound, IsAtHome}

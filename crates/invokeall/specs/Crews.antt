@@ -9,7 +9,7 @@ use Rattle.cache.specs.declared.refusal.InvokeRefusal.TheVariants.{JournalFull}
 use Rattle.cache.specs.Opened.{Opened, Sitting}
 use Rattle.round_outcome.specs.Closed.{calls_told, AreFiled}
 use Rattle.invokeall.specs.declared.groups.Groups.{Groups}
-use Rattle.invokeall.specs.declared.work.Worker.{Worker}
+use Rattle.invokeall.specs.declared.worker.Worker.{Worker}
 use Rattle.invokeall.specs.Groups.{groups_in, members_of_all}
 use Rattle.invokeall.specs.Rounds.{Answer, IsLaterSeat, IsFull}
 

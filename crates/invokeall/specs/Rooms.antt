@@ -6,8 +6,8 @@ use Rattle.stripe.specs.Tables.{IsCount}
 use Rattle.claims.specs.Counters.{Share, AreFresh}
 use Rattle.cache.specs.declared.refusal.InvokeRefusal.TheVariants.{NoMemory}
 use Rattle.cache.specs.Opened.{Sitting}
-use Rattle.invokeall.specs.declared.work.Worker.{Worker}
-use Rattle.invokeall.specs.declared.room.RoundRoom.{RoundRoom}
+use Rattle.invokeall.specs.declared.worker.Worker.{Worker}
+use Rattle.invokeall.specs.declared.buffers.RoundBuffers.{RoundBuffers}
 use Rattle.invokeall.specs.Groups.{AreBlank}
 use Rattle.invokeall.specs.Rounds.{Answer}
 
@@ -61,7 +61,7 @@ abbrev pub HasRoom : {A : Type 0} → ℕ → Vec A Global → Type 0
 HasRoom n v = (v.items ≡ []) × (n ≤ vec_capacity v)
 
 -- room for a round of so many jobs in so many groups, by so many workers
-pub record IsRoom (jobs groups count : ℕ) (r : RoundRoom) : Type 0 where
+pub record IsRoom (jobs groups count : ℕ) (r : RoundBuffers) : Type 0 where
   pub some_groups : IsCount groups
   pub groups_are : r.counter.jobs ≡ groups
   pub workers_are : r.counter.workers ≡ count

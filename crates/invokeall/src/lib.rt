@@ -2,17 +2,17 @@
 #![tactic(auto)]
 
 mod all;
-mod alone;
-mod crew;
+mod buffers;
 mod groups;
 mod job;
-mod room;
 mod round;
-mod shift;
-mod work;
+mod round_task;
+mod single;
+mod threads;
+mod worker;
 
 pub use all::invoke_all;
-pub use alone::run_alone;
+pub use buffers::{RoundBuffers, room_for};
 pub use job::{Job, JobReply, calls_for};
-pub use room::{RoundRoom, room_for};
 pub use round::{run_in, run_round};
+pub use single::run_alone;

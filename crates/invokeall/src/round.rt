@@ -7,9 +7,9 @@ ghost use Rattle.invokeall.specs.Jobs.{IsCallable, calls_of, all_seen};
 ghost use Rattle.invokeall.specs.Rounds.{IsRound, IsAtHome};
 ghost use Rattle.invokeall.specs.Rooms.{IsRoom};
 
-use crate::crew::run_all;
+use crate::buffers::{RoundBuffers, collect, into_parts, make_workers, room_for};
 use crate::job::{Job, JobReply, calls_for};
-use crate::room::{RoundRoom, collect, gather, hire, room_for};
+use crate::round_task::run_all;
 use cache::{Cache, Gate, Seat};
 use jtypes::Loader;
 use machine::Workspace;
@@ -56,7 +56,7 @@ pub fn run_in<'a, R: Threads + Wait + Sync, G: Gate + Sync, L: Loader + Sync>(
     calls: &[Call<'a>],
     seats: &mut Vec<Seat<'a>>,
     workspaces: &mut Vec<Workspace>,
-    room: RoundRoom<'a>,
+    room: RoundBuffers<'a>,
     gate: &G,
 ) -> Vec<JobReply>
     requires some_seat { 0 < length seats.old.items }
@@ -66,7 +66,7 @@ pub fn run_in<'a, R: Threads + Wait + Sync, G: Gate + Sync, L: Loader + Sync>(
     ensures round { IsRound cache.now (all_seen calls.now) seats.old.items seats.new.items result.items }
     ensures workspaces { length workspaces.new.items ≡ length workspaces.old.items }
 {
-    let RoundRoom {
+    let RoundBuffers {
         counter,
         groups,
         claimers,
@@ -81,7 +81,7 @@ pub fn run_in<'a, R: Threads + Wait + Sync, G: Gate + Sync, L: Loader + Sync>(
     let groups = groups.of(calls);
     let old = mem::replace(seats, back);
     let used = mem::replace(workspaces, spaces);
-    hire(calls.len(), old, used, claimers, lists, &mut workers);
+    make_workers(calls.len(), old, used, claimers, lists, &mut workers);
     run_all(
         rt,
         cache,
@@ -91,7 +91,7 @@ pub fn run_in<'a, R: Threads + Wait + Sync, G: Gate + Sync, L: Loader + Sync>(
         workers.as_mut_slice(),
         gate,
     );
-    gather(workers, seats, workspaces, &mut spent, &mut rows);
+    into_parts(workers, seats, workspaces, &mut spent, &mut rows);
     counter.close(spent);
     collect(rows, answers.as_mut_slice());
     answers

@@ -1,9 +1,9 @@
 //! The program.
 #![tactic(auto)]
 
+mod command_line;
 mod explaining;
 mod files;
-mod line;
 mod output;
 mod program;
 

@@ -1,8 +1,8 @@
 //! One command.
 
+use crate::command_line::{Action, parse};
 use crate::explaining::explain_answer;
 use crate::files::{Files, MOST_CLASS};
-use crate::line::{Request, parse};
 use crate::output::{Answer, Failure, OK, accepted, ran, refused};
 use cache::NoGate;
 use jtypes::{Args, Loader, NoLoader, Refusal};
@@ -147,9 +147,9 @@ fn perform<'a, T: Threads + Wait + Sync, I: Read, W: Write>(
         Err(failure) => return Err(failure),
     };
     match &request {
-        Request::Check { file } => write_answer(output, &check_answer(alloc, files, file)?),
-        Request::Explain { file } => write_answer(output, &explain_answer(alloc, files, file)?),
-        Request::Run {
+        Action::Check { file } => write_answer(output, &check_answer(alloc, files, file)?),
+        Action::Explain { file } => write_answer(output, &explain_answer(alloc, files, file)?),
+        Action::Run {
             file,
             key,
             before,
@@ -158,11 +158,11 @@ fn perform<'a, T: Threads + Wait + Sync, I: Read, W: Write>(
             let answer = run_answer(alloc, files, file, *key, *before, args)?;
             write_answer(output, &answer)
         }
-        Request::Serve {
+        Action::Serve {
             settings,
             load: None,
         } => serve_input(rt, alloc, *settings, input, output, &NoLoader),
-        Request::Serve {
+        Action::Serve {
             settings,
             load: Some(file),
         } => {

@@ -1,1 +1,1 @@
-pub mod Course
+pub mod Scheduling

@@ -4,9 +4,9 @@ ghost use Rattle.std.specs.Prelude.{◌≡◌, ◌≤◌, length, map, replicate
 ghost use Rattle.stripe.specs.Seen.{call_of};
 ghost use Rattle.stripe.specs.Stored.{entry_among};
 ghost use Rattle.round_outcome.specs.Outcome.{IsDone};
-ghost use Rattle.round_robin.specs.Course.{stage, IsGoing, IsRoom, AreRefused};
+ghost use Rattle.round_robin.specs.Scheduling.{stage, IsGoing, IsRoom, AreRefused};
 
-use crate::course::{Course, CourseRoom};
+use crate::scheduler::{Scheduler, SchedulerBuffers};
 use jtypes::Loader;
 use round_outcome::{what_a_world_hands_out_is_an_outcome, who_answers_an_outcome_is_done};
 use std::alloc::{AllocError, Global};
@@ -23,10 +23,10 @@ pub struct TurnsLeft {
 }
 
 /// The room of a round.
-fn room_for(alloc: Global, calls: usize, stripes: usize) -> Result<CourseRoom, AllocError>
+fn room_for(alloc: Global, calls: usize, stripes: usize) -> Result<SchedulerBuffers, AllocError>
     ensures { IfOk result (λ r. IsRoom calls stripes r) }
 {
-    Ok(CourseRoom {
+    Ok(SchedulerBuffers {
         numbers: vec![in alloc; None; stripes]?,
         replies: vec![in alloc; None; calls]?,
     })
@@ -54,7 +54,7 @@ pub fn run_in_turns<'a, L: Loader>(
     let records = if calls.is_empty() { 1 } else { calls.len() };
     match World::new(alloc, tables, records, loader) {
         Ok(world) => {
-            let mut course = Course::new(calls, world, room);
+            let mut course = Scheduler::new(calls, world, room);
             course.run();
             let (world, replies) = course.end();
             world.is_legal();

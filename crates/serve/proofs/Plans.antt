@@ -25,9 +25,9 @@ use Rattle.invokeall.specs.Jobs.{all_seen}
 use Rattle.invokeall.specs.Collected.{different, invocations}
 use Rattle.serve.specs.Rounds.{most_classes, Part, part, Job, JobForEach, Adds, Gathers, Work, most_jobs, with_room, told, of_class, one, each, defines, refuses, lacks_memory, too_many, puts, gets, removes, looks, invokes, invokes_all}
 use Rattle.serve.specs.Rounds as rounds
-use Rattle.serve.specs.declared.plan.Plan.{Plan}
-use Rattle.serve.specs.declared.plan.Work.{Work as Planned}
-use Rattle.serve.specs.declared.plan.Work.TheVariants as planned
+use Rattle.serve.specs.declared.batch.Batch.{Batch}
+use Rattle.serve.specs.declared.batch.Work.{Work as Planned}
+use Rattle.serve.specs.declared.batch.Work.TheVariants as planned
 use Rattle.serve.specs.Kept.{HasFew, Grows, Adding, work_of, works_of, calls_of}
 use Rattle.jtypes.specs.Profile.{Second}
 
@@ -89,7 +89,7 @@ lacks_room at p h = ap (λ (b : Bool). if b then p else told (reply.Denied TooMa
 
 -- ---- what a call adds to a plan
 
-pub grows_jobs : {E : Type 0} (res : Result (Unit {0}) E) (old new : Plan) (w : Planned) (q : Part) → OnOk res (new.works.items ≡ old.works.items ++ w ∷ []) → work_of w ≡ q.work
+pub grows_jobs : {E : Type 0} (res : Result (Unit {0}) E) (old new : Batch) (w : Planned) (q : Part) → OnOk res (new.works.items ≡ old.works.items ++ w ∷ []) → work_of w ≡ q.work
     → calls_of new ≡ calls_of old ++ q.calls → OnOk res (Grows old new q)
 grows_jobs (Ok x) old new w q works is calls = record {
   works = ap (λ l. map work_of l) works ∙ map-append work_of old.works.items (w ∷ []) ∙ ap (λ y. works_of old ++ y ∷ []) is;
@@ -98,13 +98,13 @@ grows_jobs (Ok x) old new w q works is calls = record {
 grows_jobs (Err e) old new w q works is calls = tt
 
 -- a work without a job
-one_more_told : (old new : Plan) (w : Planned) → new.works.items ≡ old.works.items ++ w ∷ [] → new.calls ≡ old.calls → Grows old new (part (work_of w) [])
+one_more_told : (old new : Batch) (w : Planned) → new.works.items ≡ old.works.items ++ w ∷ [] → new.calls ≡ old.calls → Grows old new (part (work_of w) [])
 one_more_told old new w works calls = record {
   works = ap (λ l. map work_of l) works ∙ map-append work_of old.works.items (w ∷ []);
   calls = ap (λ v. all_seen v.items) calls ∙ sym (append-nil (calls_of old));
 }
 
-pub grows_told : {E : Type 0} (res : Result (Unit {0}) E) (old new : Plan) (w : Planned) → OnOk res (new.works.items ≡ old.works.items ++ w ∷ []) → new.calls ≡ old.calls
+pub grows_told : {E : Type 0} (res : Result (Unit {0}) E) (old new : Batch) (w : Planned) → OnOk res (new.works.items ≡ old.works.items ++ w ∷ []) → new.calls ≡ old.calls
     → OnOk res (Grows old new (part (work_of w) []))
 grows_told (Ok x) old new w works calls = one_more_told old new w works calls
 grows_told (Err x) old new w works calls = tt
@@ -118,28 +118,28 @@ grown (Err x) new w old middle e h = tt
 pub one_more_call : (old new : List CallTaken) (c : CallTaken) → new ≡ old ++ c ∷ [] → all_seen new ≡ all_seen old ++ seen_call c ∷ []
 one_more_call old new c is = ap all_seen is ∙ map-append seen_call old (c ∷ [])
 
-pub adds_jobs : {E : Type 0} (res : Result (Unit {0}) E) (classes : List Class) (old new : Plan) (r s : Request) (p : Part) → r ≡ s → OnOk res (Grows old new p)
+pub adds_jobs : {E : Type 0} (res : Result (Unit {0}) E) (classes : List Class) (old new : Batch) (r s : Request) (p : Part) → r ≡ s → OnOk res (Grows old new p)
     → Adds classes (length (calls_of old)) s p classes → OnOk res (Adding classes old r new classes)
 adds_jobs (Ok x) classes old new r s p e g a = subst (λ (z : Request). Adding classes old z new classes) (sym e) (record { part = p; adds = a; grows = g })
 adds_jobs (Err x) classes old new r s p e g a = tt
 
-pub adds_told : {E : Type 0} (res : Result (Unit {0}) E) (classes later : List Class) (old new : Plan) (r s : Request) (w : Planned) → r ≡ s → OnOk res (new.works.items ≡ old.works.items ++ w ∷ [])
+pub adds_told : {E : Type 0} (res : Result (Unit {0}) E) (classes later : List Class) (old new : Batch) (r s : Request) (w : Planned) → r ≡ s → OnOk res (new.works.items ≡ old.works.items ++ w ∷ [])
     → new.calls ≡ old.calls → Adds classes (length (calls_of old)) s (part (work_of w) []) later → OnOk res (Adding classes old r new later)
 adds_told (Ok x) classes later old new r s w e works calls a =
     subst (λ (z : Request). Adding classes old z new later) (sym e) (record { part = part (work_of w) []; adds = a; grows = one_more_told old new w works calls })
 adds_told (Err x) classes later old new r s w e works calls a = tt
 
 -- there are as many calls as the definitions see
-pub as_many_calls : (p : Plan) → length (calls_of p) ≡ length p.calls.items
+pub as_many_calls : (p : Batch) → length (calls_of p) ≡ length p.calls.items
 as_many_calls p = length-map p.calls.items seen_call
 
 -- a job for which there is room, and one for which there is none
-pub grows_one : {E : Type 0} (res : Result (Unit {0}) E) (old new : Plan) (c : Call) → length old.calls.items < most_jobs → OnOk res (Grows old new (part (Job (length (calls_of old))) (c ∷ []))) → OnOk res (Grows old new (one (length (calls_of old)) c))
+pub grows_one : {E : Type 0} (res : Result (Unit {0}) E) (old new : Batch) (c : Call) → length old.calls.items < most_jobs → OnOk res (Grows old new (part (Job (length (calls_of old))) (c ∷ []))) → OnOk res (Grows old new (one (length (calls_of old)) c))
 grows_one res old new c few g =
     let at : ℕ = length (calls_of old) in
     subst (λ p. OnOk res (Grows old new p)) (sym (has_room at (part (Job at) (c ∷ [])) (omega (arith, few, as_many_calls old)))) g
 
-pub denies_one : {E : Type 0} (res : Result (Unit {0}) E) (old new : Plan) (c : Call) → most_jobs ≤ length old.calls.items → OnOk res (new.works.items ≡ old.works.items ++ planned.Denied TooManyJobs ∷ []) → new.calls ≡ old.calls
+pub denies_one : {E : Type 0} (res : Result (Unit {0}) E) (old new : Batch) (c : Call) → most_jobs ≤ length old.calls.items → OnOk res (new.works.items ≡ old.works.items ++ planned.Denied TooManyJobs ∷ []) → new.calls ≡ old.calls
     → OnOk res (Grows old new (one (length (calls_of old)) c))
 denies_one res old new c many works calls =
     let at : ℕ = length (calls_of old) in

@@ -17,8 +17,8 @@ use Rattle.wire.specs.declared.fault.WireFault.TheVariants as wire
 use Rattle.wire.specs.Frames.{texts, request_frame, reply_frame, IsRequest, IsRead}
 use Rattle.wire.specs.Reading.{ReadGives}
 use Rattle.serve.specs.declared.fault.ServeFault.{ServeFault}
-use Rattle.serve.specs.declared.plan.Plan.{Plan}
-use Rattle.serve.specs.declared.plan.Work.{Work as Planned}
+use Rattle.serve.specs.declared.batch.Batch.{Batch}
+use Rattle.serve.specs.declared.batch.Work.{Work as Planned}
 use Rattle.serve.specs.Rounds.{Part, Gathers, Work}
 use Rattle.serve.specs.Rounds as rounds
 use Rattle.serve.specs.Served as served
@@ -58,7 +58,7 @@ as_many (rounds.more requests works calls now later r p g a) = length-append wor
 pub begun : (first : List Class) (works : List Planned) (calls : List CallTaken) → works ≡ [] → calls ≡ [] → Gathers first [] (map work_of works) (all_seen calls) first
 begun first works calls e c = subst (λ l. Gathers first [] (map work_of l) (all_seen calls) first) (sym e) (subst (λ l. Gathers first [] [] (all_seen l) first) (sym c) rounds.none)
 
-pub gathered_more : (first now later : List Class) (xs : List Request) (r : Request) (old new : Plan) → Gathers first xs (works_of old) (calls_of old) now → Adding now old r new later
+pub gathered_more : (first now later : List Class) (xs : List Request) (r : Request) (old new : Batch) → Gathers first xs (works_of old) (calls_of old) now → Adding now old r new later
     → Gathers first (xs ++ r ∷ []) (works_of new) (calls_of new) later
 gathered_more first now later xs r old new g a =
     subst (λ l. Gathers first (xs ++ r ∷ []) l (calls_of new) later) (sym a.grows.works)
@@ -108,7 +108,7 @@ nothing_served loads gives = record {
 }
 
 -- a round that was read and run
-pub round_of : {loads : Bool} {gives : ℤ → LoadAnswer → Type 0} {old new : Option (List ℕ)} {first later : List Class} {plan : Plan} (w : IsWhole old new first plan later) (before after : Entries) (text : List ℕ) (run : IsRun loads gives before (calls_of plan) (works_of plan) after text)
+pub round_of : {loads : Bool} {gives : ℤ → LoadAnswer → Type 0} {old new : Option (List ℕ)} {first later : List Class} {plan : Batch} (w : IsWhole old new first plan later) (before after : Entries) (text : List ℕ) (run : IsRun loads gives before (calls_of plan) (works_of plan) after text)
     → IsRound loads gives (stand first before) w.requests (map (rounds.work_reply run.answers) (works_of plan)) (stand later after)
 round_of {plan = plan} w before after text run = record { works = works_of plan; calls = calls_of plan; answers = run.answers; gathered = w.gathered; done = run.done; told = refl }
 

@@ -17,9 +17,9 @@ use Rattle.wire.specs.declared.fault.WireFault.{WireFault}
 use Rattle.wire.specs.declared.fault.WireFault.TheVariants as wire
 use Rattle.serve.specs.declared.fault.ServeFault.{ServeFault}
 use Rattle.serve.specs.declared.fault.ServeFault.TheVariants as fault
-use Rattle.serve.specs.declared.plan.Work.{Work as Planned}
-use Rattle.serve.specs.declared.plan.Work.TheVariants as planned
-use Rattle.serve.specs.declared.plan.Plan.{Plan}
+use Rattle.serve.specs.declared.batch.Work.{Work as Planned}
+use Rattle.serve.specs.declared.batch.Work.TheVariants as planned
+use Rattle.serve.specs.declared.batch.Batch.{Batch}
 use Rattle.serve.specs.Rounds.{Work, Told, Job, JobForEach, Part, Adds, Gathers, work_reply}
 use Rattle.serve.specs.Served.{Stand, stand, IsRound, ended, all_told, AreOpen, Stops, Fails, requests_text, replies_text}
 
@@ -57,19 +57,19 @@ work_of (planned.Denied denial) = Told (reply.Denied denial)
 work_of (planned.Job at) = Job at
 work_of (planned.JobForEach at keys) = JobForEach at keys.items.now
 
-abbrev pub works_of : Plan → List Work
+abbrev pub works_of : Batch → List Work
 works_of p = map work_of p.works.items
 
-abbrev pub calls_of : Plan → List Call
+abbrev pub calls_of : Batch → List Call
 calls_of p = all_seen p.calls.items
 
 -- a part was added to the plan
-pub record Grows (old new : Plan) (p : Part) : Type 0 where
+pub record Grows (old new : Batch) (p : Part) : Type 0 where
   pub works : works_of new ≡ works_of old ++ p.work ∷ []
   pub calls : calls_of new ≡ calls_of old ++ p.calls
 
 -- a request was added to the plan
-pub record Adding (classes : List Class) (old : Plan) (r : Request) (new : Plan) (later : List Class) : Type 0 where
+pub record Adding (classes : List Class) (old : Batch) (r : Request) (new : Batch) (later : List Class) : Type 0 where
   pub part : Part
   pub adds : Adds classes (length (calls_of old)) r part later
   pub grows : Grows old new part
@@ -77,14 +77,14 @@ pub record Adding (classes : List Class) (old : Plan) (r : Request) (new : Plan)
 -- ---- rounds
 
 -- a round was read to its end
-pub record IsWhole (old new : Option (List ℕ)) (first : List Class) (plan : Plan) (later : List Class) : Type 0 where
+pub record IsWhole (old new : Option (List ℕ)) (first : List Class) (plan : Batch) (later : List Class) : Type 0 where
   pub requests : List Request
   pub are : AreOpen requests
   pub took : Consumes old new (requests_text (ended requests))
   pub gathered : Gathers first requests (works_of plan) (calls_of plan) later
 
 -- a round was read to its end, or the input ended before one
-abbrev pub RoundRead : Option (List ℕ) → Option (List ℕ) → List Class → List Class → Option Plan → Type 0
+abbrev pub RoundRead : Option (List ℕ) → Option (List ℕ) → List Class → List Class → Option Batch → Type 0
 RoundRead old new first later (Some plan) = IsWhole old new first plan later
 RoundRead old new first later None = Consumes old new [] × IsAtEnd new
 

@@ -19,7 +19,7 @@ use std::alloc::Global;
 use std::sync::Wait;
 use std::thread::Threads;
 use stripe::{Call, Reply, Tables};
-use workers::{Kept, run_by_workers, worth};
+use workers::{WorkspacePool, run_by_workers, workers_for};
 
 /// What a round leaves: the entries, and the answer to each job. A job that was refused found no memory.
 #[derive(Drop)]
@@ -85,7 +85,7 @@ pub fn run_jobs<'a, T: Threads + Wait + Sync, G: Gate + Sync, L: Loader + Sync>(
     settings: Settings,
     steps: u64,
     calls: &[Call<'a>],
-    kept: &mut Kept,
+    kept: &mut WorkspacePool,
     gate: &G,
     loader: &L,
 ) -> Result<RoundLeft, Tables>
@@ -99,7 +99,7 @@ pub fn run_jobs<'a, T: Threads + Wait + Sync, G: Gate + Sync, L: Loader + Sync>(
     if settings.workers == 0 {
         return run_alone(alloc, tables, calls, loader);
     }
-    let workers = worth(steps, settings.workers, settings.share);
+    let workers = workers_for(steps, settings.workers, settings.share);
     match run_by_workers(
         rt, alloc, registry, tables, workers, calls, kept, gate, loader,
     ) {

@@ -1,20 +1,20 @@
 //! The server engine: requests are read round by round, each round is run at its end, and its replies are written.
 #![tactic(auto)]
 
-mod adding;
+mod batch;
+mod batch_requests;
 mod fault;
 mod jobs;
 mod keys;
 mod laws;
-mod plan;
 mod reading;
+mod replies;
+mod round;
 mod settings;
 mod stream;
-mod telling;
-mod turn;
 
 pub use fault::ServeFault;
 pub use laws::cut_streams_go_on;
 pub use settings::Settings;
 pub use stream::serve;
-pub use workers::SHARE;
+pub use workers::STEPS_PER_WORKER;

@@ -7,9 +7,9 @@ ghost use Rattle.wire.specs.Requests.{with_args, RoundEnd};
 ghost use Rattle.serve.specs.Devices.{ReadsAreCounted};
 ghost use Rattle.serve.specs.Kept.{AreOf, classes_of, RoundRead, IsBroken};
 
-use crate::adding::{add, add_invoke};
+use crate::batch::{Batch, Room, no_requests, room_of};
+use crate::batch_requests::{add, add_invoke};
 use crate::fault::ServeFault;
-use crate::plan::{Plan, Room, no_requests, room_of};
 use bumpalo::Bump;
 use registry::{ClassId, Registry};
 use std::alloc::Global;
@@ -33,7 +33,7 @@ pub fn read_round<'r, T: Wait, R: Ahead>(
     ids: &mut Vec<ClassId>,
     room: &mut Room,
     reader: &mut Counted<R>,
-) -> Result<Option<Plan<'r>>, ServeFault>
+) -> Result<Option<Batch<'r>>, ServeFault>
     requires { AreOf registry.now ids.old.items }
     ensures ok { IfOk result (λ round. RoundRead (R.remaining reader.old.inner) (R.remaining reader.new.inner) (classes_of ids.old.items) (classes_of ids.new.items) round) }
     ensures err { IfErr result (λ e. IsBroken (R.remaining reader.old.inner) (R.remaining reader.new.inner) e) }

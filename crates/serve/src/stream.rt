@@ -7,10 +7,10 @@ ghost use Rattle.serve.specs.Served.{IsServed, IsCutShort, EndsEarly};
 ghost use Rattle.serve.specs.Settings.{CanServe};
 ghost use Rattle.serve.specs.Devices.{TookAndGave, ReadsAreCounted, WritesAreCounted};
 
+use crate::batch::Room;
 use crate::fault::ServeFault;
-use crate::plan::Room;
+use crate::round::one_round;
 use crate::settings::Settings;
-use crate::turn::one_round;
 use bumpalo::Bump;
 use cache::Gate;
 use jtypes::Loader;
@@ -21,7 +21,7 @@ use std::sync::Wait;
 use std::thread::Threads;
 use stripe::{OpenRefusal, Tables};
 use wire::{Ahead, Counted};
-use workers::Kept;
+use workers::WorkspacePool;
 
 /// The most workers.
 const MOST_WORKERS: usize = 16;
@@ -85,7 +85,7 @@ fn stream<T: Threads + Wait + Sync, R: Ahead, W: Write, G: Gate + Sync, L: Loade
     let mut ids = Vec::new(alloc);
     let mut arena = Bump::new(alloc);
     let mut room = Room { works: 0, calls: 0 };
-    let mut kept = Kept::with_workspaces(alloc, settings.workers);
+    let mut kept = WorkspacePool::with_workspaces(alloc, settings.workers);
     let mut tables = tables;
     for _ in rt.forever() {
         match one_round(

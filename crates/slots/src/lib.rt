@@ -2,13 +2,13 @@
 #![tactic(auto)]
 
 mod calls;
+mod fixed_stack;
 mod rearrange;
 mod reference;
-mod rows;
 mod slots;
 mod window;
 
+pub use fixed_stack::Rows;
 pub use reference::Reference;
-pub use rows::Rows;
 pub use slots::{Caller, Slots};
 pub use window::Window;

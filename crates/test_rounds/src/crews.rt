@@ -16,7 +16,7 @@ use std::sync::Wait;
 use std::test::Fail;
 use std::thread::Threads;
 use stripe::{ArgSlice, Reply, Tables};
-use workers::{CALL, CrewLeft, Kept, run_by_workers, steps_of, worth};
+use workers::{CALL_COST, CrewLeft, WorkspacePool, cost_of, run_by_workers, workers_for};
 
 /// An invocation returned this Long.
 fn returned(n: i64) -> JobReply {
@@ -37,7 +37,7 @@ fn round<R: Threads + Wait + Sync>(
     if workers == 0 || workers > 16 || jobs.len() > 4096 {
         return None;
     }
-    let mut kept = Kept::new(alloc);
+    let mut kept = WorkspacePool::new(alloc);
     let calls = calls_for(alloc, registry, jobs).ok()?;
     match run_by_workers(
         rt, alloc, registry, tables, workers, &calls, &mut kept, &NoGate, &NoLoader,
@@ -252,11 +252,11 @@ fn no_jobs_leave_the_entries(rt: HostRuntime) -> Result<(), Fail> {
 fn worths(registry: &Registry, class: &ClassId) -> [usize; 8]
     requires { IsOf registry.now class.now }
 {
-    let steps = steps_of(registry.class(class)).saturating_add(4 * CALL);
+    let steps = cost_of(registry.class(class)).saturating_add(4 * CALL_COST);
     let mut worths = [0; 8];
     let shares = [0, 1, 243, 244, 324, 325, 487, 488];
     for (worth_of, share) in worths.iter_mut().zip(shares) {
-        *worth_of = worth(steps, 4, share);
+        *worth_of = workers_for(steps, 4, share);
     }
     worths
 }

@@ -18,7 +18,7 @@ use std::test::Fail;
 use std::thread::Threads;
 use stripe::{ArgSlice, Call, Reply, Tables};
 use verify::Verified;
-use workers::{Kept, run_by_workers};
+use workers::{WorkspacePool, run_by_workers};
 
 /// 7 gives 41, 9 gives 0, 13 fails, and no other key has a value.
 struct Few;
@@ -139,7 +139,7 @@ fn by_workers<R: Threads + Wait + Sync>(
     }
     match Tables::new(alloc, 2) {
         Ok(tables) => {
-            let mut kept = Kept::new(alloc);
+            let mut kept = WorkspacePool::new(alloc);
             let calls = calls_for(alloc, registry, jobs).ok()?;
             match run_by_workers(
                 rt, alloc, registry, tables, 4, &calls, &mut kept, &NoGate, &Few,

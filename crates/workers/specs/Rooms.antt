@@ -3,10 +3,10 @@ use Rattle.std.specs.Prelude.{◌≡◌, ◌≢◌, ℕ, length, Err}
 use Rattle.cache.specs.declared.refusal.InvokeRefusal.TheVariants.{JournalFull}
 use Rattle.invokeall.specs.Rounds.{Answer}
 use Rattle.invokeall.specs.Rooms as rooms
-use Rattle.workers.specs.declared.room.CrewRoom.{CrewRoom}
+use Rattle.workers.specs.declared.room.PoolBuffers.{PoolBuffers}
 
 -- room for a round of so many jobs by so many workers, with a workspace for each worker
-pub record IsRoom (jobs workers : ℕ) (r : CrewRoom) : Type 0 where
+pub record IsRoom (jobs workers : ℕ) (r : PoolBuffers) : Type 0 where
   pub round : rooms.IsRoom jobs r.round.counter.jobs workers r.round
   pub workspaces : length r.workspaces.items ≡ workers
 

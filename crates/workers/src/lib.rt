@@ -1,11 +1,11 @@
 //! A round of calls by worker threads, on a cache that is opened for it and closed behind it.
 #![tactic(auto)]
 
-mod alone;
-mod crew;
+mod cost_model;
+mod pool_run;
 mod room;
-mod shares;
+mod single;
 
-pub use crew::{CrewLeft, run_by_workers};
-pub use room::Kept;
-pub use shares::{CALL, SHARE, steps_of, worth};
+pub use cost_model::{CALL_COST, STEPS_PER_WORKER, cost_of, workers_for};
+pub use pool_run::{CrewLeft, run_by_workers};
+pub use room::WorkspacePool;

@@ -6,28 +6,28 @@ ghost use Rattle.stripe.specs.Tables.{IsCount};
 ghost use Rattle.cache.specs.Opened.{IsSeatCount};
 ghost use Rattle.workers.specs.Rooms.{IsRoom};
 
-use invokeall::RoundRoom;
+use invokeall::RoundBuffers;
 use machine::Workspace;
 use std::alloc::{AllocError, Global};
 
 /// What a round hands on to the next one: to make a workspace takes longer than a short call.
 #[derive(Drop)]
-pub struct Kept {
+pub struct WorkspacePool {
     pub workspaces: Vec<Workspace>,
 }
 
-impl Kept {
+impl WorkspacePool {
     /// Nothing yet.
-    pub fn new(alloc: Global) -> Kept {
-        Kept {
+    pub fn new(alloc: Global) -> WorkspacePool {
+        WorkspacePool {
             workspaces: Vec::new(alloc),
         }
     }
 
     /// A workspace for each of so many workers, as far as there is memory. Made before all else that lives as long, their rows stand side
     /// by side in memory, rather than between what other workers read and write.
-    pub fn with_workspaces(alloc: Global, workers: usize) -> Kept {
-        let mut kept = Kept::new(alloc);
+    pub fn with_workspaces(alloc: Global, workers: usize) -> WorkspacePool {
+        let mut kept = WorkspacePool::new(alloc);
         for _ in 0..workers {
             let Ok(workspace) = Workspace::new(alloc) else {
                 return kept;
@@ -60,8 +60,8 @@ impl Kept {
 
 /// What a round needs beside its cache.
 #[derive(Drop)]
-pub struct CrewRoom<'a> {
-    pub round: RoundRoom<'a>,
+pub struct PoolBuffers<'a> {
+    pub round: RoundBuffers<'a>,
     pub workspaces: Vec<Workspace>,
 }
 
@@ -71,8 +71,8 @@ pub fn room_for<'a>(
     jobs: usize,
     stripes: usize,
     workers: usize,
-    kept: &mut Kept,
-) -> Result<CrewRoom<'a>, AllocError>
+    kept: &mut WorkspacePool,
+) -> Result<PoolBuffers<'a>, AllocError>
     requires jobs { IsJobCount jobs }
     requires stripes { IsCount stripes }
     requires workers { IsSeatCount workers }
@@ -80,11 +80,15 @@ pub fn room_for<'a>(
 {
     let round = invokeall::room_for(alloc, jobs, stripes, workers)?;
     let workspaces = workspaces(alloc, workers, kept)?;
-    Ok(CrewRoom { round, workspaces })
+    Ok(PoolBuffers { round, workspaces })
 }
 
 /// So many workspaces, of those that were kept first.
-fn workspaces(alloc: Global, count: usize, kept: &mut Kept) -> Result<Vec<Workspace>, AllocError>
+fn workspaces(
+    alloc: Global,
+    count: usize,
+    kept: &mut WorkspacePool,
+) -> Result<Vec<Workspace>, AllocError>
     ensures { IfOk result (λ v. length v.items ≡ count) }
 {
     let mut list = Vec::new(alloc);

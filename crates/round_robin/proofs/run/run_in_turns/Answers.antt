@@ -1,7 +1,7 @@
 use Rattle.std.proofs.Common.{◌≡◌, Some, map, slice_get, sym, ap, subst, ◌∙◌}
 use Rattle.stripe.specs.Seen.{call_of}
 use Rattle.world.specs.World.{World}
-use Rattle.round_robin.specs.Course.{stage, AreRefused}
+use Rattle.round_robin.specs.Scheduling.{stage, AreRefused}
 use Rattle.round_robin.proofs.Stages.{none_runs, all_refused}
 use Rattle.round_robin.proofs.run.run_in_turns.Goals as goal
 

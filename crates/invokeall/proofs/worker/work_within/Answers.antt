@@ -1,0 +1,17 @@
+use Rattle.std.proofs.Common.{◌≡◌, sym, ap, ◌∙◌, subst}
+use Rattle.cache.specs.Opened.{Sitting}
+use Rattle.invokeall.specs.declared.worker.Worker.{Worker}
+use Rattle.invokeall.specs.Jobs.{all_seen}
+use Rattle.invokeall.specs.Crews.{HasAnswered}
+use Rattle.invokeall.proofs.worker.work_within.Goals.{then-first-calls+else-not-hold_within, else-first-calls}
+use Rattle.invokeall.proofs.worker.work_within.Goals as goal
+
+-- whether or not the seat was told to hold a stripe, the worker has answered what it had
+pub returns-clause-made : goal.returns-clause-made
+returns-clause-made g c = λ made v before h.
+    let w : Worker = c.args.worker.now in
+    let same : c.if-first-calls.worker ≡ w = elim c.if-first-calls.branch [
+      | then-first-calls+else-not-hold_within b ↦ b.worker-is ∙ ap (λ (s : Sitting). record w { seat = s }) b.hold_within.ensures
+      | else-first-calls b ↦ b.worker-is
+    ] in
+    c.work_on.ensures.answered v before (subst (λ (x : Worker). HasAnswered c.args.cache.now (all_seen c.args.calls.now) v x before) (sym same) h)

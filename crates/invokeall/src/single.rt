@@ -1,0 +1,46 @@
+//! A round by one worker.
+
+ghost use Rattle.std.specs.Prelude.{◌≡◌, ◌∷◌, [], length};
+ghost use Rattle.invokeall.specs.Jobs.{all_seen};
+ghost use Rattle.invokeall.specs.Rounds.{IsRound};
+ghost use Rattle.invokeall.specs.Rooms.{HasRoom};
+
+use crate::job::JobReply;
+use crate::worker::call_numbered;
+use cache::{Cache, Gate, Seat};
+use jtypes::Loader;
+use machine::Workspace;
+use std::sync::Wait;
+use stripe::Call;
+
+/// Makes the calls in their order at one seat, and pushes their answers, for which there is capacity. It reserves their receipts at once, if
+/// there is memory for it. The gate hears of the ends behind the last call, when no stripe is locked.
+pub fn run_alone<'a, R: Wait, G: Gate, L: Loader>(
+    rt: &R,
+    cache: &Cache<'a, '_, L>,
+    calls: &[Call<'a>],
+    seat: &mut Seat<'a>,
+    workspace: &mut Workspace,
+    answers: &mut Vec<JobReply>,
+    gate: &G,
+)
+    requires home { seat.old.table ≡ cache.now.table }
+    requires room { HasRoom (length calls.now) answers.old }
+    ensures { IsRound cache.now (all_seen calls.now) (seat.old ∷ []) (seat.new ∷ []) answers.new.items }
+{
+    seat.expect(calls.len());
+    for number in 0..calls.len() {
+        let call = call_numbered(calls, number);
+        let answer = cache.call_at(rt, seat, workspace, call, number, gate);
+        answers.push_reserved(answer);
+    }
+    cache.leave(seat);
+    report_all(gate, calls.len());
+}
+
+/// Reports this many calls. Their stripes are unlocked by now.
+fn report_all<G: Gate>(gate: &G, count: usize) {
+    for number in 0..count {
+        gate.answered(number);
+    }
+}

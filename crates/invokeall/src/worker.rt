@@ -1,0 +1,181 @@
+//! One worker.
+
+ghost use Rattle.std.specs.Prelude.{◌≡◌, ◌<◌, ◌≤◌, ◌++◌, ℕ, List, length, vec_capacity, IsTrue, IsFalse};
+ghost use mathlib.Core.Option.{some};
+ghost use lib.ListN.{get_elem?};
+ghost use Rattle.stripe.specs.Seen.{call_of as seen_call};
+ghost use Rattle.invokeall.specs.declared.worker.Worker.{Worker};
+ghost use Rattle.invokeall.specs.Jobs.{all_seen};
+ghost use Rattle.invokeall.specs.Groups.{AreGroups, AreDifferent, groups_in, members};
+ghost use Rattle.invokeall.specs.Crews.{IsReady, HasAnswered, HasWorked, numbers};
+
+use crate::groups::Groups;
+use crate::job::JobReply;
+use cache::{Cache, Gate, Seat};
+use claims::{Claimer, Counter};
+use jtypes::Loader;
+use machine::Workspace;
+use std::sync::Wait;
+use std::time::Duration;
+use stripe::Call;
+
+/// What nothing uses, as long as two cache lines. Where it stands between two things, a processor that writes one of them takes no line
+/// from another that reads the other one.
+#[derive(Drop)]
+pub struct CacheLinePad {
+    words: [u64; 16],
+}
+
+impl CacheLinePad {
+    pub fn new() -> CacheLinePad {
+        CacheLinePad { words: [0; 16] }
+    }
+}
+
+/// A worker of a round: what it makes calls with, its share of the numbers, and the answers that it got, each with its call's number.
+/// Workers stand side by side, and each writes to its own at each call; so it has a gap on either side.
+#[derive(Drop)]
+pub struct Worker<'a> {
+    pub before: CacheLinePad,
+    pub seat: Seat<'a>,
+    pub workspace: Workspace,
+    pub claimer: Claimer,
+    pub answers: Vec<(usize, JobReply)>,
+    pub behind: CacheLinePad,
+}
+
+/// The milliseconds that a worker waits at most for the stripe of a group that it put off, before it goes on to the next one of these.
+const PATIENCE: u64 = 1;
+
+/// Claims groups of calls and makes them, until there is no group left. A group whose stripe another worker holds is put off until all
+/// are claimed: so a worker waits for a stripe only where it can make no call of another one.
+pub fn work<'a, R: Wait, G: Gate, L: Loader>(
+    rt: &R,
+    cache: &Cache<'a, '_, L>,
+    counter: &Counter,
+    groups: &Groups,
+    calls: &[Call<'a>],
+    worker: &mut Worker<'a>,
+    gate: &G,
+)
+    requires counter { counter.now.jobs ≡ length groups.now.firsts.items }
+    requires few { counter.now.jobs ≤ 64 }
+    requires groups { AreGroups (all_seen calls.now) groups.now }
+    requires ready { IsReady cache.now counter.now (length (all_seen calls.now)) worker.old }
+    ensures { HasWorked cache.now counter.now groups.now (all_seen calls.now) worker.old worker.new }
+{
+    let mut later = [false; 64];
+    while let Some(group) = worker.claimer.claim(counter) {
+        later[group] = !work_within(
+            rt,
+            cache,
+            groups,
+            group,
+            calls,
+            worker,
+            gate,
+            Duration::ZERO,
+        );
+    }
+    let patience = Duration::from_millis(PATIENCE);
+    for _ in rt.forever() {
+        let mut is_done = true;
+        for put_off in 0..groups.firsts.len() {
+            if later[put_off] {
+                later[put_off] = !work_within(
+                    rt, cache, groups, put_off, calls, worker, gate, patience,
+                );
+                is_done = is_done && !later[put_off];
+            }
+        }
+        if is_done {
+            return;
+        }
+    }
+    unreachable!()
+}
+
+/// Makes the calls of one group, if its stripe is free or is given back within so long: whether it did. A group without a call has no
+/// stripe.
+#[inline(always)]
+fn work_within<'a, R: Wait, G: Gate, L: Loader>(
+    rt: &R,
+    cache: &Cache<'a, '_, L>,
+    groups: &Groups,
+    group: usize,
+    calls: &[Call<'a>],
+    worker: &mut Worker<'a>,
+    gate: &G,
+    patience: Duration,
+) -> bool
+    requires group { group < length groups.now.firsts.items }
+    requires groups { AreGroups (all_seen calls.now) groups.now }
+    requires home { worker.old.seat.table ≡ cache.now.table }
+    requires free { AreDifferent (length (all_seen calls.now)) (numbers worker.old.answers.items ++ members (groups_in groups.now (all_seen calls.now)) group (length (all_seen calls.now))) }
+    requires room { length (all_seen calls.now) ≤ vec_capacity worker.old.answers }
+    ensures claimer { worker.new.claimer ≡ worker.old.claimer }
+    ensures made { IsTrue result → (v : Worker) (before : List ℕ) → HasAnswered cache.now (all_seen calls.now) v worker.old before → HasAnswered cache.now (all_seen calls.now) v worker.new (before ++ members (groups_in groups.now (all_seen calls.now)) group (length (all_seen calls.now))) }
+    ensures put_off { IsFalse result → (v : Worker) (before : List ℕ) → HasAnswered cache.now (all_seen calls.now) v worker.old before → HasAnswered cache.now (all_seen calls.now) v worker.new before }
+{
+    let first = groups.first(group);
+    if first < calls.len() {
+        let key = calls[first].key();
+        if !cache.hold_within(rt, &mut worker.seat, key, patience) {
+            return false;
+        }
+    }
+    work_on(rt, cache, groups, group, calls, worker, gate);
+    true
+}
+
+/// Makes the calls of one group, in their order. The stripe is locked from the first one on and unlocked after the last one; then the
+/// gate hears of each of them.
+#[inline(always)]
+fn work_on<'a, R: Wait, G: Gate, L: Loader>(
+    rt: &R,
+    cache: &Cache<'a, '_, L>,
+    groups: &Groups,
+    group: usize,
+    calls: &[Call<'a>],
+    worker: &mut Worker<'a>,
+    gate: &G,
+)
+    requires group { group < length groups.now.firsts.items }
+    requires groups { AreGroups (all_seen calls.now) groups.now }
+    requires home { worker.old.seat.table ≡ cache.now.table }
+    requires free { AreDifferent (length (all_seen calls.now)) (numbers worker.old.answers.items ++ members (groups_in groups.now (all_seen calls.now)) group (length (all_seen calls.now))) }
+    requires room { length (all_seen calls.now) ≤ vec_capacity worker.old.answers }
+    ensures claimer { worker.new.claimer ≡ worker.old.claimer }
+    ensures answered { (v : Worker) (before : List ℕ) → HasAnswered cache.now (all_seen calls.now) v worker.old before → HasAnswered cache.now (all_seen calls.now) v worker.new (before ++ members (groups_in groups.now (all_seen calls.now)) group (length (all_seen calls.now))) }
+{
+    let before = worker.answers.len();
+    let mut number = groups.first(group);
+    while number < calls.len() {
+        let Worker {
+            seat,
+            workspace,
+            ..
+        } = worker;
+        let call = call_numbered(calls, number);
+        let answer = cache.call_at(rt, seat, workspace, call, number, gate);
+        worker.answers.push_reserved((number, answer));
+        number = groups.next(number);
+    }
+    cache.leave(&mut worker.seat);
+    report_answered(gate, worker.answers.as_slice(), before);
+}
+
+/// Reports the calls whose answers a worker has got since it had `before` of them. Their stripe is unlocked by now.
+fn report_answered<G: Gate>(gate: &G, answers: &[(usize, JobReply)], before: usize) {
+    for (number, _) in answers.iter().skip(before) {
+        gate.answered(*number);
+    }
+}
+
+/// The call of this number.
+pub fn call_numbered<'a>(calls: &[Call<'a>], number: usize) -> Call<'a>
+    requires { number < length calls.now }
+    ensures { get_elem? (all_seen calls.now) number ≡ some (seen_call result) }
+{
+    calls[number]
+}

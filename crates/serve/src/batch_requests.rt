@@ -1,0 +1,177 @@
+//! Requests are added to their round.
+
+ghost use Rattle.std.specs.Prelude.{◌≡◌, ◌≢◌, ◌≤◌, ℕ, [], length, OnOk, Some, None, IfSome, IfNone, slice_get};
+ghost use Rattle.wire.specs.Requests.{with_args, Define, Invoke, InvokeAll, RoundEnd};
+ghost use Rattle.serve.specs.Rounds.{Adds, part};
+ghost use Rattle.serve.specs.Kept.{AreOf, HasFew, classes_of, work_of, Adding};
+
+use crate::batch::{
+    Batch, Work, contains, get, many_jobs, one_invocation, push_call, put, remove, tell,
+};
+use bumpalo::Bump;
+use jtypes::{Arg, Refusal};
+use registry::{ClassId, Registry};
+use std::alloc::{AllocError, Global};
+use std::sync::Wait;
+use verify::Verified;
+use wire::{Denial, Request};
+
+/// The most classes of a stream.
+const MOST_CLASSES: usize = 4096;
+
+/// Accepts a class, or refuses it.
+fn define<T: Wait>(
+    rt: &T,
+    alloc: Global,
+    registry: &Registry,
+    ids: &mut Vec<ClassId>,
+    bytes: &[u8],
+) -> Work<'static>
+    requires { AreOf registry.now ids.old.items }
+    ensures adds { (at : ℕ) → Adds (classes_of ids.old.items) at (Define bytes.now) (part (work_of result) []) (classes_of ids.new.items) }
+    ensures known { AreOf registry.now ids.new.items }
+{
+    let count = ids.len();
+    if count >= MOST_CLASSES {
+        return Work::Denied(Denial::TooManyClasses);
+    }
+    if ids.reserve(1).is_err() {
+        return Work::Refused(Refusal::NoMemory);
+    }
+    match registry.define(rt, alloc, bytes) {
+        Ok(id) => {
+            let bounds = registry.class(&id).bounds();
+            ids.push_reserved(id);
+            Work::Defined {
+                class: count as u32,
+                steps: bounds.steps,
+                words: bounds.words,
+            }
+        }
+        Err(refusal) => Work::Refused(refusal),
+    }
+}
+
+/// The class with this number, if it was accepted.
+fn class_at<'r>(registry: &'r Registry, ids: &[ClassId], class: usize) -> Option<&'r Verified>
+    requires { AreOf registry.now ids.now }
+    ensures some { IfSome result (λ c. slice_get (classes_of ids.now) class ≡ Some c.now) }
+    ensures none { IfNone result (slice_get (classes_of ids.now) class ≡ None) }
+{
+    if class < ids.len() {
+        Some(registry.class(&ids[class]))
+    } else {
+        None
+    }
+}
+
+/// Adds an invocation of a class by its number, on this key with these arguments, to its round.
+#[inline(always)]
+pub fn add_invoke<'r>(
+    arena: &'r Bump,
+    registry: &'r Registry,
+    ids: &[ClassId],
+    plan: &mut Batch<'r>,
+    class: usize,
+    key: &i64,
+    args: &[Arg],
+) -> Result<(), AllocError>
+    requires few { length args.now ≤ 8 }
+    requires known { AreOf registry.now ids.now }
+    ensures { OnOk result (Adding (classes_of ids.now) plan.old (Invoke class key.now args.now) plan.new (classes_of ids.now)) }
+{
+    match class_at(registry, ids, class) {
+        Some(class) => one_invocation(arena, plan, class, key, args),
+        None => tell(plan, Work::Denied(Denial::UnknownClass)),
+    }
+}
+
+fn add_invoke_all<'r>(
+    alloc: Global,
+    arena: &'r Bump,
+    registry: &'r Registry,
+    ids: &[ClassId],
+    plan: &mut Batch<'r>,
+    class: usize,
+    keys: &[i64],
+    args: &[Arg],
+) -> Result<(), AllocError>
+    requires few { length args.now ≤ 8 }
+    requires known { AreOf registry.now ids.now }
+    ensures { OnOk result (Adding (classes_of ids.now) plan.old (InvokeAll class keys.now args.now) plan.new (classes_of ids.now)) }
+{
+    match class_at(registry, ids, class) {
+        Some(class) => many_jobs(alloc, arena, plan, class, keys, args),
+        None => tell(plan, Work::Denied(Denial::UnknownClass)),
+    }
+}
+
+/// Adds a request with these arguments to its round.
+pub fn add<'r, T: Wait>(
+    rt: &T,
+    alloc: Global,
+    arena: &'r Bump,
+    registry: &'r Registry,
+    ids: &mut Vec<ClassId>,
+    plan: &mut Batch<'r>,
+    request: Request,
+    args: &[Arg],
+) -> Result<(), AllocError>
+    requires known { AreOf registry.now ids.old.items }
+    requires inside { with_args args.now request ≢ RoundEnd }
+    requires few { HasFew (with_args args.now request) }
+    ensures ok { OnOk result (Adding (classes_of ids.old.items) plan.old (with_args args.now request) plan.new (classes_of ids.new.items)) }
+    ensures known { AreOf registry.now ids.new.items }
+{
+    add_behind(rt, alloc, arena, registry, ids, plan, &request, args)
+}
+
+fn add_behind<'r, T: Wait>(
+    rt: &T,
+    alloc: Global,
+    arena: &'r Bump,
+    registry: &'r Registry,
+    ids: &mut Vec<ClassId>,
+    plan: &mut Batch<'r>,
+    request: &Request,
+    args: &[Arg],
+) -> Result<(), AllocError>
+    requires known { AreOf registry.now ids.old.items }
+    requires inside { with_args args.now request.now ≢ RoundEnd }
+    requires few { HasFew (with_args args.now request.now) }
+    ensures ok { OnOk result (Adding (classes_of ids.old.items) plan.old (with_args args.now request.now) plan.new (classes_of ids.new.items)) }
+    ensures known { AreOf registry.now ids.new.items }
+{
+    match request {
+        Request::Define(bytes) => {
+            let work = define(rt, alloc, registry, ids, bytes.as_slice());
+            tell(plan, work)
+        }
+        Request::Put { key, value } => push_call(plan, put(key, value)),
+        Request::Get { key } => push_call(plan, get(key)),
+        Request::Remove { key } => push_call(plan, remove(key)),
+        Request::Contains { key } => push_call(plan, contains(key)),
+        Request::Invoke { class, key } => {
+            add_invoke(
+                arena,
+                registry,
+                ids.as_slice(),
+                plan,
+                *class as usize,
+                key,
+                args,
+            )
+        }
+        Request::InvokeAll { class, keys } => add_invoke_all(
+            alloc,
+            arena,
+            registry,
+            ids.as_slice(),
+            plan,
+            *class as usize,
+            keys.as_slice(),
+            args,
+        ),
+        Request::RoundEnd => Ok(()),
+    }
+}

@@ -1,0 +1,118 @@
+//! A cache is opened, a round is run on it, and it is closed.
+
+ghost use Rattle.std.specs.Prelude.{◌≡◌, ◌<◌, ◌≤◌, length, map, IfOk, IfErr};
+ghost use Rattle.std.specs.List.{All};
+ghost use Rattle.claims.specs.Counters.{IsJobCount};
+ghost use Rattle.stripe.specs.Stored.{entry_among};
+ghost use Rattle.cache.specs.Opened.{IsSeatCount, AreFresh};
+ghost use Rattle.round_outcome.specs.Outcome.{IsDone};
+ghost use Rattle.invokeall.specs.Jobs.{all_seen};
+ghost use Rattle.invokeall.specs.Rounds.{reply_of};
+ghost use Rattle.workers.specs.Rooms.{HasPlace, IsRoom};
+
+use crate::room::{PoolBuffers, WorkspacePool, room_for};
+use crate::single::run_by_one;
+use cache::{Cache, Closed, Gate, Seat};
+use invokeall::{JobReply, run_in};
+use jtypes::Loader;
+use registry::Registry;
+use std::alloc::Global;
+use std::sync::Wait;
+use std::thread::Threads;
+use stripe::{Call, MOST_RECORDS, Tables};
+
+/// One worker makes so few calls in their order. More of them it makes stripe by stripe, since what a stripe stores stays at hand then.
+const FEW: usize = 512;
+
+/// What a round leaves.
+#[derive(Drop)]
+pub struct CrewLeft {
+    /// The entries afterwards.
+    pub tables: Tables,
+    /// An answer to each call, in the order of the calls. A call that was refused, for want of memory, changed nothing.
+    pub answers: Vec<JobReply>,
+}
+
+/// How many of something a round takes that needs no more of it than it has calls: at least one.
+fn needed(calls: usize, most: usize) -> usize
+    requires { 0 < most }
+    ensures some { 0 < result }
+    ensures few { result ≤ most }
+    ensures enough { calls ≤ most → calls ≤ result }
+{
+    if calls == 0 {
+        1
+    } else if calls < most {
+        calls
+    } else {
+        most
+    }
+}
+
+/// Makes the calls by so many workers, or one for each call where there are fewer calls. Where there are several, each has a thread of
+/// its own, for which the caller waits.
+///
+/// All memory of the round itself is taken before the first call. Where that fails, no call was made, and the tables come back as they
+/// were. What was kept is used, and what the next round can use is kept.
+pub fn run_by_workers<'a, R: Threads + Wait + Sync, G: Gate + Sync, L: Loader + Sync>(
+    rt: &R,
+    alloc: Global,
+    registry: &'a Registry,
+    tables: Tables,
+    workers: usize,
+    calls: &[Call<'a>],
+    kept: &mut WorkspacePool,
+    gate: &G,
+    loader: &L,
+) -> Result<CrewLeft, Tables>
+    requires workers { IsSeatCount workers }
+    requires calls { IsJobCount (length calls.now) }
+    ensures done { IfOk result (λ left. IsDone L.ASKS (L.gives loader.now) (entry_among tables) (all_seen calls.now) (map reply_of left.answers.items) (entry_among left.tables)) }
+    ensures placed { IfOk result (λ left. All HasPlace left.answers.items) }
+    ensures stripes { IfOk result (λ left. length left.tables ≡ length tables) }
+    ensures kept { IfErr result (λ e. e ≡ tables) }
+{
+    let many = calls.len();
+    let seats = needed(many, workers);
+    let records = needed(many, MOST_RECORDS);
+    if seats == 1 && many <= FEW {
+        return run_by_one(
+            rt, alloc, registry, tables, records, calls, kept, gate, loader,
+        );
+    }
+    let Ok(room) = room_for(alloc, many, tables.stripes(), seats, kept) else {
+        return Err(tables);
+    };
+    match Cache::open(alloc, registry, tables, records, seats, loader) {
+        Ok((cache, seats)) => Ok(run_on(rt, cache, seats, calls, room, kept, gate)),
+        Err((_, tables)) => Err(tables),
+    }
+}
+
+/// Makes the calls on a cache without a call yet, and closes it.
+fn run_on<'a, R: Threads + Wait + Sync, G: Gate + Sync, L: Loader + Sync>(
+    rt: &R,
+    cache: Cache<'a, '_, L>,
+    mut seats: Vec<Seat<'a>>,
+    calls: &[Call<'a>],
+    room: PoolBuffers<'a>,
+    kept: &mut WorkspacePool,
+    gate: &G,
+) -> CrewLeft
+    requires count { IsSeatCount cache.seats }
+    requires journal { length (all_seen calls.now) ≤ cache.journal }
+    requires seats { AreFresh cache.table cache.seats seats.items }
+    requires room { IsRoom (length (all_seen calls.now)) cache.seats room }
+    ensures done { IsDone L.ASKS (L.gives cache.entry.loader) (entry_among cache.entry.tables) (all_seen calls.now) (map reply_of result.answers.items) (entry_among result.tables) }
+    ensures placed { All HasPlace result.answers.items }
+    ensures stripes { length result.tables ≡ length cache.entry.tables }
+{
+    let PoolBuffers {
+        round,
+        mut workspaces,
+    } = room;
+    let answers = run_in(rt, &cache, calls, &mut seats, &mut workspaces, round, gate);
+    let Closed { tables, .. } = cache.close(seats);
+    kept.keep_all(workspaces);
+    CrewLeft { tables, answers }
+}
