@@ -1,0 +1,89 @@
+"""How far a build is: the crates that are proved, and an estimate of the time that is left."""
+import sys
+import threading
+import time
+
+BUSY = 0.72
+"""The part of the processors that a build from nothing keeps busy, as seen on four."""
+SPEED = 1.5
+"""The processors that one crate's proof uses, as seen with four jobs."""
+CREDIT = 0.9
+"""The most of a crate's weight that counts as done while it runs."""
+SETTLING = 60
+"""Seconds for which the measured seconds count as seen, so that one quick crate doesn't set the pace."""
+TICK = 2
+"""Seconds between two lines on a terminal."""
+
+
+def chains(below, weights):
+    """For each crate, what the longest chain takes that begins with it and goes on with crates above. `below` names all crates below each."""
+    longest = {}
+    for name in sorted(below, key=lambda it: -len(below[it])):
+        above = [longest[it] for it in longest if name in below[it]]
+        longest[name] = weights[name] + max(above, default=0)
+    return longest
+
+
+class Estimate:
+    """The time that proofs are likely to take: by measured seconds at first, and then by the pace of this run."""
+
+    def __init__(self, below, weights, processors):
+        self.below, self.weights, self.processors = below, weights, processors
+        self.whole = self.least(weights)
+
+    def least(self, weights):
+        """Seconds by the clock for these processor seconds, as all processors allow and as the longest chain does."""
+        chain = max(chains(self.below, weights).values(), default=0)
+        return max(sum(weights.values()) / (BUSY * self.processors), chain / SPEED)
+
+    def left(self, passed, done, running):
+        """Seconds that are left after some have passed, by the names of the crates that are done, and of those that run with the seconds for which they do."""
+        weights = {name: 0 if name in done else weight for name, weight in self.weights.items()}
+        for name, since in running.items():
+            weights[name] -= min(since * SPEED, CREDIT * weights[name])
+        left = self.least(weights)
+        pace = (passed + SETTLING) / (self.whole - left + SETTLING)
+        return left * pace
+
+
+def in_words(seconds):
+    return f"about {seconds / 60:.0f} min left" if seconds >= 90 else "about a minute left" if seconds >= 30 else "less than a minute left"
+
+
+class Progress:
+    """Lines on standard error: on a terminal one line that moves on, elsewhere a line for each crate that is proved."""
+
+    def __init__(self, name, estimate):
+        self.name, self.estimate, self.done, self.running = name, estimate, set(), {}
+        self.began, self.lock, self.ended = time.monotonic(), threading.Lock(), threading.Event()
+        print(f"{name}: proving and building {len(estimate.weights)} crates, {in_words(estimate.whole)}", file=sys.stderr, flush=True)
+        if sys.stderr.isatty():
+            threading.Thread(target=self.tick, daemon=True).start()
+
+    def begin(self, crate):
+        with self.lock:
+            self.running[crate] = time.monotonic()
+
+    def finish(self, crate):
+        with self.lock:
+            self.running.pop(crate, None)
+            self.done.add(crate)
+            if not sys.stderr.isatty():
+                print(self.line(f", {crate}"), file=sys.stderr, flush=True)
+
+    def line(self, last=""):
+        now = time.monotonic()
+        left = self.estimate.left(now - self.began, self.done, {name: now - since for name, since in self.running.items()})
+        told = "" if len(self.done) == len(self.estimate.weights) else f", {in_words(left)}"
+        return f"{self.name}: {len(self.done)} of {len(self.estimate.weights)} crates{last} after {now - self.began:.0f} s{told}"
+
+    def tick(self):
+        while not self.ended.wait(TICK):
+            with self.lock:
+                proving = f", proving {' '.join(self.running)}" if self.running else ""
+                print(f"\r\033[K{self.line(proving)}"[:200], end="", file=sys.stderr, flush=True)
+
+    def end(self):
+        self.ended.set()
+        if sys.stderr.isatty():
+            print("\r\033[K", end="", file=sys.stderr, flush=True)

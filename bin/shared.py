@@ -1,0 +1,72 @@
+"""What several of the commands beside it share: the repository's places, its scripts as modules, and the releases that CHANGELOG.md lists."""
+import hashlib
+import importlib.machinery
+import importlib.util
+import os
+import re
+import shutil
+import sys
+
+TOP = os.path.dirname(os.path.dirname(os.path.realpath(__file__)))
+KIT_NAME = "rattle-kit-13f"
+"""The kit whose proofs the gate passes."""
+NO_KIT = (
+    f"there is no Rattle kit on this machine: install {KIT_NAME} and put the folder of its rt on PATH. "
+    "A built release needs no kit: CHANGELOG.md lists them, and each has a jentry_VERSION_amd64.deb and a .tar.xz"
+)
+RELEASE = re.compile(r"^## (\d+\.\d+\.\d+)\b[^\n]*\n(.*?)(?=^## |\Z)", re.MULTILINE | re.DOTALL)
+SUM = re.compile(r"sha256[^\n]*\b([0-9a-f]{64})\b")
+
+sys.dont_write_bytecode = True
+
+
+def load_script(name):
+    """A command beside this file as a module."""
+    loader = importlib.machinery.SourceFileLoader(f"repository_{name}", f"{TOP}/bin/{name}")
+    made = importlib.util.module_from_spec(importlib.util.spec_from_loader(loader.name, loader))
+    loader.exec_module(made)
+    return made
+
+
+def kit_folder():
+    """The folder of the kit on PATH, or None where there is none."""
+    ours = os.path.realpath(f"{TOP}/bin/rt")
+    for folder in os.environ.get("PATH", "").split(os.pathsep):
+        found = shutil.which("rt", path=folder)
+        if found and os.path.realpath(found) != ours:
+            return os.path.dirname(os.path.dirname(os.path.realpath(found)))
+    return None
+
+
+def text_of(file):
+    """The text of a file, empty where there is no such file."""
+    try:
+        with open(file, encoding="utf-8", errors="replace") as it:
+            return it.read()
+    except FileNotFoundError:
+        return ""
+
+
+def sum_of(file):
+    """The sha256 of a file, in hexadecimal digits."""
+    with open(file, "rb") as it:
+        return hashlib.sha256(it.read()).hexdigest()
+
+
+def newest_release(changelog):
+    """The version of the newest release in the text of a changelog and the sha256 of its program, or None where it lists no release that was built."""
+    for version, section in RELEASE.findall(changelog):
+        found = SUM.search(section)
+        if found:
+            return version, found[1]
+    return None
+
+
+def compare_with_release(program, changelog):
+    """Words that say whether a program is that of the newest release."""
+    newest = newest_release(changelog)
+    if newest is None:
+        return "CHANGELOG.md lists no built release to compare it with"
+    version, wanted = newest
+    found = sum_of(program)
+    return f"it is the program of release {version}" if found == wanted else f"it is not the program of release {version} (sha256 {found} here, {wanted} there)"
