@@ -3,7 +3,7 @@ import re
 import time
 
 import row_classes as rows
-from running import Row, Runs, Told, told
+from running import Row, Runs, Told, proved_only, told
 
 USAGE = ("usage: bench run FILE COUNT KEY VALUE [ARGS..] | bench verify FILE COUNT | bench calls FILE KEYS SEATS | "
          "bench rounds FILE JOBS SEATS | bench stripe FILE KEYS\n")
@@ -50,6 +50,7 @@ def adding_below_96():
     return rows.class_of(rows.process(10, 5, code), further=GET_KEY)
 
 
+@proved_only
 class Bench(Runs):
     variable = "BENCH_PROGRAM"
 

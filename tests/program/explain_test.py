@@ -10,7 +10,7 @@ import tempfile
 import unittest
 
 import row_classes as rows
-from running import Runs, side_by_side, told
+from running import Runs, proved_only, side_by_side, told
 
 TOP = os.path.dirname(os.path.dirname(os.path.dirname(os.path.abspath(__file__))))
 REFUSED = os.path.join(TOP, "examples", "refused")
@@ -225,6 +225,7 @@ class Explain(Runs):
             os.close(write)
             self.assertIn((ran.returncode, ran.stderr), ((3, b"error: cannot write\n"), (-13, b"")))
 
+    @proved_only
     def test_a_class_of_64_kb_takes_half_a_second_at_most(self):
         file = many_methods()
         self.assertGreater(len(file), 60_000)

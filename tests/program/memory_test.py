@@ -7,7 +7,7 @@ import tempfile
 import unittest
 
 from commands_test import ACCEPTED, ANSWER, NULL, PLUS, changed
-from running import Runs, Told, side_by_side, told
+from running import Runs, Told, proved_only, side_by_side, told
 
 SOURCE = os.path.join(os.path.dirname(os.path.abspath(__file__)), "../../bin/starve.c")
 GROWTHS = re.compile(rb"growths (\d+)\n")
@@ -22,6 +22,7 @@ def starved(program, library, words, file, number):
     return it._replace(errors=GROWTHS.sub(b"", it.errors)), int(growths[-1]) if growths else None
 
 
+@proved_only
 @unittest.skipUnless(shutil.which("cc"), "there is no C compiler")
 class Lacking(Runs):
     variable = "JENTRY_PROGRAM"

@@ -9,6 +9,9 @@ from concurrent.futures import ThreadPoolExecutor
 LIMIT = 60
 """The most seconds of a run."""
 
+proved_only = unittest.skipIf(os.environ.get("JENTRY_TRIAL"), "a trial build is slow, and checks its memory itself: only the proved program shows this")
+"""Marks tests of the time that the program takes, and of the memory that it asks for."""
+
 Told = namedtuple("Told", "status output errors")
 """What a run told: its status, and the bytes of its standard output and of its standard error."""
 Row = namedtuple("Row", "words status output errors file given", defaults=("", "", b"", b""))

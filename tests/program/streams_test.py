@@ -6,7 +6,7 @@ import tempfile
 import time
 
 import row_classes as rows
-from running import LIMIT, Row, Runs, Told, side_by_side, told
+from running import LIMIT, Row, Runs, Told, proved_only, side_by_side, told
 
 WORKERS = ["0", "1", "4", "16"]
 ROUND_END = bytes([0, 0, 0, 1, 8])
@@ -255,6 +255,7 @@ class Requests(Runs):
         self.assertEqual(it.returncode, 0)
         return most
 
+    @proved_only
     def test_a_round_has_the_workers_that_it_is_worth(self):
         """A round of 512 invocations that take 131,072 instructions each, and one of a single such invocation. The first thread waits
         for several workers, and is itself a single one."""
