@@ -1,0 +1,65 @@
+"""A small repository with this one's commands: a library that waits for nothing, and a program `jentry` above it that answers `check FILE`."""
+import os
+import shutil
+import subprocess
+import sys
+
+TOP = os.path.dirname(os.path.dirname(os.path.dirname(os.path.abspath(__file__))))
+LIBRARY = """//! A library with one function.
+#![tactic(auto)]
+
+pub fn least(x: usize) -> usize {
+    x
+}
+"""
+PROGRAM = """//! Answers `check FILE` by how many bytes the first read of the file gives.
+#![tactic(auto)]
+
+use std::env;
+use std::fs::OpenOptions;
+use std::io::{self, Read};
+
+fn main(rt: HostRuntime) -> io::Result<()> {
+    for word in env::args(&rt)?.skip(2) {
+        let mut file = OpenOptions::new().read(true).open(&rt, word.as_str())?;
+        let mut buffer = [0u8; 4096];
+        let n = low::least(file.read(&mut buffer)?);
+        println!(rt; "accepted {n}")?;
+    }
+    Ok(())
+}
+"""
+CRATES = "low may_wait=3:\njentry may_wait=2: low\n"
+"""Both counts are wrong: neither crate waits."""
+
+
+def write(path, text):
+    os.makedirs(os.path.dirname(path), exist_ok=True)
+    with open(path, "w", encoding="utf-8") as it:
+        it.write(text)
+
+
+def make(folder):
+    """Makes the repository in a new folder."""
+    for name in ("bin", "packaging"):
+        shutil.copytree(f"{TOP}/{name}", f"{folder}/{name}", ignore=shutil.ignore_patterns("__pycache__"))
+    shutil.copyfile(f"{TOP}/HANDLES", f"{folder}/HANDLES")
+    write(f"{folder}/crates.txt", CRATES)
+    write(f"{folder}/crates/low/src/lib.rt", LIBRARY)
+    write(f"{folder}/crates/jentry/src/main.rt", PROGRAM)
+    for example in ("crates/jentry/data", "examples"):
+        os.makedirs(f"{folder}/{example}")
+        shutil.copyfile(f"{TOP}/examples/Plus.class", f"{folder}/{example}/Plus.class")
+    write(f"{folder}/.gitignore", "out/\n__pycache__/\n")
+    for words in (["init", "-q"], ["add", "."], ["-c", "user.name=t", "-c", "user.email=t@localhost", "commit", "-qm", "first"]):
+        subprocess.run(["git", "-C", folder, *words], check=True)
+
+
+def run(folder, *words, limit=300, **variables):
+    """What a command prints on standard output and on standard error, and its status."""
+    ran = subprocess.run(words, cwd=folder, stdin=subprocess.DEVNULL, capture_output=True, text=True, timeout=limit, env={**os.environ, **variables})
+    return ran.stdout, ran.stderr, ran.returncode
+
+
+if __name__ == "__main__":
+    make(sys.argv[1])
