@@ -13,7 +13,7 @@ import struct
 import sys
 
 FAULTS = {1: "ArithmeticException", 2: "ArrayIndexOutOfBoundsException", 3: "NullPointerException",
-          4: "ClassCastException", 5: "IncompatibleClassChangeError"}
+          4: "ClassCastException", 5: "IncompatibleClassChangeError", 6: "CacheLoaderException"}
 DENIALS = {1: "UnknownClass", 2: "JournalFull", 3: "NoMemory", 4: "TooManyClasses", 5: "TooManyJobs"}
 ON_ONE_KEY = {"get": 3, "remove": 4, "contains": 5}
 

@@ -1,50 +1,72 @@
 #!/usr/bin/env python3
 """Runs the commands that the pages show, and holds what they print to what the pages say.
 
-usage: pages.py [PAGE..]
-Without pages it takes those below. In a page a command stands behind `$ ` in a code block, and what it prints in the lines behind it. The last line
-is 'N passed, M failed'. Where the program isn't built yet, the first command builds it.
+usage: pages.py [--program PROGRAM] [PAGE..]
+Without pages it takes all of the repository. In a page a command stands behind `$ ` in a code block, and what it prints in the lines behind it; a
+block that README begins with `bin/jentry`, and the block behind it, are such a pair too. Where a program is named it runs in place of `bin/jentry`.
+The last line is 'N passed, M failed'. Where the program isn't built yet, the first command builds it.
 """
+import argparse
+import glob
 import os
+import re
+import shlex
 import subprocess
 import sys
 
 TOP = os.path.dirname(os.path.dirname(os.path.abspath(__file__)))
-PAGES = ["README.md", "examples/README.md", "docs/PROCESSORS.md", "docs/PROTOCOL.md"]
 FENCE = "```"
+LAUNCHER = re.compile(r"(?<![\w/.-])bin/jentry(?![\w-])")
+LIMIT = 7200
+
+
+def pages_of_the_repository():
+    """All pages, by their paths from the top."""
+    found = [*glob.glob(os.path.join(TOP, "*.md")), *glob.glob(os.path.join(TOP, "docs", "*.md")), *glob.glob(os.path.join(TOP, "examples", "*.md"))]
+    return sorted(os.path.relpath(it, TOP) for it in found)
+
+
+def blocks_of(page):
+    """The code blocks of a page: the number of the first line of each, and its lines."""
+    with open(os.path.join(TOP, page), encoding="utf-8") as it:
+        lines = it.read().split("\n")
+    fences = [at for at, line in enumerate(lines) if line.startswith(FENCE)]
+    return [(start + 2, lines[start + 1:end]) for start, end in zip(fences[::2], fences[1::2])]
 
 
 def commands_of(page):
     """The commands of a page's code blocks: the line's number, the command, and what it is to print."""
-    with open(os.path.join(TOP, page), encoding="utf-8") as it:
-        lines = it.read().split("\n")
-    found, inside = [], False
-    for at, line in enumerate(lines, 1):
-        if line.startswith(FENCE):
-            inside = not inside
-        elif inside and line.startswith("$ "):
-            found.append((at, line[2:], []))
-        elif inside and found and is_behind(lines, found[-1][0], at):
-            found[-1][2].append(line)
-    return found
+    found, blocks = [], blocks_of(page)
+    for number, (first, lines) in enumerate(blocks):
+        inside = None
+        for at, line in enumerate(lines, first):
+            if line.startswith("$ "):
+                inside = (at, line[2:], [])
+                found.append(inside)
+            elif inside:
+                inside[2].append(line)
+        if len(lines) == 1 and lines[0].startswith("bin/jentry run ") and number + 1 < len(blocks):
+            found.append((first, lines[0], blocks[number + 1][1]))
+    return [it for it in found if "..." not in it[2]]
 
 
-def is_behind(lines, command, at):
-    return not any(line.startswith(FENCE) for line in lines[command:at])
-
-
-def printed(command):
-    done = subprocess.run(["bash", "-c", command], cwd=TOP, stdout=subprocess.PIPE, stderr=subprocess.STDOUT, text=True, timeout=7200)
+def printed(command, program=None):
+    """The lines that a command prints, on either output."""
+    if program:
+        command = LAUNCHER.sub(lambda _: shlex.quote(os.path.abspath(program)), command)
+    done = subprocess.run(["bash", "-c", command], cwd=TOP, stdout=subprocess.PIPE, stderr=subprocess.STDOUT, text=True, timeout=LIMIT)
     return done.stdout.rstrip("\n").split("\n") if done.stdout.strip() else []
 
 
-def main():
+def main(words):
+    parser = argparse.ArgumentParser(description=__doc__.split("\n")[0])
+    parser.add_argument("--program", help="run this in place of bin/jentry")
+    parser.add_argument("page", nargs="*")
+    options = parser.parse_args(words)
     passed = failed = 0
-    for page in sys.argv[1:] or PAGES:
+    for page in options.page or pages_of_the_repository():
         for at, command, wanted in commands_of(page):
-            if "..." in wanted or not command.startswith(("bin/", "examples/")):
-                continue
-            got = printed(command)
+            got = printed(command, options.program)
             if got == wanted:
                 passed += 1
                 continue
@@ -55,4 +77,4 @@ def main():
 
 
 if __name__ == "__main__":
-    sys.exit(main())
+    sys.exit(main(sys.argv[1:]))

@@ -1,0 +1,121 @@
+"""docs/ASSURANCE.md beside the crates: each call, clause, definition, edit and test that it names is there, and no clause of a listed call is left out."""
+import glob
+import os
+import re
+import unittest
+
+from page import SPEC, TICKED, TOP, contract_of, is_defined, tables_of, text_of
+
+PAGE = "docs/ASSURANCE.md"
+CALL = re.compile(r"`([\w:]+)` (crates/\S+\.rt)")
+DEFINITION = re.compile(r"`(\w+)` ([a-z_]+/[A-Z]\w+)")
+
+
+def table(first):
+    """The rows of all tables whose head begins with a word."""
+    return [row for head, rows in tables_of(PAGE) if head[0].startswith(first) for row in rows]
+
+
+def calls():
+    """Each call with its file and the clauses that its rows name."""
+    found, current = {}, None
+    for row in table("Call"):
+        call = CALL.fullmatch(row[0])
+        if row[0]:
+            assert call, row[0]
+            current = call.groups()
+            found[current] = []
+        found[current] += ["(unnamed)"] if row[1] == "(unnamed)" else TICKED.findall(row[1])
+    return found
+
+
+class Assurance(unittest.TestCase):
+    def test_thirty_calls_or_more_have_all_their_clauses(self):
+        listed = calls()
+        self.assertGreaterEqual(len(listed), 30)
+        for (name, path), clauses in listed.items():
+            with self.subTest(call=name):
+                self.assertTrue(os.path.exists(os.path.join(TOP, path)), path)
+                contract = contract_of(name, path)
+                self.assertIsNotNone(contract, f"{path} has no {name}")
+                self.assertEqual(sorted(set(clauses)), sorted(set(contract)))
+
+    def test_the_other_calls_of_a_cache_have_the_clauses_of_call_at(self):
+        path = "crates/cache/src/calls.rt"
+        wanted = contract_of("Cache::call_at", path)
+        self.assertEqual(sorted(wanted), ["err", "ok"])
+        for name in ("invoke", "get", "put", "remove", "contains_key"):
+            for form in (name, f"{name}_at"):
+                self.assertEqual(contract_of(f"Cache::{form}", path), wanted, form)
+
+    def test_definitions_stand_where_the_tables_say(self):
+        named = [(word, spec) for row in table("Call") for word, spec in DEFINITION.findall(row[3])]
+        self.assertGreater(len(named), 50)
+        for word, spec in named:
+            with self.subTest(definition=word):
+                self.assertTrue(is_defined(word, spec), spec)
+
+    def test_the_theorem_names_what_is_there(self):
+        rows = table("Half-sentence")
+        self.assertGreaterEqual(len(rows), 9)
+        for row in rows:
+            specs = re.findall(r"((?:`\w+`(?:, | and )?)+) (?:in|of) ([a-z_]+/[A-Z]\w+)", row[2])
+            self.assertTrue(specs, row[2])
+            for words, spec in specs:
+                for word in TICKED.findall(words):
+                    with self.subTest(definition=word):
+                        self.assertTrue(is_defined(word, spec), spec)
+
+    def test_there_are_25_definitions_to_read(self):
+        rows = table("Definition")
+        self.assertEqual(len(rows), 25)
+        for row in rows:
+            specs = row[3].split(", ")
+            for word in TICKED.findall(row[0]):
+                with self.subTest(definition=word):
+                    self.assertTrue(any(is_defined(word, spec) for spec in specs), row[3])
+
+    def test_laws_stand_in_their_files(self):
+        rows = table("Law")
+        self.assertTrue(rows)
+        for row in rows:
+            path = re.search(r"crates/\S+\.rt", row[0])[0]
+            for name in TICKED.findall(row[0]):
+                self.assertTrue(contract_of(name, path), f"{path}: {name}")
+
+    def test_edits_are_there_and_counted(self):
+        for row in table("Wrong body"):
+            crate = None
+            for part in re.findall(r"[a-z_]+ (?=`)|`\w+`", row[1]):
+                if part.startswith("`"):
+                    path = f"crates/{crate}/must-fail/{part.strip('`')}.edit"
+                    self.assertTrue(os.path.exists(os.path.join(TOP, path)), path)
+                else:
+                    crate = part.strip()
+        edits = glob.glob(os.path.join(TOP, "crates/*/must-fail/*.edit"))
+        folders = {os.path.dirname(it) for it in edits}
+        self.assertTrue(f"{len(edits)} in {len(folders)} crates" in text_of(PAGE), f"{len(edits)} edits in {len(folders)} crates")
+
+    def test_tests_are_there(self):
+        sources = "".join(
+            text_of(os.path.relpath(it, TOP)) for folder in ("crates/test_*/src", "crates/*/src", "tests/program")
+            for kind in ("rt", "py") for it in glob.glob(os.path.join(TOP, folder, "**", f"*.{kind}"), recursive=True))
+        for row in table("What"):
+            for name in TICKED.findall(row[1]):
+                if re.fullmatch(r"[a-z_0-9]+", name):
+                    with self.subTest(test=name):
+                        self.assertRegex(sources, rf"(?:fn|def) (?:test_)?{name}\b")
+
+    def test_the_example_of_an_edit_can_be_made(self):
+        block = re.search(r"```\nfile: (\S+)\nold: (.*)\nnew: (.*)\n```", text_of(PAGE))
+        self.assertIsNotNone(block)
+        self.assertEqual(text_of(f"crates/machine/{block[1]}").count(block[2]), 1)
+
+    def test_the_sentence_of_the_theorem_is_readmes(self):
+        quoted = [" ".join(line[2:] for line in text_of(page).split("\n") if line.startswith("> ")) for page in ("README.md", PAGE)]
+        self.assertEqual(quoted[0], quoted[1])
+        self.assertIn("an exception changes nothing", quoted[0])
+
+
+if __name__ == "__main__":
+    unittest.main()

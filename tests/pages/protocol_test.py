@@ -1,0 +1,39 @@
+"""The session in bytes of docs/PROTOCOL.md, through the built program."""
+import os
+import re
+import subprocess
+import unittest
+
+from page import TOP, text_of
+
+PROGRAM = os.environ.get("JENTRY_PROGRAM")
+
+
+def session():
+    """What the client sends and the server answers, as the page has it: bytes in pairs of digits, and files by their names."""
+    block = re.search(r"```\n(> 00 00 .*?)```", text_of("docs/PROTOCOL.md"), re.S)[1]
+    sides = {">": b"", "<": b""}
+    for line in block.rstrip("\n").split("\n"):
+        words = re.split(r" {3,}", line[1:].lstrip())[0].split()
+        for word in words:
+            if "/" in word:
+                with open(os.path.join(TOP, word), "rb") as it:
+                    sides[line[0]] += it.read()
+            else:
+                sides[line[0]] += bytes.fromhex(word)
+    return sides[">"], sides["<"]
+
+
+@unittest.skipUnless(PROGRAM, "there is no program (bin/build makes it)")
+class Session(unittest.TestCase):
+    def test_the_bytes_are_these(self):
+        sent, wanted = session()
+        self.assertGreater(len(sent), 800)
+        for workers in ("0", "1", "4"):
+            ran = subprocess.run([PROGRAM, "serve", "--workers", workers], input=sent, stdout=subprocess.PIPE, stderr=subprocess.PIPE, timeout=60)
+            self.assertEqual((ran.returncode, ran.stderr.decode()), (0, ""))
+            self.assertEqual(ran.stdout.hex(" "), wanted.hex(" "))
+
+
+if __name__ == "__main__":
+    unittest.main()
