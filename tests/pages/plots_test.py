@@ -1,0 +1,64 @@
+"""The plots of docs/plots are of the figures beside them, bench/plot.py makes plots, and bench/measure.py figures for it."""
+import glob
+import hashlib
+import os
+import re
+import shutil
+import subprocess
+import sys
+import tempfile
+import unittest
+from xml.etree import ElementTree
+
+from page import TOP, text_of
+
+FIGURES = "series\tx\tmedian\tleast\tgreatest\nfirst\t1\t2.5\t2\t3\nfirst\t4\t1.5\t1\t2\nsecond\t1\t7\t6\t8\nsecond\t4\t5\t4\t6\n"
+BENCH = os.environ.get("BENCH_PROGRAM", os.path.join(TOP, "crates/bench/out/bench"))
+
+
+def texts_of(svg):
+    return ["".join(it.itertext()).strip() for it in ElementTree.parse(svg).iter() if it.tag.endswith("}text")]
+
+
+class Plots(unittest.TestCase):
+    def test_plots_are_of_their_figures_and_shown(self):
+        plots = glob.glob(os.path.join(TOP, "docs/plots/*.svg"))
+        self.assertTrue(plots)
+        for plot in plots:
+            figures = plot.replace(".svg", ".tsv")
+            with self.subTest(plot=os.path.basename(plot)), open(figures, "rb") as it:
+                self.assertIn(hashlib.sha256(it.read()).hexdigest(), text_of(os.path.relpath(plot, TOP)))
+                self.assertIn(f"plots/{os.path.basename(plot)}", text_of("docs/PERFORMANCE.md"))
+
+    @unittest.skipUnless(shutil.which("gnuplot"), "there is no gnuplot (apt-get install gnuplot-nox)")
+    def test_a_plot_has_its_series(self):
+        with tempfile.TemporaryDirectory() as folder:
+            for name in ("runs", "verdicts", "calls", "rounds", "clients"):
+                path = os.path.join(folder, f"{name}.tsv")
+                with open(path, "w", encoding="utf-8") as it:
+                    it.write(FIGURES)
+                subprocess.run([sys.executable, os.path.join(TOP, "bench/plot.py"), "--out", folder, path], check=True, stdout=subprocess.DEVNULL)
+                self.assertLessEqual({"first", "second"}, set(texts_of(path.replace(".tsv", ".svg"))), name)
+
+    def test_tables_of_the_page_are_the_figures(self):
+        """Each figure of clients.tsv is in a cell of the page."""
+        page = text_of("docs/PERFORMANCE.md")
+        for line in text_of("docs/plots/clients.tsv").strip().split("\n")[1:]:
+            _, _, *figures = line.split("\t")
+            median, least, greatest = (f"{float(it):,.0f}" for it in figures)
+            self.assertIn(f"{median} ({least} to {greatest})", page)
+
+    @unittest.skipUnless(os.access(BENCH, os.X_OK), "there is no bench (bin/bench makes it)")
+    def test_measures_are_written(self):
+        with tempfile.TemporaryDirectory() as folder:
+            words = [sys.executable, os.path.join(TOP, "bench/measure.py"), BENCH, "--tries", "1", "--out", folder, "calls"]
+            told = subprocess.run(words, stdout=subprocess.PIPE, text=True, timeout=600, check=True).stdout
+            with open(os.path.join(folder, "calls.tsv"), encoding="utf-8") as it:
+                rows = [line.rstrip("\n").split("\t") for line in it]
+            self.assertEqual((len(rows), rows[0]), (13, ["series", "x", "median", "least", "greatest"]))
+            self.assertTrue(all(float(row[3]) <= float(row[2]) <= float(row[4]) for row in rows[1:]))
+            self.assertEqual(len(re.findall(r"^\| (?:invoke|put), ", told, re.M)), 4)
+
+
+if __name__ == "__main__":
+    unittest.main()
