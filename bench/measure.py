@@ -101,7 +101,11 @@ def measure_runs(program, folder, measure):
 
         measure.ask("jentry", x, ours)
         for series, excluded in (("HotSpot, interpreter", True), ("HotSpot, JIT", False)) if has_java else ():
-            measure.ask(series, x, lambda file=file, words=words, steps=steps, it=excluded: on_hotspot(folder, file, words, it) / steps)
+            measure.ask(
+                series,
+                x,
+                lambda file=file, words=words, steps=steps, it=excluded: on_hotspot(folder, file, words, it) / steps,
+            )
 
 
 def straight(size):
@@ -120,7 +124,11 @@ def measure_verdicts(program, folder, measure):
         files.append(("additions in a row", path))
     for series, path in files:
         count = str(max(5, 2_000_000 // os.path.getsize(path)))
-        measure.ask(series, str(os.path.getsize(path)), lambda path=path, count=count: number(r"at least ([\d.]+) us", printed([program, "verify", path, count])))
+        measure.ask(
+            series,
+            str(os.path.getsize(path)),
+            lambda path=path, count=count: number(r"at least ([\d.]+) us", printed([program, "verify", path, count])),
+        )
 
 
 def measure_calls(program, _, measure):
@@ -131,7 +139,10 @@ def measure_calls(program, _, measure):
                 measure.ask(
                     f"{call}, {name}",
                     seats,
-                    lambda seats=seats, keys=keys, call=call: number(rf"{call} .*?at least ([\d.]+) ns", printed([program, "calls", "examples/Plus.class", keys, seats])),
+                    lambda seats=seats, keys=keys, call=call: number(
+                        rf"{call} .*?at least ([\d.]+) ns",
+                        printed([program, "calls", "examples/Plus.class", keys, seats]),
+                    ),
                 )
 
 
@@ -143,7 +154,9 @@ def measure_rounds(program, _, measure):
                 measure.ask(
                     f"{name_of(file)}, {int(jobs):,} calls",
                     seats,
-                    lambda file=file, jobs=jobs, seats=seats: number(r"round ([\d.]+) us", printed([program, "rounds", file, jobs, seats])),
+                    lambda file=file, jobs=jobs, seats=seats: number(
+                        r"round ([\d.]+) us", printed([program, "rounds", file, jobs, seats])
+                    ),
                 )
 
 
@@ -175,7 +188,9 @@ def machine(tries):
     """On what is measured, and when."""
     with open("/proc/cpuinfo", encoding="utf-8") as it:
         names = re.findall(r"model name\s*: (.*)", it.read())
-    commit = subprocess.run(["git", "describe", "--always", "--dirty"], cwd=TOP, stdout=subprocess.PIPE, text=True).stdout.strip()
+    commit = subprocess.run(
+        ["git", "describe", "--always", "--dirty"], cwd=TOP, stdout=subprocess.PIPE, text=True
+    ).stdout.strip()
     return [
         ("processors", f"{len(names)} x {names[0] if names else 'unknown'}"),
         ("system", " ".join(os.uname()[:3:2])),

@@ -21,9 +21,24 @@ COLOURS = ("#0072b2", "#d55e00", "#009e73", "#cc79a7", "#e69f00", "#56b4e9", "#0
 PLOTS = {
     "runs": ("A run beside HotSpot", "processor (instructions of a run)", "ns an instruction", "set logscale y"),
     "verdicts": ("A verdict by the size of the class", "bytes of the class file", "us", "set logscale xy"),
-    "calls": ("Calls on a shared cache", "threads", "ns a call", "set logscale y; set logscale x 2; set xtics (1, 2, 4); set xrange [0.9:4.4]"),
-    "rounds": ("Rounds by workers", "workers", "us a round", "set logscale y; set logscale x 2; set xtics (1, 2, 4); set xrange [0.9:4.4]"),
-    "clients": ("Calls a second from one JVM", "threads", "calls a second", "set logscale xy; set xtics (1, 8, 64); set xrange [0.8:80]"),
+    "calls": (
+        "Calls on a shared cache",
+        "threads",
+        "ns a call",
+        "set logscale y; set logscale x 2; set xtics (1, 2, 4); set xrange [0.9:4.4]",
+    ),
+    "rounds": (
+        "Rounds by workers",
+        "workers",
+        "us a round",
+        "set logscale y; set logscale x 2; set xtics (1, 2, 4); set xrange [0.9:4.4]",
+    ),
+    "clients": (
+        "Calls a second from one JVM",
+        "threads",
+        "calls a second",
+        "set logscale xy; set xtics (1, 8, 64); set xrange [0.8:80]",
+    ),
 }
 
 
@@ -41,7 +56,11 @@ def quoted(text):
 
 
 def block(name, rows):
-    return f"${name} << EOD\n" + "\n".join("\t".join(quoted(it) if isinstance(it, str) else str(it) for it in row) for row in rows) + "\nEOD\n"
+    return (
+        f"${name} << EOD\n"
+        + "\n".join("\t".join(quoted(it) if isinstance(it, str) else str(it) for it in row) for row in rows)
+        + "\nEOD\n"
+    )
 
 
 def bars(rows):
@@ -50,12 +69,20 @@ def bars(rows):
     width = 0.8 / len(names)
     text, parts = "", []
     for at, name in enumerate(names):
-        figures = [(xs.index(x) + (at - (len(names) - 1) / 2) * width, *rest) for series, x, *rest in rows if series == name]
+        figures = [
+            (xs.index(x) + (at - (len(names) - 1) / 2) * width, *rest) for series, x, *rest in rows if series == name
+        ]
         text += block(f"d{at}", figures)
-        parts.append(f"$d{at} using 1:2:({width * 0.9}) with boxes fs solid 0.8 noborder lc rgb '{COLOURS[at]}' title {quoted(name)}")
+        parts.append(
+            f"$d{at} using 1:2:({width * 0.9}) with boxes fs solid 0.8 noborder lc rgb '{COLOURS[at]}' title {quoted(name)}"
+        )
         parts.append(f"$d{at} using 1:2:3:4 with yerrorbars pt 7 ps 0.2 lc rgb '#444444' notitle")
     ticks = ", ".join(f"{quoted(x)} {at}" for at, x in enumerate(xs))
-    return text + f"set xtics ({ticks}) rotate by 20 right\nset xrange [-0.6:{len(xs) - 0.4}]\nplot " + ", \\\n  ".join(parts)
+    return (
+        text
+        + f"set xtics ({ticks}) rotate by 20 right\nset xrange [-0.6:{len(xs) - 0.4}]\nplot "
+        + ", \\\n  ".join(parts)
+    )
 
 
 def lines(rows):
@@ -64,7 +91,9 @@ def lines(rows):
     for at, name in enumerate(dict.fromkeys(it[0] for it in rows)):
         text += block(f"d{at}", [(float(x), *rest) for series, x, *rest in rows if series == name])
         colour = COLOURS[at % len(COLOURS)]
-        parts.append(f"$d{at} using 1:2:3:4 with yerrorlines pt {at % 8 + 4} ps 0.7 lc rgb '{colour}' title {quoted(name)}")
+        parts.append(
+            f"$d{at} using 1:2:3:4 with yerrorlines pt {at % 8 + 4} ps 0.7 lc rgb '{colour}' title {quoted(name)}"
+        )
     return text + "plot " + ", \\\n  ".join(parts)
 
 
@@ -76,15 +105,17 @@ def plot(path, folder):
     title, x, y, settings = PLOTS[name]
     rows = read(path)
     made = os.path.join(folder, f"{name}.svg")
-    script = "\n".join([
-        "set terminal svg size 760,440 dynamic background '#ffffff' font 'sans-serif,12'",
-        f"set output {quoted(made)}",
-        f"set title {quoted(title)}\nset xlabel {quoted(x)}\nset ylabel {quoted(y)}",
-        "set key outside right top\nset grid ytics lc rgb '#dddddd'\nset format y '%.10g'",
-        settings,
-        bars(rows) if name == "runs" else lines(rows),
-        "",
-    ])
+    script = "\n".join(
+        [
+            "set terminal svg size 760,440 dynamic background '#ffffff' font 'sans-serif,12'",
+            f"set output {quoted(made)}",
+            f"set title {quoted(title)}\nset xlabel {quoted(x)}\nset ylabel {quoted(y)}",
+            "set key outside right top\nset grid ytics lc rgb '#dddddd'\nset format y '%.10g'",
+            settings,
+            bars(rows) if name == "runs" else lines(rows),
+            "",
+        ]
+    )
     subprocess.run(["gnuplot"], input=script, text=True, check=True)
     with open(path, "rb") as it:
         of = hashlib.sha256(it.read()).hexdigest()

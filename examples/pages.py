@@ -22,7 +22,11 @@ LIMIT = 7200
 
 def pages_of_the_repository():
     """All pages, by their paths from the top."""
-    found = [*glob.glob(os.path.join(TOP, "*.md")), *glob.glob(os.path.join(TOP, "docs", "*.md")), *glob.glob(os.path.join(TOP, "examples", "*.md"))]
+    found = [
+        *glob.glob(os.path.join(TOP, "*.md")),
+        *glob.glob(os.path.join(TOP, "docs", "*.md")),
+        *glob.glob(os.path.join(TOP, "examples", "*.md")),
+    ]
     return sorted(os.path.relpath(it, TOP) for it in found)
 
 
@@ -31,7 +35,7 @@ def blocks_of(page):
     with open(os.path.join(TOP, page), encoding="utf-8") as it:
         lines = it.read().split("\n")
     fences = [at for at, line in enumerate(lines) if line.startswith(FENCE)]
-    return [(start + 2, lines[start + 1:end]) for start, end in zip(fences[::2], fences[1::2])]
+    return [(start + 2, lines[start + 1 : end]) for start, end in zip(fences[::2], fences[1::2])]
 
 
 def commands_of(page):
@@ -54,7 +58,9 @@ def printed(command, program=None):
     """The lines that a command prints, on either output."""
     if program:
         command = LAUNCHER.sub(lambda _: shlex.quote(os.path.abspath(program)), command)
-    done = subprocess.run(["bash", "-c", command], cwd=TOP, stdout=subprocess.PIPE, stderr=subprocess.STDOUT, text=True, timeout=LIMIT)
+    done = subprocess.run(
+        ["bash", "-c", command], cwd=TOP, stdout=subprocess.PIPE, stderr=subprocess.STDOUT, text=True, timeout=LIMIT
+    )
     return done.stdout.rstrip("\n").split("\n") if done.stdout.strip() else []
 
 

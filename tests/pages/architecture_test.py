@@ -38,7 +38,13 @@ class Architecture(unittest.TestCase):
 
     def test_names_are_in_the_code(self):
         known = words_of_code()
-        named = {word for _, line in lines_of(PAGE) for it in TICKED.findall(line) for word in re.findall(r"\w+", it) if "/" not in it and "." not in it and "*" not in it}
+        named = {
+            word
+            for _, line in lines_of(PAGE)
+            for it in TICKED.findall(line)
+            for word in re.findall(r"\w+", it)
+            if "/" not in it and "." not in it and "*" not in it
+        }
         named -= {"process", "CacheLoader", "crates", "getValue", "added"}
         self.assertGreater(len(named), 80)
         self.assertEqual(sorted(named - known - set(crates())), [])

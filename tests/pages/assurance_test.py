@@ -4,7 +4,7 @@ import os
 import re
 import unittest
 
-from page import SPEC, TICKED, TOP, contract_of, is_defined, tables_of, text_of
+from page import TICKED, TOP, contract_of, is_defined, tables_of, text_of
 
 PAGE = "docs/ASSURANCE.md"
 CALL = re.compile(r"`([\w:]+)` (crates/\S+\.rt)")
@@ -94,12 +94,17 @@ class Assurance(unittest.TestCase):
                     crate = part.strip()
         edits = glob.glob(os.path.join(TOP, "crates/*/must-fail/*.edit"))
         folders = {os.path.dirname(it) for it in edits}
-        self.assertTrue(f"{len(edits)} in {len(folders)} crates" in text_of(PAGE), f"{len(edits)} edits in {len(folders)} crates")
+        self.assertTrue(
+            f"{len(edits)} in {len(folders)} crates" in text_of(PAGE), f"{len(edits)} edits in {len(folders)} crates"
+        )
 
     def test_tests_are_there(self):
         sources = "".join(
-            text_of(os.path.relpath(it, TOP)) for folder in ("crates/test_*/src", "crates/*/src", "tests/program")
-            for kind in ("rt", "py") for it in glob.glob(os.path.join(TOP, folder, "**", f"*.{kind}"), recursive=True))
+            text_of(os.path.relpath(it, TOP))
+            for folder in ("crates/test_*/src", "crates/*/src", "tests/program")
+            for kind in ("rt", "py")
+            for it in glob.glob(os.path.join(TOP, folder, "**", f"*.{kind}"), recursive=True)
+        )
         for row in table("What"):
             for name in TICKED.findall(row[1]):
                 if re.fullmatch(r"[a-z_0-9]+", name):
@@ -112,7 +117,10 @@ class Assurance(unittest.TestCase):
         self.assertEqual(text_of(f"crates/machine/{block[1]}").count(block[2]), 1)
 
     def test_the_sentence_of_the_theorem_is_readmes(self):
-        quoted = [" ".join(line[2:] for line in text_of(page).split("\n") if line.startswith("> ")) for page in ("README.md", PAGE)]
+        quoted = [
+            " ".join(line[2:] for line in text_of(page).split("\n") if line.startswith("> "))
+            for page in ("README.md", PAGE)
+        ]
         self.assertEqual(quoted[0], quoted[1])
         self.assertIn("an exception changes nothing", quoted[0])
 

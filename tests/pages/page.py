@@ -6,7 +6,6 @@ import re
 TOP = os.path.dirname(os.path.dirname(os.path.dirname(os.path.abspath(__file__))))
 FENCE = "```"
 TICKED = re.compile(r"`([^`]+)`")
-SPEC = re.compile(r"`([^`]+)`(?:, `([^`]+)`)* in ([a-z_]+/[A-Z]\w+)")
 
 
 @functools.lru_cache(maxsize=None)
@@ -70,7 +69,14 @@ def is_defined(word, spec):
     path = f"crates/{crate}/specs/{file}.antt"
     if not os.path.exists(os.path.join(TOP, path)):
         return False
-    return re.search(rf"^(?:(?:unfoldable )?(?:abbrev )?(?:pub )?(?:record |data )?|  (?:pub )?){re.escape(word)}\b", text_of(path), re.M) is not None
+    return (
+        re.search(
+            rf"^(?:(?:unfoldable )?(?:abbrev )?(?:pub )?(?:record |data )?|  (?:pub )?){re.escape(word)}\b",
+            text_of(path),
+            re.M,
+        )
+        is not None
+    )
 
 
 @functools.lru_cache(maxsize=None)

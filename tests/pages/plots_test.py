@@ -37,7 +37,11 @@ class Plots(unittest.TestCase):
                 path = os.path.join(folder, f"{name}.tsv")
                 with open(path, "w", encoding="utf-8") as it:
                     it.write(FIGURES)
-                subprocess.run([sys.executable, os.path.join(TOP, "bench/plot.py"), "--out", folder, path], check=True, stdout=subprocess.DEVNULL)
+                subprocess.run(
+                    [sys.executable, os.path.join(TOP, "bench/plot.py"), "--out", folder, path],
+                    check=True,
+                    stdout=subprocess.DEVNULL,
+                )
                 self.assertLessEqual({"first", "second"}, set(texts_of(path.replace(".tsv", ".svg"))), name)
 
     def test_tables_of_the_page_are_the_figures(self):
@@ -51,7 +55,16 @@ class Plots(unittest.TestCase):
     @unittest.skipUnless(os.access(BENCH, os.X_OK), "there is no bench (bin/bench makes it)")
     def test_measures_are_written(self):
         with tempfile.TemporaryDirectory() as folder:
-            words = [sys.executable, os.path.join(TOP, "bench/measure.py"), BENCH, "--tries", "1", "--out", folder, "calls"]
+            words = [
+                sys.executable,
+                os.path.join(TOP, "bench/measure.py"),
+                BENCH,
+                "--tries",
+                "1",
+                "--out",
+                folder,
+                "calls",
+            ]
             told = subprocess.run(words, stdout=subprocess.PIPE, text=True, timeout=600, check=True).stdout
             with open(os.path.join(folder, "calls.tsv"), encoding="utf-8") as it:
                 rows = [line.rstrip("\n").split("\t") for line in it]

@@ -30,7 +30,13 @@ class Session(unittest.TestCase):
         sent, wanted = session()
         self.assertGreater(len(sent), 800)
         for workers in ("0", "1", "4"):
-            ran = subprocess.run([PROGRAM, "serve", "--workers", workers], input=sent, stdout=subprocess.PIPE, stderr=subprocess.PIPE, timeout=60)
+            ran = subprocess.run(
+                [PROGRAM, "serve", "--workers", workers],
+                input=sent,
+                stdout=subprocess.PIPE,
+                stderr=subprocess.PIPE,
+                timeout=60,
+            )
             self.assertEqual((ran.returncode, ran.stderr.decode()), (0, ""))
             self.assertEqual(ran.stdout.hex(" "), wanted.hex(" "))
 

@@ -22,14 +22,18 @@ def numbers(table):
 def sources(folder, kind):
     """The sources of a client, tests aside, by their paths."""
     paths = glob.glob(os.path.join(TOP, folder, "**", f"*.{kind}"), recursive=True)
-    return {it: text_of(os.path.relpath(it, TOP)) for it in paths if not re.search(r"/(test|tests|target|out)/|_tests?\.", it)}
+    return {
+        it: text_of(os.path.relpath(it, TOP))
+        for it in paths
+        if not re.search(r"/(test|tests|target|out)/|_tests?\.", it)
+    }
 
 
 def listed(text, table):
     """The names that a source lists from the first name of a table on, as many as the table has."""
     found = NAME.findall(text)
     at = found.index(names(table)[0])
-    return found[at:at + len(names(table))]
+    return found[at : at + len(names(table))]
 
 
 def constants_of(path):
@@ -56,7 +60,9 @@ class Tables(unittest.TestCase):
         ):
             numbered = re.findall(rf"{kind}::(\w+)(?:\(_\))? => (\d+),", text_of(path))
             named = dict(re.findall(rf"{kind}::(\w+)(?:\(_\))? => \"(\w+)\",", text_of(path)))
-            self.assertEqual([(int(number), named[it]) for it, number in numbered], list(zip(numbers(table), names(table))))
+            self.assertEqual(
+                [(int(number), named[it]) for it, number in numbered], list(zip(numbers(table), names(table)))
+            )
         denials = re.findall(r"Denial::(\w+) => (\d+),", text_of("crates/wire/src/reply.rt"))
         self.assertEqual([(int(number), it) for it, number in denials], list(zip(numbers("denials"), names("denials"))))
 
@@ -64,7 +70,9 @@ class Tables(unittest.TestCase):
         """The refusals of types and bounds are those that the definitions of their levels name."""
         text = text_of("crates/verdict/specs/Verdict.antt")
         types = re.findall(r"^BodyStands v e code tables \(?(\w+)", text, re.M)
-        bounds = re.findall(r"^BoundStands profile c j (\w+)", text, re.M) + re.findall(r"^ClassStands profile c (Rec\w+)", text, re.M)
+        bounds = re.findall(r"^BoundStands profile c j (\w+)", text, re.M) + re.findall(
+            r"^ClassStands profile c (Rec\w+)", text, re.M
+        )
         for level, found in (("types", types), ("bounds", bounds)):
             wanted = [row["name"] for row in rows_of("refusals") if row["level"] == level]
             self.assertEqual(sorted(it for it in found if it[0].isupper()), sorted(wanted))
@@ -81,7 +89,9 @@ class Tables(unittest.TestCase):
         self.assertEqual(listed(with_refusals[0], "refusals"), names("refusals"))
         with_exceptions = [it for it in java if "new ArithmeticException(" in it]
         self.assertEqual(len(with_exceptions), 1)
-        created = [(int(number), name) for number, name in CREATED.findall(with_exceptions[0]) if name in names("exceptions")]
+        created = [
+            (int(number), name) for number, name in CREATED.findall(with_exceptions[0]) if name in names("exceptions")
+        ]
         self.assertEqual(created, list(zip(numbers("exceptions"), names("exceptions"))))
         with_denials = [it for it in java if "\"TooManyClasses\"" in it]
         self.assertTrue(with_denials)
@@ -89,7 +99,12 @@ class Tables(unittest.TestCase):
             self.assertEqual(listed(it, "denials"), names("denials"))
 
     def test_the_front_has_them(self):
-        found = [(path, table) for path, text in sources("clients/front/src", "rs").items() for table in ("refusals", "exceptions", "denials") if f"\"{names(table)[0]}\"" in text]
+        found = [
+            (path, table)
+            for path, text in sources("clients/front/src", "rs").items()
+            for table in ("refusals", "exceptions", "denials")
+            if f"\"{names(table)[0]}\"" in text
+        ]
         if not found:
             self.skipTest("the front tells no names")
         for path, table in found:
@@ -103,7 +118,9 @@ class Tables(unittest.TestCase):
 
     def test_the_protocol_page_has_them(self):
         page = {head[0]: rows for head, rows in tables_of("docs/PROTOCOL.md") if head[1] == "Name"}
-        self.assertEqual(page["Exception"], [[row["number"], row["name"], row["where"]] for row in rows_of("exceptions")])
+        self.assertEqual(
+            page["Exception"], [[row["number"], row["name"], row["where"]] for row in rows_of("exceptions")]
+        )
         self.assertEqual(page["Denial"], [[row["number"], row["name"], row["when"]] for row in rows_of("denials")])
         faults = re.findall(r"ServeFault::(\w+) => (\d+),", text_of("crates/serve/src/fault.rt"))
         self.assertEqual([(row[1], row[0]) for row in page["Fault"]], faults)
