@@ -61,7 +61,9 @@ def printed(command, program=None):
     done = subprocess.run(
         ["bash", "-c", command], cwd=TOP, stdout=subprocess.PIPE, stderr=subprocess.STDOUT, text=True, timeout=LIMIT
     )
-    return done.stdout.rstrip("\n").split("\n") if done.stdout.strip() else []
+    # What the launcher says of a trial build is no part of what a command prints.
+    lines = [line for line in done.stdout.split("\n") if not line.startswith("jentry: ")]
+    return "\n".join(lines).rstrip("\n").split("\n") if "".join(lines).strip() else []
 
 
 def main(words):
