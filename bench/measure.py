@@ -207,7 +207,7 @@ def main():
     parser.add_argument("--tries", type=int, default=5, help="how often each figure is measured")
     parser.add_argument("--out", default=os.path.join(TOP, "bench/out"), help="the folder for the figures")
     parser.add_argument("measure", nargs="*", help=f"{', '.join(MEASURES)}; all where none is named")
-    options = parser.parse_args()
+    options = parser.parse_intermixed_args()
     if wrong := [it for it in options.measure if it not in MEASURES]:
         parser.error(f"no measure is called {wrong[0]}")
     program = os.path.abspath(options.program)

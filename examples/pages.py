@@ -70,7 +70,7 @@ def main(words):
     parser = argparse.ArgumentParser(description=__doc__.split("\n")[0])
     parser.add_argument("--program", help="run this in place of bin/jentry")
     parser.add_argument("page", nargs="*")
-    options = parser.parse_args(words)
+    options = parser.parse_intermixed_args(words)
     passed = failed = 0
     for page in options.page or pages_of_the_repository():
         for at, command, wanted in commands_of(page):
