@@ -111,10 +111,9 @@ class Assurance(unittest.TestCase):
                     with self.subTest(test=name):
                         self.assertRegex(sources, rf"(?:fn|def) (?:test_)?{name}\b")
 
-    def test_the_example_of_an_edit_can_be_made(self):
-        block = re.search(r"```\nfile: (\S+)\nold: (.*)\nnew: (.*)\n```", text_of(PAGE))
-        self.assertIsNotNone(block)
-        self.assertEqual(text_of(f"crates/machine/{block[1]}").count(block[2]), 1)
+    def test_the_edit_that_is_shown_is_the_crates(self):
+        shown = re.search(r"This one is `(\w+)` of (\w+):\n\n```\n(.*?)```", text_of(PAGE), re.S)
+        self.assertEqual(shown[3].split(), text_of(f"crates/{shown[2]}/must-fail/{shown[1]}.edit").split())
 
     def test_the_sentence_of_the_theorem_is_readmes(self):
         quoted = [
