@@ -1,0 +1,234 @@
+package jentry.compiler;
+
+import java.util.ArrayList;
+import java.util.List;
+import java.util.Set;
+import org.objectweb.asm.ClassReader;
+import org.objectweb.asm.ClassWriter;
+import org.objectweb.asm.MethodTooLargeException;
+import org.objectweb.asm.tree.ClassNode;
+import org.objectweb.asm.tree.MethodNode;
+import jentry.compiler.profile.Bounds;
+import jentry.compiler.profile.Instructions;
+import jentry.compiler.profile.Members;
+import jentry.compiler.profile.Problem;
+import jentry.compiler.profile.ProblemException;
+import jentry.compiler.profile.Profile;
+import jentry.compiler.rewrite.Lambdas;
+import jentry.compiler.rewrite.Rewriter;
+import jentry.compiler.unroll.CodeWriter;
+import jentry.compiler.unroll.LoopUnroller;
+
+/**
+ * Compiles class files of processors to class files that the server's verifier accepts: it writes the passes of loops out, and some other things that
+ * the verifier refuses by what it accepts.
+ *
+ * <p>What it writes is judged by the verifier as any other class. A class in which the compiler finds nothing that the verifier refuses is left as it
+ * is. Instances keep nothing, and may be used by several threads.
+ */
+public final class ProcessorCompiler {
+    private static final int MOST_BYTES = 65_536;
+    private static final int NEWEST_VERSION = 64;
+    private static final Set<String> NUMBERS = Set.of("java/lang/Number", "java/lang/Long", "java/lang/Integer");
+
+    private final boolean isVerbatim;
+
+    /** One that leaves out what has no effect. */
+    public ProcessorCompiler() {
+        this(false);
+    }
+
+    /**
+     * One that may keep each instruction.
+     *
+     * @param isVerbatim whether it does: the bound is then that of the loops, step for step
+     */
+    public ProcessorCompiler(boolean isVerbatim) {
+        this.isVerbatim = isVerbatim;
+    }
+
+    /** Whether a class file implements EntryProcessor itself, or has lambdas that do. */
+    public static boolean hasProcessors(byte[] classFile) throws CompileException {
+        ClassNode node = read(classFile);
+        return node.interfaces.contains(Members.PROCESSOR) || !Lambdas.of(node).isEmpty();
+    }
+
+    /**
+     * What became of the processors of a class file.
+     *
+     * @param classes those that were compiled
+     * @param problems of those that can't be
+     */
+    public record Result(List<CompiledClass> classes, List<Problem> problems) {
+        /** The classes, at least one. */
+        public List<CompiledClass> orThrow(String name) throws CompileException {
+            if (!problems.isEmpty()) {
+                throw new CompileException(problems);
+            } else if (classes.isEmpty()) {
+                throw new CompileException(List.of(new Problem(name, "", -1, "there is no EntryProcessor in it",
+                    "write a class that implements EntryProcessor, or a lambda")));
+            }
+            return classes;
+        }
+    }
+
+    /**
+     * Compiles the processors of a class file: the class itself, where it implements EntryProcessor, and each lambda in it that makes one.
+     *
+     * @throws CompileException where it is no class file
+     */
+    public Result compileAll(byte[] classFile) throws CompileException {
+        ClassNode node = read(classFile);
+        List<CompiledClass> compiled = new ArrayList<>();
+        List<Problem> problems = new ArrayList<>();
+        List<Lambdas.Lambda> lambdas = Lambdas.of(read(classFile));
+        if (node.interfaces.contains(Members.PROCESSOR)) {
+            try {
+                compiled.add(compileClass(node, classFile));
+            } catch (CompileException e) {
+                problems.addAll(e.problems());
+            }
+        }
+        for (Lambdas.Lambda lambda : lambdas) {
+            try {
+                compiled.add(compileLambda(lambda));
+            } catch (CompileException e) {
+                problems.addAll(e.problems());
+            }
+        }
+        return new Result(compiled, problems);
+    }
+
+    /**
+     * Compiles the processors of a class file, all of them.
+     *
+     * @return at least one class
+     * @throws CompileException where one of them can't be compiled, or there is none
+     */
+    public List<CompiledClass> compile(byte[] classFile) throws CompileException {
+        return compileAll(classFile).orThrow(Instructions.nameOf(read(classFile).name));
+    }
+
+    /** The lambdas of a class file that make an EntryProcessor. */
+    public static List<Lambdas.Lambda> lambdas(byte[] classFile) throws CompileException {
+        return Lambdas.of(read(classFile));
+    }
+
+    /**
+     * Compiles one lambda of a class file.
+     *
+     * @param bodyName the name of the method that is its body, as `lambda$main$0`
+     * @throws CompileException where it can't be compiled, or isn't there
+     */
+    public CompiledClass compileLambda(byte[] classFile, String bodyName) throws CompileException {
+        ClassNode node = read(classFile);
+        for (Lambdas.Lambda lambda : Lambdas.of(node)) {
+            if (lambda.body().getName().equals(bodyName)) {
+                return compileLambda(lambda);
+            }
+        }
+        throw new CompileException(List.of(Instructions.problem(node, "there is no lambda " + bodyName + " that makes an EntryProcessor", "")));
+    }
+
+    private static ClassNode read(byte[] classFile) throws CompileException {
+        try {
+            byte[] bytes = classFile;
+            if (bytes.length > 7 && (bytes[6] & 0xFF) == 0 && (bytes[7] & 0xFF) > NEWEST_VERSION) {
+                // ASM reads no number above this one, but what javac writes of a processor hasn't changed since
+                bytes = bytes.clone();
+                bytes[7] = NEWEST_VERSION;
+            }
+            ClassNode node = new ClassNode();
+            new ClassReader(bytes).accept(node, 0);
+            return node;
+        } catch (RuntimeException e) {
+            throw new CompileException(List.of(new Problem("?", "", -1, "this is no class file, or it is damaged", "name a file that javac made")));
+        }
+    }
+
+    private CompiledClass compileClass(ClassNode node, byte[] classFile) throws CompileException {
+        if (classFile.length <= MOST_BYTES && Profile.problems(node, Profile.Stage.COMPLETE).isEmpty()) {
+            Bounds bounds = Bounds.of(node);
+            return new CompiledClass(Instructions.nameOf(node.name), Instructions.nameOf(node.name), classFile, true, bounds, bounds.steps(), List.of());
+        }
+        return written(node, Instructions.nameOf(node.name), false);
+    }
+
+    private CompiledClass compileLambda(Lambdas.Lambda lambda) throws CompileException {
+        try {
+            String source = Instructions.nameOf(lambda.host().name) + "#" + lambda.body().getName();
+            return written(Lambdas.toClass(lambda), source, true);
+        } catch (ProblemException e) {
+            throw new CompileException(List.of(e.problem()));
+        }
+    }
+
+    private CompiledClass written(ClassNode node, String source, boolean wasLambda) throws CompileException {
+        try {
+            List<String> notes = new ArrayList<>(Rewriter.rewrite(node, wasLambda));
+            refuse(Profile.problems(node, Profile.Stage.BEFORE_UNROLLING));
+            LoopUnroller unroller = new LoopUnroller(node);
+            long steps = unroller.steps();
+            List<MethodNode> methods = List.copyOf(node.methods);
+            CodeWriter.Form form = isVerbatim ? CodeWriter.Form.VERBATIM : CodeWriter.Form.FOLDED;
+            List<String> unrolled = unroller.rewrite(form);
+            byte[] bytes = isVerbatim || fits(node) ? toBytes(node) : null;
+            if (bytes == null) {
+                node.methods = new ArrayList<>(methods);
+                unrolled = unroller.rewrite(CodeWriter.Form.SHORT);
+                bytes = toBytes(node);
+            }
+            notes.addAll(unrolled);
+            return checked(bytes, source, steps, notes);
+        } catch (ProblemException e) {
+            throw new CompileException(List.of(e.problem()));
+        }
+    }
+
+    private static boolean fits(ClassNode node) {
+        try {
+            return toBytes(node).length <= MOST_BYTES;
+        } catch (CompileException e) {
+            return false;
+        }
+    }
+
+    private CompiledClass checked(byte[] bytes, String source, long steps, List<String> notes) throws CompileException {
+        ClassNode node = read(bytes);
+        if (bytes.length > MOST_BYTES) {
+            refuse(List.of(Instructions.problem(node, "with its loops written out the class file has " + bytes.length + " bytes, and 65,536 are the most",
+                "make fewer passes, or write an inner loop as a method of its own")));
+        }
+        refuse(Profile.problems(node, Profile.Stage.COMPLETE));
+        Bounds bounds = Bounds.of(node);
+        Bounds most = Bounds.LIMITS;
+        if (bounds.steps() > most.steps() || bounds.words() > most.words() || bounds.slots() > most.slots() || bounds.depth() > most.depth()) {
+            refuse(List.of(Instructions.problem(node, "an invocation may take " + bounds + ", and " + most + " are the limits",
+                "make fewer passes and calls, and arrays outside of loops")));
+        }
+        return new CompiledClass(Instructions.nameOf(node.name), source, bytes, false, bounds, steps, List.copyOf(notes));
+    }
+
+    private static void refuse(List<Problem> problems) throws CompileException {
+        if (!problems.isEmpty()) {
+            throw new CompileException(problems);
+        }
+    }
+
+    private static byte[] toBytes(ClassNode node) throws CompileException {
+        ClassWriter writer = new ClassWriter(ClassWriter.COMPUTE_FRAMES) {
+            @Override
+            protected String getCommonSuperClass(String a, String b) {
+                return a.equals(b) ? a : NUMBERS.contains(a) && NUMBERS.contains(b) ? "java/lang/Number" : "java/lang/Object";
+            }
+        };
+        try {
+            node.accept(writer);
+            return writer.toByteArray();
+        } catch (MethodTooLargeException e) {
+            throw new CompileException(List.of(new Problem(Instructions.nameOf(node.name), e.getMethodName(), -1,
+                "with its loops written out the method has " + e.getCodeSize() + " bytes, and 65,535 are the most",
+                "make fewer passes, or write an inner loop as a method of its own")));
+        }
+    }
+}

@@ -1,0 +1,60 @@
+package jentry.compiler.cli;
+
+import java.io.IOException;
+import java.io.InputStream;
+import java.nio.file.Files;
+import java.nio.file.Path;
+import java.util.ArrayList;
+import java.util.List;
+import java.util.stream.Stream;
+import java.util.zip.ZipEntry;
+import java.util.zip.ZipFile;
+
+/** The class files behind a word of the command line. */
+final class Inputs {
+    /**
+     * A class file.
+     *
+     * @param name what messages call it
+     * @param file where it lies, or null where it lies in a jar
+     * @param bytes what stands in it
+     */
+    record Input(String name, Path file, byte[] bytes) { }
+
+    private Inputs() { }
+
+    /** The class files of a class file, a folder or a jar, in the order of their names. */
+    static List<Input> of(Path place) throws IOException {
+        if (Files.isDirectory(place)) {
+            return ofFolder(place);
+        }
+        String name = place.getFileName().toString();
+        return name.endsWith(".jar") || name.endsWith(".zip") ? ofJar(place) : List.of(new Input(place.toString(), place, Files.readAllBytes(place)));
+    }
+
+    private static List<Input> ofFolder(Path folder) throws IOException {
+        List<Path> files;
+        try (Stream<Path> walk = Files.walk(folder)) {
+            files = walk.filter(it -> it.toString().endsWith(".class") && Files.isRegularFile(it)).sorted().toList();
+        }
+        List<Input> inputs = new ArrayList<>();
+        for (Path file : files) {
+            inputs.add(new Input(file.toString(), file, Files.readAllBytes(file)));
+        }
+        return inputs;
+    }
+
+    private static List<Input> ofJar(Path jar) throws IOException {
+        List<Input> inputs = new ArrayList<>();
+        try (ZipFile file = new ZipFile(jar.toFile())) {
+            List<? extends ZipEntry> entries = file.stream().filter(it -> it.getName().endsWith(".class") && !it.getName().startsWith("META-INF/"))
+                .sorted(java.util.Comparator.comparing(ZipEntry::getName)).toList();
+            for (ZipEntry entry : entries) {
+                try (InputStream in = file.getInputStream(entry)) {
+                    inputs.add(new Input(jar + "!/" + entry.getName(), null, in.readAllBytes()));
+                }
+            }
+        }
+        return inputs;
+    }
+}

@@ -1,0 +1,69 @@
+package jentry.compiler.compare;
+
+import java.util.ArrayList;
+import java.util.LinkedHashSet;
+import java.util.List;
+import java.util.Random;
+import java.util.Set;
+import org.objectweb.asm.ClassReader;
+import org.objectweb.asm.tree.AbstractInsnNode;
+import org.objectweb.asm.tree.ClassNode;
+import org.objectweb.asm.tree.MethodNode;
+import jentry.compiler.profile.Instructions;
+
+/** Makes invocations: small numbers, numbers at the ends of their ranges, the numbers that a class's code names and their neighbours, and any. */
+public final class RandomCalls {
+    private static final int MOST_ARGUMENTS = 8;
+    private static final long[] BOUNDARIES = {0, 1, -1, 2, 7, 8, 63, 64, 127, 128, 255, 256, Short.MAX_VALUE, Integer.MAX_VALUE, Integer.MIN_VALUE,
+        Integer.MAX_VALUE + 1L, Integer.MIN_VALUE - 1L, Long.MAX_VALUE, Long.MIN_VALUE, Long.MAX_VALUE - 1, Long.MIN_VALUE + 1};
+
+    private final Random random;
+    private final long[] named;
+
+    /** Of the numbers in a class file, by a random number generator with this seed. */
+    public RandomCalls(byte[] classFile, long seed) {
+        random = new Random(seed);
+        ClassNode node = new ClassNode();
+        new ClassReader(classFile).accept(node, ClassReader.SKIP_DEBUG | ClassReader.SKIP_FRAMES);
+        Set<Long> numbers = new LinkedHashSet<>(List.of(0L));
+        for (MethodNode method : node.methods) {
+            for (AbstractInsnNode at : method.instructions) {
+                if (Instructions.pushed(at) instanceof Number number) {
+                    numbers.addAll(List.of(number.longValue() - 1, number.longValue(), number.longValue() + 1));
+                }
+            }
+        }
+        named = numbers.stream().mapToLong(it -> it).toArray();
+    }
+
+    /** The next one. */
+    public Call next() {
+        List<Object> arguments = new ArrayList<>();
+        for (int count = random.nextInt(MOST_ARGUMENTS + 1); count > 0; count--) {
+            arguments.add(argument());
+        }
+        Long value = random.nextInt(8) == 0 ? null : (Long) number();
+        return new Call(number(), value, arguments.toArray());
+    }
+
+    private Object argument() {
+        int kind = random.nextInt(24);
+        if (kind == 0) {
+            return null;
+        }
+        return kind <= 2 ? (Object) (int) number() : (Object) number();
+    }
+
+    private long number() {
+        return switch (random.nextInt(8)) {
+            case 0 -> random.nextInt(20);
+            case 1 -> random.nextInt(100_000);
+            case 2 -> -random.nextInt(1000);
+            case 3 -> 1L << random.nextInt(64);
+            case 4 -> random.nextInt();
+            case 5 -> BOUNDARIES[random.nextInt(BOUNDARIES.length)];
+            case 6 -> named[random.nextInt(named.length)];
+            default -> random.nextLong();
+        };
+    }
+}

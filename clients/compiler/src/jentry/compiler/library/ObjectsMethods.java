@@ -1,0 +1,31 @@
+package jentry.compiler.library;
+
+/** Methods of Objects by what the server knows. The compiler sees to it that the first operand is a number or null. */
+public final class ObjectsMethods {
+    private ObjectsMethods() { }
+
+    public static boolean equals(Object a, Object b) {
+        if (a instanceof Long) {
+            return ((Long) a).equals(b);
+        }
+        if (a instanceof Integer) {
+            return ((Integer) a).equals(b);
+        }
+        return a == null && b == null;
+    }
+
+    public static boolean isNull(Object a) {
+        return a == null;
+    }
+
+    public static boolean nonNull(Object a) {
+        return a != null;
+    }
+
+    public static Object requireNonNull(Object a) {
+        if (a == null) {
+            ((Long) a).longValue();
+        }
+        return a;
+    }
+}

@@ -1,0 +1,142 @@
+package jentry.compiler.profile;
+
+import org.objectweb.asm.Opcodes;
+import org.objectweb.asm.Type;
+import org.objectweb.asm.tree.AbstractInsnNode;
+import org.objectweb.asm.tree.ClassNode;
+import org.objectweb.asm.tree.InsnNode;
+import org.objectweb.asm.tree.IntInsnNode;
+import org.objectweb.asm.tree.LdcInsnNode;
+import org.objectweb.asm.tree.LineNumberNode;
+import org.objectweb.asm.tree.MethodInsnNode;
+import org.objectweb.asm.tree.MethodNode;
+
+/** Small questions about instructions, and small instructions. */
+public final class Instructions implements Opcodes {
+    private Instructions() { }
+
+    /** The instruction behind, labels and lines left out, or null. */
+    public static AbstractInsnNode next(AbstractInsnNode at) {
+        AbstractInsnNode found = at.getNext();
+        while (found != null && found.getOpcode() < 0) {
+            found = found.getNext();
+        }
+        return found;
+    }
+
+    /** The instruction before, labels and lines left out, or null. */
+    public static AbstractInsnNode previous(AbstractInsnNode at) {
+        AbstractInsnNode found = at.getPrevious();
+        while (found != null && found.getOpcode() < 0) {
+            found = found.getPrevious();
+        }
+        return found;
+    }
+
+    /** The line of the source, or -1. */
+    public static int line(AbstractInsnNode at) {
+        for (AbstractInsnNode before = at; before != null; before = before.getPrevious()) {
+            if (before instanceof LineNumberNode line) {
+                return line.line;
+            }
+        }
+        return -1;
+    }
+
+    /** The first line of a method, or -1. */
+    public static int line(MethodNode method) {
+        for (AbstractInsnNode at : method.instructions) {
+            if (at instanceof LineNumberNode line) {
+                return line.line;
+            }
+        }
+        return -1;
+    }
+
+    /** The Integer or Long that an instruction pushes, or null. */
+    public static Object pushed(AbstractInsnNode at) {
+        int opcode = at == null ? -1 : at.getOpcode();
+        if (opcode >= ICONST_M1 && opcode <= ICONST_5) {
+            return opcode - ICONST_0;
+        } else if (opcode == LCONST_0 || opcode == LCONST_1) {
+            return (long) (opcode - LCONST_0);
+        } else if (opcode == BIPUSH || opcode == SIPUSH) {
+            return ((IntInsnNode) at).operand;
+        } else if (opcode == LDC) {
+            Object constant = ((LdcInsnNode) at).cst;
+            return constant instanceof Integer || constant instanceof Long ? constant : null;
+        }
+        return null;
+    }
+
+    /** The shortest push of an Integer or a Long. */
+    public static AbstractInsnNode push(Object value) {
+        if (value instanceof Long number) {
+            return number == 0 || number == 1 ? new InsnNode(LCONST_0 + (int) (long) number) : new LdcInsnNode(number);
+        }
+        int number = (Integer) value;
+        if (number >= -1 && number <= 5) {
+            return new InsnNode(ICONST_0 + number);
+        } else if (number == (byte) number) {
+            return new IntInsnNode(BIPUSH, number);
+        }
+        return number == (short) number ? new IntInsnNode(SIPUSH, number) : new LdcInsnNode(number);
+    }
+
+    /** The instruction that discards a value of so many slots. */
+    public static InsnNode pop(int size) {
+        return new InsnNode(size == 2 ? POP2 : POP);
+    }
+
+    /** The method of the class that an instruction calls, or null. */
+    public static MethodNode callee(ClassNode owner, AbstractInsnNode at) {
+        if (!(at instanceof MethodInsnNode call) || !call.owner.equals(owner.name)) {
+            return null;
+        }
+        return method(owner, call.name, call.desc);
+    }
+
+    /** A method by its name and descriptor, or null. */
+    public static MethodNode method(ClassNode owner, String name, String descriptor) {
+        for (MethodNode method : owner.methods) {
+            if (method.name.equals(name) && method.desc.equals(descriptor)) {
+                return method;
+            }
+        }
+        return null;
+    }
+
+    /** Whether a method has no receiver. */
+    public static boolean isStatic(MethodNode method) {
+        return (method.access & ACC_STATIC) != 0;
+    }
+
+    /** How many instructions a method has, labels and lines left out. */
+    public static int count(MethodNode method) {
+        int count = 0;
+        for (AbstractInsnNode at : method.instructions) {
+            count += at.getOpcode() >= 0 ? 1 : 0;
+        }
+        return count;
+    }
+
+    /** A class's name as the source has it. */
+    public static String nameOf(String internal) {
+        return Type.getObjectType(internal).getClassName();
+    }
+
+    /** A problem at an instruction. */
+    public static Problem problem(ClassNode owner, MethodNode method, AbstractInsnNode at, String what, String remedy) {
+        return new Problem(nameOf(owner.name), method.name, line(at), what, remedy);
+    }
+
+    /** A problem of a method as a whole. */
+    public static Problem problem(ClassNode owner, MethodNode method, String what, String remedy) {
+        return new Problem(nameOf(owner.name), method.name, line(method), what, remedy);
+    }
+
+    /** A problem of a class as a whole. */
+    public static Problem problem(ClassNode owner, String what, String remedy) {
+        return new Problem(nameOf(owner.name), "", -1, what, remedy);
+    }
+}

@@ -1,0 +1,219 @@
+package jentry.compiler.profile;
+
+import java.util.ArrayList;
+import java.util.List;
+import org.objectweb.asm.Opcodes;
+import org.objectweb.asm.Type;
+import org.objectweb.asm.tree.AbstractInsnNode;
+import org.objectweb.asm.tree.ClassNode;
+import org.objectweb.asm.tree.FrameNode;
+import org.objectweb.asm.tree.IntInsnNode;
+import org.objectweb.asm.tree.JumpInsnNode;
+import org.objectweb.asm.tree.LabelNode;
+import org.objectweb.asm.tree.LookupSwitchInsnNode;
+import org.objectweb.asm.tree.MethodInsnNode;
+import org.objectweb.asm.tree.MethodNode;
+import org.objectweb.asm.tree.TableSwitchInsnNode;
+import org.objectweb.asm.tree.TypeInsnNode;
+
+/**
+ * The rules by which the server refuses a class, as far as the compiler has to know them.
+ *
+ * <p>Each problem that is found here is one for which the server refuses the class. So a class that the server accepts has none, and is left as it is.
+ * The reverse doesn't hold: types, for one, are checked by the server alone.
+ */
+public final class Profile implements Opcodes {
+    /** What a check leaves out, since later passes see to it. */
+    public enum Stage {
+        /** Loops, lengths of arrays and the types of frames aren't looked at. */
+        BEFORE_UNROLLING,
+        /** Everything is. */
+        COMPLETE
+    }
+
+    private static final int MOST_METHODS = 256;
+    private static final int LONGEST_ARRAY = 65_535;
+
+    private final ClassNode owner;
+    private final boolean complete;
+    private final List<Problem> problems = new ArrayList<>();
+
+    private Profile(ClassNode owner, Stage stage) {
+        this.owner = owner;
+        complete = stage == Stage.COMPLETE;
+    }
+
+    /** Everything in a class for which the server refuses it, the length of the file and the bounds left out. */
+    public static List<Problem> problems(ClassNode owner, Stage stage) {
+        Profile profile = new Profile(owner, stage);
+        profile.header();
+        owner.methods.forEach(profile::method);
+        if (profile.problems.isEmpty()) {
+            try {
+                CallGraph.check(owner);
+            } catch (ProblemException e) {
+                profile.problems.add(e.problem());
+            }
+        }
+        return profile.problems;
+    }
+
+    private void header() {
+        int version = owner.version & 0xFFFF;
+        if (version != V1_7 && version != V1_8) {
+            add("the class file is of Java version " + (version - V1_8 + 8), "compile with javac --release 8");
+        }
+        if ((owner.access & (ACC_ABSTRACT | ACC_INTERFACE | ACC_ANNOTATION | ACC_ENUM)) != 0 || !"java/lang/Object".equals(owner.superName)) {
+            add("it is abstract, an interface or an enum, or extends another class", "write a plain class that implements EntryProcessor");
+        }
+        if (!owner.interfaces.contains(Members.PROCESSOR)) {
+            add("it doesn't name EntryProcessor among its interfaces", "write a plain class that implements EntryProcessor");
+        }
+        MethodNode process = Instructions.method(owner, "process", Members.PROCESS);
+        if (process == null || (process.access & ACC_PUBLIC) == 0 || Instructions.isStatic(process)) {
+            add("it has no public method process(MutableEntry, Object...)", "write process in the class itself");
+        }
+        if (owner.methods.size() > MOST_METHODS) {
+            add("it has " + owner.methods.size() + " methods, and 256 are the most", "write fewer");
+        }
+        long constructors = owner.methods.stream().filter(it -> it.name.equals("<init>")).count();
+        if (constructors != 1) {
+            add("it has " + constructors + " constructors", "write no constructor, and hand values over as arguments");
+        }
+    }
+
+    private void add(String what, String remedy) {
+        problems.add(Instructions.problem(owner, what, remedy));
+    }
+
+    private void add(MethodNode method, String what, String remedy) {
+        problems.add(Instructions.problem(owner, method, what, remedy));
+    }
+
+    private void method(MethodNode method) {
+        if (method.name.equals("<clinit>")) {
+            add(method, "code runs when the class is loaded", "write static final of numbers and of arrays of numbers");
+        } else if ((method.access & (ACC_NATIVE | ACC_ABSTRACT)) != 0) {
+            add(method, "the method has no code", "write it in Java");
+        } else if (method.name.equals("<init>")) {
+            constructor(method);
+        } else {
+            descriptor(method);
+            if (!method.tryCatchBlocks.isEmpty()) {
+                handlers(method);
+            }
+            int before = problems.size();
+            for (AbstractInsnNode at : method.instructions) {
+                if (!isAccepted(at)) {
+                    problems.add(Instructions.problem(owner, method, at, Remedies.what(at), Remedies.remedy(at)));
+                }
+            }
+            if (complete && problems.size() == before) {
+                flow(method);
+            }
+        }
+    }
+
+    private void constructor(MethodNode method) {
+        AbstractInsnNode first = method.instructions.getFirst();
+        AbstractInsnNode at = first == null ? null : first.getOpcode() >= 0 ? first : Instructions.next(first);
+        boolean plain = method.desc.equals("()V") && Instructions.count(method) == 3 && at.getOpcode() == ALOAD
+            && Instructions.next(at) instanceof MethodInsnNode call && call.owner.equals("java/lang/Object");
+        if (!plain) {
+            String why = method.desc.equals("()V") ? "the constructor does more than call that of Object" : "the constructor takes values from outside";
+            add(method, why, "hand values over as arguments of the call, and make fields static final");
+        }
+    }
+
+    private void descriptor(MethodNode method) {
+        List<Type> types = new ArrayList<>(List.of(Type.getArgumentTypes(method.desc)));
+        types.add(Type.getReturnType(method.desc));
+        for (Type type : types) {
+            if (!Members.isKnown(owner.name, type)) {
+                boolean result = type == types.get(types.size() - 1);
+                String remedy = method.name.equals("process") ? "return a Long, an Integer or null from process, 1 and 0 in place of a Boolean"
+                    : "use int, long, boolean, Object, Number, Long, Integer, the entry, int[] or long[]";
+                add(method, "a " + (result ? "result" : "parameter") + " of type " + type.getClassName(), remedy);
+                return;
+            }
+        }
+    }
+
+    private void handlers(MethodNode method) {
+        String type = method.tryCatchBlocks.get(0).type;
+        String what = type == null ? "finally, or a synchronized block" : "catch (" + Instructions.nameOf(type) + ")";
+        problems.add(Instructions.problem(owner, method, method.tryCatchBlocks.get(0).start, what,
+            "test before you act: of exceptions ArithmeticException alone can be caught"));
+    }
+
+    private boolean isAccepted(AbstractInsnNode at) {
+        int opcode = at.getOpcode();
+        if (at instanceof MethodInsnNode call) {
+            return Members.isKnown(owner, call);
+        } else if (opcode == LDC) {
+            return Instructions.pushed(at) != null;
+        } else if (opcode == NEWARRAY) {
+            int kind = ((IntInsnNode) at).operand;
+            return kind == T_INT || kind == T_LONG;
+        } else if (opcode == CHECKCAST || opcode == INSTANCEOF) {
+            return Members.isKnown(owner.name, ((TypeInsnNode) at).desc);
+        }
+        return isInTable(opcode);
+    }
+
+    private static boolean isInTable(int opcode) {
+        return switch (opcode) {
+            case FCONST_0, FCONST_1, FCONST_2, DCONST_0, DCONST_1, FLOAD, DLOAD, FALOAD, DALOAD, BALOAD, CALOAD, SALOAD -> false;
+            case FSTORE, DSTORE, FASTORE, DASTORE, AASTORE, BASTORE, CASTORE, SASTORE -> false;
+            case FADD, DADD, FSUB, DSUB, FMUL, DMUL, FDIV, DDIV, FREM, DREM, FNEG, DNEG -> false;
+            case I2F, I2D, L2F, L2D, F2I, F2L, F2D, D2I, D2L, D2F, FCMPL, FCMPG, DCMPL, DCMPG -> false;
+            case IF_ACMPEQ, IF_ACMPNE, JSR, RET, FRETURN, DRETURN -> false;
+            case GETSTATIC, PUTSTATIC, GETFIELD, PUTFIELD, INVOKEDYNAMIC, NEW, ANEWARRAY, ATHROW -> false;
+            case MONITORENTER, MONITOREXIT, MULTIANEWARRAY -> false;
+            default -> true;
+        };
+    }
+
+    private void flow(MethodNode method) {
+        for (AbstractInsnNode at : method.instructions) {
+            if (at instanceof FrameNode frame) {
+                frame(method, frame);
+            } else if (at.getOpcode() == NEWARRAY) {
+                Object length = Instructions.pushed(Instructions.previous(at));
+                if (!(length instanceof Integer n) || n < 0 || n > LONGEST_ARRAY) {
+                    problems.add(Instructions.problem(owner, method, at, "the length of a new array isn't a constant from 0 to 65,535",
+                        "make the array of the greatest length, and keep a count beside it"));
+                }
+            } else if (leadsBack(method, at)) {
+                problems.add(Instructions.problem(owner, method, at, "a branch leads back", "write a loop that a counter ends"));
+            }
+        }
+    }
+
+    private static boolean leadsBack(MethodNode method, AbstractInsnNode at) {
+        int place = method.instructions.indexOf(at);
+        List<LabelNode> targets = new ArrayList<>();
+        if (at instanceof JumpInsnNode jump) {
+            targets.add(jump.label);
+        } else if (at instanceof TableSwitchInsnNode it) {
+            targets.addAll(it.labels);
+            targets.add(it.dflt);
+        } else if (at instanceof LookupSwitchInsnNode it) {
+            targets.addAll(it.labels);
+            targets.add(it.dflt);
+        }
+        return targets.stream().anyMatch(it -> method.instructions.indexOf(it) < place);
+    }
+
+    private void frame(MethodNode method, FrameNode frame) {
+        List<Object> types = new ArrayList<>(frame.local == null ? List.of() : frame.local);
+        types.addAll(frame.stack == null ? List.of() : frame.stack);
+        for (Object type : types) {
+            if (type instanceof String name && !Members.isKnown(owner.name, name) || FLOAT.equals(type) || DOUBLE.equals(type)) {
+                problems.add(Instructions.problem(owner, method, frame, "a local of type " + type + " where ways meet",
+                    "declare it as Object, Number, Long or Integer"));
+                return;
+            }
+        }
+    }
+}

@@ -1,0 +1,97 @@
+package jentry.compiler.profile;
+
+import org.objectweb.asm.Opcodes;
+import org.objectweb.asm.tree.AbstractInsnNode;
+import org.objectweb.asm.tree.FieldInsnNode;
+import org.objectweb.asm.tree.InvokeDynamicInsnNode;
+import org.objectweb.asm.tree.LdcInsnNode;
+import org.objectweb.asm.tree.MethodInsnNode;
+import org.objectweb.asm.tree.TypeInsnNode;
+
+/** What an instruction outside the profile is in Java, and what to write instead. */
+final class Remedies implements Opcodes {
+    private static final String FIXED_POINT = "reckon in long with a fixed point, as v * 119 / 100";
+
+    private Remedies() { }
+
+    /** What stands there. */
+    static String what(AbstractInsnNode at) {
+        if (at instanceof MethodInsnNode call) {
+            String name = Instructions.nameOf(call.owner) + (call.name.equals("<init>") ? "" : "." + call.name);
+            return (call.name.equals("<init>") ? "new " : "a call of ") + name + ", which the server doesn't know";
+        } else if (at instanceof FieldInsnNode field) {
+            boolean writes = at.getOpcode() == PUTFIELD || at.getOpcode() == PUTSTATIC;
+            return "the field " + Instructions.nameOf(field.owner) + "." + field.name + " is " + (writes ? "written" : "read");
+        } else if (at instanceof TypeInsnNode type && at.getOpcode() != ANEWARRAY) {
+            String name = Instructions.nameOf(type.desc);
+            return at.getOpcode() == NEW ? "new " + name : "a cast to, or a test for, " + name;
+        } else if (at instanceof InvokeDynamicInsnNode it) {
+            return it.bsm.getName().startsWith("makeConcat") ? "a text is joined" : "a lambda, a method reference or a switch by patterns";
+        } else if (at instanceof LdcInsnNode it) {
+            return it.cst instanceof String ? "a text" : it.cst instanceof Float || it.cst instanceof Double ? "float or double" : "a class literal";
+        }
+        return byOpcode(at.getOpcode());
+    }
+
+    private static String byOpcode(int opcode) {
+        return switch (opcode) {
+            case IF_ACMPEQ, IF_ACMPNE -> "references are compared by == or !=";
+            case NEWARRAY -> "a new array of float or double";
+            case ANEWARRAY -> "a new array of references";
+            case AASTORE -> "a reference is stored into an array";
+            case MULTIANEWARRAY -> "a new array of arrays";
+            case ATHROW -> "throw";
+            case MONITORENTER, MONITOREXIT -> "a synchronized block";
+            case JSR, RET -> "a subroutine of an old compiler";
+            default -> opcode >= BALOAD && opcode <= SALOAD || opcode >= BASTORE && opcode <= SASTORE
+                ? "an element of an array that isn't of int or long" : "float or double";
+        };
+    }
+
+    /** What to write in its place. */
+    static String remedy(AbstractInsnNode at) {
+        if (at instanceof MethodInsnNode call) {
+            return ofCall(call);
+        } else if (at instanceof FieldInsnNode field) {
+            return ofField(field);
+        } else if (at instanceof TypeInsnNode && at.getOpcode() != ANEWARRAY) {
+            return at.getOpcode() == NEW ? "use locals, or a long that packs several numbers" : "cast to Long, Integer, Number or Object";
+        } else if (at instanceof InvokeDynamicInsnNode) {
+            return "write a method of the class; use numbers as codes in place of texts";
+        } else if (at instanceof LdcInsnNode it) {
+            return it.cst instanceof Float || it.cst instanceof Double ? FIXED_POINT : "use numbers as codes";
+        }
+        return switch (at.getOpcode()) {
+            case IF_ACMPEQ, IF_ACMPNE -> "compare by equals, or by longValue()";
+            case ANEWARRAY, AASTORE -> "use long[], long... or parameters one by one";
+            case MULTIANEWARRAY -> "use one array, with the index width * i + j";
+            case ATHROW -> "divide by zero, or return a code";
+            case MONITORENTER, MONITOREXIT -> "drop synchronized: each run has an instance of its own";
+            case JSR, RET -> "compile with javac --release 8 or later";
+            default -> FIXED_POINT;
+        };
+    }
+
+    private static String ofCall(MethodInsnNode call) {
+        String owner = call.owner;
+        if (owner.equals("java/lang/Boolean")) {
+            return "use 1 and 0, since a Boolean can't be a value, an argument or a result";
+        } else if (call.name.equals("<init>")) {
+            return "use locals, or a long that packs several numbers";
+        } else if (owner.startsWith("java/util/") || owner.startsWith("java/lang/Str") || owner.equals("java/io/PrintStream")) {
+            return "use long[] and int[], numbers as codes, and the result for what is to be seen";
+        } else if (owner.equals("java/lang/System") || owner.startsWith("java/time/")) {
+            return "hand the time over as an argument: a processor has no clock";
+        } else if (owner.equals("java/lang/Math") || owner.equals("java/lang/StrictMath") || owner.equals("java/lang/Double")) {
+            return FIXED_POINT;
+        }
+        return "write it as a method of the class";
+    }
+
+    private static String ofField(FieldInsnNode field) {
+        return switch (field.getOpcode()) {
+            case GETFIELD, PUTFIELD -> "use locals, arguments or the entry's value, and final for what is constant";
+            default -> "use arguments, locals, the entry's value, or static final for what is constant; numbers as codes in place of an enum";
+        };
+    }
+}

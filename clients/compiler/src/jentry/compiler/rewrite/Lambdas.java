@@ -1,0 +1,157 @@
+package jentry.compiler.rewrite;
+
+import java.util.ArrayDeque;
+import java.util.ArrayList;
+import java.util.Deque;
+import java.util.HashSet;
+import java.util.LinkedHashMap;
+import java.util.List;
+import java.util.Map;
+import java.util.Set;
+import org.objectweb.asm.Handle;
+import org.objectweb.asm.MethodVisitor;
+import org.objectweb.asm.Opcodes;
+import org.objectweb.asm.Type;
+import org.objectweb.asm.tree.AbstractInsnNode;
+import org.objectweb.asm.tree.ClassNode;
+import org.objectweb.asm.tree.FieldInsnNode;
+import org.objectweb.asm.tree.InvokeDynamicInsnNode;
+import org.objectweb.asm.tree.MethodInsnNode;
+import org.objectweb.asm.tree.MethodNode;
+import jentry.compiler.profile.Instructions;
+import jentry.compiler.profile.Members;
+import jentry.compiler.profile.Problem;
+import jentry.compiler.profile.ProblemException;
+
+/** Makes a class of its own of a lambda, or of a reference to a static method, that is an EntryProcessor and takes nothing from outside. */
+public final class Lambdas implements Opcodes {
+    private static final Set<String> BOXES = Set.of("java/lang/Object", "java/lang/Number", "java/lang/Long", "java/lang/Integer", "java/lang/Void",
+        "java/lang/Boolean");
+
+    private Lambdas() { }
+
+    /**
+     * A lambda that makes an EntryProcessor.
+     *
+     * @param host the class that has it
+     * @param method the method that makes it
+     * @param site the instruction
+     */
+    public record Lambda(ClassNode host, MethodNode method, InvokeDynamicInsnNode site) {
+        /** The method that is its body. */
+        public Handle body() {
+            return (Handle) site.bsmArgs[1];
+        }
+
+        /** The name of the class that is made of it, in the form of the class file. */
+        public String className() {
+            return host.name + "$" + body().getName();
+        }
+
+        Problem problem(String what, String remedy) {
+            return Instructions.problem(host, method, site, what, remedy);
+        }
+    }
+
+    /** The lambdas of a class that make an EntryProcessor, each body once. */
+    public static List<Lambda> of(ClassNode host) {
+        Map<String, Lambda> found = new LinkedHashMap<>();
+        for (MethodNode method : host.methods) {
+            for (AbstractInsnNode at : method.instructions) {
+                boolean makes = at instanceof InvokeDynamicInsnNode it && Type.getReturnType(it.desc).getInternalName().equals(Members.PROCESSOR);
+                if (makes && ((InvokeDynamicInsnNode) at).bsmArgs.length > 1 && ((InvokeDynamicInsnNode) at).bsmArgs[1] instanceof Handle) {
+                    Lambda lambda = new Lambda(host, method, (InvokeDynamicInsnNode) at);
+                    found.putIfAbsent(lambda.body().getOwner() + "." + lambda.body().getName() + lambda.body().getDesc(), lambda);
+                }
+            }
+        }
+        return new ArrayList<>(found.values());
+    }
+
+    /**
+     * The class of a lambda, with the methods and static fields of its host that it uses.
+     *
+     * @throws ProblemException where it takes something from outside, or its body is no static method of the class
+     */
+    public static ClassNode toClass(Lambda lambda) throws ProblemException {
+        Handle body = lambda.body();
+        if (Type.getArgumentTypes(lambda.site().desc).length > 0) {
+            throw new ProblemException(lambda.problem("this lambda takes a value from outside",
+                "hand it over as an argument of the call, and read it from the lambda's second parameter"));
+        } else if (body.getTag() != H_INVOKESTATIC || !body.getOwner().equals(lambda.host().name)) {
+            throw new ProblemException(lambda.problem("this is a reference to a constructor, or to a method of an object or of another class",
+                "refer to a static method of the same class, or write a lambda"));
+        }
+        ClassNode made = new ClassNode();
+        made.visit(V1_8, ACC_PUBLIC | ACC_SUPER, lambda.className(), null, "java/lang/Object", new String[] {Members.PROCESSOR});
+        made.visitSource(lambda.host().sourceFile, null);
+        addConstructor(made);
+        addProcess(made, lambda);
+        lambda.host().fields.stream().filter(it -> (it.access & ACC_STATIC) != 0).forEach(made.fields::add);
+        addMethods(made, lambda);
+        return made;
+    }
+
+    private static void addConstructor(ClassNode made) {
+        MethodVisitor code = made.visitMethod(ACC_PUBLIC, "<init>", "()V", null, null);
+        code.visitVarInsn(ALOAD, 0);
+        code.visitMethodInsn(INVOKESPECIAL, "java/lang/Object", "<init>", "()V", false);
+        code.visitInsn(RETURN);
+        code.visitMaxs(1, 1);
+    }
+
+    private static void addProcess(ClassNode made, Lambda lambda) throws ProblemException {
+        Type[] types = Type.getArgumentTypes(lambda.body().getDesc());
+        boolean takesBoth = types.length == 2 && Set.of("L" + Members.ENTRY + ";", "Ljavax/cache/Cache$Entry;", "Ljava/lang/Object;")
+            .contains(types[0].getDescriptor()) && types[1].getDescriptor().equals("[Ljava/lang/Object;");
+        if (!takesBoth) {
+            throw new ProblemException(lambda.problem("the body's parameters aren't (MutableEntry, Object[])", "declare them so"));
+        }
+        MethodVisitor code = made.visitMethod(ACC_PUBLIC | ACC_VARARGS, "process", Members.PROCESS, null, null);
+        code.visitVarInsn(ALOAD, 1);
+        code.visitVarInsn(ALOAD, 2);
+        code.visitMethodInsn(INVOKESTATIC, made.name, lambda.body().getName(), lambda.body().getDesc(), false);
+        Type result = Type.getReturnType(lambda.body().getDesc());
+        if (result == Type.LONG_TYPE) {
+            code.visitMethodInsn(INVOKESTATIC, "java/lang/Long", "valueOf", "(J)Ljava/lang/Long;", false);
+        } else if (result == Type.INT_TYPE) {
+            code.visitMethodInsn(INVOKESTATIC, "java/lang/Integer", "valueOf", "(I)Ljava/lang/Integer;", false);
+        } else if (result.getSort() != Type.OBJECT || !BOXES.contains(result.getInternalName())) {
+            throw new ProblemException(lambda.problem("the result is of type " + result.getClassName(), "return a Long, an Integer or null"));
+        }
+        code.visitInsn(ARETURN);
+        code.visitMaxs(2, 3);
+    }
+
+    private static void addMethods(ClassNode made, Lambda lambda) {
+        ClassNode host = lambda.host();
+        Set<MethodNode> taken = new HashSet<>();
+        Deque<MethodNode> open = new ArrayDeque<>();
+        open.add(Instructions.method(host, lambda.body().getName(), lambda.body().getDesc()));
+        MethodNode initialiser = Instructions.method(host, "<clinit>", "()V");
+        if (initialiser != null) {
+            open.add(initialiser);
+        }
+        while (!open.isEmpty()) {
+            MethodNode method = open.poll();
+            if (taken.add(method)) {
+                made.methods.add(copy(method, host, made, open));
+            }
+        }
+    }
+
+    private static MethodNode copy(MethodNode method, ClassNode host, ClassNode made, Deque<MethodNode> open) {
+        MethodNode copy = new MethodNode(ASM9, method.access, method.name, method.desc, null, null);
+        method.accept(copy);
+        for (AbstractInsnNode at : copy.instructions) {
+            MethodNode callee = Instructions.callee(host, at);
+            if (callee != null && !callee.name.startsWith("<")) {
+                ((MethodInsnNode) at).owner = made.name;
+                open.add(callee);
+            } else if (at instanceof FieldInsnNode field && field.owner.equals(host.name)) {
+                field.owner = made.name;
+            }
+        }
+        return copy;
+    }
+}

@@ -1,0 +1,50 @@
+package jentry.compiler.rewrite;
+
+import java.util.ArrayList;
+import java.util.List;
+import java.util.Set;
+import org.objectweb.asm.tree.ClassNode;
+import jentry.compiler.profile.CallGraph;
+import jentry.compiler.profile.ProblemException;
+
+/** The passes that come before loops: each writes what the server refuses by what it accepts. */
+public final class Rewriter {
+    private Rewriter() { }
+
+    /**
+     * Rewrites a class in place.
+     *
+     * @param wasLambda whether the class was made of a lambda, so that its class initialiser is that of the host
+     * @return what was done, a line each
+     * @throws ProblemException where a pass can't keep the class's meaning
+     */
+    public static List<String> rewrite(ClassNode owner, boolean wasLambda) throws ProblemException {
+        List<String> notes = new ArrayList<>();
+        owner.methods.forEach(it -> it.localVariables = null);
+        ClassVersion.lower(owner);
+        VoidResults.replace(owner);
+        SmallTypes.widen(owner);
+        FieldConstants constants = FieldConstants.of(owner, wasLambda);
+        int before = owner.methods.size();
+        CallGraph.dropUnused(owner);
+        add(notes, constants.inline(), "fields that became constants");
+        UnreachableCode.drop(owner);
+        CallGraph.dropUnused(owner);
+        if (owner.methods.size() < before) {
+            notes.add(before - owner.methods.size() + " methods left out that process doesn't reach, with those that run when the class is loaded");
+        }
+        add(notes, LibraryCalls.replace(owner), "methods of the JDK copied in");
+        int handlers = ArithmeticHandlers.replace(owner);
+        if (handlers > 0) {
+            notes.add(handlers + " handlers of ArithmeticException became tests");
+            CallGraph.dropUnused(owner);
+        }
+        return notes;
+    }
+
+    private static void add(List<String> notes, Set<String> names, String what) {
+        if (!names.isEmpty()) {
+            notes.add(what + ": " + String.join(", ", names));
+        }
+    }
+}

@@ -1,0 +1,76 @@
+package jentry.compiler.rewrite;
+
+import java.util.HashSet;
+import java.util.Set;
+import org.objectweb.asm.Opcodes;
+import org.objectweb.asm.tree.AbstractInsnNode;
+import org.objectweb.asm.tree.ClassNode;
+import org.objectweb.asm.tree.JumpInsnNode;
+import org.objectweb.asm.tree.LabelNode;
+import org.objectweb.asm.tree.LookupSwitchInsnNode;
+import org.objectweb.asm.tree.MethodNode;
+import org.objectweb.asm.tree.TableSwitchInsnNode;
+import jentry.compiler.profile.Instructions;
+import jentry.compiler.unroll.Arithmetic;
+import jentry.compiler.unroll.ControlFlowGraph;
+
+/** Drops tests of a constant, and the code that nothing leads to, as that of an assertion. */
+final class UnreachableCode implements Opcodes {
+    private UnreachableCode() { }
+
+    static void drop(ClassNode owner) {
+        for (MethodNode method : owner.methods) {
+            if (method.tryCatchBlocks.isEmpty() && method.instructions.size() > 0 && foldTests(method)) {
+                dropUnreached(method);
+            }
+        }
+    }
+
+    /** Drops what nothing leads to, of a method without handlers. */
+    static void dropUnreached(MethodNode method) {
+        ControlFlowGraph graph = new ControlFlowGraph(method);
+        for (AbstractInsnNode at : method.instructions.toArray()) {
+            if (!graph.isReached(at)) {
+                method.instructions.remove(at);
+            }
+        }
+    }
+
+    private static boolean foldTests(MethodNode method) {
+        Set<LabelNode> targets = targets(method);
+        boolean folds = false;
+        for (AbstractInsnNode at : method.instructions.toArray()) {
+            int opcode = at.getOpcode();
+            AbstractInsnNode before = at.getPrevious();
+            while (before != null && before.getOpcode() < 0 && !(before instanceof LabelNode label && targets.contains(label))) {
+                before = before.getPrevious();
+            }
+            if (opcode >= IFEQ && opcode <= IFLE && Instructions.pushed(before) instanceof Integer constant) {
+                if (Arithmetic.holds(opcode - IFEQ, constant, 0)) {
+                    method.instructions.set(at, new JumpInsnNode(GOTO, ((JumpInsnNode) at).label));
+                } else {
+                    method.instructions.remove(at);
+                }
+                method.instructions.remove(before);
+                folds = true;
+            }
+        }
+        return folds;
+    }
+
+    private static Set<LabelNode> targets(MethodNode method) {
+        Set<LabelNode> all = new HashSet<>();
+        for (AbstractInsnNode at : method.instructions) {
+            if (at instanceof JumpInsnNode jump) {
+                all.add(jump.label);
+            } else if (at instanceof TableSwitchInsnNode it) {
+                all.add(it.dflt);
+                all.addAll(it.labels);
+            } else if (at instanceof LookupSwitchInsnNode it) {
+                all.add(it.dflt);
+                all.addAll(it.labels);
+            }
+        }
+        return all;
+    }
+}

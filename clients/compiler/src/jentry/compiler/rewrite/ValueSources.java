@@ -1,0 +1,92 @@
+package jentry.compiler.rewrite;
+
+import java.util.ArrayList;
+import java.util.HashSet;
+import java.util.IdentityHashMap;
+import java.util.List;
+import java.util.Map;
+import java.util.Set;
+import org.objectweb.asm.Opcodes;
+import org.objectweb.asm.Type;
+import org.objectweb.asm.tree.AbstractInsnNode;
+import org.objectweb.asm.tree.ClassNode;
+import org.objectweb.asm.tree.MethodNode;
+import org.objectweb.asm.tree.analysis.Frame;
+import jentry.compiler.profile.Instructions;
+
+/** Where the operands of instructions may come from, through the calls among the methods of a class too. */
+public final class ValueSources implements Opcodes {
+    private record Visit(MethodNode method, Object source) { }
+
+    private final ClassNode owner;
+    private final Map<MethodNode, Frame<Origin>[]> frames = new IdentityHashMap<>();
+
+    /** Of a class. */
+    public ValueSources(ClassNode owner) {
+        this.owner = owner;
+    }
+
+    /** The origin of the operand so far below the top, within its method; null where the instruction isn't reached. */
+    Origin origin(MethodNode method, AbstractInsnNode at, int below) {
+        Frame<Origin> frame = framesOf(method)[method.instructions.indexOf(at)];
+        return frame == null ? null : frame.getStack(frame.getStackSize() - 1 - below);
+    }
+
+    private Frame<Origin>[] framesOf(MethodNode method) {
+        return frames.computeIfAbsent(method, it -> Origin.of(owner, it, new Origin.Reader()));
+    }
+
+    /** The instructions that may have made an operand: calls of own methods and parameters are followed. What nobody in the class hands over is left out. */
+    public Set<AbstractInsnNode> of(MethodNode method, AbstractInsnNode at, int below) {
+        Set<AbstractInsnNode> found = new HashSet<>();
+        follow(method, origin(method, at, below), found, new HashSet<>());
+        return found;
+    }
+
+    private void follow(MethodNode method, Origin origin, Set<AbstractInsnNode> found, Set<Visit> visited) {
+        if (origin == null) {
+            return;
+        }
+        for (Object source : origin.sources()) {
+            if (!visited.add(new Visit(method, source))) {
+                continue;
+            } else if (source instanceof Origin.Parameter parameter) {
+                followParameter(method, parameter.number(), found, visited);
+            } else if (source instanceof AbstractInsnNode at) {
+                MethodNode callee = Instructions.callee(owner, at);
+                if (callee == null) {
+                    found.add(at);
+                } else {
+                    followResults(callee, found, visited);
+                }
+            }
+        }
+    }
+
+    private void followParameter(MethodNode method, int number, Set<AbstractInsnNode> found, Set<Visit> visited) {
+        int count = Type.getArgumentTypes(method.desc).length + (Instructions.isStatic(method) ? 0 : 1);
+        for (MethodNode caller : List.copyOf(owner.methods)) {
+            for (AbstractInsnNode at : callsOf(caller, method)) {
+                follow(caller, origin(caller, at, count - 1 - number), found, visited);
+            }
+        }
+    }
+
+    private List<AbstractInsnNode> callsOf(MethodNode caller, MethodNode callee) {
+        List<AbstractInsnNode> calls = new ArrayList<>();
+        for (AbstractInsnNode at : caller.instructions) {
+            if (Instructions.callee(owner, at) == callee) {
+                calls.add(at);
+            }
+        }
+        return calls;
+    }
+
+    private void followResults(MethodNode callee, Set<AbstractInsnNode> found, Set<Visit> visited) {
+        for (AbstractInsnNode at : callee.instructions) {
+            if (at.getOpcode() == ARETURN) {
+                follow(callee, origin(callee, at, 0), found, visited);
+            }
+        }
+    }
+}

@@ -1,0 +1,110 @@
+package jentry.compiler.runtime;
+
+import java.io.IOException;
+import java.io.InputStream;
+import java.lang.invoke.SerializedLambda;
+import java.lang.reflect.Method;
+import java.util.List;
+import java.util.Set;
+import java.util.stream.Collectors;
+import org.objectweb.asm.Type;
+import jentry.compiler.CompileException;
+import jentry.compiler.CompiledClass;
+import jentry.compiler.ProcessorCompiler;
+import jentry.compiler.profile.Problem;
+import jentry.compiler.rewrite.Lambdas;
+
+/**
+ * Compiles processors of the running program: an instance of a class, or a lambda.
+ *
+ * <p>A client of the server calls this by reflection, so that it works without the compiler, too.
+ */
+public final class LoadedProcessors {
+    private static final String LAMBDA = "$$Lambda";
+
+    private LoadedProcessors() { }
+
+    /**
+     * The class file of a processor, compiled; or as it is, where it is accepted so.
+     *
+     * @param processor an EntryProcessor
+     * @throws CompileException where it can't be compiled, or its class file can't be found; the message says what to write instead
+     */
+    public static byte[] compile(Object processor) throws CompileException {
+        Class<?> type = processor.getClass();
+        if (type.getName().contains(LAMBDA)) {
+            return compileLambda(processor).bytes();
+        }
+        for (CompiledClass compiled : new ProcessorCompiler().compileAll(classFile(type)).orThrow(type.getName())) {
+            if (compiled.name().equals(type.getName())) {
+                return compiled.bytes();
+            }
+        }
+        throw problem(type.getName(), "it doesn't implement EntryProcessor itself", "write a plain class that implements EntryProcessor");
+    }
+
+    private static CompileException problem(String name, String what, String remedy) {
+        return new CompileException(List.of(new Problem(name, "", -1, what, remedy)));
+    }
+
+    private static byte[] classFile(Class<?> type) throws CompileException {
+        String file = type.getName().substring(type.getName().lastIndexOf('.') + 1) + ".class";
+        try (InputStream in = type.getResourceAsStream(file)) {
+            if (in != null) {
+                return in.readAllBytes();
+            }
+        } catch (IOException e) {
+            throw problem(type.getName(), "its class file can't be read: " + e.getMessage(), "");
+        }
+        throw problem(type.getName(), "its class file isn't found by its loader", "write it as a class that javac compiles");
+    }
+
+    private static CompiledClass compileLambda(Object processor) throws CompileException {
+        Class<?> type = processor.getClass();
+        String hostName = type.getName().substring(0, type.getName().indexOf(LAMBDA));
+        Class<?> host;
+        try {
+            host = Class.forName(hostName, false, type.getClassLoader());
+        } catch (ClassNotFoundException e) {
+            throw problem(hostName, "the class of a lambda isn't found", "write the lambda as a class of its own");
+        }
+        if (type.getDeclaredFields().length > 0) {
+            throw problem(hostName, "a lambda takes a value from outside",
+                "hand it over as an argument of the call, and read it from the lambda's second parameter");
+        }
+        byte[] bytes = classFile(host);
+        return new ProcessorCompiler().compileLambda(bytes, body(processor, host, bytes));
+    }
+
+    /** The name of the method that is the lambda's body. */
+    private static String body(Object processor, Class<?> host, byte[] bytes) throws CompileException {
+        String told = toldBody(processor);
+        if (told != null) {
+            return told;
+        }
+        List<Lambdas.Lambda> candidates = ProcessorCompiler.lambdas(bytes).stream()
+            .filter(it -> Type.getArgumentTypes(it.site().desc).length == 0).toList();
+        if (candidates.size() > 1) {
+            Set<String> handedOver = new CallerScan(host, bytes).bodies();
+            List<Lambdas.Lambda> found = candidates.stream().filter(it -> handedOver.contains(it.body().getName())).toList();
+            candidates = found.isEmpty() ? candidates : found;
+        }
+        if (candidates.size() == 1) {
+            return candidates.get(0).body().getName();
+        }
+        String names = candidates.stream().map(it -> it.body().getName()).collect(Collectors.joining(", "));
+        throw problem(host.getName(), "it can't be seen which of its lambdas this one is: " + names,
+            "hand the lambda over where it is written, or cast it to (EntryProcessor<Long, Long, ..> & java.io.Serializable)");
+    }
+
+    /** What a serializable lambda says of itself, or null. */
+    private static String toldBody(Object processor) {
+        try {
+            Method method = processor.getClass().getDeclaredMethod("writeReplace");
+            method.setAccessible(true);
+            return method.invoke(processor) instanceof SerializedLambda it ? it.getImplMethodName() : null;
+        } catch (ReflectiveOperationException | RuntimeException e) {
+            return null;
+        }
+    }
+}

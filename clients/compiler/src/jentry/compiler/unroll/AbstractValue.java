@@ -1,0 +1,87 @@
+package jentry.compiler.unroll;
+
+import org.objectweb.asm.tree.analysis.Value;
+
+/**
+ * What is known of a value on every way that leads to an instruction.
+ *
+ * @param size its slots: 1 or 2
+ * @param fact an Integer or a Long where it is that number; a Range; an Array; null where nothing is known
+ */
+record AbstractValue(int size, Object fact) implements Value {
+    /** A number from low to high, both among them. */
+    record Range(long low, long high) { }
+
+    /**
+     * An array of least to most elements.
+     *
+     * @param isPresent whether it is never null
+     */
+    record Array(int least, int most, boolean isPresent) { }
+
+    private static final AbstractValue ONE_SLOT = new AbstractValue(1, null);
+    private static final AbstractValue TWO_SLOTS = new AbstractValue(2, null);
+
+    /** A value of which nothing is known. */
+    static AbstractValue unknown(int size) {
+        return size == 2 ? TWO_SLOTS : ONE_SLOT;
+    }
+
+    /** A number, an Integer or a Long. */
+    static AbstractValue constant(Object number) {
+        return new AbstractValue(number instanceof Long ? 2 : 1, number);
+    }
+
+    /** A number within limits. */
+    static AbstractValue range(int size, long low, long high) {
+        if (low == high) {
+            return constant(size == 2 ? (Object) low : (Object) (int) low);
+        }
+        boolean says = size == 2 ? low > Long.MIN_VALUE || high < Long.MAX_VALUE : low > Integer.MIN_VALUE || high < Integer.MAX_VALUE;
+        return says ? new AbstractValue(size, new Range(low, high)) : unknown(size);
+    }
+
+    /** An array. */
+    static AbstractValue array(int least, int most, boolean isPresent) {
+        return new AbstractValue(1, new Array(least, most, isPresent));
+    }
+
+    @Override
+    public int getSize() {
+        return size;
+    }
+
+    boolean isConstant() {
+        return fact instanceof Integer || fact instanceof Long;
+    }
+
+    /** The least number that it can be. */
+    long low() {
+        if (fact instanceof Range range) {
+            return range.low;
+        }
+        return isConstant() ? ((Number) fact).longValue() : size == 2 ? Long.MIN_VALUE : Integer.MIN_VALUE;
+    }
+
+    /** The greatest number that it can be. */
+    long high() {
+        if (fact instanceof Range range) {
+            return range.high;
+        }
+        return isConstant() ? ((Number) fact).longValue() : size == 2 ? Long.MAX_VALUE : Integer.MAX_VALUE;
+    }
+
+    /** What is known of a value that is this one or another. */
+    AbstractValue or(AbstractValue other) {
+        if (equals(other)) {
+            return this;
+        } else if (size != other.size || fact == null || other.fact == null) {
+            return unknown(Math.min(size, other.size));
+        } else if (fact instanceof Array a && other.fact instanceof Array b) {
+            return array(Math.min(a.least, b.least), Math.max(a.most, b.most), a.isPresent && b.isPresent);
+        } else if (fact instanceof Array || other.fact instanceof Array) {
+            return unknown(size);
+        }
+        return range(size, Math.min(low(), other.low()), Math.max(high(), other.high()));
+    }
+}

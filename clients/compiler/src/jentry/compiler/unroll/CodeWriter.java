@@ -1,0 +1,154 @@
+package jentry.compiler.unroll;
+
+import java.util.List;
+import java.util.Map;
+import org.objectweb.asm.Opcodes;
+import org.objectweb.asm.tree.AbstractInsnNode;
+import org.objectweb.asm.tree.InsnList;
+import org.objectweb.asm.tree.InsnNode;
+import org.objectweb.asm.tree.JumpInsnNode;
+import org.objectweb.asm.tree.LabelNode;
+import org.objectweb.asm.tree.LineNumberNode;
+import org.objectweb.asm.tree.LookupSwitchInsnNode;
+import org.objectweb.asm.tree.MethodNode;
+import org.objectweb.asm.tree.TableSwitchInsnNode;
+import jentry.compiler.profile.Instructions;
+
+/** Writes the states of a method as code, in an order in which every branch leads forward. */
+public final class CodeWriter implements Opcodes {
+    /** What code is written. */
+    public enum Form {
+        /** Tests that are decided, loads of known numbers and stores that nobody reads are left out. */
+        FOLDED,
+        /** The same, with shorter pushes of small longs, which take two instructions. */
+        SHORT,
+        /** Each instruction is kept, so that steps are those of the loops. */
+        VERBATIM
+    }
+
+    private final UnrolledGraph graph;
+    private final Form form;
+    private final LabelNode[] labels;
+    private final InsnList code = new InsnList();
+
+    CodeWriter(UnrolledGraph graph, Form form) {
+        this.graph = graph;
+        this.form = form;
+        labels = new LabelNode[graph.order().stream().mapToInt(State::number).max().orElse(0) + 1];
+    }
+
+    MethodNode write() {
+        MethodNode old = graph.graph().method();
+        List<State> order = graph.order();
+        order.forEach(it -> labels[it.number()] = new LabelNode());
+        int line = -1;
+        for (int i = 0; i < order.size(); i++) {
+            State state = order.get(i);
+            LabelNode label = label(state);
+            code.add(label);
+            int now = graph.graph().line(state.place());
+            if (now >= 0 && now != line) {
+                code.add(new LineNumberNode(now, label));
+                line = now;
+            }
+            add(state, i + 1 < order.size() ? order.get(i + 1) : null);
+        }
+        if (form != Form.VERBATIM) {
+            new DeadCode(code, graph).eliminate();
+        }
+        MethodNode made = new MethodNode(ASM9, old.access, old.name, old.desc, old.signature, old.exceptions.toArray(new String[0]));
+        made.instructions = code;
+        made.maxLocals = old.maxLocals;
+        made.maxStack = old.maxStack;
+        return made;
+    }
+
+    private LabelNode label(State state) {
+        return labels[state.number()];
+    }
+
+    private void add(State state, State behind) {
+        AbstractInsnNode at = state.instruction();
+        if (state.isDecided && form != Form.VERBATIM) {
+            addDecided(state, behind);
+        } else if (at instanceof JumpInsnNode && state.opcode() == GOTO) {
+            if (form == Form.VERBATIM) {
+                code.add(new JumpInsnNode(GOTO, label(state.next.get(0))));
+            } else {
+                leadTo(state.next.get(0), behind);
+            }
+        } else if (at instanceof JumpInsnNode) {
+            addTest(state, behind);
+        } else if (at instanceof TableSwitchInsnNode it) {
+            code.add(new TableSwitchInsnNode(it.min, it.max, target(state, 0), targets(state, it.labels.size())));
+        } else if (at instanceof LookupSwitchInsnNode it) {
+            int[] keys = it.keys.stream().mapToInt(key -> key).toArray();
+            code.add(new LookupSwitchInsnNode(target(state, 0), keys, targets(state, keys.length)));
+        } else {
+            addPlain(state);
+            if (!state.next.isEmpty()) {
+                leadTo(state.next.get(0), behind);
+            }
+        }
+    }
+
+    private void addDecided(State state, State behind) {
+        code.add(new InsnNode(POP));
+        if (state.opcode() >= IF_ICMPEQ && state.opcode() <= IF_ICMPLE) {
+            code.add(new InsnNode(POP));
+        }
+        leadTo(state.next.get(0), behind);
+    }
+
+    private void addPlain(State state) {
+        boolean isLength = state.next.size() == 1 && state.next.get(0).opcode() == NEWARRAY && Purity.operands(state.opcode()).length == 0;
+        if (state.result == null || form == Form.VERBATIM && !isLength) {
+            code.add(state.instruction().clone(Map.of()));
+            return;
+        }
+        for (int size : Purity.operands(state.opcode())) {
+            code.add(Instructions.pop(size));
+        }
+        boolean isShort = form == Form.SHORT && state.result instanceof Long number && number == (short) (long) number && number != 0 && number != 1;
+        if (isShort) {
+            code.add(Instructions.push((int) (long) (Long) state.result));
+            code.add(new InsnNode(I2L));
+        } else {
+            code.add(Instructions.push(state.result));
+        }
+    }
+
+    /** A test of which both ways are left. Where each instruction is kept, one of the ways of a decided test leads where no value goes. */
+    private void addTest(State state, State behind) {
+        State falls = state.next.get(0);
+        State jumps = state.next.get(state.next.size() - 1);
+        if (jumps == behind && falls != behind) {
+            code.add(new JumpInsnNode(negated(state.opcode()), label(falls)));
+        } else {
+            code.add(new JumpInsnNode(state.opcode(), label(jumps)));
+            leadTo(falls, behind);
+        }
+    }
+
+    private static int negated(int opcode) {
+        return opcode >= IFNULL ? opcode ^ 1 : ((opcode + 1) ^ 1) - 1;
+    }
+
+    private void leadTo(State to, State behind) {
+        if (to != behind) {
+            code.add(new JumpInsnNode(GOTO, label(to)));
+        }
+    }
+
+    private LabelNode target(State state, int successor) {
+        return label(state.next.get(state.isDecided ? 0 : successor));
+    }
+
+    private LabelNode[] targets(State state, int count) {
+        LabelNode[] all = new LabelNode[count];
+        for (int i = 0; i < count; i++) {
+            all[i] = target(state, i + 1);
+        }
+        return all;
+    }
+}

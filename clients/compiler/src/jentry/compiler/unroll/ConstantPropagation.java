@@ -1,0 +1,178 @@
+package jentry.compiler.unroll;
+
+import java.util.List;
+import org.objectweb.asm.Opcodes;
+import org.objectweb.asm.Type;
+import org.objectweb.asm.tree.AbstractInsnNode;
+import org.objectweb.asm.tree.FieldInsnNode;
+import org.objectweb.asm.tree.IincInsnNode;
+import org.objectweb.asm.tree.LookupSwitchInsnNode;
+import org.objectweb.asm.tree.MethodInsnNode;
+import org.objectweb.asm.tree.TableSwitchInsnNode;
+import org.objectweb.asm.tree.analysis.Frame;
+import org.objectweb.asm.tree.analysis.Interpreter;
+import jentry.compiler.profile.Instructions;
+
+/** What each instruction makes of what is known: numbers, limits of numbers, and lengths of arrays. */
+final class ConstantPropagation extends Interpreter<AbstractValue> implements Opcodes {
+    /** An invocation has at most so many arguments. */
+    static final int MOST_ARGUMENTS = 8;
+
+    /** Whether limits of numbers that grow are given up, so that the propagation ends soon. */
+    private boolean widens;
+
+    ConstantPropagation() {
+        super(ASM9);
+    }
+
+    void setWidens(boolean widens) {
+        this.widens = widens;
+    }
+
+    @Override
+    public AbstractValue newValue(Type type) {
+        return type == Type.VOID_TYPE ? null : AbstractValue.unknown(type == null ? 1 : type.getSize());
+    }
+
+    @Override
+    public AbstractValue newOperation(AbstractInsnNode at) {
+        Object number = Instructions.pushed(at);
+        if (number != null) {
+            return AbstractValue.constant(number);
+        } else if (at instanceof FieldInsnNode field) {
+            return newValue(Type.getType(field.desc));
+        }
+        return AbstractValue.unknown(1);
+    }
+
+    @Override
+    public AbstractValue copyOperation(AbstractInsnNode at, AbstractValue value) {
+        return value;
+    }
+
+    @Override
+    public AbstractValue unaryOperation(AbstractInsnNode at, AbstractValue value) {
+        int opcode = at.getOpcode();
+        switch (opcode) {
+            case CHECKCAST:
+                return value;
+            case ARRAYLENGTH:
+                return value.fact() instanceof AbstractValue.Array array ? AbstractValue.range(1, array.least(), array.most())
+                    : AbstractValue.range(1, 0, Integer.MAX_VALUE);
+            case NEWARRAY:
+                return value.fact() instanceof Integer length && length >= 0 ? AbstractValue.array(length, length, true) : AbstractValue.unknown(1);
+            case IINC:
+                return value.fact() instanceof Integer number ? AbstractValue.constant(number + ((IincInsnNode) at).incr) : AbstractValue.unknown(1);
+            case I2L:
+                return value.fact() == null ? AbstractValue.range(2, Integer.MIN_VALUE, Integer.MAX_VALUE)
+                    : AbstractValue.range(2, value.low(), value.high());
+            case L2I:
+                boolean fits = value.low() >= Integer.MIN_VALUE && value.high() <= Integer.MAX_VALUE;
+                return value.isConstant() ? AbstractValue.constant(Arithmetic.unary(L2I, value.fact()))
+                    : fits ? AbstractValue.range(1, value.low(), value.high()) : AbstractValue.unknown(1);
+            case GETFIELD:
+                return newValue(Type.getType(((FieldInsnNode) at).desc));
+            case INSTANCEOF:
+                return AbstractValue.range(1, 0, 1);
+            default:
+        }
+        Object known = Arithmetic.unary(opcode, value.fact());
+        return known != null ? AbstractValue.constant(known) : AbstractValue.unknown(opcode == LNEG ? 2 : 1);
+    }
+
+    @Override
+    public AbstractValue binaryOperation(AbstractInsnNode at, AbstractValue left, AbstractValue right) {
+        int opcode = at.getOpcode();
+        Object known = Arithmetic.binary(opcode, left.fact(), right.fact());
+        if (known != null) {
+            return AbstractValue.constant(known);
+        }
+        return switch (opcode) {
+            case LCMP -> AbstractValue.range(1, left.low() > right.high() ? 1 : left.low() >= right.high() ? 0 : -1,
+                left.high() < right.low() ? -1 : left.high() <= right.low() ? 0 : 1);
+            case IAND, LAND -> masked(left.size(), left, right);
+            case IREM, LREM -> remainder(left, right);
+            case LALOAD, LADD, LSUB, LMUL, LDIV, LSHL, LSHR, LUSHR, LOR, LXOR -> AbstractValue.unknown(2);
+            default -> AbstractValue.unknown(1);
+        };
+    }
+
+    /** A value and a mask that isn't negative is between zero and the mask. */
+    private static AbstractValue masked(int size, AbstractValue left, AbstractValue right) {
+        long most = Math.min(left.low() >= 0 ? left.high() : Long.MAX_VALUE, right.low() >= 0 ? right.high() : Long.MAX_VALUE);
+        return left.low() >= 0 || right.low() >= 0 ? AbstractValue.range(size, 0, most) : AbstractValue.unknown(size);
+    }
+
+    /** A remainder is nearer to zero than the divisor, and has the sign of what was divided. */
+    private static AbstractValue remainder(AbstractValue left, AbstractValue right) {
+        if (!right.isConstant() || right.low() == 0 || right.low() == Long.MIN_VALUE) {
+            return AbstractValue.unknown(left.size());
+        }
+        long most = Math.abs(right.low()) - 1;
+        return AbstractValue.range(left.size(), left.low() >= 0 ? 0 : -most, left.high() <= 0 ? 0 : most);
+    }
+
+    @Override
+    public AbstractValue ternaryOperation(AbstractInsnNode at, AbstractValue array, AbstractValue index, AbstractValue value) {
+        return null;
+    }
+
+    @Override
+    public AbstractValue naryOperation(AbstractInsnNode at, List<? extends AbstractValue> operands) {
+        if (!(at instanceof MethodInsnNode call)) {
+            return AbstractValue.unknown(1);
+        }
+        boolean ofTwo = call.owner.equals("java/lang/Math") && operands.size() == 2;
+        if (ofTwo && call.name.equals("min")) {
+            return limited(operands.get(0), operands.get(1), false);
+        } else if (ofTwo && call.name.equals("max")) {
+            return limited(operands.get(0), operands.get(1), true);
+        }
+        return newValue(Type.getReturnType(call.desc));
+    }
+
+    private static AbstractValue limited(AbstractValue a, AbstractValue b, boolean greater) {
+        return greater ? AbstractValue.range(a.size(), Math.max(a.low(), b.low()), Math.max(a.high(), b.high()))
+            : AbstractValue.range(a.size(), Math.min(a.low(), b.low()), Math.min(a.high(), b.high()));
+    }
+
+    @Override
+    public void returnOperation(AbstractInsnNode at, AbstractValue value, AbstractValue expected) { }
+
+    @Override
+    public AbstractValue merge(AbstractValue a, AbstractValue b) {
+        return !widens || a.equals(b) ? a.or(b) : AbstractValue.unknown(Math.min(a.size(), b.size()));
+    }
+
+    /** The successor that a test or a switch surely goes to, by its number in {@link ControlFlowGraph#successors}, or -1. */
+    static int decided(AbstractInsnNode at, Frame<AbstractValue> frame) {
+        int opcode = at.getOpcode();
+        int top = frame.getStackSize() - 1;
+        if (opcode >= IFEQ && opcode <= IFLE) {
+            return tested(opcode - IFEQ, frame.getStack(top), AbstractValue.constant(0));
+        } else if (opcode >= IF_ICMPEQ && opcode <= IF_ICMPLE) {
+            return tested(opcode - IF_ICMPEQ, frame.getStack(top - 1), frame.getStack(top));
+        } else if (at instanceof TableSwitchInsnNode it && frame.getStack(top).fact() instanceof Integer key) {
+            return key < it.min || key > it.max ? 0 : key - it.min + 1;
+        } else if (at instanceof LookupSwitchInsnNode it && frame.getStack(top).fact() instanceof Integer key) {
+            return it.keys.indexOf(key) + 1;
+        }
+        return -1;
+    }
+
+    /** 1 where the comparison surely holds, 0 where it surely doesn't, else -1. */
+    private static int tested(int comparison, AbstractValue a, AbstractValue b) {
+        boolean less = a.high() < b.low();
+        boolean most = a.high() <= b.low();
+        boolean more = a.low() > b.high();
+        boolean least = a.low() >= b.high();
+        return switch (comparison) {
+            case 0 -> most && least ? 1 : less || more ? 0 : -1;
+            case 1 -> most && least ? 0 : less || more ? 1 : -1;
+            case 2 -> less ? 1 : least ? 0 : -1;
+            case 3 -> least ? 1 : less ? 0 : -1;
+            case 4 -> more ? 1 : most ? 0 : -1;
+            default -> most ? 1 : more ? 0 : -1;
+        };
+    }
+}

@@ -1,0 +1,90 @@
+package jentry.compiler.unroll;
+
+import java.util.ArrayList;
+import java.util.HashSet;
+import java.util.List;
+import java.util.Set;
+import java.util.TreeSet;
+import java.util.function.IntPredicate;
+import org.objectweb.asm.Opcodes;
+import org.objectweb.asm.tree.AbstractInsnNode;
+import org.objectweb.asm.tree.IincInsnNode;
+import org.objectweb.asm.tree.VarInsnNode;
+
+/** Chooses the locals whose values tell the passes of a loop apart. */
+final class LoopCounters implements Opcodes {
+    /** How many locals are followed, the fewest first: the first choice by which a method's loops end is taken. */
+    enum Choice {
+        /** Those that a test reads by which a loop is left, and that each pass writes. */
+        WRITTEN_BY_EACH_PASS,
+        /** Those that a test reads by which a loop is left, and that some pass writes. */
+        WRITTEN_BY_SOME_PASS,
+        /** Those that any test in the loop reads, and that some pass writes. */
+        OF_ANY_TEST
+    }
+
+    private final ControlFlowGraph graph;
+    private final Choice choice;
+
+    LoopCounters(ControlFlowGraph graph, Choice choice) {
+        this.graph = graph;
+        this.choice = choice;
+    }
+
+    /** For each instruction the counters of the loops around it, rising. */
+    int[][] byPlace() {
+        List<Set<Integer>> all = new ArrayList<>();
+        for (int place = 0; place < graph.size(); place++) {
+            all.add(new TreeSet<>());
+        }
+        for (Loop loop : graph.loops()) {
+            Set<Integer> counters = counters(loop);
+            loop.body().stream().forEach(place -> all.get(place).addAll(counters));
+        }
+        return all.stream().map(it -> it.stream().mapToInt(local -> local).toArray()).toArray(int[][]::new);
+    }
+
+    private Set<Integer> counters(Loop loop) {
+        Set<Integer> tested = new HashSet<>();
+        loop.body().stream().filter(place -> isTest(loop, place)).forEach(place -> addLoads(place, tested));
+        tested.removeIf(local -> !isWritten(loop, local));
+        return tested;
+    }
+
+    private boolean isTest(Loop loop, int place) {
+        int[] next = graph.successors(place);
+        if (next.length < 2) {
+            return false;
+        }
+        IntPredicate leaves = it -> !loop.body().get(it);
+        return choice == Choice.OF_ANY_TEST || loop.latches().get(place) || java.util.Arrays.stream(next).anyMatch(leaves);
+    }
+
+    /** The locals that are loaded right before a test, through instructions without effect. */
+    private void addLoads(int test, Set<Integer> locals) {
+        for (int place = test - 1; place >= 0 && Purity.isPure(graph.instruction(place)); place--) {
+            int opcode = graph.instruction(place).getOpcode();
+            if (opcode == ILOAD || opcode == LLOAD) {
+                locals.add(((VarInsnNode) graph.instruction(place)).var);
+            }
+        }
+    }
+
+    private boolean isWritten(Loop loop, int local) {
+        int[] writes = loop.body().stream().filter(place -> written(graph.instruction(place)) == local).toArray();
+        if (choice != Choice.WRITTEN_BY_EACH_PASS) {
+            return writes.length > 0;
+        }
+        for (int write : writes) {
+            if (!loop.latches().stream().allMatch(latch -> graph.dominates(write, latch))) {
+                return false;
+            }
+        }
+        return writes.length > 0;
+    }
+
+    private static int written(AbstractInsnNode at) {
+        int opcode = at.getOpcode();
+        return opcode == ISTORE || opcode == LSTORE ? ((VarInsnNode) at).var : at instanceof IincInsnNode it ? it.var : -1;
+    }
+}

@@ -1,0 +1,140 @@
+package jentry.compiler.unroll;
+
+import java.util.ArrayList;
+import java.util.HashMap;
+import java.util.IdentityHashMap;
+import java.util.List;
+import java.util.Map;
+import org.objectweb.asm.Opcodes;
+import org.objectweb.asm.Type;
+import org.objectweb.asm.tree.AbstractInsnNode;
+import org.objectweb.asm.tree.ClassNode;
+import org.objectweb.asm.tree.MethodNode;
+import jentry.compiler.profile.CallGraph;
+import jentry.compiler.profile.Instructions;
+import jentry.compiler.profile.Members;
+import jentry.compiler.profile.ProblemException;
+
+/**
+ * Writes the passes of counted loops out, in all methods of a class.
+ *
+ * <p>Methods are looked at from `process` to those that it calls, since what all calls of a method hand over is known in it.
+ */
+public final class LoopUnroller implements Opcodes {
+    private final ClassNode owner;
+    private final Map<MethodNode, UnrolledGraph> graphs = new IdentityHashMap<>();
+    private final List<MethodNode> methods;
+    private final Map<MethodNode, AbstractValue[]> given = new IdentityHashMap<>();
+
+    /**
+     * Finds the passes. The class isn't changed by this.
+     *
+     * @param owner a class whose instructions, loops aside, are accepted
+     * @throws ProblemException where a counter doesn't end a loop, or it has too many passes
+     */
+    public LoopUnroller(ClassNode owner) throws ProblemException {
+        this.owner = owner;
+        methods = CallGraph.of(owner);
+        for (MethodNode method : methods) {
+            UnrolledGraph graph = unrolled(method);
+            graphs.put(method, graph);
+            graph.order().forEach(this::addGiven);
+        }
+    }
+
+    private UnrolledGraph unrolled(MethodNode method) throws ProblemException {
+        ControlFlowGraph graph = new ControlFlowGraph(method);
+        UnboundedLoopException first = null;
+        for (LoopCounters.Choice choice : LoopCounters.Choice.values()) {
+            try {
+                return new UnrolledGraph(graph, new LoopCounters(graph, choice).byPlace(), given.get(method));
+            } catch (UnboundedLoopException e) {
+                first = first == null ? e : first;
+            }
+        }
+        throw new ProblemException(problem(method, first));
+    }
+
+    private jentry.compiler.profile.Problem problem(MethodNode method, UnboundedLoopException why) {
+        String what = why.isTooLong() ? "this loop has too many passes: written out, they take more than " + UnrolledGraph.MOST_STATES + " instructions"
+            : "no counter ends this loop";
+        String remedy = why.isTooLong() ? "make fewer passes, or write an inner loop as a method of its own"
+            : "count the passes from a constant to a constant, as in for (int i = 0; i < 20 && left > 0; i++)";
+        return new jentry.compiler.profile.Problem(Instructions.nameOf(owner.name), method.name, why.line(), what, remedy);
+    }
+
+    private void addGiven(State state) {
+        MethodNode callee = Instructions.callee(owner, state.instruction());
+        if (callee == null) {
+            return;
+        }
+        int count = Type.getArgumentTypes(callee.desc).length;
+        AbstractValue[] now = new AbstractValue[count];
+        for (int i = 0; i < count; i++) {
+            now[i] = state.operand(count - 1 - i);
+        }
+        given.merge(callee, now, LoopUnroller::common);
+    }
+
+    private static AbstractValue[] common(AbstractValue[] a, AbstractValue[] b) {
+        AbstractValue[] all = new AbstractValue[a.length];
+        for (int i = 0; i < a.length; i++) {
+            all[i] = a[i].or(b[i]);
+        }
+        return all;
+    }
+
+    /** The instructions of the longest way through `process` as it was, each pass counted. */
+    public long steps() {
+        Map<MethodNode, Long> known = new HashMap<>();
+        for (int i = methods.size() - 1; i >= 0; i--) {
+            known.put(methods.get(i), steps(graphs.get(methods.get(i)), known));
+        }
+        return known.get(Instructions.method(owner, "process", Members.PROCESS));
+    }
+
+    private long steps(UnrolledGraph graph, Map<MethodNode, Long> known) {
+        Map<State, Long> most = new IdentityHashMap<>();
+        long behind = 0;
+        for (int i = graph.order().size() - 1; i >= 0; i--) {
+            State state = graph.order().get(i);
+            long best = state.next.stream().mapToLong(most::get).max().orElse(0);
+            MethodNode callee = Instructions.callee(owner, state.instruction());
+            behind = best + 1 + (callee == null ? 0 : known.get(callee));
+            most.put(state, behind);
+        }
+        return behind;
+    }
+
+    /**
+     * Puts code without loops in the place of each method that has some, or that makes an array of a length that is known, but isn't a constant there.
+     *
+     * @return what was done, a line for each loop
+     */
+    public List<String> rewrite(CodeWriter.Form form) {
+        List<String> notes = new ArrayList<>();
+        for (MethodNode method : methods) {
+            UnrolledGraph graph = graphs.get(method);
+            if (!isToRewrite(graph)) {
+                continue;
+            }
+            MethodNode made = new CodeWriter(graph, form).write();
+            owner.methods.set(owner.methods.indexOf(method), made);
+            for (Loop loop : graph.graph().loops()) {
+                notes.add(method.name + ", line " + graph.graph().line(loop.head()) + ": a loop, " + graph.passes(loop) + " passes written out");
+            }
+            notes.add(method.name + ": " + graph.graph().size() + " instructions became " + Instructions.count(made));
+        }
+        return notes;
+    }
+
+    private static boolean isToRewrite(UnrolledGraph graph) {
+        ControlFlowGraph code = graph.graph();
+        return !code.loops().isEmpty() || graph.order().size() != code.size() || graph.order().stream().anyMatch(LoopUnroller::makesOfKnownLength);
+    }
+
+    private static boolean makesOfKnownLength(State state) {
+        AbstractInsnNode at = state.instruction();
+        return at.getOpcode() == NEWARRAY && state.operand(0).isConstant() && Instructions.pushed(Instructions.previous(at)) == null;
+    }
+}

@@ -1,0 +1,180 @@
+package jentry.compiler.unroll;
+
+import java.util.ArrayDeque;
+import java.util.ArrayList;
+import java.util.Deque;
+import java.util.HashMap;
+import java.util.List;
+import java.util.Map;
+import org.objectweb.asm.Opcodes;
+import org.objectweb.asm.Type;
+import org.objectweb.asm.tree.AbstractInsnNode;
+import org.objectweb.asm.tree.MethodNode;
+import org.objectweb.asm.tree.analysis.AnalyzerException;
+import org.objectweb.asm.tree.analysis.Frame;
+import jentry.compiler.profile.Instructions;
+import jentry.compiler.profile.Members;
+
+/**
+ * The control flow of a method with its loops written out: a graph without circles.
+ *
+ * <p>It is found by abstract interpretation. A state is an instruction with the values of the counters of the loops around it; what else is known of
+ * locals and operands is what all ways to the state have in common. A test that this decides has one successor.
+ */
+final class UnrolledGraph implements Opcodes {
+    /** A method has at most so many states: of more, the code wouldn't fit into a class. */
+    static final int MOST_STATES = 60_000;
+
+    private static final int MERGES_BEFORE_WIDENING = 4;
+
+    private final ControlFlowGraph graph;
+    private final int[][] counters;
+    private final ConstantPropagation propagation = new ConstantPropagation();
+    private final Map<State.Key, State> states = new HashMap<>();
+    private final List<State> byNumber = new ArrayList<>();
+    private final Deque<State> open = new ArrayDeque<>();
+    private final List<State> order = new ArrayList<>();
+
+    /**
+     * Finds the graph.
+     *
+     * @param given what is known of each parameter of a static or own method, or null
+     * @throws UnboundedLoopException where the counters don't end a loop, or the graph has too many states
+     */
+    UnrolledGraph(ControlFlowGraph graph, int[][] counters, AbstractValue[] given) throws UnboundedLoopException {
+        this.graph = graph;
+        this.counters = counters;
+        try {
+            enter(0, start(graph.method(), given));
+            while (!open.isEmpty()) {
+                interpret(open.poll());
+            }
+        } catch (AnalyzerException e) {
+            throw new IllegalStateException("the code of " + graph.method().name + " isn't well formed", e);
+        }
+        arrange();
+    }
+
+    ControlFlowGraph graph() {
+        return graph;
+    }
+
+    /** The states that are reached, each before those that follow it. */
+    List<State> order() {
+        return order;
+    }
+
+    /** How often a loop is passed, in all: the copies of the instruction that leads back, which stand once in each pass. */
+    int passes(Loop loop) {
+        Map<Integer, Integer> copies = new HashMap<>();
+        order.stream().filter(it -> loop.latches().get(it.place())).forEach(it -> copies.merge(it.place(), 1, Integer::sum));
+        return copies.values().stream().mapToInt(it -> it).max().orElse(0);
+    }
+
+    private static Frame<AbstractValue> start(MethodNode method, AbstractValue[] given) {
+        Frame<AbstractValue> frame = new Frame<>(method.maxLocals, method.maxStack);
+        int local = 0;
+        if (!Instructions.isStatic(method)) {
+            frame.setLocal(local++, AbstractValue.unknown(1));
+        }
+        boolean isProcess = method.name.equals("process") && method.desc.equals(Members.PROCESS);
+        Type[] types = Type.getArgumentTypes(method.desc);
+        for (int i = 0; i < types.length; i++) {
+            AbstractValue value = given != null && given[i].fact() != null ? given[i] : AbstractValue.unknown(types[i].getSize());
+            if (value.fact() == null && types[i].getDescriptor().equals("[Ljava/lang/Object;")) {
+                value = AbstractValue.array(0, ConstantPropagation.MOST_ARGUMENTS, isProcess);
+            }
+            frame.setLocal(local++, value);
+            if (types[i].getSize() == 2) {
+                frame.setLocal(local++, AbstractValue.unknown(1));
+            }
+        }
+        while (local < method.maxLocals) {
+            frame.setLocal(local++, AbstractValue.unknown(1));
+        }
+        return frame;
+    }
+
+    private void interpret(State state) throws UnboundedLoopException, AnalyzerException {
+        AbstractInsnNode at = state.instruction();
+        Frame<AbstractValue> after = new Frame<>(state.frame);
+        int decided = ConstantPropagation.decided(at, after);
+        after.execute(at, propagation);
+        state.isDecided = decided >= 0;
+        state.result = result(state, after);
+        List<State> next = new ArrayList<>();
+        int[] successors = graph.successors(state.place());
+        for (int i = 0; i < successors.length; i++) {
+            if (decided < 0 || decided == i) {
+                next.add(enter(successors[i], after));
+            }
+        }
+        state.next = next;
+    }
+
+    private static Object result(State state, Frame<AbstractValue> after) {
+        boolean mayThrow = state.opcode() == ARRAYLENGTH && !isPresent(state.operand(0));
+        if (after.getStackSize() == 0 || mayThrow || !Purity.isPure(state.instruction())) {
+            return null;
+        }
+        AbstractValue top = after.getStack(after.getStackSize() - 1);
+        return top.isConstant() ? top.fact() : null;
+    }
+
+    /** Whether a value is an array that is there. */
+    static boolean isPresent(AbstractValue value) {
+        return value.fact() instanceof AbstractValue.Array array && array.isPresent();
+    }
+
+    private State enter(int place, Frame<AbstractValue> frame) throws UnboundedLoopException, AnalyzerException {
+        List<Object> values = new ArrayList<>(counters[place].length);
+        for (int local : counters[place]) {
+            AbstractValue value = frame.getLocal(local);
+            values.add(value.isConstant() ? value.fact() : "");
+        }
+        State.Key key = new State.Key(place, values);
+        State state = states.get(key);
+        if (state == null) {
+            if (states.size() >= MOST_STATES) {
+                throw new UnboundedLoopException(mostCopiedLine(), true);
+            }
+            state = new State(key, states.size(), graph.instruction(place), new Frame<>(frame));
+            states.put(key, state);
+            byNumber.add(state);
+            open.add(state);
+        } else {
+            propagation.setWidens(state.merges >= MERGES_BEFORE_WIDENING);
+            if (state.frame.merge(frame, propagation)) {
+                state.merges++;
+                open.add(state);
+            }
+        }
+        return state;
+    }
+
+    /** The line of the loop whose head has the most copies. */
+    private int mostCopiedLine() {
+        int[] copies = new int[graph.size()];
+        byNumber.forEach(it -> copies[it.place()]++);
+        Loop most = null;
+        for (Loop loop : graph.loops()) {
+            most = most == null || copies[loop.head()] > copies[most.head()] ? loop : most;
+        }
+        return most == null ? -1 : graph.line(most.head());
+    }
+
+    private void arrange() throws UnboundedLoopException {
+        int[] place = new int[byNumber.size()];
+        for (int number : Postorder.reversed(byNumber.size(), it -> byNumber.get(it).next.stream().mapToInt(State::number).toArray())) {
+            place[number] = order.size();
+            order.add(byNumber.get(number));
+        }
+        for (State state : order) {
+            for (State next : state.next) {
+                if (place[next.number()] <= place[state.number()]) {
+                    throw new UnboundedLoopException(graph.line(next.place()), false);
+                }
+            }
+        }
+    }
+}
