@@ -109,6 +109,15 @@ public final class ProcessorCompiler {
         return compileAll(classFile).orThrow(Instructions.nameOf(read(classFile).name));
     }
 
+    /**
+     * Compiles the class of a class file alone, without its lambdas.
+     *
+     * @throws CompileException where it can't be compiled
+     */
+    public CompiledClass compileClass(byte[] classFile) throws CompileException {
+        return compileClass(read(classFile), classFile);
+    }
+
     /** The lambdas of a class file that make an EntryProcessor. */
     public static List<Lambdas.Lambda> lambdas(byte[] classFile) throws CompileException {
         return Lambdas.of(read(classFile));
@@ -182,6 +191,8 @@ public final class ProcessorCompiler {
             return checked(bytes, source, steps, notes);
         } catch (ProblemException e) {
             throw new CompileException(List.of(e.problem()));
+        } catch (RuntimeException e) {
+            throw new CompileException(List.of(Instructions.problem(node, "the compiler can't follow this class: " + e, "write it in a simpler form")));
         }
     }
 

@@ -35,12 +35,7 @@ public final class LoadedProcessors {
         if (type.getName().contains(LAMBDA)) {
             return compileLambda(processor).bytes();
         }
-        for (CompiledClass compiled : new ProcessorCompiler().compileAll(classFile(type)).orThrow(type.getName())) {
-            if (compiled.name().equals(type.getName())) {
-                return compiled.bytes();
-            }
-        }
-        throw problem(type.getName(), "it doesn't implement EntryProcessor itself", "write a plain class that implements EntryProcessor");
+        return new ProcessorCompiler().compileClass(classFile(type)).bytes();
     }
 
     private static CompileException problem(String name, String what, String remedy) {

@@ -1,0 +1,69 @@
+package jentry.compiler;
+
+import static org.junit.jupiter.api.Assertions.assertEquals;
+import static org.junit.jupiter.api.Assertions.fail;
+
+import java.util.ArrayList;
+import java.util.List;
+import java.util.Optional;
+import jentry.compiler.compare.Call;
+import jentry.compiler.compare.ClassPath;
+import jentry.compiler.compare.Comparison;
+import jentry.compiler.compare.Outcome;
+import jentry.compiler.compare.RandomCalls;
+import jentry.compiler.compare.Runner;
+
+/** What every compiled class has to pass. */
+final class Checks {
+    static final ClassPath PATH = new ClassPath(Javac.api());
+
+    private Checks() { }
+
+    /** Compiles a class file with one processor. */
+    static CompiledClass compile(byte[] classFile) {
+        try {
+            List<CompiledClass> compiled = new ProcessorCompiler().compile(classFile);
+            assertEquals(1, compiled.size(), "classes of one class file");
+            return compiled.get(0);
+        } catch (CompileException e) {
+            return fail(e.getMessage());
+        }
+    }
+
+    /** The message of a refusal. */
+    static String refusal(byte[] classFile) {
+        try {
+            return fail("compiled: " + new ProcessorCompiler().compile(classFile).get(0).name());
+        } catch (CompileException e) {
+            return e.getMessage();
+        }
+    }
+
+    /** The same calls on HotSpot before and after. */
+    static void same(byte[] original, CompiledClass compiled, int calls) {
+        try {
+            Optional<Comparison.Difference> difference = Comparison.compare(PATH, original, compiled, calls, 7);
+            difference.ifPresent(it -> fail(compiled.name() + ": " + it));
+        } catch (ReflectiveOperationException e) {
+            fail(e);
+        }
+    }
+
+    /** The compiled class is accepted by jentry, with the bounds that the compiler says, and does there what the original does on HotSpot. */
+    static void sameByServer(JentryServer server, byte[] original, CompiledClass compiled, int count) throws Exception {
+        JentryServer.Defined defined = server.define(compiled.bytes());
+        assertEquals(0, defined.refusal(), compiled.name() + ": the refusal");
+        assertEquals(compiled.bounds().steps(), defined.steps(), compiled.name() + ": steps");
+        assertEquals(compiled.bounds().words(), defined.words(), compiled.name() + ": words");
+        RandomCalls random = new RandomCalls(original, 11);
+        List<Call> calls = new ArrayList<>();
+        for (int i = 0; i < count; i++) {
+            calls.add(random.next());
+        }
+        Runner runner = new Runner(PATH, original, compiled.source());
+        List<Outcome> outcomes = server.run(defined.number(), calls);
+        for (int i = 0; i < count; i++) {
+            assertEquals(runner.run(calls.get(i)), outcomes.get(i), compiled.name() + ", " + calls.get(i));
+        }
+    }
+}

@@ -1,0 +1,81 @@
+package jentry.compiler;
+
+import static org.junit.jupiter.api.Assertions.assertEquals;
+import static org.junit.jupiter.api.Assertions.assertTrue;
+
+import java.io.File;
+import java.net.URL;
+import java.net.URLClassLoader;
+import java.nio.file.Files;
+import java.nio.file.Path;
+import java.util.Map;
+import org.junit.jupiter.api.BeforeAll;
+import org.junit.jupiter.api.io.TempDir;
+import org.junit.jupiter.params.ParameterizedTest;
+import org.junit.jupiter.params.provider.CsvSource;
+
+/** Compilers that are wrong by one edit of their source: each is found by the comparison. */
+class PlantedFaultsTest {
+    private static Map<String, byte[]> classes;
+
+    @TempDir
+    private Path folder;
+
+    @BeforeAll
+    static void compileSources() {
+        Map<String, String> sources = Javac.sources(Javac.HERE.resolve("processors"));
+        sources.remove("Newer");
+        sources.put("Safe", Javac.processor("Safe", "Object", """
+            long sum = 0;
+            for (int i = 0; i < 3; i++) {
+                try { sum += entry.getKey() / (entry.getKey() - i); } catch (ArithmeticException e) { sum += 100; }
+            }
+            byte[] small = new byte[2];
+            small[0] = (byte) sum;
+            small[1] += 200;
+            return sum * 7 + small[0] + small[1] + Long.numberOfLeadingZeros(sum);""", ""));
+        classes = Javac.compile(sources, "--release", "8");
+    }
+
+    @ParameterizedTest
+    @CsvSource(delimiter = '|', value = {
+        "SumOfAll | unroll/ConstantPropagation.java | MOST_ARGUMENTS = 8; | MOST_ARGUMENTS = 7;",
+        "Median | unroll/DeadCode.java | boolean isRead = live.get(local); | boolean isRead = live.get(local + 1);",
+        "Median | unroll/ConstantPropagation.java | number + ((IincInsnNode) at).incr | number + 1",
+        "Crc | unroll/ConstantPropagation.java | case 2 -> less ? 1 : least ? 0 : -1; | case 2 -> most ? 1 : more ? 0 : -1;",
+        "Limits | rewrite/FieldConstants.java | LASTORE)); | LASTORE)); if (i == 2) { i++; }",
+        "Limits | unroll/CodeWriter.java | opcode >= IFNULL ? opcode ^ 1 : ((opcode + 1) ^ 1) - 1 | opcode",
+        "Safe | rewrite/ArithmeticHandlers.java | code.add(new JumpInsnNode(IFNE, divides)); | code.add(new JumpInsnNode(IFGE, divides));",
+        "Safe | rewrite/SmallTypes.java | at.getOpcode() == BASTORE ? I2B | at.getOpcode() == BASTORE ? I2C"})
+    void theComparisonFindsIt(String processor, String file, String right, String wrong) throws Exception {
+        Path source = Javac.HERE.resolve("src/jentry/compiler").resolve(file);
+        String text = Files.readString(source);
+        assertEquals(text.indexOf(right), text.lastIndexOf(right), "the edit has one place");
+        assertTrue(text.contains(right), "the edit has a place");
+        String name = "jentry.compiler." + file.replace('/', '.').replace(".java", "");
+        Map<String, byte[]> edited = Javac.compile(System.getProperty("java.class.path"), Map.of(name, text.replace(right, wrong)), "--release", "17");
+        for (Map.Entry<String, byte[]> one : edited.entrySet()) {
+            Path target = folder.resolve(one.getKey().replace('.', '/') + ".class");
+            Files.createDirectories(target.getParent());
+            Files.write(target, one.getValue());
+        }
+        Path in = Files.write(folder.resolve(processor + ".class"), classes.get(processor));
+        int status = run("-d", folder.resolve("out").toString(), "--compare=20000", in.toString());
+        assertEquals(4, status, "the status of jentry-compile --compare");
+    }
+
+    /** Runs the command by the edited classes, and by the others beside them. */
+    private int run(String... words) throws Exception {
+        String[] path = System.getProperty("java.class.path").split(File.pathSeparator);
+        URL[] urls = new URL[path.length + 1];
+        urls[0] = folder.toUri().toURL();
+        for (int i = 0; i < path.length; i++) {
+            urls[i + 1] = new File(path[i]).toURI().toURL();
+        }
+        try (URLClassLoader loader = new URLClassLoader(urls, ClassLoader.getPlatformClassLoader())) {
+            java.io.PrintStream nowhere = new java.io.PrintStream(java.io.OutputStream.nullOutputStream());
+            return (Integer) loader.loadClass("jentry.compiler.cli.Main").getMethod("run", java.io.PrintStream.class, java.io.PrintStream.class, String[].class)
+                .invoke(null, nowhere, nowhere, words);
+        }
+    }
+}

@@ -1,0 +1,83 @@
+package jentry.compiler;
+
+import static org.junit.jupiter.api.Assertions.assertEquals;
+import static org.junit.jupiter.api.Assertions.assertTrue;
+
+import org.junit.jupiter.api.Test;
+import org.junit.jupiter.params.ParameterizedTest;
+import org.junit.jupiter.params.provider.CsvSource;
+
+/** What can't be compiled is told by its line, with what to write instead. Nothing is left out in silence. */
+class RefusalTest {
+    private static String refusal(String type, String body, String members) {
+        return Checks.refusal(Javac.compile("R", Javac.processor("R", type, body, members), "--release", "17"));
+    }
+
+    /** The body's first line is line 4 of the source. */
+    @ParameterizedTest
+    @CsvSource(delimiter = '|', value = {
+        "long x = 0; try { x = entry.getValue(); } catch (NullPointerException e) { x = 1; } return x; | R.process, line 4: catch (java.lang.NullPointerException)",
+        "long x = 0; try { x = 1 / entry.getKey(); } catch (RuntimeException e) { x = 1; } return x; | R.process, line 4: catch (java.lang.RuntimeException)",
+        "long x = 0; try { x = 1 / entry.getKey(); } finally { entry.remove(); } return x; | R.process, line 4: finally, or a synchronized block",
+        "synchronized (this) { return entry.getKey(); } | R.process, line 4: a synchronized block",
+        "try { return 1 / entry.getKey(); } catch (ArithmeticException e) { return e == null ? 1 : 2; } | R.process, line 4: the caught exception is used",
+        "try { return 1 / entry.getKey(); } catch (ArithmeticException e) { throw e; } | R.process, line 4: the caught exception is used",
+        "String s = \"a\" + args.length; return s.length(); | R.process, line 4: a text is joined",
+        "return entry.getKey() * 1.5 > 3 ? 1 : 0; | R.process, line 4: float or double",
+        "return new int[2][3].length; | R.process, line 4: a new array of arrays",
+        "return System.nanoTime(); | R.process, line 4: a call of java.lang.System.nanoTime, which the server doesn't know",
+        "return entry.equals(args); | R.process, line 4: equals of an object that may be no number",
+        "Runnable r = () -> { }; r.run(); return 1; | R.process, line 4: a lambda",
+        "return entry.getKey() == (Long) args[0] ? 1 : 0; | R.process, line 4: references are compared",
+        "Object[] copy = new Object[2]; copy[0] = 1; return copy[0]; | R.process, line 4: a new array of references",
+        "throw new IllegalStateException(); | R.process, line 4: new java.lang.IllegalStateException",
+        "int n = args.length; return new long[n].length; | R.process, line 4: the length of a new array"})
+    void byMethodAndLine(String body, String told) {
+        String refusal = refusal("Object", body, "");
+        assertTrue(refusal.startsWith(told), refusal);
+        assertTrue(refusal.contains("; "), "what to write instead: " + refusal);
+    }
+
+    @ParameterizedTest
+    @CsvSource(delimiter = '|', value = {
+        "static int count; | count++; return count; | R.process, line 4: the static field count is",
+        "static final int[] SEEN = new int[4]; | SEEN[0]++; return SEEN[0]; | R.process, line 4: an element of the array SEEN is written",
+        "static final int[] SEEN = new int[4]; static int[] seen() { return SEEN; } | seen()[1] = 3; return SEEN[1]; | R.process, line 4: an element of the array SEEN",
+        "static final int[] SEEN = new int[4]; static void set(int[] to) { to[0] = 1; } | set(SEEN); return SEEN[0]; | R.set, line 6: an element of the array SEEN",
+        "long hits = 0; | hits++; return hits; | R.process, line 4: the field hits",
+        "long hits = 5; | return hits; | R.process, line 4: the field hits isn't final",
+        "static { System.out.println(); } | return 1; | R.<clinit>, line 6: this static initialiser can't be run at compile time",
+        "static final Object LOCK = new Object(); | return 1; | R.<clinit>, line 6: this static initialiser can't be run at compile time",
+        "R() { System.gc(); } | return 1; | R.<init>, line 6: this constructor",
+        "R(long x) { } | return 1; | R.<init>, line 6: the constructor takes values from outside",
+        "static long f(long n) { return n < 2 ? 1 : n * f(n - 1); } | return f(entry.getKey()); | R.f, line 6: recursion by a call of f",
+        "static native long now(); | return now(); | R.now: the method has no code",
+        "enum Kind { A, B } | return Kind.A.ordinal(); | R.process, line 4: "})
+    void membersToo(String members, String body, String told) {
+        String refusal = refusal("Object", body, members);
+        assertTrue(refusal.startsWith(told), refusal);
+    }
+
+    @Test
+    void resultsThatJavaHasAndTheServerHasnt() {
+        String refusal = refusal("Boolean", "return entry.exists();", "");
+        assertTrue(refusal.contains("a result of type java.lang.Boolean; return a Long, an Integer or null"), refusal);
+    }
+
+    @Test
+    void everyProblemIsTold() {
+        String refusal = refusal("Object", "double d = 1;\nString s = \"x\";\nreturn System.nanoTime();", "");
+        assertEquals(4, refusal.lines().count(), refusal);
+        assertTrue(refusal.contains("line 4: ") && refusal.contains("line 5: ") && refusal.contains("line 6: "), refusal);
+    }
+
+    @Test
+    void noClassFile() {
+        assertTrue(Checks.refusal(new byte[] {1, 2, 3}).contains("this is no class file"));
+        byte[] whole = Javac.compile("R", Javac.processor("R", "Object", "return 1;", ""), "--release", "8");
+        for (int length = 0; length < whole.length; length++) {
+            byte[] cut = java.util.Arrays.copyOf(whole, length);
+            assertTrue(Checks.refusal(cut).contains("this is no class file"), "cut to " + length);
+        }
+    }
+}

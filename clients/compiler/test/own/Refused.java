@@ -1,0 +1,38 @@
+import javax.cache.processor.EntryProcessor;
+import javax.cache.processor.MutableEntry;
+
+/** Processors that stay refused. */
+public class Refused {
+    /** A loop that only the data end. */
+    public static class Endless implements EntryProcessor<Long, Long, Integer> {
+        public Integer process(MutableEntry<Long, Long> entry, Object... arguments) {
+            int count = 0;
+            long rest = entry.getKey();
+            while (rest != 0) {
+                rest &= rest - 1;
+                count++;
+            }
+            return count;
+        }
+    }
+
+    /** A loop up to a number that the caller hands over. */
+    public static class AsTold implements EntryProcessor<Long, Long, Long> {
+        public Long process(MutableEntry<Long, Long> entry, Object... arguments) {
+            long sum = 0;
+            int most = (Integer) arguments[0];
+            for (int i = 0; i < most; i++) {
+                sum += i;
+            }
+            return sum;
+        }
+    }
+
+    /** A table of a length that the caller hands over. */
+    public static class Variable implements EntryProcessor<Long, Long, Long> {
+        public Long process(MutableEntry<Long, Long> entry, Object... arguments) {
+            long[] values = new long[arguments.length];
+            return (long) values.length;
+        }
+    }
+}
