@@ -14,6 +14,7 @@ import org.objectweb.asm.tree.LookupSwitchInsnNode;
 import org.objectweb.asm.tree.MethodInsnNode;
 import org.objectweb.asm.tree.MethodNode;
 import org.objectweb.asm.tree.TableSwitchInsnNode;
+import org.objectweb.asm.tree.TryCatchBlockNode;
 import org.objectweb.asm.tree.TypeInsnNode;
 
 /**
@@ -31,6 +32,7 @@ public final class Profile implements Opcodes {
         COMPLETE
     }
 
+    private static final String ARITHMETIC = "java/lang/ArithmeticException";
     private static final int MOST_METHODS = 256;
     private static final int LONGEST_ARRAY = 65_535;
 
@@ -140,10 +142,16 @@ public final class Profile implements Opcodes {
     }
 
     private void handlers(MethodNode method) {
-        String type = method.tryCatchBlocks.get(0).type;
-        String what = type == null ? "finally, or a synchronized block" : "catch (" + Instructions.nameOf(type) + ")";
-        problems.add(Instructions.problem(owner, method, method.tryCatchBlocks.get(0).start, what,
+        TryCatchBlockNode block = method.tryCatchBlocks.stream().filter(it -> !ARITHMETIC.equals(it.type)).findFirst().orElse(method.tryCatchBlocks.get(0));
+        String what = block.type == null ? "finally, or a synchronized block" : "catch (" + Instructions.nameOf(block.type) + ")";
+        problems.add(Instructions.problem(owner, method, lineOf(block), what,
             "test before you act: of exceptions ArithmeticException alone can be caught"));
+    }
+
+    /** A place within the range: its first line stands behind its label. */
+    private static AbstractInsnNode lineOf(TryCatchBlockNode block) {
+        AbstractInsnNode first = Instructions.next(block.start);
+        return first == null ? block.start : first;
     }
 
     private boolean isAccepted(AbstractInsnNode at) {

@@ -74,7 +74,9 @@ final class Remedies implements Opcodes {
 
     private static String ofCall(MethodInsnNode call) {
         String owner = call.owner;
-        if (owner.equals("java/lang/Boolean")) {
+        if (call.name.equals("arraycopy") || call.name.equals("clone") || call.name.startsWith("copyOf")) {
+            return "copy the elements by a loop";
+        } else if (owner.equals("java/lang/Boolean")) {
             return "use 1 and 0, since a Boolean can't be a value, an argument or a result";
         } else if (call.name.equals("<init>")) {
             return "use locals, or a long that packs several numbers";

@@ -31,12 +31,13 @@ public final class Rewriter {
         UnreachableCode.drop(owner);
         CallGraph.dropUnused(owner);
         if (owner.methods.size() < before) {
-            notes.add(before - owner.methods.size() + " methods left out that process doesn't reach, with those that run when the class is loaded");
+            notes.add("methods left out that process doesn't reach: " + (before - owner.methods.size()));
         }
         add(notes, LibraryCalls.replace(owner), "methods of the JDK copied in");
         int handlers = ArithmeticHandlers.replace(owner);
         if (handlers > 0) {
-            notes.add(handlers + " handlers of ArithmeticException became tests");
+            notes.add("handlers of ArithmeticException that became tests: " + handlers);
+            UnreachableCode.drop(owner);
             CallGraph.dropUnused(owner);
         }
         return notes;

@@ -19,6 +19,7 @@ record AbstractValue(int size, Object fact) implements Value {
      */
     record Array(int least, int most, boolean isPresent) { }
 
+    private static final long NARROW = 4_096;
     private static final AbstractValue ONE_SLOT = new AbstractValue(1, null);
     private static final AbstractValue TWO_SLOTS = new AbstractValue(2, null);
 
@@ -53,6 +54,21 @@ record AbstractValue(int size, Object fact) implements Value {
 
     boolean isConstant() {
         return fact instanceof Integer || fact instanceof Long;
+    }
+
+    /** Whether it is one of a few numbers, so that these can be counted. */
+    boolean isNarrow() {
+        return isConstant() || fact instanceof Range range && range.low >= Integer.MIN_VALUE && range.high <= Integer.MAX_VALUE
+            && range.high - range.low <= NARROW;
+    }
+
+    /** The sum of narrow values; what it is where it would pass the limits of its type isn't known. */
+    AbstractValue plus(long low, long high) {
+        long least = low() + low;
+        long greatest = high() + high;
+        boolean fits = isNarrow() && Math.abs(low) <= Integer.MAX_VALUE && Math.abs(high) <= Integer.MAX_VALUE
+            && (size == 2 || least >= Integer.MIN_VALUE && greatest <= Integer.MAX_VALUE);
+        return fits ? range(size, least, greatest) : unknown(size);
     }
 
     /** The least number that it can be. */

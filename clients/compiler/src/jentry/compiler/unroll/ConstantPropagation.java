@@ -62,7 +62,8 @@ final class ConstantPropagation extends Interpreter<AbstractValue> implements Op
             case NEWARRAY:
                 return value.fact() instanceof Integer length && length >= 0 ? AbstractValue.array(length, length, true) : AbstractValue.unknown(1);
             case IINC:
-                return value.fact() instanceof Integer number ? AbstractValue.constant(number + ((IincInsnNode) at).incr) : AbstractValue.unknown(1);
+                int by = ((IincInsnNode) at).incr;
+                return value.fact() instanceof Integer number ? AbstractValue.constant(number + by) : value.plus(by, by);
             case I2L:
                 return value.fact() == null ? AbstractValue.range(2, Integer.MIN_VALUE, Integer.MAX_VALUE)
                     : AbstractValue.range(2, value.low(), value.high());
@@ -92,7 +93,9 @@ final class ConstantPropagation extends Interpreter<AbstractValue> implements Op
                 left.high() < right.low() ? -1 : left.high() <= right.low() ? 0 : 1);
             case IAND, LAND -> masked(left.size(), left, right);
             case IREM, LREM -> remainder(left, right);
-            case LALOAD, LADD, LSUB, LMUL, LDIV, LSHL, LSHR, LUSHR, LOR, LXOR -> AbstractValue.unknown(2);
+            case IADD, LADD -> right.isNarrow() ? left.plus(right.low(), right.high()) : AbstractValue.unknown(left.size());
+            case ISUB, LSUB -> right.isNarrow() ? left.plus(-right.high(), -right.low()) : AbstractValue.unknown(left.size());
+            case LALOAD, LMUL, LDIV, LSHL, LSHR, LUSHR, LOR, LXOR -> AbstractValue.unknown(2);
             default -> AbstractValue.unknown(1);
         };
     }

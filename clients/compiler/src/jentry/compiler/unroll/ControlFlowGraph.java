@@ -89,6 +89,11 @@ public final class ControlFlowGraph implements Opcodes {
         return successors.get(place);
     }
 
+    /** From where a place is reached. */
+    List<Integer> predecessors(int place) {
+        return predecessors.get(place);
+    }
+
     private int[] leadsTo(int place) {
         AbstractInsnNode at = instructions.get(place);
         int opcode = at.getOpcode();

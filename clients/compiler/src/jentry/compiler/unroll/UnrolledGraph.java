@@ -9,6 +9,7 @@ import java.util.Map;
 import org.objectweb.asm.Opcodes;
 import org.objectweb.asm.Type;
 import org.objectweb.asm.tree.AbstractInsnNode;
+import org.objectweb.asm.tree.JumpInsnNode;
 import org.objectweb.asm.tree.MethodNode;
 import org.objectweb.asm.tree.analysis.AnalyzerException;
 import org.objectweb.asm.tree.analysis.Frame;
@@ -29,6 +30,7 @@ final class UnrolledGraph implements Opcodes {
 
     private final ControlFlowGraph graph;
     private final int[][] counters;
+    private final Refinement refinement;
     private final ConstantPropagation propagation = new ConstantPropagation();
     private final Map<State.Key, State> states = new HashMap<>();
     private final List<State> byNumber = new ArrayList<>();
@@ -44,6 +46,7 @@ final class UnrolledGraph implements Opcodes {
     UnrolledGraph(ControlFlowGraph graph, int[][] counters, AbstractValue[] given) throws UnboundedLoopException {
         this.graph = graph;
         this.counters = counters;
+        refinement = new Refinement(graph);
         try {
             enter(0, start(graph.method(), given));
             while (!open.isEmpty()) {
@@ -105,11 +108,20 @@ final class UnrolledGraph implements Opcodes {
         List<State> next = new ArrayList<>();
         int[] successors = graph.successors(state.place());
         for (int i = 0; i < successors.length; i++) {
-            if (decided < 0 || decided == i) {
+            if (decided < 0 && successors.length == 2 && at instanceof JumpInsnNode) {
+                next.add(enter(successors[i], refined(state.place(), after, i == 1)));
+            } else if (decided < 0 || decided == i) {
                 next.add(enter(successors[i], after));
             }
         }
         state.next = next;
+    }
+
+    /** What is known behind a test, on the way on which it holds or on the other. */
+    private Frame<AbstractValue> refined(int place, Frame<AbstractValue> after, boolean holds) {
+        Frame<AbstractValue> way = new Frame<>(after);
+        refinement.narrow(place, way, holds);
+        return way;
     }
 
     private static Object result(State state, Frame<AbstractValue> after) {
@@ -130,7 +142,7 @@ final class UnrolledGraph implements Opcodes {
         List<Object> values = new ArrayList<>(counters[place].length);
         for (int local : counters[place]) {
             AbstractValue value = frame.getLocal(local);
-            values.add(value.isConstant() ? value.fact() : "");
+            values.add(value.isNarrow() ? value.fact() : "");
         }
         State.Key key = new State.Key(place, values);
         State state = states.get(key);
