@@ -19,7 +19,7 @@ class RefusalTest {
         "long x = 0; try { x = entry.getValue(); } catch (NullPointerException e) { x = 1; } return x; | R.process, line 4: catch (java.lang.NullPointerException)",
         "long x = 0; try { x = 1 / entry.getKey(); } catch (RuntimeException e) { x = 1; } return x; | R.process, line 4: catch (java.lang.RuntimeException)",
         "long x = 0; try { x = 1 / entry.getKey(); } finally { entry.remove(); } return x; | R.process, line 4: finally, or a synchronized block",
-        "synchronized (this) { return entry.getKey(); } | R.process, line 4: a synchronized block",
+        "synchronized (this) { return entry.getKey(); } | R.process, line 4: finally, or a synchronized block",
         "try { return 1 / entry.getKey(); } catch (ArithmeticException e) { return e == null ? 1 : 2; } | R.process, line 4: the caught exception is used",
         "try { return 1 / entry.getKey(); } catch (ArithmeticException e) { throw e; } | R.process, line 4: the caught exception is used",
         "String s = \"a\" + args.length; return s.length(); | R.process, line 4: a text is joined",

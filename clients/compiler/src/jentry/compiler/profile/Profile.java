@@ -85,11 +85,11 @@ public final class Profile implements Opcodes {
     }
 
     private void add(String what, String remedy) {
-        problems.add(Instructions.problem(owner, what, remedy));
+        add(Instructions.problem(owner, what, remedy));
     }
 
     private void add(MethodNode method, String what, String remedy) {
-        problems.add(Instructions.problem(owner, method, what, remedy));
+        add(Instructions.problem(owner, method, what, remedy));
     }
 
     private void method(MethodNode method) {
@@ -106,13 +106,25 @@ public final class Profile implements Opcodes {
             }
             int before = problems.size();
             for (AbstractInsnNode at : method.instructions) {
-                if (!isAccepted(at)) {
-                    problems.add(Instructions.problem(owner, method, at, Remedies.what(at), Remedies.remedy(at)));
+                if (!isAccepted(at) && !belongsToHandler(method, at)) {
+                    add(Instructions.problem(owner, method, at, Remedies.what(at), Remedies.remedy(at)));
                 }
             }
             if (complete && problems.size() == before) {
                 flow(method);
             }
+        }
+    }
+
+    /** javac ends `finally` and `synchronized` by these instructions: the handler is reported for all of them. */
+    private static boolean belongsToHandler(MethodNode method, AbstractInsnNode at) {
+        boolean ends = at.getOpcode() == ATHROW || at.getOpcode() == MONITORENTER || at.getOpcode() == MONITOREXIT;
+        return ends && method.tryCatchBlocks.stream().anyMatch(it -> it.type == null);
+    }
+
+    private void add(Problem problem) {
+        if (!problems.contains(problem)) {
+            problems.add(problem);
         }
     }
 
@@ -144,7 +156,7 @@ public final class Profile implements Opcodes {
     private void handlers(MethodNode method) {
         TryCatchBlockNode block = method.tryCatchBlocks.stream().filter(it -> !ARITHMETIC.equals(it.type)).findFirst().orElse(method.tryCatchBlocks.get(0));
         String what = block.type == null ? "finally, or a synchronized block" : "catch (" + Instructions.nameOf(block.type) + ")";
-        problems.add(Instructions.problem(owner, method, lineOf(block), what,
+        add(Instructions.problem(owner, method, lineOf(block), what,
             "test before you act: of exceptions ArithmeticException alone can be caught"));
     }
 
@@ -189,11 +201,11 @@ public final class Profile implements Opcodes {
             } else if (at.getOpcode() == NEWARRAY) {
                 Object length = Instructions.pushed(Instructions.previous(at));
                 if (!(length instanceof Integer n) || n < 0 || n > LONGEST_ARRAY) {
-                    problems.add(Instructions.problem(owner, method, at, "the length of a new array isn't a constant from 0 to 65,535",
+                    add(Instructions.problem(owner, method, at, "the length of a new array isn't a constant from 0 to 65,535",
                         "make the array of the greatest length, and keep a count beside it"));
                 }
             } else if (leadsBack(method, at)) {
-                problems.add(Instructions.problem(owner, method, at, "a branch leads back", "write a loop that a counter ends"));
+                add(Instructions.problem(owner, method, at, "a branch leads back", "write a loop that a counter ends"));
             }
         }
     }
@@ -218,7 +230,7 @@ public final class Profile implements Opcodes {
         types.addAll(frame.stack == null ? List.of() : frame.stack);
         for (Object type : types) {
             if (type instanceof String name && !Members.isKnown(owner.name, name) || FLOAT.equals(type) || DOUBLE.equals(type)) {
-                problems.add(Instructions.problem(owner, method, frame, "a local of type " + type + " where ways meet",
+                add(Instructions.problem(owner, method, frame, "a local of type " + type + " where ways meet",
                     "declare it as Object, Number, Long or Integer"));
                 return;
             }
