@@ -1,6 +1,8 @@
 //! Streams, byte by byte.
 
+mod holding;
 mod meetings;
+mod shared;
 
 use cache::{Gate, NoGate};
 use jtypes::NoLoader;

@@ -1,51 +1,20 @@
 //! Calls of one round that meet.
 
+use super::holding::Holding;
 use super::{ROUND_END, defined, returned, serve_beside};
-use cache::Gate;
 use rowclasses as rows;
 use serve::{ServeFault, Settings};
 use std::alloc::{AllocError, Global};
 use std::sync::Wait;
-use std::sync::atomic::{AtomicBool, Ordering};
 use std::test::Fail;
-use std::thread;
 use std::thread::Threads;
-use std::time::{Clock, Duration};
+use std::time::Clock;
 
 /// Adds an invocation of class 0 on a key, with the argument 1.
 fn invoke(input: &mut Vec<u8>, high: u8, low: u8) -> Result<(), AllocError> {
     input.extend_from_slice(&[
         0, 0, 0, 0x17, 6, 0, 0, 0, 0, 0, 0, 0, 0, 0, 0, high, low, 1, 1, 0, 0, 0, 0, 0, 0, 0, 1,
     ])
-}
-
-/// Holds job 0 in its begun call until job 1 was answered, for ten seconds at most.
-#[derive(Drop)]
-struct Holding<'s, R> {
-    rt: &'s R,
-    answered: AtomicBool,
-    seen: AtomicBool,
-}
-
-impl<'s, R: Clock> Gate for Holding<'s, R> {
-    fn started(&self, job: usize) {
-        if job != 0 {
-            return;
-        }
-        for _ in 0..100_000 {
-            if self.answered.load(Ordering::Acquire) {
-                self.seen.store(true, Ordering::Release);
-                return;
-            }
-            thread::sleep(self.rt, Duration::from_micros(100));
-        }
-    }
-
-    fn answered(&self, job: usize) {
-        if job == 1 {
-            self.answered.store(true, Ordering::Release);
-        }
-    }
 }
 
 /// The stream of Counter and a round's end.
@@ -76,22 +45,14 @@ fn met<R: Threads + Wait + Clock + Sync>(
     input: &[u8],
     share: u32,
 ) -> (Option<ServeFault>, bool, bool) {
-    let gate = Holding {
-        rt,
-        answered: AtomicBool::new(false),
-        seen: AtomicBool::new(false),
-    };
+    let gate = Holding::new(rt, 0, 1);
     let settings = Settings {
         workers: 2,
         stripes: 2,
         share,
     };
     let ended = serve_beside(rt, alloc, input, settings, &gate);
-    (
-        ended.fault,
-        gate.seen.load(Ordering::Acquire),
-        both_returned(&ended.output),
-    )
+    (ended.fault, gate.saw(), both_returned(&ended.output))
 }
 
 #[test]
