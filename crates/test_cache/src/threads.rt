@@ -1,10 +1,15 @@
 //! Calls of caches, in several threads.
 
+mod following;
+mod racing;
+
 ghost use Rattle.std.specs.Prelude.{◌≡◌, ◌<◌, ℕ, length, slice_index_or, IfOk};
 ghost use Rattle.std.specs.List.{All};
 ghost use Rattle.cache.specs.Opened.{AreFresh};
 ghost use Rattle.registry.specs.Ids.{IsOf};
 
+use self::following::{Marks, follow};
+use self::racing::{delay_at, race};
 use cache::{Cache, Closed, Gate, Receipt, Seat};
 use jtypes::{Arg, NoLoader, Outcome};
 use machine::Workspace;
@@ -15,6 +20,7 @@ use std::sync::{Barrier, Wait};
 use std::test::Fail;
 use std::thread;
 use std::thread::Threads;
+use std::time::Clock;
 use stripe::{ArgSlice, OpenRefusal, Reply, Tables};
 
 /// What a worker does, at its place among all.
@@ -62,6 +68,10 @@ enum Work {
     Count,
     /// The first caller puts on key 0 and the others on key 1. No call ends before two have started.
     Meet,
+    /// The first caller puts on key 0, and its observer waits for the answer to the second one's put on it.
+    Follow,
+    /// After so many microseconds each, the first caller puts on key 5 and the others count its entry up.
+    Race([u64; 3]),
 }
 
 /// Callers of a cache.
@@ -72,10 +82,11 @@ struct Callers<'s, 'a, R> {
     cache: &'s Cache<'a, 'static, NoLoader>,
     counter: &'s ClassId,
     barrier: &'s Barrier,
+    marks: &'s Marks,
     work: Work,
 }
 
-impl<'s, 'a, R: Wait> Shift<Seat<'a>> for Callers<'s, 'a, R> {
+impl<'s, 'a, R: Wait + Clock> Shift<Seat<'a>> for Callers<'s, 'a, R> {
     ghost use Rattle.std.specs.Prelude.{◌≡◌};
     ghost use Rattle.registry.specs.Ids.{IsOf};
 
@@ -88,6 +99,19 @@ impl<'s, 'a, R: Wait> Shift<Seat<'a>> for Callers<'s, 'a, R> {
             Work::PutAndGet => put_and_get(self.rt, self.cache, seat),
             Work::Count => count(self.rt, self.alloc, self.cache, seat, self.counter),
             Work::Meet => meet(self.rt, self.cache, seat, place, self.barrier),
+            Work::Follow => follow(self.rt, self.cache, seat, place, self.marks),
+            Work::Race(delays) => {
+                let delay = delay_at(delays, place);
+                race(
+                    self.rt,
+                    self.alloc,
+                    self.cache,
+                    seat,
+                    self.counter,
+                    place,
+                    delay,
+                )
+            }
         }
     }
 }
@@ -183,7 +207,7 @@ fn opened<'a>(
 }
 
 /// What a cache hands out after the work of as many callers as it has seats, each in a thread of its own.
-fn worked<'a, R: Threads + Wait + Sync>(
+fn worked<'a, R: Threads + Wait + Clock + Sync>(
     rt: &R,
     alloc: Global,
     registry: &'a Registry,
@@ -191,6 +215,7 @@ fn worked<'a, R: Threads + Wait + Sync>(
     stripes: usize,
     seats: usize,
     work: Work,
+    marks: &Marks,
 ) -> Result<Closed<'a>, OpenRefusal>
     requires { IsOf registry.now counter.now }
 {
@@ -201,6 +226,7 @@ fn worked<'a, R: Threads + Wait + Sync>(
         cache: &cache,
         counter,
         barrier: &Barrier::new(2),
+        marks,
         work,
     };
     serve_all(rt, &mut seats, &callers);
@@ -292,7 +318,7 @@ fn sums_of(alloc: Global, closed: &Closed<'_>, receipts: usize) -> Sums {
 }
 
 /// What is left of the work of callers, where each seat is to have so many receipts.
-fn summed<R: Threads + Wait + Sync>(
+fn summed<R: Threads + Wait + Clock + Sync>(
     rt: &R,
     alloc: Global,
     bytes: &[u8],
@@ -300,11 +326,12 @@ fn summed<R: Threads + Wait + Sync>(
     seats: usize,
     work: Work,
     receipts: usize,
+    marks: &Marks,
 ) -> Option<Sums> {
     match Registry::new(alloc) {
         Ok(registry) => match registry.define(rt, alloc, bytes) {
             Ok(counter) => {
-                match worked(rt, alloc, &registry, &counter, stripes, seats, work) {
+                match worked(rt, alloc, &registry, &counter, stripes, seats, work, marks) {
                     Ok(closed) => Some(sums_of(alloc, &closed, receipts)),
                     Err(_) => None,
                 }
@@ -349,7 +376,16 @@ fn two_callers_put_and_get(rt: HostRuntime) -> Result<(), Fail> {
         entries: (None, Some(499)),
         are_numbered: false,
     };
-    let sums = summed(&rt, rt.alloc(), &counter, 1, 2, Work::PutAndGet, 1000);
+    let sums = summed(
+        &rt,
+        rt.alloc(),
+        &counter,
+        1,
+        2,
+        Work::PutAndGet,
+        1000,
+        &Marks::new(),
+    );
     assert_eq!(rt; sums, Some(wanted));
     Ok(())
 }
@@ -363,7 +399,16 @@ fn four_callers_count(rt: HostRuntime) -> Result<(), Fail> {
         entries: (Some(400), None),
         are_numbered: false,
     };
-    let sums = summed(&rt, rt.alloc(), &counter, 1, 4, Work::Count, 100);
+    let sums = summed(
+        &rt,
+        rt.alloc(),
+        &counter,
+        1,
+        4,
+        Work::Count,
+        100,
+        &Marks::new(),
+    );
     assert_eq!(rt; sums, Some(wanted));
     Ok(())
 }
@@ -377,7 +422,16 @@ fn sixteen_callers_count(rt: HostRuntime) -> Result<(), Fail> {
         entries: (Some(1600), None),
         are_numbered: true,
     };
-    let sums = summed(&rt, rt.alloc(), &counter, 1, 16, Work::Count, 100);
+    let sums = summed(
+        &rt,
+        rt.alloc(),
+        &counter,
+        1,
+        16,
+        Work::Count,
+        100,
+        &Marks::new(),
+    );
     assert_eq!(rt; sums, Some(wanted));
     Ok(())
 }
@@ -391,7 +445,32 @@ fn calls_on_two_stripes_meet(rt: HostRuntime) -> Result<(), Fail> {
         entries: (Some(7), Some(7)),
         are_numbered: false,
     };
-    let sums = summed(&rt, rt.alloc(), &counter, 2, 2, Work::Meet, 1);
+    let sums = summed(
+        &rt,
+        rt.alloc(),
+        &counter,
+        2,
+        2,
+        Work::Meet,
+        1,
+        &Marks::new(),
+    );
     assert_eq!(rt; sums, Some(wanted));
+    Ok(())
+}
+
+#[test]
+fn an_answer_is_told_when_the_stripe_is_free(rt: HostRuntime) -> Result<(), Fail> {
+    let counter = rows::counter(rt.alloc())?;
+    let wanted = Sums {
+        seats: 2,
+        records: (Some(2), None),
+        entries: (Some(7), None),
+        are_numbered: false,
+    };
+    let marks = Marks::new();
+    let sums = summed(&rt, rt.alloc(), &counter, 1, 2, Work::Follow, 1, &marks);
+    assert_eq!(rt; sums, Some(wanted));
+    assert!(rt; marks.seen());
     Ok(())
 }

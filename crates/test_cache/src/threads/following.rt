@@ -1,0 +1,89 @@
+//! Two calls on one stripe, of which the first one's observer waits for the answer to the other.
+
+ghost use Rattle.std.specs.Prelude.{◌≡◌};
+
+use cache::{Cache, Gate, Seat};
+use jtypes::NoLoader;
+use std::sync::Wait;
+use std::sync::atomic::{AtomicBool, Ordering};
+use std::thread;
+use std::time::{Clock, Duration};
+
+/// What the two calls have come to.
+#[derive(Drop)]
+pub struct Marks {
+    /// The first one has begun.
+    begun: AtomicBool,
+    /// The other one was answered.
+    answered: AtomicBool,
+    /// The first one's observer saw that, when it heard of the first one's answer.
+    seen: AtomicBool,
+}
+
+impl Marks {
+    pub fn new() -> Marks {
+        Marks {
+            begun: AtomicBool::new(false),
+            answered: AtomicBool::new(false),
+            seen: AtomicBool::new(false),
+        }
+    }
+
+    pub fn seen(&self) -> bool {
+        self.seen.load(Ordering::Acquire)
+    }
+}
+
+/// Waits until a mark is set, for ten seconds at most: whether it is.
+fn is_set_in_time<R: Clock>(rt: &R, mark: &AtomicBool) -> bool {
+    for _ in 0..100_000 {
+        if mark.load(Ordering::Acquire) {
+            return true;
+        }
+        thread::sleep(rt, Duration::from_micros(100));
+    }
+    false
+}
+
+/// The observer of both calls.
+#[derive(Drop)]
+struct Following<'s, R> {
+    rt: &'s R,
+    marks: &'s Marks,
+}
+
+impl<'s, R: Clock> Gate for Following<'s, R> {
+    fn started(&self, job: usize) {
+        if job == 0 {
+            self.marks.begun.store(true, Ordering::Release);
+        }
+    }
+
+    fn answered(&self, job: usize) {
+        if job == 0 {
+            let seen = is_set_in_time(self.rt, &self.marks.answered);
+            self.marks.seen.store(seen, Ordering::Release);
+        } else {
+            self.marks.answered.store(true, Ordering::Release);
+        }
+    }
+}
+
+/// Puts on key 0: the first caller at once, another one when the first one's call has begun.
+pub fn follow<'a, R: Wait + Clock>(
+    rt: &R,
+    cache: &Cache<'a, 'static, NoLoader>,
+    seat: &mut Seat<'a>,
+    place: usize,
+    marks: &Marks,
+)
+    requires { seat.old.table ≡ cache.now.table }
+    ensures table { seat.new.table ≡ seat.old.table }
+    ensures caller { seat.new.caller ≡ seat.old.caller }
+    ensures made { seat.new.made ≡ seat.old.made }
+{
+    if place > 0 {
+        let _begun = is_set_in_time(rt, &marks.begun);
+    }
+    let _put = cache.put_at(rt, seat, 0, 7, place, &Following { rt, marks });
+}
