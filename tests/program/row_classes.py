@@ -251,16 +251,33 @@ def named(name):
     return class_of(*CLASSES[name])
 
 
-def line_of(count, calls):
-    """So many static methods, of which each calls the next one so many times, behind a `process` that calls the first one."""
-    first = FURTHER + 2
-    further, methods = [], [process(1, 3, b"\xb8" + u2(first) + b"\x01\xb0")]
+def chain_of(count, calls):
+    """So many static methods, of which each calls the next one so many times, and their constants. The method `number` has the index
+    FURTHER + 2 + 3 * number."""
+    further, methods = [], []
     for number in range(count):
-        reference_of = first + 3 * number
+        reference_of = FURTHER + 2 + 3 * number
         further += [utf8(b"m%d" % number), name_and_type(reference_of - 2, 8), methodref(2, reference_of - 1)]
         call = b"\xb8" + u2(reference_of + 3) if number + 1 < count else b""
         methods.append(Method(0x0008, reference_of - 2, 8, 0, 0, calls * call + b"\xb1", b"", None))
-    return class_of(*methods, further=further)
+    return further, methods
+
+
+def line_of(count, calls):
+    """So many static methods, of which each calls the next one so many times, behind a `process` that calls the first one."""
+    further, methods = chain_of(count, calls)
+    return class_of(process(1, 3, b"\xb8" + u2(FURTHER + 2) + b"\x01\xb0"), *methods, further=further)
+
+
+def costly_counter():
+    """A processor that does what Counter does in 26 instructions at most, and states 900,000 as its bound: a branch that is always taken
+    leaves out calls of methods each of which calls the next one twice."""
+    first = FURTHER + 2
+    calls = b"".join(b"\xb8" + u2(first + 3 * number) for number in [0, 1, 3, 4, 6, 7, 8, 10, 11, 12, 15, 16, 16])
+    skip = b"\x03\x99" + u2(3 + len(calls)) + calls
+    frames = Frames(3, bytes([len(skip), 0x17, 0x40, 4]))
+    further, methods = chain_of(18, 2)
+    return class_of(process(4, 7, skip + bytes.fromhex(COUNTER), frames), *methods, further=further)
 
 
 def diamond(count):

@@ -1,0 +1,185 @@
+"""Rounds that the built program shares among threads: their replies are searched for a legal order of the calls on each key, and the
+program's threads are counted meanwhile."""
+import os
+import random
+import struct
+import subprocess
+import tempfile
+import time
+from collections import namedtuple
+
+import row_classes as rows
+from running import LIMIT, Row, Runs
+
+ROUND_END = bytes([0, 0, 0, 1, 8])
+JOBS, ROUNDS, KEYS = 48, 150, 24
+"""How many requests a round has, how many rounds a stream, and over how many keys they go."""
+
+Call = namedtuple("Call", "kind key number")
+"""A call on a key: its kind, and the number that it puts or adds."""
+Request = namedtuple("Request", "kind keys number")
+"""The same of a request, which is of several keys where it is an `invokeAll`."""
+
+PUT, GET, REMOVE, CONTAINS, INVOKE, INVOKE_ALL = range(2, 8)
+
+
+def frame_of(request):
+    """The bytes of a request; invocations are of class 0, with one argument."""
+    keys = b"".join(struct.pack(">q", key) for key in request.keys)
+    body = {
+        PUT: keys + struct.pack(">q", request.number),
+        INVOKE: bytes(4) + keys + b"\1\1" + struct.pack(">q", request.number),
+        INVOKE_ALL: bytes(4) + struct.pack(">H", len(request.keys)) + keys + b"\1\1" + struct.pack(">q", request.number),
+    }.get(request.kind, keys)
+    return struct.pack(">IB", 1 + len(body), request.kind) + body
+
+
+def any_request(chance):
+    """Half of the requests invoke the class on one key, and the others do it on several, put, get, remove and ask."""
+    kind = chance.choice([INVOKE] * 6 + [INVOKE_ALL, PUT, PUT, GET, REMOVE, CONTAINS])
+    keys = chance.sample(range(KEYS), 4 if kind == INVOKE_ALL else 1)
+    return Request(kind, keys, chance.randrange(1, 1000))
+
+
+class Replies:
+    """Replies that are read from their front."""
+
+    def __init__(self, data):
+        self.data, self.at = data, 0
+
+    def next(self):
+        """The kind of the next reply, and its body."""
+        (length,) = struct.unpack_from(">I", self.data, self.at)
+        body = self.data[self.at + 4:self.at + 4 + length]
+        if not 0 < length == len(body):
+            raise ValueError(f"no whole reply at {self.at}")
+        self.at += 4 + length
+        return body[0], body[1:]
+
+
+def number_in(argument):
+    """The number in an argument: none where it is null."""
+    if argument == b"\0":
+        return None
+    tag, number = struct.unpack(">Bq", argument)
+    if tag != 1:
+        raise ValueError(f"no Long: {argument}")
+    return number
+
+
+def answers_in(request, kind, body):
+    """The calls of a request, each with its answer as the reply tells it."""
+    calls = [Call(INVOKE if request.kind == INVOKE_ALL else request.kind, key, request.number) for key in request.keys]
+    if kind != {PUT: 3, GET: 4, REMOVE: 5, CONTAINS: 5, INVOKE: 6, INVOKE_ALL: 7}[request.kind]:
+        raise ValueError(f"a reply of the kind {kind} to {request}")
+    if request.kind == PUT:
+        return [(calls[0], None)]
+    if request.kind == GET:
+        return [(calls[0], number_in(body))]
+    if request.kind in (REMOVE, CONTAINS):
+        return [(calls[0], bool(body[0]))]
+    if request.kind == INVOKE:
+        return [(calls[0], number_in(body[1:]))]
+    # A count, and for each key its number, a 0 and the result as a Long.
+    if body[:2] != struct.pack(">H", len(calls)) or len(body) != 2 + 18 * len(calls):
+        raise ValueError(f"no results of {request}: {body}")
+    parts = [body[at:at + 18] for at in range(2, len(body), 18)]
+    if any(part[:9] != struct.pack(">qB", call.key, 0) for call, part in zip(calls, parts)):
+        raise ValueError(f"results of other keys than {request}: {body}")
+    return [(call, number_in(part[9:])) for call, part in zip(calls, parts)]
+
+
+def after(call, answer, entry):
+    """The entry that a call with this answer leaves, in a list; none where it can't have this answer on that entry."""
+    if call.kind == PUT:
+        return [call.number]
+    if call.kind == GET:
+        return [entry] if answer == entry else []
+    if call.kind == CONTAINS:
+        return [entry] if answer == (entry is not None) else []
+    if call.kind == REMOVE:
+        return [None] if answer == (entry is not None) else []
+    counted = (entry or 0) + call.number
+    return [counted] if answer == counted else []
+
+
+def left_by(calls, entries):
+    """The entries that these calls with their answers may leave on a key with one of these entries, by some order of them."""
+    reached = {(frozenset(range(len(calls))), entry) for entry in entries}
+    for _ in calls:
+        reached = {
+            (left - {at}, entry)
+            for left, before in reached
+            for at in left
+            for entry in after(*calls[at], before)
+        }
+    return {entry for _left, entry in reached}
+
+
+def illegal_keys(rounds, replies):
+    """The keys and rounds, from 0, in which no order of the calls has their answers."""
+    entries, illegal = {key: {None} for key in range(KEYS)}, []
+    for number, requests in enumerate(rounds):
+        of_key = {key: [] for key in range(KEYS)}
+        for request in requests:
+            for call, answer in answers_in(request, *replies.next()):
+                of_key[call.key].append((call, answer))
+        if replies.next() != (9, b""):
+            raise ValueError("no end of a round")
+        for key, calls in of_key.items():
+            entries[key] = left_by(calls, entries[key])
+            if not entries[key]:
+                illegal.append((key, number))
+                entries[key] = {None}
+    return illegal
+
+
+def threads_of(process):
+    """How many threads a process has, none where it has ended."""
+    try:
+        return len(os.listdir(f"/proc/{process}/task"))
+    except OSError:
+        return 0
+
+
+class Shared(Runs):
+    variable = "JENTRY_PROGRAM"
+
+    def served(self, given, words):
+        """What a stream is answered, and the most threads that the program was seen to have meanwhile."""
+        with tempfile.TemporaryFile() as source, tempfile.TemporaryFile() as output:
+            source.write(given)
+            source.seek(0)
+            with subprocess.Popen([self.program, "serve", *words], stdin=source, stdout=output) as it:
+                most, end = 0, time.monotonic() + LIMIT
+                while it.poll() is None and time.monotonic() < end:
+                    most = max(most, threads_of(it.pid))
+                    time.sleep(0.0002)
+                it.kill()
+            self.assertEqual(it.returncode, 0, words)
+            output.seek(0)
+            return output.read(), most
+
+    def test_the_class_states_more_than_it_runs(self):
+        counter = rows.costly_counter()
+        self.hold([
+            Row(["check", "C"], 0, "accepted steps=900000 words=0 slots=11 depth=19\n", file=counter),
+            Row(["run", "C", "7", "41", "1"], 0, "result 42\nvalue 42\nsteps 26 words 0\n", file=counter),
+            Row(["run", "C", "7", "none", "1"], 0, "result 1\nvalue 1\nsteps 22 words 0\n", file=counter),
+        ])
+
+    def test_replies_of_shared_rounds_have_a_legal_order(self):
+        """Beside two workers or more there is a thread that waits for them; a single one is the only thread."""
+        counter = rows.costly_counter()
+        define = struct.pack(">IB", 1 + len(counter), 1) + counter + ROUND_END
+        for workers, stripes in [(1, 4), (2, 2), (4, 4), (16, 4), (16, 16)]:
+            with self.subTest(workers=workers, stripes=stripes):
+                chance = random.Random(100 * workers + stripes)
+                rounds = [[any_request(chance) for _ in range(JOBS)] for _ in range(ROUNDS)]
+                given = define + b"".join(b"".join(map(frame_of, requests)) + ROUND_END for requests in rounds)
+                output, threads = self.served(given, ["--workers", str(workers), "--stripes", str(stripes)])
+                self.assertEqual(output[:22], bytes.fromhex("0000000d0100000000000dbba000000000" "0000000109"))
+                self.assertTrue(threads == 1 if workers == 1 else threads > 2, f"{threads} threads")
+                replies = Replies(output[22:])
+                self.assertEqual(illegal_keys(rounds, replies), [])
+                self.assertEqual(22 + replies.at, len(output))
