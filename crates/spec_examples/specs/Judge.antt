@@ -1,4 +1,4 @@
--- A plain program for the verdict: the numbers of all refusals that stand, and the bounds.
+-- A plain program for the verdict of a profile: the numbers of all refusals that stand, and the bounds.
 use Rattle.std.specs.Prelude.{ℕ, zero, suc, ◌+◌, ◌-◌, ◌*◌, ◌==◌, max, nat_lt, nat_le, Bool, true, false, not, ◌&&◌, ◌||◌, List, [], ◌∷◌, ◌++◌, length, map, filter, take, drop, flat_map, Option, Some, None, is_some, is_none, Result, Ok, Err, option_map, slice_get, if◌then◌else◌, ℤ, pos, negsuc, int_le, codes}
 use Rattle.std.specs.List.{list_all}
 use Rattle.jtypes.specs.declared.refusal.Refusal.{Refusal}
@@ -31,7 +31,7 @@ use Rattle.bounds.specs.Paths.{Cost, last_cost, after_one, after_call, words_at,
 use Rattle.verdict.specs.Shape.{reserved_names, has_other_kind, is_constructor, slots_taken, object_init}
 use Rattle.verdict.specs.Verdict.{is_known}
 use Rattle.spec_examples.specs.Plain.{placed, all_read, environment_of, the_method, class_in}
-use Rattle.jtypes.specs.Profile.{Second}
+use Rattle.jtypes.specs.Profile.{Profile, Second}
 
 -- ---- layouts
 
@@ -136,11 +136,11 @@ shape_refusals pool p =
 -- ---- level C
 
 -- the instructions of a code, at most so many, or the refusal at which the reading stops
-unfoldable pub decoded : ℕ → List Slot → ℕ → List ℕ → Result (List Placed) Refusal
-decoded most pool at [] = Ok []
-decoded zero pool at (b ∷ bytes) = Ok []
-decoded (suc most) pool at (b ∷ bytes) =
-    then_decoded at (length (b ∷ bytes)) (first (one Second pool at) (b ∷ bytes)) (decoded most pool)
+unfoldable pub decoded : Profile → ℕ → List Slot → ℕ → List ℕ → Result (List Placed) Refusal
+decoded profile most pool at [] = Ok []
+decoded profile zero pool at (b ∷ bytes) = Ok []
+decoded profile (suc most) pool at (b ∷ bytes) =
+    then_decoded at (length (b ∷ bytes)) (first (one profile pool at) (b ∷ bytes)) (decoded profile most pool)
   where
     onto_rest : Placed → Result (List Placed) Refusal → Result (List Placed) Refusal
     onto_rest p (Ok ps) = Ok (p ∷ ps)
@@ -171,9 +171,9 @@ method_code pool m = only (codes_of pool m) >>= parts_of_code
 abbrev pub others : List Slot → Parts → List Member
 others pool p = filter (λ m. not (is_constructor pool m)) p.methods
 
-unfoldable pub instruction_refusals : List Slot → Parts → List ℕ
-instruction_refusals pool p =
-    flat_map (λ m. list_from (method_code pool m) (λ c. code_refusals (view_of pool p) (decoded (length c.code) pool 0 c.code))) (others pool p)
+unfoldable pub instruction_refusals : Profile → List Slot → Parts → List ℕ
+instruction_refusals profile pool p =
+    flat_map (λ m. list_from (method_code pool m) (λ c. code_refusals (view_of pool p) (decoded profile (length c.code) pool 0 c.code))) (others pool p)
 
 -- ---- level D
 
@@ -266,12 +266,12 @@ body_refusals v e tables (Err r) = []
 body_refusals v e tables (Ok code) =
     flag 23 (holds (λ p. falls_through p.instruction) (last code)) ++ typed_refusals v e code (frames_declared v e code tables)
 
-abbrev pub member_refusals : ClassView → Member → List ℕ
-member_refusals v m =
-    list_from (method_code v.pool m) (λ c. list_from (method_signature v (method_view v.pool m)) (λ s. body_refusals v (environment_of c s) (tables_of v.pool c) (decoded (length c.code) v.pool 0 c.code)))
+abbrev pub member_refusals : Profile → ClassView → Member → List ℕ
+member_refusals profile v m =
+    list_from (method_code v.pool m) (λ c. list_from (method_signature v (method_view v.pool m)) (λ s. body_refusals v (environment_of c s) (tables_of v.pool c) (decoded profile (length c.code) v.pool 0 c.code)))
 
-unfoldable pub type_refusals : List Slot → Parts → List ℕ
-type_refusals pool p = flat_map (member_refusals (view_of pool p)) (others pool p)
+unfoldable pub type_refusals : Profile → List Slot → Parts → List ℕ
+type_refusals profile pool p = flat_map (member_refusals profile (view_of pool p)) (others pool p)
 
 -- ---- level E
 
@@ -301,9 +301,9 @@ cost (suc most) c j place = slice_get c.methods j >>= λ m. at_place m.code plac
         if falls_through p.instruction then greater (aside go (targets_of p.instruction)) (onward m p go (call_of c.view p.instruction))
         else (if is_some (target_of p.instruction) then aside go (targets_of p.instruction) else Some (last_cost m))
 
-abbrev pub limit_refusals : Cost → List ℕ
-limit_refusals k =
-    flag 27 (nat_lt (step_limit Second) k.steps) ++ flag 28 (nat_lt word_limit k.words) ++ flag 29 (nat_lt slot_limit k.slots || nat_lt depth_limit k.depth)
+abbrev pub limit_refusals : Profile → Cost → List ℕ
+limit_refusals profile k =
+    flag 27 (nat_lt (step_limit profile) k.steps) ++ flag 28 (nat_lt word_limit k.words) ++ flag 29 (nat_lt slot_limit k.slots || nat_lt depth_limit k.depth)
 
 -- what a class answers: refusals, or bounds
 pub data Answered : Type 0 where
@@ -317,26 +317,30 @@ abbrev pub unless : List ℕ → Answered → Answered
 unless [] a = a
 unless (n ∷ ns) a = Refused (n ∷ ns)
 
-abbrev pub by_cost : Option Cost → Answered
-by_cost None = Refused (25 ∷ [])
-by_cost (Some k) = unless (limit_refusals k) (accepted k)
+abbrev pub by_cost : Profile → Option Cost → Answered
+by_cost profile None = Refused (25 ∷ [])
+by_cost profile (Some k) = unless (limit_refusals profile k) (accepted k)
 
 -- the costs of all methods from number j on, reachable or not; none where some method's turns do not suffice
 abbrev pub each_has_cost : Class → ℕ → List Method → Bool
 each_has_cost c j [] = true
 each_has_cost c j (m ∷ ms) = is_some (cost 120 c j 0) && each_has_cost c (suc j) ms
 
-abbrev pub by_class : Option Class → Answered
-by_class None = Refused []
-by_class (Some c) = if each_has_cost c 0 c.methods then by_cost (number_of_process c >>= λ j. cost 120 c j 0) else Refused (25 ∷ [])
+abbrev pub by_class : Profile → Option Class → Answered
+by_class profile None = Refused []
+by_class profile (Some c) = if each_has_cost c 0 c.methods then by_cost profile (number_of_process c >>= λ j. cost 120 c j 0) else Refused (25 ∷ [])
 
-abbrev pub by_parts : Option ((List Slot × Parts) × List ℕ) → Answered
-by_parts None = Refused []
-by_parts (Some (p, rest)) =
-    unless (shape_refusals p.0 p.1) (let i : List ℕ = instruction_refusals p.0 p.1 in unless i (let t : List ℕ = type_refusals p.0 p.1 in unless t (let c : Option Class = class_in p in by_class c)))
+-- the class is read by the second profile, which reads what the first one reads as the same
+abbrev pub by_parts : Profile → Option ((List Slot × Parts) × List ℕ) → Answered
+by_parts profile None = Refused []
+by_parts profile (Some (p, rest)) =
+    unless (shape_refusals p.0 p.1) (let i : List ℕ = instruction_refusals profile p.0 p.1 in unless i (let t : List ℕ = type_refusals profile p.0 p.1 in unless t (let c : Option Class = class_in p in by_class profile c)))
 
-unfoldable pub judge : List ℕ → Answered
-judge bytes = unless (standing (class_file (length bytes)) bytes) (by_parts (found (class_file (length bytes)) bytes))
+unfoldable pub judge_by : Profile → List ℕ → Answered
+judge_by profile bytes = unless (standing (class_file (length bytes)) bytes) (by_parts profile (found (class_file (length bytes)) bytes))
+
+abbrev pub judge : List ℕ → Answered
+judge bytes = judge_by Second bytes
 
 -- ---- comparison
 

@@ -1,8 +1,11 @@
 pub mod Statements
 pub mod Small
+pub mod SmallSwitch
+pub mod Profiles
 pub mod Plain
 pub mod Opened
 pub mod Bytes
+pub mod SwitchBytes
 pub mod Rows
 pub mod Judge
 pub mod Verdicts

@@ -10,6 +10,7 @@ use Rattle.jtypes.specs.Entry.{Entry}
 use Rattle.verdict.specs.Machine.{Final}
 use Rattle.spec_examples.specs.Plain.{class_of, outcome_of, outcome_by, the_call, the_asking_call}
 use Rattle.spec_examples.specs.Opened.{opened}
+use Rattle.spec_examples.specs.SwitchBytes.{table_bytes, look_bytes, far_bytes, inc_bytes, jump_bytes}
 use Rattle.spec_examples.specs.Bytes.{arr_zero_bytes, bridge_bytes, counter_bytes, div_least_bytes, give_entry_bytes, loose_bytes, nest_fault_bytes, plus_bytes, ratio_bytes, rem_least_bytes, set_remove_bytes, shift64_bytes, shift_neg_bytes, unbox_bytes}
 
 abbrev pub final : Outcome → Entry → ℕ → ℕ → Final
@@ -122,6 +123,48 @@ ratio_3 = refl
 pub give_entry_1 : outcome_of 30 (class_of give_entry_bytes) (the_call (pos 7) (Some (pos 41)) []) ≡ Some (final (Threw fault.ClassCast) (Some (pos 41)) 2 0)
 unfolding opened give_entry_bytes
 give_entry_1 = refl
+
+-- ---- with the instructions that the second profile adds
+
+pub table_1 : outcome_of 30 (class_of table_bytes) (the_call (pos 7) (Some (pos 1)) []) ≡ Some (final (Returned (arg.Long (pos 1))) (Some (pos 1)) 9 0)
+unfolding opened table_bytes
+table_1 = refl
+
+pub table_2 : outcome_of 30 (class_of table_bytes) (the_call (pos 7) (Some (pos 2)) []) ≡ Some (final (Returned arg.Null) (Some (pos 2)) 8 0)
+unfolding opened table_bytes
+table_2 = refl
+
+pub table_3 : outcome_of 30 (class_of table_bytes) (the_call (pos 7) (Some (pos 3)) []) ≡ Some (final (Returned (arg.Long (pos 0))) (Some (pos 3)) 9 0)
+unfolding opened table_bytes
+table_3 = refl
+
+pub table_4 : outcome_of 30 (class_of table_bytes) (the_call (pos 7) (Some (pos 4294967297)) []) ≡ Some (final (Returned (arg.Long (pos 1))) (Some (pos 4294967297)) 9 0)
+unfolding opened table_bytes
+table_4 = refl
+
+pub look_1 : outcome_of 30 (class_of look_bytes) (the_call (pos 7) (Some (pos 4294967291)) []) ≡ Some (final (Returned (arg.Long (pos 1))) (Some (pos 4294967291)) 9 0)
+unfolding opened look_bytes
+look_1 = refl
+
+pub look_2 : outcome_of 30 (class_of look_bytes) (the_call (pos 7) (Some (pos 9)) []) ≡ Some (final (Returned arg.Null) (Some (pos 9)) 8 0)
+unfolding opened look_bytes
+look_2 = refl
+
+pub look_3 : outcome_of 30 (class_of look_bytes) (the_call (pos 7) (Some (pos 5)) []) ≡ Some (final (Returned (arg.Long (pos 0))) (Some (pos 5)) 9 0)
+unfolding opened look_bytes
+look_3 = refl
+
+pub far_1 : outcome_of 30 (class_of far_bytes) (the_call (pos 7) None []) ≡ Some (final (Returned (arg.Long (pos 1))) None 5 0)
+unfolding opened far_bytes
+far_1 = refl
+
+pub inc_1 : outcome_of 30 (class_of inc_bytes) (the_call (pos 7) None []) ≡ Some (final (Returned (arg.Long (negsuc 300))) None 7 0)
+unfolding opened inc_bytes
+inc_1 = refl
+
+pub jump_1 : outcome_of 30 (class_of jump_bytes) (the_call (pos 7) None []) ≡ Some (final (Returned arg.Null) None 3 0)
+unfolding opened jump_bytes
+jump_1 = refl
 
 -- ---- where there is a loader, on absent keys
 

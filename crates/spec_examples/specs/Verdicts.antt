@@ -1,7 +1,9 @@
 -- The verdicts of small classes, with their bounds.
-use Rattle.std.specs.Prelude.{◌≡◌, refl}
-use Rattle.spec_examples.specs.Judge.{judge, Accepted}
+use Rattle.std.specs.Prelude.{◌≡◌, refl, [], ◌∷◌}
+use Rattle.jtypes.specs.Profile.{First}
+use Rattle.spec_examples.specs.Judge.{judge, judge_by, Accepted, Refused}
 use Rattle.spec_examples.specs.Opened.{opened}
+use Rattle.spec_examples.specs.SwitchBytes.{table_bytes, look_bytes, far_bytes, inc_bytes, jump_bytes}
 use Rattle.spec_examples.specs.Bytes.{plus_bytes, counter_bytes, nest_fault_bytes, unbox_bytes, set_remove_bytes, div_least_bytes, rem_least_bytes, shift64_bytes, shift_neg_bytes, bridge_bytes, loose_bytes, arr_zero_bytes, ratio_bytes, give_entry_bytes}
 
 pub plus_verdict : judge plus_bytes ≡ Accepted 14 0 9 1
@@ -59,6 +61,58 @@ ratio_verdict = refl
 pub give_entry_verdict : judge give_entry_bytes ≡ Accepted 2 0 4 1
 unfolding opened give_entry_bytes
 give_entry_verdict = refl
+
+-- ---- with the instructions that the second profile adds
+
+pub table_verdict : judge table_bytes ≡ Accepted 9 0 5 1
+unfolding opened table_bytes
+table_verdict = refl
+
+pub look_verdict : judge look_bytes ≡ Accepted 9 0 5 1
+unfolding opened look_bytes
+look_verdict = refl
+
+pub far_verdict : judge far_bytes ≡ Accepted 5 0 260 1
+unfolding opened far_bytes
+far_verdict = refl
+
+pub inc_verdict : judge inc_bytes ≡ Accepted 7 0 6 1
+unfolding opened inc_bytes
+inc_verdict = refl
+
+pub jump_verdict : judge jump_bytes ≡ Accepted 3 0 4 1
+unfolding opened jump_bytes
+jump_verdict = refl
+
+-- ---- by the first profile
+
+pub plus_by_first : judge_by First plus_bytes ≡ Accepted 14 0 9 1
+unfolding opened plus_bytes
+plus_by_first = refl
+
+pub counter_by_first : judge_by First counter_bytes ≡ Accepted 24 0 11 1
+unfolding opened counter_bytes
+counter_by_first = refl
+
+pub table_by_first : judge_by First table_bytes ≡ Refused (17 ∷ [])
+unfolding opened table_bytes
+table_by_first = refl
+
+pub look_by_first : judge_by First look_bytes ≡ Refused (17 ∷ [])
+unfolding opened look_bytes
+look_by_first = refl
+
+pub far_by_first : judge_by First far_bytes ≡ Refused (17 ∷ [])
+unfolding opened far_bytes
+far_by_first = refl
+
+pub inc_by_first : judge_by First inc_bytes ≡ Refused (17 ∷ [])
+unfolding opened inc_bytes
+inc_by_first = refl
+
+pub jump_by_first : judge_by First jump_bytes ≡ Refused (17 ∷ [])
+unfolding opened jump_bytes
+jump_by_first = refl
 
 abbrev pub judged : Unit {0}
 judged = tt

@@ -2,6 +2,7 @@
 
 ghost use Rattle.spec_examples.specs.Statements.{FitsAssignable, OneMeaning, OrderedEnds, PassedFits, RunsMean};
 ghost use Rattle.spec_examples.specs.Small.{GivesEntry};
+ghost use Rattle.spec_examples.specs.Profiles.{AcceptsSmall, RefusesSwitch, RefusesMoreSteps};
 
 /// What a run computes is the meaning.
 pub fn runs_mean()
@@ -28,4 +29,15 @@ pub fn two_instructions()
 pub fn references_fit()
     ensures casts { PassedFits }
     ensures assignments { FitsAssignable }
+{}
+
+/// The first profile accepts a class, so that what is said of the classes that it accepts is said of some.
+pub fn first_profile_accepts()
+    ensures { AcceptsSmall }
+{}
+
+/// It refuses a switch by its opcode, and a class that may take more steps than its own limit, which the second profile raises.
+pub fn first_profile_refuses()
+    ensures switch { RefusesSwitch }
+    ensures steps { RefusesMoreSteps }
 {}

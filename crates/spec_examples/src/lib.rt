@@ -4,5 +4,8 @@
 mod laws;
 mod rows;
 
-pub use laws::{one_meaning, ordered_ends, references_fit, runs_mean, two_instructions};
+pub use laws::{
+    first_profile_accepts, first_profile_refuses, one_meaning, ordered_ends, references_fit,
+    runs_mean, two_instructions,
+};
 pub use rows::{all_definitions, all_examples};

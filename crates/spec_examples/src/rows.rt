@@ -7,15 +7,15 @@ ghost use Rattle.verdict.specs.Verdict.{IsRefused, IsAccepted, IsClassOf};
 ghost use Rattle.verdict.specs.Promise.{TypeSoundness, AcceptedIsChecked, AcceptedIsOrdered};
 ghost use Rattle.verdict.specs.Sound.{SoundnessOfClasses};
 ghost use Rattle.spec_examples.specs.Plain.{class_of};
-ghost use Rattle.spec_examples.specs.Judge.{judge};
+ghost use Rattle.spec_examples.specs.Judge.{judge_by};
 ghost use Rattle.spec_examples.specs.Rows.{checked};
 ghost use Rattle.spec_examples.specs.Verdicts.{judged};
-ghost use Rattle.jtypes.specs.Profile.{Second};
+ghost use Rattle.jtypes.specs.Profile.{Profile, Second};
 
 /// Names the rows, so that a check computes them.
 pub fn all_examples()
     ensures classes { (bytes : List ℕ) → class_of bytes ≡ class_of bytes }
-    ensures verdicts { (bytes : List ℕ) → judge bytes ≡ judge bytes }
+    ensures verdicts { (profile : Profile) (bytes : List ℕ) → judge_by profile bytes ≡ judge_by profile bytes }
     ensures runs { checked ≡ checked }
     ensures judged { judged ≡ judged }
 {}
