@@ -131,6 +131,9 @@ class Commands(Runs):
             (process + 18, "refused 14 BadCode\n"),
         ])
 
+    def test_a_process_without_varargs_is_accepted(self):
+        self.hold([checked(rows.class_of(rows.process(4, 5, rows.PLUS, flags=0x0001)), 0, ACCEPTED)])
+
     def test_flags_and_codes_are_refused(self):
         process = rows.process(1, 3, rows.GIVE)
         self.hold(refused(rows.class_of(method), output) for method, output in [

@@ -1,4 +1,6 @@
-"""Want of memory in `jentry`: each growth of a command refused in turn, by the library that bin/starve makes. It needs a C compiler."""
+"""Want of memory in `jentry` and in the library behind it: each growth refused in turn, by the library that bin/starve makes. It needs a C
+compiler."""
+import itertools
 import os
 import re
 import shutil
@@ -15,9 +17,57 @@ LACKING = [Told(2, b"refused 30 NoMemory\n", b""), Told(3, b"", b"error: no memo
 """What a command may tell of want of memory."""
 
 
-def starved(program, library, words, file, number):
+ROOT = os.path.join(os.path.dirname(os.path.abspath(__file__)), "../..")
+STARVED_TESTS = os.path.join(ROOT, "crates/test_hostile/out/test_hostile_tests")
+"""The tests of the library as the gate builds them."""
+
+ENDED = bytes([0, 0, 0, 1, 9])
+LACKED = bytes([0, 0, 0, 2, 8, 3])
+LONG_ON_7 = bytes.fromhex("0000000000000007")
+SCRIPT = (
+    bytes([0, 0, 2, 0xD8, 1]) + PLUS
+    + bytes([0, 0, 0, 0x11, 2]) + LONG_ON_7 + bytes([0, 0, 0, 0, 0, 0, 0, 41]) + bytes([0, 0, 0, 1, 8])
+    + bytes([0, 0, 0, 0x0E, 6, 0, 0, 0, 0]) + LONG_ON_7 + bytes([0])
+    + bytes([0, 0, 0, 0x18, 7, 0, 0, 0, 0, 0, 2]) + LONG_ON_7 + bytes([0, 0, 0, 0, 0, 0, 0, 8, 0]) + bytes([0, 0, 0, 1, 8])
+)
+"""Plus is class 0 and key 7 is put to 41; in a second round Plus is invoked on it, and beside that on the keys 7 and 8 by one request."""
+
+
+def outcome(job):
+    """How a job ended, as replies have it: by a Long, by the null pointer's exception, or for want of memory."""
+    return {"threw": bytes([1, 3]), "lacked": bytes([2, 3])}.get(job) or bytes([0, 1, 0, 0, 0, 0, 0, 0, 0, job])
+
+
+def second_round(one, other, absent):
+    """The replies to the second round, by how the jobs on the keys 7, 7 and 8 ended."""
+    result = bytes([6]) + outcome(one)
+    results = bytes([7, 0, 2]) + LONG_ON_7 + outcome(other) + bytes([0, 0, 0, 0, 0, 0, 0, 8]) + outcome(absent)
+    framed = [len(it).to_bytes(4, "big") + it for it in (result, results)]
+    return (LACKED if one == "lacked" else framed[0]) + framed[1] + ENDED
+
+
+def first_rounds():
+    """Whether Plus is class 0, whether key 7 is put, and the replies to the first round."""
+    for is_defined, is_put in itertools.product([True, False], repeat=2):
+        define = bytes.fromhex("0000000d01000000000000000e00000000" if is_defined else "00000006021e00000000")
+        yield is_defined, is_put, define + (bytes([0, 0, 0, 1, 3]) if is_put else LACKED) + ENDED
+
+
+def replies_to_script():
+    """All that the script may be told where a growth is refused, and the stream ends well."""
+    put = [(42, 43), (43, 42), (42, "lacked"), ("lacked", 42), ("lacked", "lacked")]
+    for is_defined, is_put, first in first_rounds():
+        if not is_defined:
+            yield first + 2 * bytes([0, 0, 0, 2, 8, 1]) + ENDED
+            continue
+        pairs = put if is_put else itertools.product(["threw", "lacked"], repeat=2)
+        for (one, other), absent in itertools.product(pairs, ["threw", "lacked"]):
+            yield first + second_round(one, other, absent)
+
+
+def starved(program, library, words, file, number, given=b""):
     """What a command tells whose growth with this number is refused, and how many growths it asked for."""
-    it = told(program, words, file, env={**os.environ, "LD_PRELOAD": library, "STARVE": str(number)})
+    it = told(program, words, file, given, env={**os.environ, "LD_PRELOAD": library, "STARVE": str(number)})
     growths = GROWTHS.findall(it.errors)
     return it._replace(errors=GROWTHS.sub(b"", it.errors)), int(growths[-1]) if growths else None
 
@@ -59,3 +109,29 @@ class Lacking(Runs):
                 self.assertIn(was, [ample, *LACKING])
                 self.assertGreaterEqual(asked, number)
         self.assertTrue(any(was in LACKING for was, _asked in all_told))
+
+    def test_a_script_is_served_or_lacks_memory(self):
+        """The script's growths are refused one after the other, until there are no more of them."""
+        ends = {Told(0, output, b"") for output in replies_to_script()}
+        ends |= {Told(3, output, b"serve fault 5 NoMemory\n") for output in [b"", *(first for _, _, first in first_rounds())]}
+        ends.add(Told(3, b"", b"error: no memory\n"))
+        for count in ("0", "4"):
+            words = ["serve", "--workers", count]
+            whole, growths = starved(self.program, self.library, words, b"", 0, SCRIPT)
+            self.assertEqual(whole.status, 0)
+            self.assertIn(whole, ends)
+            numbers = range(1, growths + 2)
+            all_told = side_by_side(lambda number: starved(self.program, self.library, words, b"", number, SCRIPT), numbers)
+            for number, (was, asked) in zip(numbers, all_told):
+                with self.subTest(words=words, refused=number):
+                    self.assertIn(was, ends)
+                    self.assertEqual(asked < number, number > growths)
+            self.assertTrue(any(was.status == 3 for was, _asked in all_told))
+            self.assertTrue(any(was.status == 0 and was != whole for was, _asked in all_told))
+
+    @unittest.skipUnless(os.access(STARVED_TESTS, os.X_OK), f"there is no {os.path.normpath(STARVED_TESTS)}: rt test in crates/test_hostile builds it")
+    def test_rounds_of_several_workers_lack_memory(self):
+        """The same script in the library's own test, where the rounds of four workers are shared among threads."""
+        ran = subprocess.run([os.path.join(ROOT, "bin/starve"), "test_hostile"], capture_output=True, text=True, timeout=600)
+        self.assertEqual(ran.returncode, 0, ran.stdout[-2000:] + ran.stderr[-2000:])
+        self.assertRegex(ran.stdout, r"calls_on_one_key_are_served_or_lack_memory: [1-9]\d* growths, each refused once, 0 failed")

@@ -136,6 +136,7 @@ class Classes(Runs):
     def test_calls_are_counted(self):
         self.hold(check_tells(rows.line_of(count, calls), status, output) for count, calls, status, output in [
             (18, 2, 0, "accepted steps=524288 words=0 slots=4 depth=19\n"),
+            (19, 2, 0, "accepted steps=1048576 words=0 slots=4 depth=20\n"),
             (20, 2, 0, "accepted steps=2097152 words=0 slots=4 depth=21\n"),
             (21, 2, 2, "refused 27 StepLimit\n"),
             (60, 2, 2, "refused 27 StepLimit\n"),
