@@ -55,7 +55,7 @@ def make(folder):
         subprocess.run(["git", "-C", folder, *words], check=True)
 
 
-def run(folder, *words, limit=300, **variables):
+def run(folder, *words, limit=900, **variables):
     """What a command prints on standard output and on standard error, and its status."""
     ran = subprocess.run(words, cwd=folder, stdin=subprocess.DEVNULL, capture_output=True, text=True, timeout=limit, env={**os.environ, **variables})
     return ran.stdout, ran.stderr, ran.returncode

@@ -25,7 +25,7 @@ class Trials(unittest.TestCase):
         """What commands that are started at once write on standard error, in the order of their lengths. Each has to answer."""
         how = {"cwd": self.folder, "stdin": subprocess.DEVNULL, "stdout": subprocess.PIPE, "stderr": subprocess.PIPE, "text": True}
         ran = [subprocess.Popen(CHECK, **how) for _ in range(count)]
-        told = [it.communicate(timeout=300) for it in ran]
+        told = [it.communicate(timeout=900) for it in ran]
         self.assertEqual([(it.returncode, output) for it, (output, _) in zip(ran, told)], count * [(0, "accepted 727\n")], told)
         return sorted((errors for _, errors in told), key=len)
 

@@ -1,0 +1,137 @@
+"""bin/release: what it refuses, that whoever builds gets the same bytes, and that the Debian package runs in an empty root."""
+import glob
+import os
+import shutil
+import subprocess
+import tarfile
+import tempfile
+import unittest
+
+import tiny
+from shared import sum_of
+
+VERSION = "0.1.0"
+NAMES = [f"jentry-{VERSION}+not.proved.tar.xz", f"jentry_{VERSION}+not.proved_amd64.deb"]
+PLUS = "result 42\nvalue 42\nsteps 14 words 0\n"
+NOTE = "import sys; sys.path.insert(0, 'bin'); from shared import load_script; test = load_script('test'); test.note_passed(test.clean_commit(), '7 passed, 0 failed\\n')"
+
+
+def program():
+    """The built program that the tests run on, or None. A trial build is twenty times as large, and packs as slowly."""
+    found = os.path.abspath(os.environ.get("JENTRY_PROGRAM", f"{tiny.TOP}/crates/jentry/out/jentry"))
+    return found if os.access(found, os.X_OK) and not os.environ.get("JENTRY_TRIAL") else None
+
+
+def commit(folder):
+    for words in (["add", "-A"], ["-c", "user.name=t", "-c", "user.email=t@localhost", "commit", "-qm", "changed"]):
+        subprocess.run(["git", "-C", folder, *words], check=True)
+
+
+class Refusals(unittest.TestCase):
+    def setUp(self):
+        room = tempfile.TemporaryDirectory()
+        self.addCleanup(room.cleanup)
+        self.folder = f"{room.name}/tiny"
+        tiny.make(self.folder)
+
+    def refused(self, why):
+        output, errors, status = tiny.run(self.folder, "bin/release", VERSION)
+        self.assertEqual((output, status, os.path.exists(f"{self.folder}/out")), ("", 1, False))
+        self.assertIn(why, errors)
+
+    def test_each_step_that_is_missing_is_named(self):
+        self.refused("the gate didn't pass on this commit here")
+        built = f"{self.folder}/crates/jentry/out/jentry"
+        tiny.write(built, "a program")
+        subprocess.run(["python3", "-B", "-c", NOTE], cwd=self.folder, check=True)
+        # What bin/test noted is enough but for the versions of the parts.
+        self.refused("clients/front/Cargo.toml has version None, and not 0.1.0")
+        for file, text in (("front/Cargo.toml", f'version = "{VERSION}"\n'), ("python/pyproject.toml", f'version = "{VERSION}"\n'), ("java/pom.xml", "<version>0.1.0-SNAPSHOT</version>")):
+            tiny.write(f"{self.folder}/clients/{file}", text)
+        self.refused("the files of this checkout differ from its commit")
+        commit(self.folder)
+        self.refused("the gate didn't pass on this commit here")
+        subprocess.run(["python3", "-B", "-c", NOTE], cwd=self.folder, check=True)
+        self.refused("CHANGELOG.md has no section for 0.1.0")
+        tiny.write(built, "another program")
+        self.refused("crates/jentry/out/jentry isn't the program that the gate built")
+
+    def test_lines_of_another_form_are_answered(self):
+        for words in ([], ["1.0"], ["v1.2.3"], [VERSION, "to", "more"]):
+            output, errors, status = tiny.run(self.folder, "bin/release", *words)
+            self.assertEqual((output, status), ("", 2))
+            self.assertIn("usage: bin/release VERSION [FOLDER]", errors)
+
+
+@unittest.skipUnless(program(), "there is no proved program to pack")
+@unittest.skipUnless(shutil.which("javac") and shutil.which("cargo") and shutil.which("dpkg-deb"), "it needs javac, cargo and dpkg-deb (apt-get install default-jdk-headless cargo dpkg)")
+class Releases(unittest.TestCase):
+    @classmethod
+    def setUpClass(cls):
+        """Two releases of one commit, each in a clone of its own, with another mask of modes and another time zone."""
+        cls.room = tempfile.TemporaryDirectory()
+        cls.addClassCleanup(cls.room.cleanup)
+        cls.folders = []
+        for name, mask, zone in (("one", "022", "UTC"), ("another/with/a/longer/path", "077", "Asia/Tokyo")):
+            folder = f"{cls.room.name}/{name}"
+            subprocess.run(["git", "clone", "-q", tiny.TOP, folder], check=True)
+            words = ["sh", "-c", f"umask {mask}; bin/release {VERSION} built"]
+            output, errors, status = tiny.run(folder, *words, JENTRY_NOT_PROVED=program(), TZ=zone)
+            assert status == 0, errors
+            assert output.splitlines()[-1] == f"- program sha256 {sum_of(program())}", output
+            cls.folders.append(f"{folder}/built")
+
+    def test_two_folders_give_the_same_bytes(self):
+        for folder in self.folders:
+            self.assertEqual(sorted(os.listdir(folder)), NAMES)
+        for name in NAMES:
+            self.assertEqual(*(sum_of(f"{folder}/{name}") for folder in self.folders), name)
+
+    def test_the_tarball_has_all_parts_and_says_what_it_is(self):
+        with tarfile.open(f"{self.folders[0]}/{NAMES[0]}") as it:
+            members = {member.name.partition("/")[2]: member for member in it.getmembers()}
+            told = it.extractfile(f"jentry-{VERSION}+not.proved/share/doc/jentry/RELEASE").read().decode()
+            jar = it.extractfile(f"jentry-{VERSION}+not.proved/share/java/jentry-jcache.jar").read()
+        for name in ("bin/jentry", "bin/jentry-front", "lib/jentry/jentry", "share/man/man1/jentry.1.gz", "lib/systemd/system/jentry-front.socket",
+                     "lib/systemd/system/jentry-front.service", "lib/python3/dist-packages/jentry.py", "lib/python3/dist-packages/jentry_processors/GetAndPut.class"):
+            self.assertIn(name, members)
+        self.assertEqual({(member.uid, member.gid, member.uname, member.gname) for member in members.values()}, {(0, 0, "", "")})
+        self.assertEqual(len({member.mtime for member in members.values()}), 1)
+        self.assertEqual({oct(member.mode) for member in members.values()}, {"0o755", "0o644"})
+        head = subprocess.run(["git", "-C", tiny.TOP, "rev-parse", "HEAD"], capture_output=True, text=True, check=True).stdout.strip()
+        self.assertIn(f"commit {head}, of ", told)
+        self.assertIn("verdict NOT PROVED", told)
+        self.assertIn(f"lib/jentry/jentry sha256 {sum_of(program())}\n", told)
+        self.assertTrue(jar.startswith(b"PK"))
+
+    def test_the_tarball_runs_where_it_is_unpacked(self):
+        with tempfile.TemporaryDirectory() as room:
+            subprocess.run(["tar", "-C", room, "-xf", f"{self.folders[0]}/{NAMES[0]}"], check=True)
+            top, = glob.glob(f"{room}/*")
+            # Also by a link from elsewhere, as from /usr/local/bin.
+            os.symlink(f"{top}/bin/jentry", f"{room}/link")
+            for command in (f"{top}/bin/jentry", f"{room}/link"):
+                self.assertEqual(tiny.run(room, command, "run", f"{top}/share/doc/jentry/examples/Plus.class", "7", "41"), (PLUS, "", 0))
+
+    @unittest.skipUnless(os.geteuid() == 0 and shutil.which("apt-get"), "it needs root and apt-get, to fill an empty root with Debian's libc6 and dash")
+    def test_the_package_runs_in_an_empty_root(self):
+        """A root with Debian's libc6, libgcc-s1 and dash alone, and the package."""
+        with tempfile.TemporaryDirectory() as room:
+            os.chmod(room, 0o755)
+            got = subprocess.run(["apt-get", "download", "libc6", "libgcc-s1", "dash"], cwd=room, capture_output=True, text=True, check=False)
+            if got.returncode:
+                self.skipTest(f"apt-get download libc6 libgcc-s1 dash failed: {got.stderr[-200:]}")
+            packages = [*glob.glob(f"{room}/*.deb"), f"{self.folders[0]}/{NAMES[1]}"]
+            self.assertEqual(len(packages), 4)
+            for package in packages:
+                subprocess.run(["dpkg-deb", "-x", package, f"{room}/root"], check=True)
+            if not os.path.lexists(f"{room}/root/bin/sh"):
+                os.symlink("dash", f"{room}/root/bin/sh")
+            words = ["chroot", f"{room}/root", "/usr/bin/jentry", "run", "/usr/share/doc/jentry/examples/Plus.class", "7", "41"]
+            self.assertEqual(tiny.run(room, *words), (PLUS, "", 0))
+            output, errors, status = tiny.run(room, "chroot", f"{room}/root", "/usr/bin/jentry-front")
+            self.assertNotIn(status, (126, 127))
+            self.assertIn("jentry-front", output + errors)
+            fields = tiny.run(room, "dpkg-deb", "-f", packages[-1])[0]
+            self.assertIn(f"Version: {VERSION}+not.proved\n", fields)
+            self.assertIn("Depends: libc6 (>= 2.34)", fields)
