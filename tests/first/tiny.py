@@ -1,6 +1,7 @@
 """A small repository with this one's commands: a library that waits for nothing, and a program `jentry` above it that answers `check FILE`."""
 import os
 import shutil
+import signal
 import subprocess
 import sys
 
@@ -56,9 +57,15 @@ def make(folder):
 
 
 def run(folder, *words, limit=900, **variables):
-    """What a command prints on standard output and on standard error, and its status."""
-    ran = subprocess.run(words, cwd=folder, stdin=subprocess.DEVNULL, capture_output=True, text=True, timeout=limit, env={**os.environ, **variables})
-    return ran.stdout, ran.stderr, ran.returncode
+    """What a command prints on standard output and on standard error, and its status. Where it takes more seconds, it and all that it started are ended."""
+    how = {"stdin": subprocess.DEVNULL, "stdout": subprocess.PIPE, "stderr": subprocess.PIPE, "text": True, "start_new_session": True}
+    with subprocess.Popen(words, cwd=folder, env={**os.environ, **variables}, **how) as ran:
+        try:
+            output, errors = ran.communicate(timeout=limit)
+        except subprocess.TimeoutExpired:
+            os.killpg(ran.pid, signal.SIGKILL)
+            raise
+    return output, errors, ran.returncode
 
 
 if __name__ == "__main__":
