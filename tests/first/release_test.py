@@ -98,7 +98,7 @@ class Releases(unittest.TestCase):
         self.assertEqual({(member.uid, member.gid, member.uname, member.gname) for member in members.values()}, {(0, 0, "", "")})
         self.assertEqual(len({member.mtime for member in members.values()}), 1)
         self.assertEqual({oct(member.mode) for member in members.values()}, {"0o755", "0o644"})
-        head = subprocess.run(["git", "-C", tiny.TOP, "rev-parse", "HEAD"], capture_output=True, text=True, check=True).stdout.strip()
+        head = subprocess.run(["git", "-C", os.path.dirname(self.folders[0]), "rev-parse", "HEAD"], capture_output=True, text=True, check=True).stdout.strip()
         self.assertIn(f"commit {head}, of ", told)
         self.assertIn("verdict NOT PROVED", told)
         self.assertIn(f"lib/jentry/jentry sha256 {sum_of(program())}\n", told)
