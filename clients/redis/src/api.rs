@@ -1,0 +1,209 @@
+//! The part of Redis's module interface that the module uses, by the names and C types of Redis 7.0.
+//!
+//! No header is read: a module finds each function by its name, through a pointer that stands first in the context of its load.
+use std::ffi::c_void;
+use std::mem::{size_of, transmute_copy};
+use std::os::raw::{c_char, c_int, c_long, c_longlong, c_ulonglong};
+use std::ptr::null_mut;
+
+/// What a command or an event is called with.
+pub enum Context {}
+/// A string that Redis counts references to.
+pub enum Text {}
+/// The reply of a command that the module called.
+pub enum Reply {}
+/// An RDB file that is read or written.
+pub enum Io {}
+/// A registered data type.
+pub enum Type {}
+/// A registered command.
+pub enum CommandObject {}
+/// The answer to INFO that is being made.
+pub enum InfoContext {}
+
+pub const OK: c_int = 0;
+pub const ERR: c_int = 1;
+pub const API_VERSION: c_int = 1;
+/// `aux_save` before the keys.
+pub const BEFORE_RDB: c_int = 1;
+pub const HANDLE_IO_ERRORS: c_int = 1;
+pub const CONFIG_DEFAULT: u32 = 0;
+
+/// Bits of `GetContextFlags`.
+pub const IS_MASTER: c_int = 1 << 2;
+pub const IS_CLUSTER: c_int = 1 << 5;
+pub const IS_REPLICATED: c_int = 1 << 12;
+pub const IS_LOADING: c_int = 1 << 13;
+
+/// Kinds of a reply.
+pub const REPLY_TEXT: c_int = 0;
+pub const REPLY_ERROR: c_int = 1;
+pub const REPLY_NULL: c_int = 4;
+
+pub type Command = unsafe extern "C" fn(*mut Context, *mut *mut Text, c_int) -> c_int;
+pub type AuxLoad = unsafe extern "C" fn(*mut Io, c_int, c_int) -> c_int;
+pub type AuxSave = unsafe extern "C" fn(*mut Io, c_int);
+pub type Receiver = unsafe extern "C" fn(*mut Context, *const c_char, u8, *const u8, u32);
+pub type Informer = unsafe extern "C" fn(*mut InfoContext, c_int);
+pub type GetNumber = unsafe extern "C" fn(*const c_char, *mut c_void) -> c_longlong;
+pub type SetNumber = unsafe extern "C" fn(*const c_char, c_longlong, *mut c_void, *mut *mut Text) -> c_int;
+
+/// What a data type does; version 2 has these members, and later versions begin with them.
+#[repr(C)]
+pub struct TypeMethods {
+    pub version: u64,
+    pub rdb_load: Option<unsafe extern "C" fn(*mut Io, c_int) -> *mut c_void>,
+    pub rdb_save: Option<unsafe extern "C" fn(*mut Io, *mut c_void)>,
+    pub aof_rewrite: Option<unsafe extern "C" fn(*mut Io, *mut Text, *mut c_void)>,
+    pub mem_usage: Option<unsafe extern "C" fn(*const c_void) -> usize>,
+    pub digest: Option<unsafe extern "C" fn(*mut c_void, *mut c_void)>,
+    pub free: Option<unsafe extern "C" fn(*mut c_void)>,
+    pub aux_load: Option<AuxLoad>,
+    pub aux_save: Option<AuxSave>,
+    pub aux_save_triggers: c_int,
+}
+
+/// How the search for a command's keys begins: at the word with this place.
+pub const BEGIN_INDEX: c_int = 2;
+/// The keys stand in a range from there, or behind a word that is their count.
+pub const FIND_RANGE: c_int = 2;
+pub const FIND_COUNT: c_int = 3;
+/// Read alone; or read, then written.
+pub const KEY_READ: u64 = 1 | 1 << 4;
+pub const KEY_WRITTEN: u64 = 1 << 1 | 1 << 4 | 1 << 5;
+
+/// How a client and an ACL find the keys of a command. The unions of the interface are laid out as their greatest member.
+#[repr(C)]
+pub struct KeySpec {
+    pub notes: *const c_char,
+    pub flags: u64,
+    pub begin: c_int,
+    pub padding: c_int,
+    pub place: c_int,
+    pub begin_rest: [c_int; 3],
+    pub find: c_int,
+    /// Of a range: the last key behind the first, the step, a limit. Of a count: the place of the count, of the first key, the step.
+    pub find_by: [c_int; 3],
+}
+
+impl KeySpec {
+    pub const NONE: KeySpec = KeySpec { notes: null_mut(), flags: 0, begin: 0, padding: 0, place: 0, begin_rest: [0; 3], find: 0, find_by: [0; 3] };
+}
+
+const _: [(); 56] = [(); size_of::<KeySpec>()];
+
+/// The sizes of the parts of `CommandInfo`, by which a server knows a module's version of them.
+#[repr(C)]
+pub struct InfoVersion {
+    pub version: c_int,
+    pub history: usize,
+    pub key_spec: usize,
+    pub argument: usize,
+}
+
+/// What COMMAND INFO and the rights on keys are made of.
+#[repr(C)]
+pub struct CommandInfo {
+    pub version: *const InfoVersion,
+    pub summary: *const c_char,
+    pub complexity: *const c_char,
+    pub since: *const c_char,
+    pub history: *const c_void,
+    pub tips: *const c_char,
+    pub arity: c_int,
+    pub key_specs: *const KeySpec,
+    pub args: *const c_void,
+}
+
+type GetApi = unsafe extern "C" fn(*const c_char, *mut *mut c_void) -> c_int;
+
+/// The server's function of this name, or null.
+///
+/// # Safety
+/// `context` is that of a module's load.
+unsafe fn find(context: *mut Context, name: &'static str) -> *mut c_void {
+    let get = *(context as *const GetApi);
+    let mut found = null_mut();
+    get(name.as_ptr().cast(), &mut found);
+    found
+}
+
+type Log = unsafe extern "C" fn(*mut Context, *const c_char, *const c_char, ...);
+
+/// Logs that the server lacks a function, where it has the one that logs.
+///
+/// # Safety
+/// `context` is that of a module's load, and `name` ends with a zero.
+pub unsafe fn log_lack(context: *mut Context, name: &'static str) {
+    let found = find(context, "RedisModule_Log\0");
+    if !found.is_null() {
+        let log: Log = transmute_copy(&found);
+        let text = b"jentry: this server lacks %s, and Redis 7.0 or later is needed\0";
+        log(context, b"warning\0".as_ptr().cast(), text.as_ptr().cast(), name.as_ptr());
+    }
+}
+
+macro_rules! interface {
+    ($($field:ident $name:literal: $kind:ty;)*) => {
+        /// The server's functions.
+        #[derive(Clone, Copy)]
+        pub struct Api { $(pub $field: $kind,)* }
+
+        impl Api {
+            /// Asks the server for each function; the name of the first one that it lacks, with a zero behind it, where it lacks one.
+            ///
+            /// # Safety
+            /// `context` is that of a module's load.
+            pub unsafe fn of(context: *mut Context) -> Result<Api, &'static str> {
+                Ok(Api { $($field: {
+                    let found = find(context, concat!("RedisModule_", $name, "\0"));
+                    if found.is_null() {
+                        return Err(concat!("RedisModule_", $name, "\0"));
+                    }
+                    transmute_copy::<*mut c_void, $kind>(&found)
+                },)* })
+            }
+        }
+    };
+}
+
+interface! {
+    set_module_attributes "SetModuleAttribs": unsafe extern "C" fn(*mut Context, *const c_char, c_int, c_int);
+    is_module_name_busy "IsModuleNameBusy": unsafe extern "C" fn(*const c_char) -> c_int;
+    create_command "CreateCommand": unsafe extern "C" fn(*mut Context, *const c_char, Command, *const c_char, c_int, c_int, c_int) -> c_int;
+    get_command "GetCommand": unsafe extern "C" fn(*mut Context, *const c_char) -> *mut CommandObject;
+    set_command_info "SetCommandInfo": unsafe extern "C" fn(*mut CommandObject, *const CommandInfo) -> c_int;
+    create_data_type "CreateDataType": unsafe extern "C" fn(*mut Context, *const c_char, c_int, *mut TypeMethods) -> *mut Type;
+    set_module_options "SetModuleOptions": unsafe extern "C" fn(*mut Context, c_int);
+    register_number "RegisterNumericConfig": unsafe extern "C" fn(*mut Context, *const c_char, c_longlong, u32, c_longlong, c_longlong, GetNumber, SetNumber, *mut c_void, *mut c_void) -> c_int;
+    load_configs "LoadConfigs": unsafe extern "C" fn(*mut Context) -> c_int;
+    register_informer "RegisterInfoFunc": unsafe extern "C" fn(*mut Context, Informer) -> c_int;
+    info_section "InfoAddSection": unsafe extern "C" fn(*mut InfoContext, *const c_char) -> c_int;
+    info_count "InfoAddFieldULongLong": unsafe extern "C" fn(*mut InfoContext, *const c_char, c_ulonglong) -> c_int;
+    context_flags "GetContextFlags": unsafe extern "C" fn(*mut Context) -> c_int;
+    call "Call": unsafe extern "C" fn(*mut Context, *const c_char, *const c_char, ...) -> *mut Reply;
+    log "Log": Log;
+    log_io "LogIOError": unsafe extern "C" fn(*mut Io, *const c_char, *const c_char, ...);
+    wrong_arity "WrongArity": unsafe extern "C" fn(*mut Context) -> c_int;
+    text_bytes "StringPtrLen": unsafe extern "C" fn(*const Text, *mut usize) -> *const u8;
+    reply_error "ReplyWithError": unsafe extern "C" fn(*mut Context, *const c_char) -> c_int;
+    reply_array "ReplyWithArray": unsafe extern "C" fn(*mut Context, c_long) -> c_int;
+    reply_long "ReplyWithLongLong": unsafe extern "C" fn(*mut Context, c_longlong) -> c_int;
+    reply_text "ReplyWithStringBuffer": unsafe extern "C" fn(*mut Context, *const u8, usize) -> c_int;
+    reply_null "ReplyWithNull": unsafe extern "C" fn(*mut Context) -> c_int;
+    free_reply "FreeCallReply": unsafe extern "C" fn(*mut Reply);
+    reply_kind "CallReplyType": unsafe extern "C" fn(*mut Reply) -> c_int;
+    reply_bytes "CallReplyStringPtr": unsafe extern "C" fn(*mut Reply, *mut usize) -> *const u8;
+    reply_length "CallReplyLength": unsafe extern "C" fn(*mut Reply) -> usize;
+    reply_element "CallReplyArrayElement": unsafe extern "C" fn(*mut Reply, usize) -> *mut Reply;
+    replicate_verbatim "ReplicateVerbatim": unsafe extern "C" fn(*mut Context) -> c_int;
+    save_unsigned "SaveUnsigned": unsafe extern "C" fn(*mut Io, u64);
+    load_unsigned "LoadUnsigned": unsafe extern "C" fn(*mut Io) -> u64;
+    save_bytes "SaveStringBuffer": unsafe extern "C" fn(*mut Io, *const u8, usize);
+    load_bytes "LoadStringBuffer": unsafe extern "C" fn(*mut Io, *mut usize) -> *mut u8;
+    is_io_error "IsIOError": unsafe extern "C" fn(*mut Io) -> c_int;
+    register_receiver "RegisterClusterMessageReceiver": unsafe extern "C" fn(*mut Context, u8, Receiver);
+    send_message "SendClusterMessage": unsafe extern "C" fn(*mut Context, *const c_char, u8, *const u8, u32) -> c_int;
+    try_alloc "TryAlloc": unsafe extern "C" fn(usize) -> *mut c_void;
+    free "Free": unsafe extern "C" fn(*mut c_void);
+}

@@ -1,0 +1,129 @@
+//! JENTRY.APPLY: a run as a JCache provider needs it, with times to live and the entry before and after.
+use crate::api::Text;
+use crate::engine::{Done, KEEP, PUT, SET_LAST};
+use crate::entry::{self, Lifetime};
+use crate::run::{number_of, reply_type, reply_value, Plan};
+use crate::server::{Answer, Failure, Server, Words};
+use crate::words::long_of;
+
+/// What a time says of an entry.
+#[derive(Clone, Copy, PartialEq, Eq)]
+enum Time {
+    Delete,
+    Live(Lifetime),
+}
+
+impl Time {
+    /// Milliseconds; 0 deletes, -1 leaves the time to live as it is, -2 ends it.
+    fn of(word: &[u8]) -> Result<Time, Failure> {
+        match long_of(word) {
+            Some(0) => Ok(Time::Delete),
+            Some(-1) => Ok(Time::Live(Lifetime::Keep)),
+            Some(-2) => Ok(Time::Live(Lifetime::Endless)),
+            Some(time) if time > 0 => Ok(Time::Live(Lifetime::Milliseconds(time))),
+            _ => Err("ERR a time is milliseconds, 0, -1 or -2".into()),
+        }
+    }
+}
+
+/// What is to be done to an entry.
+enum Change {
+    None,
+    Set(i64, Lifetime),
+    Touch(Lifetime),
+    Delete,
+}
+
+/// The change that a run makes, with the times of a created, an updated and an accessed entry.
+fn change_of(done: &Done, before: Option<i64>, times: [Time; 3]) -> Change {
+    let [created, updated, accessed] = times;
+    let after = match done.effect {
+        KEEP => before,
+        PUT => Some(done.put),
+        _ => None,
+    };
+    let time = match (before, done.left == SET_LAST) {
+        (None, true) => created,
+        (Some(_), true) => updated,
+        (_, false) => accessed,
+    };
+    match (before, after, time) {
+        (None, None, _) => Change::None,
+        (Some(_), None, _) | (Some(_), _, Time::Delete) => Change::Delete,
+        (None, _, Time::Delete) => Change::None,
+        (_, Some(value), Time::Live(lifetime)) if done.left == SET_LAST => Change::Set(value, lifetime),
+        (_, _, Time::Live(lifetime)) => Change::Touch(lifetime),
+    }
+}
+
+impl Change {
+    /// # Safety
+    /// `key` is a string of the server's.
+    unsafe fn make(&self, server: Server, key: *mut Text) -> Answer {
+        match *self {
+            Change::None => Ok(()),
+            Change::Set(value, lifetime) => entry::set(server, key, value, lifetime),
+            Change::Touch(lifetime) => entry::touch(server, key, lifetime),
+            Change::Delete => entry::delete(server, key),
+        }
+    }
+
+    /// The entry behind it.
+    fn after(&self, before: Option<i64>) -> Option<i64> {
+        match *self {
+            Change::None => before,
+            Change::Set(value, _) => Some(value),
+            Change::Touch(_) => before,
+            Change::Delete => None,
+        }
+    }
+}
+
+/// The name of what the processor did to the entry: it put a value, also one that was there already; or it removed one; or neither.
+fn effect_name(done: &Done, before: Option<i64>) -> &'static [u8] {
+    match (done.left, done.effect) {
+        (SET_LAST, _) => b"put",
+        (_, KEEP) => b"keep",
+        (_, _) if before.is_some() => b"delete",
+        _ => b"keep",
+    }
+}
+
+fn reply_entry(server: Server, entry: Option<i64>) {
+    match entry {
+        Some(value) => server.reply_text(value.to_string().as_bytes()),
+        None => server.reply_null(),
+    }
+}
+
+/// JENTRY.APPLY CREATED UPDATED ACCESSED MODE ID KEY [ARG ..]: what the run returned, its type, what the processor did, the entry before
+/// and after, the instructions and the array words. The mode `dry` leaves the entry as it is, and replies what `do` would.
+pub fn apply(server: Server, words: Words) -> Answer {
+    let times = [Time::of(words.bytes(1)?)?, Time::of(words.bytes(2)?)?, Time::of(words.bytes(3)?)?];
+    let is_dry = match words.bytes(4)? {
+        word if word.eq_ignore_ascii_case(b"do") => false,
+        word if word.eq_ignore_ascii_case(b"dry") => true,
+        _ => return Err("ERR the mode is do or dry".into()),
+    };
+    let (key, name) = (words.text(6)?, words.bytes(6)?);
+    let plan = Plan::of_class(words, 5)?;
+    let number = number_of(name)?;
+    let plan = plan.with_args(words.from(7))?;
+    // SAFETY: the key is a word of the command.
+    let before = unsafe { entry::read(server, key)? };
+    let done = plan.run(number, before)?;
+    let change = change_of(&done, before, times);
+    if !is_dry {
+        // SAFETY: as above.
+        unsafe { change.make(server, key)? };
+    }
+    server.reply_array(7);
+    reply_value(server, &done);
+    reply_type(server, &done);
+    server.reply_text(effect_name(&done, before));
+    reply_entry(server, before);
+    reply_entry(server, change.after(before));
+    server.reply_long(done.steps.into());
+    server.reply_long(done.words.into());
+    Ok(())
+}

@@ -1,0 +1,166 @@
+//! The classes that this server knows, each by its id.
+use crate::engine::{explain, refusal_name, Call, Arg, Done, Engine, Verdict};
+use crate::server::Failure;
+use crate::words::{digits_of, Id};
+
+/// The most classes of a server.
+const MOST_CLASSES: usize = 4096;
+
+pub struct Class {
+    pub bytes: Vec<u8>,
+    /// Accepted: its id, its number and its bounds.
+    pub verdict: Verdict,
+}
+
+/// Why a class is not taken.
+pub enum Denial {
+    /// The core refuses it.
+    Refused(Verdict),
+    /// A run of it may take this many instructions, which are more than this server allows.
+    Costly { steps: u32, most: u32 },
+    /// Another class file has the same SHA-1.
+    SameId(Id),
+    TooMany,
+    NoMemory,
+}
+
+/// The classes in the order of their ids, and the engine that holds them.
+pub struct Classes {
+    engine: Engine,
+    known: Vec<Class>,
+    /// The place of the class that was found last.
+    last: usize,
+}
+
+impl Classes {
+    pub fn new(engine: Engine) -> Classes {
+        Classes { engine, known: Vec::new(), last: 0 }
+    }
+
+    pub fn all(&self) -> &[Class] {
+        &self.known
+    }
+
+    /// The class with an id.
+    pub fn find(&mut self, id: &Id) -> Option<&Class> {
+        if self.known.get(self.last).map_or(true, |class| class.verdict.id != *id) {
+            self.last = self.place_of(id).ok()?;
+        }
+        self.known.get(self.last)
+    }
+
+    fn place_of(&self, id: &Id) -> Result<usize, usize> {
+        self.known.binary_search_by(|class| class.verdict.id.cmp(id))
+    }
+
+    /// The class of a file that is known already.
+    pub fn of_file(&self, bytes: &[u8]) -> Option<&Class> {
+        self.known.iter().find(|class| class.bytes == bytes)
+    }
+
+    /// Judges a class that isn't known yet and keeps it, where it takes no more than `most` instructions.
+    pub fn define(&mut self, bytes: &[u8], most: u32) -> Result<Verdict, Denial> {
+        if self.known.len() >= MOST_CLASSES {
+            return Err(Denial::TooMany);
+        }
+        let mut kept = Vec::new();
+        kept.try_reserve_exact(bytes.len()).map_err(|_| Denial::NoMemory)?;
+        kept.extend_from_slice(bytes);
+        self.known.try_reserve(1).map_err(|_| Denial::NoMemory)?;
+        let verdict = self.engine.define(bytes);
+        if verdict.refusal != 0 {
+            return Err(Denial::Refused(verdict));
+        }
+        let denial = match self.place_of(&verdict.id) {
+            Ok(_) => Denial::SameId(verdict.id),
+            Err(_) if verdict.steps > most => Denial::Costly { steps: verdict.steps, most },
+            Err(place) => {
+                self.known.insert(place, Class { bytes: kept, verdict });
+                return Ok(verdict);
+            }
+        };
+        self.engine.forget(verdict.number);
+        Err(denial)
+    }
+
+    /// Forgets the class with an id: whether there was one.
+    pub fn forget(&mut self, id: &Id) -> bool {
+        match self.place_of(id) {
+            Ok(place) => {
+                let class = self.known.remove(place);
+                self.engine.forget(class.verdict.number);
+                true
+            }
+            Err(_) => false,
+        }
+    }
+
+    /// Takes other classes in place of all that are known.
+    pub fn replace(&mut self, files: &[Vec<u8>], mut denied: impl FnMut(Denial)) {
+        for class in self.known.drain(..) {
+            self.engine.forget(class.verdict.number);
+        }
+        for file in files {
+            if let Err(denial) = self.define(file, u32::MAX) {
+                denied(denial);
+            }
+        }
+    }
+
+    /// Runs the class with a number.
+    pub fn invoke(&mut self, call: &Call, args: &[Arg]) -> Done {
+        self.engine.invoke(call, args)
+    }
+}
+
+/// What `explain` says of a refused class: ` in METHOD line L: REMEDY`, as far as it says each.
+fn reason_of(bytes: &[u8]) -> String {
+    let text = explain(bytes);
+    let text = String::from_utf8_lossy(&text);
+    let mut method = String::new();
+    let mut line = String::new();
+    let mut remedy = String::new();
+    // The first line is the verdict. Behind a method's parameters its bounds may follow.
+    for told in text.lines().skip(1) {
+        if let Some(name) = told.strip_prefix("method ") {
+            let end = name.rfind(')').map_or(name.len(), |place| place + 1);
+            method = format!(" in {}", name.get(..end).unwrap_or(name));
+        } else if let Some(number) = told.strip_prefix("line ") {
+            line = format!(" line {number}");
+        } else if !told.starts_with("instruction ") {
+            remedy = format!(": {told}");
+        }
+    }
+    method + &line + &remedy
+}
+
+/// A refusal: its number and its name, with the opcode or the place of those that have one.
+fn verdict_text(verdict: &Verdict) -> String {
+    let name = refusal_name(verdict.refusal);
+    match verdict.refusal {
+        17 => format!("REFUSED {} {name} opcode {}", verdict.refusal, verdict.detail),
+        22 => format!("REFUSED {} {name} at {}", verdict.refusal, verdict.detail),
+        number => format!("REFUSED {number} {name}"),
+    }
+}
+
+impl Denial {
+    /// The text of a denial alone.
+    pub fn text(&self) -> String {
+        match self {
+            Denial::Refused(verdict) => verdict_text(verdict),
+            Denial::Costly { steps, most } => format!("COSTLY steps {steps}, and this server takes {most}"),
+            Denial::SameId(id) => format!("ERR another class has the id {}", String::from_utf8_lossy(&digits_of(id))),
+            Denial::TooMany => "ERR too many classes".into(),
+            Denial::NoMemory => "ERR no memory for the class".into(),
+        }
+    }
+
+    /// The error for whoever sent the class: where it is refused, also why, and what to write instead.
+    pub fn failure(&self, bytes: &[u8]) -> Failure {
+        match self {
+            Denial::Refused(_) => (self.text() + &reason_of(bytes)).into(),
+            _ => self.text().into(),
+        }
+    }
+}

@@ -1,0 +1,132 @@
+//! The commands on classes, and how the nodes of a cluster tell each other of new ones.
+use crate::api::{Context, IS_CLUSTER, IS_LOADING, IS_MASTER, IS_REPLICATED};
+use crate::classes::Denial;
+use crate::config::most_steps;
+use crate::engine::{explain as explanation, Verdict};
+use crate::server::{Answer, Called, Server, Words};
+use crate::state::with_state;
+use crate::words::{digits_of, id_of};
+use std::os::raw::c_char;
+use std::slice;
+
+/// The message that brings a class to other nodes.
+const BRINGS_CLASS: u8 = 1;
+
+/// Replies an id and the bounds of its class, as part of an array.
+fn reply_bounds(server: Server, verdict: &Verdict) {
+    server.reply_text(&digits_of(&verdict.id));
+    for bound in [verdict.steps, verdict.words, verdict.slots, verdict.depth] {
+        server.reply_long(bound.into());
+    }
+}
+
+/// JENTRY.DEFINE BYTES: judges a class and keeps it. Its id and its bounds.
+pub fn define(server: Server, words: Words) -> Answer {
+    if words.count() != 2 {
+        return Err(crate::server::Failure::Arity);
+    }
+    let bytes = words.bytes(1)?;
+    // What a master took its replicas take too, and what stands in the AOF was taken once.
+    let is_settled = server.is(IS_REPLICATED) || server.is(IS_LOADING);
+    let most = if is_settled { u32::MAX } else { most_steps() };
+    // SAFETY: commands run on the main thread, behind the load.
+    let known = unsafe { with_state(|state| state.classes.of_file(bytes).map(|class| class.verdict)) };
+    let verdict = match known {
+        Some(verdict) => verdict,
+        None => take(server, bytes, most).map_err(|denial| denial.failure(bytes))?,
+    };
+    server.reply_array(5);
+    reply_bounds(server, &verdict);
+    Ok(())
+}
+
+/// Takes a new class: it is written to the AOF, and sent to the replicas and to the other nodes of a cluster.
+fn take(server: Server, bytes: &[u8], most: u32) -> Result<Verdict, Denial> {
+    // SAFETY: commands run on the main thread, behind the load.
+    let verdict = unsafe {
+        with_state(|state| {
+            let answer = state.classes.define(bytes, most);
+            match &answer {
+                Err(Denial::Refused(verdict)) => state.counters.refused(verdict.refusal),
+                Err(Denial::Costly { .. }) => state.counters.costly = state.counters.costly.wrapping_add(1),
+                _ => {}
+            }
+            answer
+        })?
+    };
+    server.replicate_verbatim();
+    if server.is(IS_CLUSTER | IS_MASTER) {
+        server.send_message(BRINGS_CLASS, bytes);
+    }
+    Ok(verdict)
+}
+
+/// Another node of the cluster has a new class: a master takes it as if a client had sent it, so that its replicas and its files get it.
+///
+/// # Safety
+/// Redis calls it on its main thread, and `bytes` has as many bytes as it says.
+pub unsafe extern "C" fn receive(context: *mut Context, _sender: *const c_char, kind: u8, bytes: *const u8, length: u32) {
+    let server = Server::of(context);
+    if kind != BRINGS_CLASS || bytes.is_null() || !server.is(IS_MASTER) {
+        return;
+    }
+    let file = slice::from_raw_parts(bytes, length as usize);
+    if with_state(|state| state.classes.of_file(file).is_some()) {
+        return;
+    }
+    let reply = (server.api().call)(context, b"JENTRY.DEFINE\0".as_ptr().cast(), b"!b\0".as_ptr().cast(), bytes, file.len());
+    if let Err(crate::server::Failure::Told(text)) = Called::of(server, reply) {
+        server.warn(&format!("a class of another node is left out: {text}"));
+    }
+}
+
+/// JENTRY.FORGET ID: 1, or 0 where there was no such class.
+pub fn forget(server: Server, words: Words) -> Answer {
+    let id = id_of(words.bytes(1)?);
+    // SAFETY: commands run on the main thread, behind the load.
+    let is_gone = id.map_or(false, |id| unsafe { with_state(|state| state.classes.forget(&id)) });
+    if is_gone {
+        server.replicate_verbatim();
+    }
+    server.reply_long(is_gone.into());
+    Ok(())
+}
+
+/// JENTRY.LIST: for each class its id, its bounds, and the length of its file.
+pub fn list(server: Server, _words: Words) -> Answer {
+    // SAFETY: commands run on the main thread, behind the load; a reply runs no command.
+    unsafe {
+        with_state(|state| {
+            server.reply_array(state.classes.all().len());
+            for class in state.classes.all() {
+                server.reply_array(6);
+                reply_bounds(server, &class.verdict);
+                server.reply_long(class.bytes.len() as i64);
+            }
+        });
+    }
+    Ok(())
+}
+
+/// JENTRY.CLASS ID: the class file, or null.
+pub fn class(server: Server, words: Words) -> Answer {
+    let id = id_of(words.bytes(1)?);
+    // SAFETY: commands run on the main thread, behind the load; a reply runs no command.
+    unsafe {
+        with_state(|state| match id.and_then(|id| state.classes.find(&id)) {
+            Some(class) => server.reply_text(&class.bytes),
+            None => server.reply_null(),
+        });
+    }
+    Ok(())
+}
+
+/// JENTRY.EXPLAIN BYTES: what `jentry explain` prints of a class file. No class is kept.
+pub fn explain(server: Server, words: Words) -> Answer {
+    let text = explanation(words.bytes(1)?);
+    if text.is_empty() {
+        return Err("ERR no memory for the explanation".into());
+    }
+    server.reply_text(&text);
+    Ok(())
+}

@@ -1,0 +1,172 @@
+//! The proved core, by `clients/c/jentry.h`.
+use std::ffi::c_void;
+use std::mem::size_of;
+use std::ptr::null_mut;
+
+/// A verdict: accepted with a number and bounds where `refusal` is 0.
+#[repr(C)]
+#[derive(Clone, Copy, Default)]
+pub struct Verdict {
+    pub refusal: u32,
+    pub detail: u32,
+    pub number: u32,
+    pub steps: u32,
+    pub words: u32,
+    pub slots: u32,
+    pub depth: u32,
+    pub id: [u8; 20],
+}
+
+/// An argument: `NULL`, `LONG` or `INTEGER`.
+#[repr(C)]
+#[derive(Clone, Copy, Default)]
+pub struct Arg {
+    pub kind: u32,
+    pub unused: u32,
+    pub value: i64,
+}
+
+/// A call on an entry.
+#[repr(C)]
+#[derive(Clone, Copy, Default)]
+pub struct Call {
+    pub number: u32,
+    pub present: u32,
+    pub key: i64,
+    pub before: i64,
+}
+
+/// The end of a call.
+#[repr(C)]
+#[derive(Clone, Copy, Default)]
+pub struct Done {
+    pub outcome: u32,
+    pub effect: u32,
+    pub value: i64,
+    pub put: i64,
+    pub steps: u32,
+    pub words: u32,
+    pub left: u32,
+    pub unused: u32,
+}
+
+pub const NULL: u32 = 0;
+pub const LONG: u32 = 1;
+pub const INTEGER: u32 = 2;
+pub const THREW: u32 = 3;
+pub const KEEP: u32 = 0;
+pub const PUT: u32 = 1;
+pub const SET_LAST: u32 = 1;
+
+/// Where the core keeps its engine.
+#[repr(C)]
+struct Handle {
+    at: *mut c_void,
+    open: bool,
+    unused: [u8; 7],
+}
+
+// The sizes that jentry.h asserts, too.
+const _: [(); 16] = [(); size_of::<Handle>()];
+const _: [(); 48] = [(); size_of::<Verdict>()];
+const _: [(); 16] = [(); size_of::<Arg>()];
+const _: [(); 24] = [(); size_of::<Call>()];
+const _: [(); 40] = [(); size_of::<Done>()];
+
+extern "C" {
+    fn jentry_open(handle: *mut Handle) -> u32;
+    fn jentry_define(handle: *mut Handle, bytes: *const u8, length: usize, verdict: *mut Verdict);
+    fn jentry_forget(handle: *mut Handle, number: u32) -> u32;
+    fn jentry_invoke(handle: *mut Handle, call: *const Call, args: *const Arg, count: usize, done: *mut Done);
+    fn jentry_explain(bytes: *const u8, length: usize, text: *mut u8, room: usize) -> usize;
+}
+
+/// The engine of this server. It stays on the thread that runs commands.
+pub struct Engine {
+    handle: Handle,
+}
+
+impl Engine {
+    /// None where memory lacks.
+    pub fn new() -> Option<Engine> {
+        let mut handle = Handle { at: null_mut(), open: false, unused: [0; 7] };
+        // SAFETY: the handle is zeroes.
+        let answer = unsafe { jentry_open(&mut handle) };
+        (answer == 0).then(|| Engine { handle })
+    }
+
+    /// Judges a class and keeps it where it is accepted.
+    pub fn define(&mut self, bytes: &[u8]) -> Verdict {
+        let mut verdict = Verdict::default();
+        // SAFETY: the handle is the engine's own, and a slice's pointer is never null.
+        unsafe { jentry_define(&mut self.handle, bytes.as_ptr(), bytes.len(), &mut verdict) };
+        verdict
+    }
+
+    /// Forgets the class with a number.
+    pub fn forget(&mut self, number: u32) {
+        // SAFETY: the handle is the engine's own.
+        unsafe { jentry_forget(&mut self.handle, number) };
+    }
+
+    /// Runs a class on an entry.
+    pub fn invoke(&mut self, call: &Call, args: &[Arg]) -> Done {
+        let mut done = Done::default();
+        // SAFETY: the handle is the engine's own, and a slice's pointer is never null.
+        unsafe { jentry_invoke(&mut self.handle, call, args.as_ptr(), args.len(), &mut done) };
+        done
+    }
+}
+
+/// How much room a text of an explanation gets at first.
+const ROOM: usize = 4096;
+
+/// What `jentry explain` prints of a class file; empty where memory lacks.
+pub fn explain(bytes: &[u8]) -> Vec<u8> {
+    let mut text = Vec::new();
+    let mut room = ROOM;
+    // The second round is for a text that is longer than the first one's room.
+    for _ in 0..2 {
+        if text.try_reserve_exact(room).is_err() {
+            return Vec::new();
+        }
+        text.resize(room, 0);
+        // SAFETY: the text has `room` bytes.
+        let length = unsafe { jentry_explain(bytes.as_ptr(), bytes.len(), text.as_mut_ptr(), room) };
+        if length <= room {
+            text.truncate(length);
+            return text;
+        }
+        room = length;
+    }
+    text
+}
+
+/// Names of the refusals 1 to 30.
+const REFUSALS: [&str; 30] = [
+    "TooLarge", "Truncated", "BadMagic", "BadVersion", "BadPool", "TrailingBytes", "BadDescriptor", "BadHeader", "ConstructorForm",
+    "ClassInitialiser", "NoProcess", "DuplicateMethod", "NoBody", "BadCode", "ExceptionTable", "UnknownOpcode", "OutsideProfile",
+    "BadOperand", "BadTarget", "BackwardBranch", "BadStackMap", "TypeMismatch", "FallsOff", "UnknownMember", "Recursive",
+    "LengthNotConstant", "StepLimit", "WordLimit", "FrameLimit", "NoMemory",
+];
+
+/// Names of the exceptions 1 to 6.
+const EXCEPTIONS: [&str; 6] = [
+    "ArithmeticException", "ArrayIndexOutOfBoundsException", "NullPointerException", "ClassCastException", "IncompatibleClassChangeError",
+    "CacheLoaderException",
+];
+
+/// The name behind a number that begins at 1.
+fn named(names: &[&'static str], number: i64) -> &'static str {
+    usize::try_from(number).ok().and_then(|number| names.get(number.checked_sub(1)?)).copied().unwrap_or("Unknown")
+}
+
+/// The name of a refusal.
+pub fn refusal_name(number: u32) -> &'static str {
+    named(&REFUSALS, number.into())
+}
+
+/// The name of an exception.
+pub fn exception_name(number: i64) -> &'static str {
+    named(&EXCEPTIONS, number)
+}

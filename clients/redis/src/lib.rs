@@ -1,0 +1,60 @@
+//! A module of Redis: verified processors run beside the entries, which are plain strings that hold decimal longs.
+//!
+//! Redis runs one command at a time, and that is the lock of the whole keyspace: between the reading of an entry and its writing nothing
+//! else runs. Each function that Redis calls is called on its main thread.
+mod allocator;
+mod api;
+mod apply;
+mod classes;
+mod commands;
+mod config;
+mod define;
+mod engine;
+mod entry;
+mod persistence;
+mod run;
+mod server;
+mod state;
+mod words;
+
+use api::{Api, Context, Text, API_VERSION, ERR, HANDLE_IO_ERRORS, OK};
+use engine::Engine;
+use server::Words;
+use std::os::raw::c_int;
+
+/// What Redis calls when it loads the module.
+///
+/// # Safety
+/// Redis alone calls it.
+#[no_mangle]
+pub unsafe extern "C" fn RedisModule_OnLoad(context: *mut Context, argv: *mut *mut Text, argc: c_int) -> c_int {
+    let api = match Api::of(context) {
+        Ok(api) => api,
+        Err(name) => {
+            api::log_lack(context, name);
+            return ERR;
+        }
+    };
+    let name = b"jentry\0".as_ptr().cast();
+    if (api.is_module_name_busy)(name) != 0 {
+        return ERR;
+    }
+    (api.set_module_attributes)(context, name, 1, API_VERSION);
+    (api.set_module_options)(context, HANDLE_IO_ERRORS);
+    allocator::begin(&api);
+    server::keep(api);
+    let engine = match Engine::new() {
+        Some(engine) => engine,
+        None => return ERR,
+    };
+    state::begin(engine);
+    let is_ready = config::register(context, Words::of(argv, argc))
+        && persistence::register(context)
+        && state::register(context)
+        && commands::register(context);
+    if !is_ready {
+        return ERR;
+    }
+    config::warn_of_rewrites(context);
+    OK
+}

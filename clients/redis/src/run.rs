@@ -1,0 +1,169 @@
+//! The commands that run a class on an entry.
+use crate::engine::{exception_name, Arg, Call, Done, INTEGER, KEEP, LONG, NULL, PUT, THREW};
+use crate::entry::{self, Lifetime};
+use crate::server::{Answer, Failure, Server, Words};
+use crate::state::with_state;
+use crate::words::{arg_of, id_of, key_of, long_of};
+use crate::api::Text;
+
+const MOST_ARGS: usize = 8;
+
+/// A class and arguments, to be run on one key or several.
+pub struct Plan {
+    number: u32,
+    args: [Arg; MOST_ARGS],
+    count: usize,
+}
+
+impl Plan {
+    /// The class with the id at a place.
+    pub fn of_class(words: Words, id: usize) -> Result<Plan, Failure> {
+        let id = id_of(words.bytes(id)?);
+        // SAFETY: commands run on the main thread, behind the load.
+        let number = id.and_then(|id| unsafe { with_state(|state| state.classes.find(&id).map(|class| class.verdict.number)) });
+        let number = number.ok_or("NOCLASS no class of this id here: JENTRY.DEFINE it")?;
+        Ok(Plan { number, args: [Arg::default(); MOST_ARGS], count: 0 })
+    }
+
+    /// The same with arguments: all of these words.
+    pub fn with_args(mut self, words: Words) -> Result<Plan, Failure> {
+        self.count = words.count();
+        if self.count > MOST_ARGS {
+            return Err("ERR more than eight arguments".into());
+        }
+        for (place, arg) in self.args.iter_mut().enumerate().take(self.count) {
+            *arg = arg_of(words.bytes(place)?).ok_or_else(|| format!("ERR argument {} is no long, Integer or null", place + 1))?;
+        }
+        Ok(self)
+    }
+
+    /// Runs the class on the entry before: what it returned and what is to be done to the entry. It changes nothing.
+    pub fn run(&self, key: i64, before: Option<i64>) -> Result<Done, Failure> {
+        let call = Call { number: self.number, present: before.is_some().into(), key, before: before.unwrap_or(0) };
+        let args = self.args.get(..self.count).unwrap_or(&[]);
+        // SAFETY: commands run on the main thread, behind the load.
+        let done = unsafe {
+            with_state(|state| {
+                let done = state.classes.invoke(&call, args);
+                if done.outcome <= THREW {
+                    state.counters.ran(&done);
+                }
+                done
+            })
+        };
+        match done.outcome {
+            NULL | LONG | INTEGER => Ok(done),
+            THREW => Err(format!("THREW {} {}", done.value, exception_name(done.value)).into()),
+            denied => Err(format!("ERR the engine denied the call ({denied})").into()),
+        }
+    }
+}
+
+/// The processor's key of a key.
+pub fn number_of(name: &[u8]) -> Result<i64, Failure> {
+    key_of(name).ok_or_else(|| "ERR the key doesn't end in a decimal long".into())
+}
+
+/// Does to an entry what a run says.
+fn apply(server: Server, key: *mut Text, done: &Done) -> Answer {
+    // SAFETY: the key is a word of the command.
+    unsafe {
+        match done.effect {
+            KEEP => Ok(()),
+            PUT => entry::set(server, key, done.put, Lifetime::Keep),
+            _ => entry::delete(server, key),
+        }
+    }
+}
+
+/// Replies what a run returned.
+pub fn reply_value(server: Server, done: &Done) {
+    if done.outcome == NULL {
+        server.reply_null();
+    } else {
+        server.reply_long(done.value);
+    }
+}
+
+/// Replies the type of what a run returned.
+pub fn reply_type(server: Server, done: &Done) {
+    server.reply_text(match done.outcome {
+        NULL => b"null",
+        LONG => b"Long",
+        _ => b"Integer",
+    });
+}
+
+/// Runs a plan on the entry at a key and does what it says.
+fn invoke_on(server: Server, plan: &Plan, key: *mut Text, name: &[u8]) -> Result<Done, Failure> {
+    let number = number_of(name)?;
+    // SAFETY: the key is a word of the command.
+    let before = unsafe { entry::read(server, key)? };
+    let done = plan.run(number, before)?;
+    apply(server, key, &done)?;
+    Ok(done)
+}
+
+/// What `ID KEY [ARG ..]` asks for.
+fn one(server: Server, words: Words) -> Result<Done, Failure> {
+    let (key, name) = (words.text(2)?, words.bytes(2)?);
+    let plan = Plan::of_class(words, 1)?;
+    number_of(name)?;
+    invoke_on(server, &plan.with_args(words.from(3))?, key, name)
+}
+
+/// JENTRY.INVOKE ID KEY [ARG ..]: what the run returned.
+pub fn invoke(server: Server, words: Words) -> Answer {
+    let done = one(server, words)?;
+    reply_value(server, &done);
+    Ok(())
+}
+
+/// JENTRY.DETAIL ID KEY [ARG ..]: what the run returned, its type, the effect, the instructions and the array words.
+pub fn detail(server: Server, words: Words) -> Answer {
+    let done = one(server, words)?;
+    server.reply_array(5);
+    reply_value(server, &done);
+    reply_type(server, &done);
+    server.reply_text(match done.effect {
+        KEEP => b"keep",
+        PUT => b"put",
+        _ => b"delete",
+    });
+    server.reply_long(done.steps.into());
+    server.reply_long(done.words.into());
+    Ok(())
+}
+
+/// JENTRY.PEEK ID KEY [ARG ..]: what the run returned, where it leaves the entry as it is.
+pub fn peek(server: Server, words: Words) -> Answer {
+    let (key, name) = (words.text(2)?, words.bytes(2)?);
+    let plan = Plan::of_class(words, 1)?;
+    let number = number_of(name)?;
+    let plan = plan.with_args(words.from(3))?;
+    // SAFETY: the key is a word of the command.
+    let done = plan.run(number, unsafe { entry::read(server, key)? })?;
+    if done.effect != KEEP {
+        return Err("WRITES the processor changes the entry: JENTRY.INVOKE it".into());
+    }
+    reply_value(server, &done);
+    Ok(())
+}
+
+/// JENTRY.INVOKEALL ID N KEY .. [ARG ..]: for each key, in their order, what its run returned, or its error.
+pub fn invoke_all(server: Server, words: Words) -> Answer {
+    let count = long_of(words.bytes(2)?).ok_or("ERR value is not an integer or out of range")?;
+    let count = usize::try_from(count).ok().filter(|count| *count > 0).ok_or("ERR numkeys should be greater than 0")?;
+    if count > words.from(3).count() {
+        return Err("ERR Number of keys can't be greater than number of args".into());
+    }
+    let plan = Plan::of_class(words, 1)?.with_args(words.from(3 + count))?;
+    server.reply_array(count);
+    for place in 3..3 + count {
+        match invoke_on(server, &plan, words.text(place)?, words.bytes(place)?) {
+            Ok(done) => reply_value(server, &done),
+            Err(failure) => server.reply_failure(failure),
+        }
+    }
+    Ok(())
+}

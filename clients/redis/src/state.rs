@@ -1,0 +1,97 @@
+//! What the module keeps: the classes, and what INFO counts.
+use crate::api::{Context, InfoContext};
+use crate::classes::Classes;
+use crate::engine::{Done, Engine, THREW};
+use crate::server::api;
+use std::ffi::CString;
+use std::os::raw::c_int;
+use std::ptr::null_mut;
+use std::sync::atomic::{AtomicPtr, Ordering};
+
+/// What has happened since the server's start.
+#[derive(Default)]
+pub struct Counters {
+    pub runs: u64,
+    pub steps: u64,
+    pub costly: u64,
+    /// By the numbers of the exceptions, 1 to 6.
+    exceptions: [u64; 6],
+    /// By the numbers of the refusals, 1 to 30.
+    refusals: [u64; 30],
+}
+
+/// Counts one more behind a number that begins at 1.
+fn count_in(counts: &mut [u64], number: u64) {
+    let place = usize::try_from(number).ok().and_then(|number| number.checked_sub(1));
+    if let Some(count) = place.and_then(|place| counts.get_mut(place)) {
+        *count = count.wrapping_add(1);
+    }
+}
+
+impl Counters {
+    pub fn ran(&mut self, done: &Done) {
+        self.runs = self.runs.wrapping_add(1);
+        self.steps = self.steps.wrapping_add(done.steps.into());
+        if done.outcome == THREW {
+            count_in(&mut self.exceptions, done.value.unsigned_abs());
+        }
+    }
+
+    pub fn refused(&mut self, refusal: u32) {
+        count_in(&mut self.refusals, refusal.into());
+    }
+}
+
+pub struct State {
+    pub classes: Classes,
+    pub counters: Counters,
+}
+
+static STATE: AtomicPtr<State> = AtomicPtr::new(null_mut());
+
+/// Makes the state, for all of the server's life.
+pub fn begin(engine: Engine) {
+    STATE.store(Box::into_raw(Box::new(State { classes: Classes::new(engine), counters: Counters::default() })), Ordering::Release);
+}
+
+/// Does something with the state. It calls no function of the server that runs commands, since one of these could be the module's.
+///
+/// # Safety
+/// `begin` was called, and this is the server's main thread: it alone calls the module's functions, and its I/O threads run no commands.
+pub unsafe fn with_state<T>(action: impl FnOnce(&mut State) -> T) -> T {
+    action(&mut *STATE.load(Ordering::Acquire))
+}
+
+/// Answers INFO's section `jentry`. Redis sets the module's name and `_` before each field's.
+///
+/// # Safety
+/// Redis calls it, on its main thread.
+pub unsafe extern "C" fn inform(context: *mut InfoContext, _is_crash: c_int) {
+    let tell = |name: &str, count: u64| {
+        let name = CString::new(name).unwrap_or_default();
+        (api().info_count)(context, name.as_ptr(), count);
+    };
+    (api().info_section)(context, b"\0".as_ptr().cast());
+    with_state(|state| {
+        let classes = state.classes.all();
+        tell("classes", classes.len() as u64);
+        tell("class_bytes", classes.iter().map(|class| class.bytes.len() as u64).sum());
+        tell("runs_total", state.counters.runs);
+        tell("steps_total", state.counters.steps);
+        for (number, count) in (1..).zip(state.counters.exceptions) {
+            tell(&format!("exceptions_{number}_total"), count);
+        }
+        for (number, count) in (1..).zip(state.counters.refusals) {
+            tell(&format!("refusals_{number}_total"), count);
+        }
+        tell("costly_total", state.counters.costly);
+    });
+}
+
+/// Has INFO ask the module.
+///
+/// # Safety
+/// `context` is that of the module's load.
+pub unsafe fn register(context: *mut Context) -> bool {
+    (api().register_informer)(context, inform) == crate::api::OK
+}

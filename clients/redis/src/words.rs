@@ -1,0 +1,103 @@
+//! The words of a command: numbers, keys, arguments, ids.
+use crate::engine::{Arg, INTEGER, LONG, NULL};
+
+/// The most digits of a long, without zeros ahead.
+const MOST_DIGITS: usize = 19;
+
+/// The long of a sign and digits, of which there is at least one.
+fn signed(negative: bool, digits: &[u8]) -> Option<i64> {
+    if digits.is_empty() || digits.len() > MOST_DIGITS {
+        return None;
+    }
+    // Nineteen digits are below 2^64.
+    let mut sum: u64 = 0;
+    for digit in digits {
+        let value = digit.wrapping_sub(b'0');
+        if value > 9 {
+            return None;
+        }
+        sum = sum.wrapping_mul(10).wrapping_add(value.into());
+    }
+    match (negative, sum) {
+        (true, sum) if sum <= 1 << 63 => Some((sum as i64).wrapping_neg()),
+        (false, sum) if sum < 1 << 63 => Some(sum as i64),
+        _ => None,
+    }
+}
+
+/// A sign, and what is behind it.
+fn sign_of(text: &[u8]) -> (bool, &[u8]) {
+    match text {
+        [b'-', rest @ ..] => (true, rest),
+        _ => (false, text),
+    }
+}
+
+/// A decimal long as INCR takes it: no sign but `-`, no blank, no zero ahead.
+pub fn long_of(text: &[u8]) -> Option<i64> {
+    let (negative, digits) = sign_of(text);
+    match digits {
+        [b'0'] if !negative => Some(0),
+        [b'0', ..] => None,
+        _ => signed(negative, digits),
+    }
+}
+
+/// The processor's key: the long behind the last `:`, or the whole name. Zeros ahead don't count.
+pub fn key_of(name: &[u8]) -> Option<i64> {
+    let place = name.iter().rposition(|byte| *byte == b':').map_or(0, |colon| colon + 1);
+    let (negative, digits) = sign_of(name.get(place..)?);
+    let zeros = digits.iter().take_while(|digit| **digit == b'0').count();
+    match digits.get(zeros..)? {
+        [] if zeros > 0 => Some(0),
+        rest => signed(negative, rest),
+    }
+}
+
+/// An argument: a long, an Integer (digits and `i`), or `null`.
+pub fn arg_of(word: &[u8]) -> Option<Arg> {
+    let of = |kind, value| Arg { kind, unused: 0, value };
+    match word {
+        b"null" => Some(of(NULL, 0)),
+        [digits @ .., b'i'] => long_of(digits).filter(|number| i32::try_from(*number).is_ok()).map(|value| of(INTEGER, value)),
+        _ => long_of(word).map(|value| of(LONG, value)),
+    }
+}
+
+/// A class's id: the SHA-1 of its file.
+pub type Id = [u8; 20];
+
+/// The value of a hexadecimal digit, `a` to `f` in small letters.
+fn digit_of(byte: u8) -> Option<u8> {
+    match byte {
+        b'0'..=b'9' => Some(byte - b'0'),
+        b'a'..=b'f' => Some(byte - b'a' + 10),
+        _ => None,
+    }
+}
+
+/// An id from its forty hexadecimal digits.
+pub fn id_of(text: &[u8]) -> Option<Id> {
+    let mut id = Id::default();
+    if text.len() != 2 * id.len() {
+        return None;
+    }
+    for (byte, digits) in id.iter_mut().zip(text.chunks_exact(2)) {
+        match digits {
+            [high, low] => *byte = digit_of(*high)? << 4 | digit_of(*low)?,
+            _ => return None,
+        }
+    }
+    Some(id)
+}
+
+/// The forty hexadecimal digits of an id.
+pub fn digits_of(id: &Id) -> [u8; 40] {
+    let mut text = [0; 40];
+    for (digits, byte) in text.chunks_exact_mut(2).zip(id) {
+        for (digit, value) in digits.iter_mut().zip([byte >> 4, byte & 15]) {
+            *digit = if value < 10 { b'0' + value } else { b'a' + value - 10 };
+        }
+    }
+    text
+}
