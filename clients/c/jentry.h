@@ -100,6 +100,24 @@ void jentry_invoke(struct jentry_handle *handle, const struct jentry_call *call,
  * length of the whole text; 0 where memory lacks. */
 size_t jentry_explain(const uint8_t *bytes, size_t length, uint8_t *text, size_t room);
 
+/* The name of a refusal, as BackwardBranch, and that of an exception, as ClassCastException; empty for other numbers. These two aren't
+ * the core's: libjentry has them. */
+const char *jentry_refusal_name(uint32_t refusal);
+const char *jentry_exception_name(int64_t exception);
+
+/* What the core was built with. */
+#ifdef __cplusplus
+#define JENTRY_ASSERT static_assert
+#else
+#define JENTRY_ASSERT _Static_assert
+#endif
+JENTRY_ASSERT(sizeof(struct jentry_handle) == 16 && offsetof(struct jentry_handle, open) == 8, "the layout of a handle");
+JENTRY_ASSERT(sizeof(struct jentry_verdict) == 48 && offsetof(struct jentry_verdict, id) == 28, "the layout of a verdict");
+JENTRY_ASSERT(sizeof(struct jentry_arg) == 16 && offsetof(struct jentry_arg, value) == 8, "the layout of an argument");
+JENTRY_ASSERT(sizeof(struct jentry_call) == 24 && offsetof(struct jentry_call, key) == 8, "the layout of a call");
+JENTRY_ASSERT(sizeof(struct jentry_done) == 40 && offsetof(struct jentry_done, left) == 32, "the layout of an end");
+#undef JENTRY_ASSERT
+
 #ifdef __cplusplus
 }
 #endif

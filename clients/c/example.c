@@ -1,0 +1,38 @@
+/* Judges a class file and runs it on one entry: `example examples/Add.class 7 41 1` for the key 7, the value 41 and the argument 1. */
+#include <inttypes.h>
+#include <stdio.h>
+#include <stdlib.h>
+#include "jentry.h"
+
+int main(int argc, char **argv) {
+    static uint8_t bytes[65537];
+    FILE *file = argc > 3 && argc < 13 ? fopen(argv[1], "rb") : NULL;
+    if (!file) {
+        fprintf(stderr, "usage: example FILE KEY VALUE [ARG ..], with eight arguments at most\n");
+        return 1;
+    }
+    size_t length = fread(bytes, 1, sizeof bytes, file);
+    fclose(file);
+
+    struct jentry_handle engine = {0};
+    struct jentry_verdict verdict;
+    if (jentry_open(&engine) != 0) return 3;
+    jentry_define(&engine, bytes, length, &verdict);
+    if (verdict.refusal != 0) {
+        printf("refused %" PRIu32 " %s\n", verdict.refusal, jentry_refusal_name(verdict.refusal));
+        jentry_close(&engine);
+        return 2;
+    }
+    struct jentry_arg args[8] = {0};
+    size_t count = (size_t)argc - 4;
+    for (size_t i = 0; i < count; i++) args[i] = (struct jentry_arg){ .kind = JENTRY_LONG, .value = strtoll(argv[4 + i], NULL, 10) };
+    struct jentry_call call = { .number = verdict.number, .present = 1, .key = strtoll(argv[2], NULL, 10), .before = strtoll(argv[3], NULL, 10) };
+    struct jentry_done done;
+    jentry_invoke(&engine, &call, args, count, &done);
+    if (done.outcome == JENTRY_THREW) printf("threw %s\n", jentry_exception_name(done.value));
+    else printf("returned %" PRId64 " in %" PRIu32 " of at most %" PRIu32 " instructions\n", done.value, done.steps, verdict.steps);
+    if (done.effect == JENTRY_DELETE) puts("removed");
+    else if (done.effect == JENTRY_PUT) printf("set to %" PRId64 "\n", done.put);
+    jentry_close(&engine);
+    return 0;
+}

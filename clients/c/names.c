@@ -1,0 +1,22 @@
+/* The names behind the numbers of refusals and exceptions. */
+#include "jentry.h"
+
+static const char *const refusals[] = {
+    "TooLarge", "Truncated", "BadMagic", "BadVersion", "BadPool", "TrailingBytes", "BadDescriptor", "BadHeader", "ConstructorForm",
+    "ClassInitialiser", "NoProcess", "DuplicateMethod", "NoBody", "BadCode", "ExceptionTable", "UnknownOpcode", "OutsideProfile",
+    "BadOperand", "BadTarget", "BackwardBranch", "BadStackMap", "TypeMismatch", "FallsOff", "UnknownMember", "Recursive",
+    "LengthNotConstant", "StepLimit", "WordLimit", "FrameLimit", "NoMemory",
+};
+
+static const char *const exceptions[] = {
+    "ArithmeticException", "ArrayIndexOutOfBoundsException", "NullPointerException", "ClassCastException", "IncompatibleClassChangeError",
+    "CacheLoaderException",
+};
+
+const char *jentry_refusal_name(uint32_t refusal) {
+    return refusal - 1u < sizeof refusals / sizeof *refusals ? refusals[refusal - 1] : "";
+}
+
+const char *jentry_exception_name(int64_t exception) {
+    return (uint64_t)exception - 1u < sizeof exceptions / sizeof *exceptions ? exceptions[exception - 1] : "";
+}

@@ -1,0 +1,320 @@
+/* The core by its C interface, for tests: answers what `jentry` answers, and holds the interface to its edges.
+ *
+ *   answers check FILE | explain FILE | run FILE KEY VALUE [ARG ..]     prints what the program prints, with its status
+ *   answers calls                                                       a line `FILE KEY VALUE [ARG ..]` of the input is a run
+ *   answers edges FILE OTHER                                            calls that are denied, handles that aren't open, numbers that are forgotten
+ */
+#include <errno.h>
+#include <inttypes.h>
+#include <stdio.h>
+#include <stdlib.h>
+#include <string.h>
+#include "../jentry.h"
+
+enum { OK = 0, USAGE = 1, REFUSED = 2, OTHER = 3, THREW = 4 };
+enum { MOST_BYTES = 65537, MOST_WORDS = 16, MOST_FILES = 256 };
+
+/* The bytes of a class file, one more than a class may have at most. Each file is a block of just its length, so that reading past its end
+ * is seen. */
+static uint8_t *read_file(const char *name, size_t *length) {
+    static uint8_t bytes[MOST_BYTES];
+    FILE *file = fopen(name, "rb");
+    if (!file) {
+        fprintf(stderr, "cannot read %s\n", name);
+        exit(OTHER);
+    }
+    *length = fread(bytes, 1, sizeof bytes, file);
+    fclose(file);
+    uint8_t *kept = malloc(*length ? *length : 1);
+    if (!kept) exit(OTHER);
+    memcpy(kept, bytes, *length);
+    return kept;
+}
+
+static void print_refusal(const struct jentry_verdict *verdict) {
+    printf("refused %" PRIu32 " %s", verdict->refusal, jentry_refusal_name(verdict->refusal));
+    if (verdict->refusal == 17) printf(" opcode %" PRIu32, verdict->detail);
+    if (verdict->refusal == 22) printf(" at %" PRIu32, verdict->detail);
+    printf("\n");
+}
+
+static int check(const char *name) {
+    struct jentry_handle engine = {0};
+    struct jentry_verdict verdict;
+    size_t length;
+    uint8_t *bytes = read_file(name, &length);
+    if (jentry_open(&engine) != 0) return OTHER;
+    jentry_define(&engine, bytes, length, &verdict);
+    jentry_close(&engine);
+    free(bytes);
+    if (verdict.refusal != 0) {
+        print_refusal(&verdict);
+        return REFUSED;
+    }
+    printf("accepted steps=%" PRIu32 " words=%" PRIu32 " slots=%" PRIu32 " depth=%" PRIu32 "\n", verdict.steps, verdict.words, verdict.slots,
+           verdict.depth);
+    return OK;
+}
+
+static int explain(const char *name) {
+    size_t length;
+    uint8_t *bytes = read_file(name, &length);
+    uint8_t nothing;
+    size_t count = jentry_explain(bytes, length, &nothing, 0);
+    uint8_t *text = malloc(count + 8);
+    if (!text || count == 0) return OTHER;
+    memset(text, 'x', count + 8);
+    /* A room that is too small takes as much as it has, and no more. */
+    if (jentry_explain(bytes, length, text, count / 2) != count || text[count / 2] != 'x') return OTHER;
+    if (jentry_explain(bytes, length, text, count + 8) != count || memcmp(text + count, "xxxxxxxx", 8) != 0) return OTHER;
+    fwrite(text, 1, count, stdout);
+    int status = memcmp(text, "accepted", 8) == 0 ? OK : REFUSED;
+    free(bytes);
+    free(text);
+    return status;
+}
+
+/* An argument: a Long, an Integer (with `i` behind it), or `null`. */
+static struct jentry_arg arg_of(const char *word) {
+    if (strcmp(word, "null") == 0) return (struct jentry_arg){ .kind = JENTRY_NULL };
+    char *end;
+    errno = 0;
+    int64_t value = strtoll(word, &end, 10);
+    if (errno || end == word || (*end && strcmp(end, "i") != 0)) {
+        fprintf(stderr, "bad argument %s\n", word);
+        exit(USAGE);
+    }
+    return (struct jentry_arg){ .kind = *end ? JENTRY_INTEGER : JENTRY_LONG, .value = value };
+}
+
+static int print_run(const struct jentry_call *call, const struct jentry_done *done) {
+    if (done->outcome == JENTRY_THREW) printf("threw %" PRId64 " %s\n", done->value, jentry_exception_name(done->value));
+    else if (done->outcome == JENTRY_NULL) printf("result null\n");
+    else printf("result %" PRId64 "%s\n", done->value, done->outcome == JENTRY_INTEGER ? "i" : "");
+    bool exists = done->effect == JENTRY_PUT || (done->effect == JENTRY_KEEP && call->present);
+    int64_t now = done->effect == JENTRY_PUT ? done->put : call->before;
+    if (exists) printf("value %" PRId64 "\n", now);
+    else printf("value none\n");
+    printf("steps %" PRIu32 " words %" PRIu32 "\n", done->steps, done->words);
+    return done->outcome == JENTRY_THREW ? THREW : OK;
+}
+
+/* The words KEY VALUE [ARG ..] run on the class with a number. The arguments are a block of just their length. */
+static int run_words(struct jentry_handle *engine, uint32_t number, char **words, int count) {
+    size_t args = (size_t)count - 2;
+    struct jentry_arg *given = malloc((args ? args : 1) * sizeof *given);
+    if (!given) exit(OTHER);
+    for (size_t i = 0; i < args; i++) given[i] = arg_of(words[2 + i]);
+    bool present = strcmp(words[1], "none") != 0;
+    struct jentry_call call = { .number = number, .present = present, .key = arg_of(words[0]).value };
+    if (present) call.before = arg_of(words[1]).value;
+    struct jentry_done done;
+    jentry_invoke(engine, &call, given, args, &done);
+    free(given);
+    return print_run(&call, &done);
+}
+
+static int run(char **words, int count) {
+    struct jentry_handle engine = {0};
+    struct jentry_verdict verdict;
+    size_t length;
+    uint8_t *bytes = read_file(words[0], &length);
+    if (jentry_open(&engine) != 0) return OTHER;
+    jentry_define(&engine, bytes, length, &verdict);
+    free(bytes);
+    int status = REFUSED;
+    if (verdict.refusal != 0) print_refusal(&verdict);
+    else status = run_words(&engine, verdict.number, words + 1, count - 1);
+    jentry_close(&engine);
+    return status;
+}
+
+/* The number of a file's class, which is defined at its first call. */
+static uint32_t number_of(struct jentry_handle *engine, const char *name) {
+    static struct { char name[256]; uint32_t number; } known[MOST_FILES];
+    static size_t count;
+    for (size_t i = 0; i < count; i++)
+        if (strcmp(known[i].name, name) == 0) return known[i].number;
+    struct jentry_verdict verdict;
+    size_t length;
+    uint8_t *bytes = read_file(name, &length);
+    jentry_define(engine, bytes, length, &verdict);
+    free(bytes);
+    if (verdict.refusal != 0 || count == MOST_FILES || strlen(name) >= sizeof known[0].name) exit(REFUSED);
+    strcpy(known[count].name, name);
+    known[count].number = verdict.number;
+    return known[count++].number;
+}
+
+static int calls(void) {
+    struct jentry_handle engine = {0};
+    char line[1024];
+    if (jentry_open(&engine) != 0) return OTHER;
+    while (fgets(line, sizeof line, stdin)) {
+        char *words[MOST_WORDS];
+        int count = 0;
+        for (char *word = strtok(line, " \n"); word && count < MOST_WORDS; word = strtok(NULL, " \n")) words[count++] = word;
+        if (count < 3) return USAGE;
+        run_words(&engine, number_of(&engine, words[0]), words + 1, count - 1);
+    }
+    jentry_close(&engine);
+    return OK;
+}
+
+static int failures;
+
+#define HOLDS(what)                                                       \
+    do {                                                                  \
+        if (!(what)) failures++, printf("line %d: %s\n", __LINE__, #what); \
+    } while (0)
+
+/* The outcome of a call on key 7 with the value 41. Before it the answer is full of ones, so that what isn't written is seen. */
+static struct jentry_done on_41(struct jentry_handle *engine, uint32_t number, const struct jentry_arg *args, size_t count) {
+    struct jentry_call call = { .number = number, .present = 1, .key = 7, .before = 41 };
+    struct jentry_done done;
+    memset(&done, 0xff, sizeof done);
+    jentry_invoke(engine, &call, args, count, &done);
+    return done;
+}
+
+static bool is_denied(struct jentry_done done, uint32_t outcome) {
+    return done.outcome == outcome && done.effect == 0 && done.value == 0 && done.put == 0 && done.steps == 0 && done.words == 0 && done.left == 0;
+}
+
+static void closed_handles(const uint8_t *bytes, size_t length) {
+    struct jentry_handle engine = {0};
+    struct jentry_verdict verdict;
+    struct jentry_arg one = { .kind = JENTRY_LONG, .value = 1 };
+    HOLDS(is_denied(on_41(&engine, 0, &one, 1), JENTRY_NO_CLASS));
+    HOLDS(jentry_forget(&engine, 0) == 0);
+    memset(&verdict, 0xff, sizeof verdict);
+    jentry_define(&engine, bytes, length, &verdict);
+    HOLDS(verdict.refusal == 30 && verdict.number == 0 && verdict.steps == 0);
+    jentry_close(&engine);
+    HOLDS(jentry_open(&engine) == 0);
+    HOLDS(jentry_open(&engine) == 2);
+    HOLDS(is_denied(on_41(&engine, 0, &one, 1), JENTRY_NO_CLASS));
+    jentry_define(&engine, bytes, length, &verdict);
+    HOLDS(verdict.refusal == 0);
+    HOLDS(jentry_open(&engine) == 2);
+    HOLDS(on_41(&engine, verdict.number, &one, 1).value == 42);
+    jentry_close(&engine);
+    jentry_close(&engine);
+    HOLDS(engine.open == false);
+    HOLDS(is_denied(on_41(&engine, verdict.number, &one, 1), JENTRY_NO_CLASS));
+    HOLDS(jentry_open(&engine) == 0);
+    HOLDS(is_denied(on_41(&engine, verdict.number, &one, 1), JENTRY_NO_CLASS));
+    jentry_close(&engine);
+}
+
+static void arguments(struct jentry_handle *engine, uint32_t add) {
+    struct jentry_arg nine[9];
+    for (size_t i = 0; i < 9; i++) nine[i] = (struct jentry_arg){ .kind = JENTRY_LONG, .value = 1 };
+    HOLDS(on_41(engine, add, nine, 8).value == 42);
+    HOLDS(is_denied(on_41(engine, add, nine, 9), JENTRY_MANY_ARGUMENTS));
+    struct jentry_arg odd = { .kind = 3, .value = 1 };
+    HOLDS(is_denied(on_41(engine, add, &odd, 1), JENTRY_NO_ARGUMENT));
+    for (int64_t value = INT64_C(1) << 31; value <= INT64_C(1) << 33; value *= 2) {
+        struct jentry_arg large = { .kind = JENTRY_INTEGER, .value = value };
+        HOLDS(is_denied(on_41(engine, add, &large, 1), JENTRY_NO_ARGUMENT));
+        large.value = -value - 1;
+        HOLDS(is_denied(on_41(engine, add, &large, 1), JENTRY_NO_ARGUMENT));
+    }
+    struct jentry_arg least = { .kind = JENTRY_INTEGER, .value = INT32_MIN };
+    struct jentry_done done = on_41(engine, add, &least, 1);
+    HOLDS(done.outcome == JENTRY_THREW && done.value == 4 && done.effect == JENTRY_KEEP);
+    struct jentry_arg null = { .kind = JENTRY_NULL };
+    done = on_41(engine, add, &null, 1);
+    HOLDS(done.outcome == JENTRY_THREW && done.value == 3);
+    done = on_41(engine, add, &null, 0);
+    HOLDS(done.outcome == JENTRY_THREW && done.value == 2);
+}
+
+/* What a run leaves: a put of another value, of the same one, nothing. */
+static void ends(struct jentry_handle *engine, uint32_t add, uint32_t plus) {
+    struct jentry_arg one = { .kind = JENTRY_LONG, .value = 1 }, zero = { .kind = JENTRY_LONG };
+    struct jentry_done done = on_41(engine, add, &one, 1);
+    HOLDS(done.outcome == JENTRY_LONG && done.value == 42 && done.effect == JENTRY_PUT && done.put == 42 && done.left == JENTRY_SET);
+    HOLDS(done.steps == 29 && done.words == 0);
+    done = on_41(engine, add, &zero, 1);
+    HOLDS(done.outcome == JENTRY_LONG && done.value == 41 && done.effect == JENTRY_KEEP && done.left == JENTRY_SET);
+    done = on_41(engine, add, &zero, 0);
+    HOLDS(done.outcome == JENTRY_THREW && done.left == JENTRY_UNTOUCHED);
+    done = on_41(engine, plus, &zero, 0);
+    HOLDS(done.value == 42 && done.put == 42);
+}
+
+static void numbers(struct jentry_handle *engine, const uint8_t *bytes, size_t length) {
+    struct jentry_arg one = { .kind = JENTRY_LONG, .value = 1 };
+    struct jentry_verdict first, second, third, bad;
+    jentry_define(engine, bytes, length, &first);
+    jentry_define(engine, bytes, length, &second);
+    HOLDS(first.refusal == 0 && second.refusal == 0 && first.number != second.number);
+    HOLDS(memcmp(first.id, second.id, sizeof first.id) == 0);
+    HOLDS(first.steps == 29 && first.words == 0 && first.slots == 17 && first.depth == 2);
+    HOLDS(jentry_forget(engine, first.number) == 1);
+    HOLDS(jentry_forget(engine, first.number) == 0);
+    HOLDS(jentry_forget(engine, UINT32_MAX) == 0);
+    HOLDS(is_denied(on_41(engine, first.number, &one, 1), JENTRY_NO_CLASS));
+    HOLDS(is_denied(on_41(engine, UINT32_MAX, &one, 1), JENTRY_NO_CLASS));
+    HOLDS(on_41(engine, second.number, &one, 1).value == 42);
+    memset(&bad, 0xff, sizeof bad);
+    jentry_define(engine, (const uint8_t *)"xyz", 3, &bad);
+    HOLDS(bad.refusal == 2 && bad.number == 0 && bad.steps == 0 && bad.words == 0 && bad.slots == 0 && bad.depth == 0);
+    HOLDS(memcmp(bad.id, "\x66\xb2\x74\x17\xd3\x7e\x02\x4c\x46\x52\x6c\x2f\x6d\x35\x8a\x75\x4f\xc5\x52\xf3", 20) == 0);
+    jentry_define(engine, bytes, 0, &bad);
+    HOLDS(bad.refusal == 2);
+    HOLDS(memcmp(bad.id, "\xda\x39\xa3\xee\x5e\x6b\x4b\x0d\x32\x55\xbf\xef\x95\x60\x18\x90\xaf\xd8\x07\x09", 20) == 0);
+    jentry_define(engine, bytes, length, &third);
+    HOLDS(third.refusal == 0 && third.number != first.number && third.number != second.number);
+    HOLDS(is_denied(on_41(engine, first.number, &one, 1), JENTRY_NO_CLASS));
+    HOLDS(on_41(engine, third.number, &one, 1).value == 42);
+}
+
+static void two_engines(const uint8_t *bytes, size_t length) {
+    struct jentry_handle one = {0}, other = {0};
+    struct jentry_verdict verdict;
+    struct jentry_arg arg = { .kind = JENTRY_LONG, .value = 1 };
+    HOLDS(jentry_open(&one) == 0 && jentry_open(&other) == 0);
+    jentry_define(&one, bytes, length, &verdict);
+    HOLDS(on_41(&one, verdict.number, &arg, 1).value == 42);
+    HOLDS(is_denied(on_41(&other, verdict.number, &arg, 1), JENTRY_NO_CLASS));
+    jentry_close(&one);
+    jentry_define(&other, bytes, length, &verdict);
+    HOLDS(on_41(&other, verdict.number, &arg, 1).value == 42);
+    jentry_close(&other);
+}
+
+static int edges(const char *add_name, const char *plus_name) {
+    struct jentry_handle engine = {0};
+    struct jentry_verdict add, plus;
+    size_t length, plus_length;
+    uint8_t *bytes = read_file(add_name, &length), *plus_bytes = read_file(plus_name, &plus_length);
+    closed_handles(bytes, length);
+    HOLDS(jentry_open(&engine) == 0);
+    jentry_define(&engine, bytes, length, &add);
+    jentry_define(&engine, plus_bytes, plus_length, &plus);
+    HOLDS(add.refusal == 0 && plus.refusal == 0);
+    arguments(&engine, add.number);
+    ends(&engine, add.number, plus.number);
+    numbers(&engine, bytes, length);
+    jentry_close(&engine);
+    two_engines(bytes, length);
+    HOLDS(strcmp(jentry_refusal_name(0), "") == 0 && strcmp(jentry_refusal_name(31), "") == 0);
+    HOLDS(strcmp(jentry_refusal_name(1), "TooLarge") == 0 && strcmp(jentry_refusal_name(30), "NoMemory") == 0);
+    HOLDS(strcmp(jentry_exception_name(0), "") == 0 && strcmp(jentry_exception_name(7), "") == 0 && strcmp(jentry_exception_name(-1), "") == 0);
+    free(bytes);
+    free(plus_bytes);
+    printf("%d failures\n", failures);
+    return failures ? 1 : 0;
+}
+
+int main(int argc, char **argv) {
+    if (argc == 3 && strcmp(argv[1], "check") == 0) return check(argv[2]);
+    if (argc == 3 && strcmp(argv[1], "explain") == 0) return explain(argv[2]);
+    if (argc >= 5 && strcmp(argv[1], "run") == 0) return run(argv + 2, argc - 2);
+    if (argc == 2 && strcmp(argv[1], "calls") == 0) return calls();
+    if (argc == 4 && strcmp(argv[1], "edges") == 0) return edges(argv[2], argv[3]);
+    fprintf(stderr, "usage: answers check FILE | explain FILE | run FILE KEY VALUE [ARG ..] | calls | edges FILE OTHER\n");
+    return USAGE;
+}

@@ -1,0 +1,429 @@
+"""The commands on one server: replies and errors, each to the byte."""
+import hashlib
+import os
+import random
+import re
+
+from module_test import NEEDS_PROGRAM, NO_CLASS, ModuleTest
+from servers import ReplyError, Server, class_file, examples, path_of, program, row_classes
+
+TRIES = int(os.environ.get("JENTRY_TRIES", 1000))
+"""How many runs are held to those of the program, which may be slow."""
+NOT_A_LONG = "ERR value is not an integer or out of range"
+NO_KEY = "ERR the key doesn't end in a decimal long"
+LEAST, MOST = -2**63, 2**63 - 1
+NUMBERS = [0, 1, -1, 5, 41, 2**31 - 1, 2**31, -2**31, MOST, LEAST]
+
+
+class OneServer(ModuleTest):
+    @classmethod
+    def setUpClass(cls):
+        cls.server = Server()
+        cls.addClassCleanup(cls.server.__exit__)
+
+    def setUp(self):
+        self.line = self.server.open()
+        self.addCleanup(self.line.close)
+        self.line.get("FLUSHALL")
+        self.add = self.define(self.line, "Add")
+
+    def ask(self, *words):
+        return self.line.ask(*words)
+
+
+class Classes(OneServer):
+    def test_define_replies_id_and_bounds(self):
+        file = class_file("Add")
+        told = self.line.get("JENTRY.DEFINE", file)
+        self.assertEqual(told, [hashlib.sha1(file).hexdigest().encode(), 29, 0, 17, 2])
+        self.assertEqual(self.line.get("JENTRY.DEFINE", file), told)
+
+    def test_list_and_class(self):
+        plus = self.define(self.line, "Plus")
+        listed = {row[0]: row[1:] for row in self.line.get("JENTRY.LIST")}
+        self.assertEqual(listed[self.add], [29, 0, 17, 2, len(class_file("Add"))])
+        self.assertEqual(listed[plus], [14, 0, 9, 1, len(class_file("Plus"))])
+        self.assertEqual(list(listed), sorted(listed))
+        self.assertEqual(self.line.get("JENTRY.CLASS", plus), class_file("Plus"))
+        for unknown in (b"0" * 40, plus.upper(), plus[:-1], plus + b"0", b"", b"g" * 40):
+            self.assertIsNone(self.line.get("JENTRY.CLASS", unknown))
+
+    def test_forget(self):
+        count = len(self.line.get("JENTRY.LIST"))
+        self.assertEqual(self.ask("JENTRY.FORGET", self.add), 1)
+        self.assertEqual(self.ask("JENTRY.FORGET", self.add), 0)
+        self.assertEqual(self.ask("JENTRY.FORGET", b"no id"), 0)
+        self.assertEqual(len(self.line.get("JENTRY.LIST")), count - 1)
+        self.fails(self.ask("JENTRY.INVOKE", self.add, "v:1", 5), NO_CLASS)
+        plus = self.define(self.line, "Plus")
+        self.assertEqual(self.define(self.line, "Add"), self.add)
+        self.line.get("MSET", "v:1", 10, "v:2", 20)
+        self.assertEqual([self.ask("JENTRY.INVOKE", self.add, "v:1", 5), self.ask("JENTRY.INVOKE", plus, "v:2")], [15, 21])
+
+    @NEEDS_PROGRAM
+    def test_each_refused_example_is_refused_as_the_program_says(self):
+        names = examples("refused")
+        self.assertGreater(len(names), 40)
+        for name in names:
+            file, said = class_file(name), program("explain", path_of(name)).splitlines()
+            with self.subTest(name=name):
+                verdict = re.fullmatch(r"refused (\d+) (\w+)(| opcode \d+| at \d+)", said[0])
+                where = "".join(" in " + re.sub(r"( steps=.*)?$", "", line[7:]) for line in said if line.startswith("method "))
+                where += "".join(" line " + line[5:] for line in said if line.startswith("line "))
+                text = f"REFUSED {verdict[1]} {verdict[2]}{verdict[3]}{where}: {said[-1]}"
+                self.fails(self.ask("JENTRY.DEFINE", file), text)
+                self.assertIsNone(self.ask("JENTRY.CLASS", hashlib.sha1(file).hexdigest()))
+
+    def test_refusals_by_their_texts(self):
+        told = self.ask("JENTRY.DEFINE", class_file("refused/Loop"))
+        self.fails(told, "REFUSED 20 BackwardBranch in Object process(MutableEntry, Object...) line 8: "
+                         "Loops aren't accepted: write the passes out, by a method for one pass, or use a formula.")
+        self.assertRegex(str(self.ask("JENTRY.DEFINE", class_file("refused/Text"))), r"^REFUSED 17 OutsideProfile opcode 18 in .*: ")
+        self.assertRegex(str(self.ask("JENTRY.DEFINE", "")), r"^REFUSED 2 Truncated")
+        self.assertRegex(str(self.ask("JENTRY.DEFINE", "x" * 20)), r"^REFUSED 3 BadMagic")
+        self.assertRegex(str(self.ask("JENTRY.DEFINE", b"\xca\xfe\xba\xbe" + bytes(65_533))), r"^REFUSED 1 TooLarge")
+
+    @NEEDS_PROGRAM
+    def test_explain_is_the_programs(self):
+        for name in examples() + examples("refused"):
+            with self.subTest(name=name):
+                self.assertEqual(self.line.get("JENTRY.EXPLAIN", class_file(name)).decode(), program("explain", path_of(name)))
+
+    def test_too_many_classes(self):
+        with Server() as server, server.open() as line:
+            plus = class_file("Plus")
+            self.assertEqual(plus.count(b"\1\0\3Row"), 1)
+            for number in range(4096):
+                line.send("JENTRY.DEFINE", plus.replace(b"\1\0\3Row", b"\1\0\7Row%04d" % number))
+            self.assertEqual({told[1] for told in (line.take() for _ in range(4096))}, {14})
+            self.fails(line.ask("JENTRY.DEFINE", plus), "ERR too many classes")
+            again = line.get("JENTRY.DEFINE", plus.replace(b"\1\0\3Row", b"\1\0\7Row0007"))
+            self.assertEqual(line.ask("JENTRY.FORGET", again[0]), 1)
+            self.assertEqual(line.get("JENTRY.DEFINE", plus)[1], 14)
+
+
+class Runs(OneServer):
+    def test_invoke(self):
+        self.assertEqual(self.ask("JENTRY.INVOKE", self.add, "v:1", 5), 5)
+        self.assertEqual(self.ask("JENTRY.INVOKE", self.add, "v:1", -7), -2)
+        self.assertEqual(self.ask("GET", "v:1"), b"-2")
+        self.assertEqual(self.ask("OBJECT", "ENCODING", "v:1"), b"int")
+
+    def test_value_stays_an_integer(self):
+        self.line.get("SET", "v:1", 123456)
+        self.assertEqual(self.ask("JENTRY.INVOKE", self.add, "v:1", 0), 123456)
+        self.assertEqual(self.ask("OBJECT", "ENCODING", "v:1"), b"int")
+        cas = self.define(self.line, "CompareAndSet")
+        self.assertEqual(self.ask("JENTRY.PEEK", cas, "v:1", 1, 2), 0)
+        self.assertEqual(self.ask("OBJECT", "ENCODING", "v:1"), b"int")
+
+    def test_detail(self):
+        self.assertEqual(self.ask("JENTRY.DETAIL", self.add, "v:1", 5), [5, b"Long", b"put", 23, 0])
+        self.assertEqual(self.ask("JENTRY.DETAIL", self.add, "v:1", 5), [10, b"Long", b"put", 29, 0])
+        self.assertEqual(self.ask("JENTRY.DETAIL", self.add, "v:1", 0), [10, b"Long", b"keep", 29, 0])
+        cas = self.define(self.line, "CompareAndSet")
+        self.assertEqual(self.ask("JENTRY.DETAIL", cas, "v:1", 10, "null"), [1, b"Integer", b"delete", 42, 0])
+        self.assertIsNone(self.ask("GET", "v:1"))
+        limited = self.define(self.line, "BoundedIncrement")
+        self.line.get("SET", "v:1", 3)
+        self.assertEqual(self.ask("JENTRY.DETAIL", limited, "v:1", 3)[:3], [None, b"null", b"keep"])
+        self.assertIsNone(self.ask("JENTRY.INVOKE", limited, "v:1", 3))
+
+    def test_peek(self):
+        cas = self.define(self.line, "CompareAndSet")
+        self.line.get("SET", "v:1", 41)
+        self.assertEqual(self.ask("JENTRY.PEEK", cas, "v:1", 40, 42), 0)
+        self.fails(self.ask("JENTRY.PEEK", cas, "v:1", 41, 42), "WRITES the processor changes the entry: JENTRY.INVOKE it")
+        self.fails(self.ask("JENTRY.PEEK", cas, "v:1", 41, "null"), "WRITES the processor changes the entry: JENTRY.INVOKE it")
+        self.assertEqual(self.ask("GET", "v:1"), b"41")
+
+    def test_keys(self):
+        plus = self.define(self.line, "Plus")
+        for key in ("7", "v:7", "{user9}:7", "a:b:7", ":7", "v:000000000007", "v:0000000000000000000000000000007", "007"):
+            self.line.get("SET", key, 41)
+            self.assertEqual(self.ask("JENTRY.INVOKE", plus, key), 42)
+        for key in ("v", "v:", "", ":", "v:+7", "v: 7", "v:7 ", "v:7x", "v:-", "v:--7", "v:9223372036854775808", "v:0x7", "v:7:", "v:1.0", b"v:\xff", "v:7\n"):
+            self.fails(self.ask("JENTRY.INVOKE", plus, key), NO_KEY)
+
+    @NEEDS_PROGRAM
+    def test_the_key_is_the_processors(self):
+        lease = path_of("Score")
+        for key in ("0", "7", "-7", str(MOST), str(LEAST)):
+            wanted = program("run", lease, key, "41", "1")
+            score = self.define(self.line, "Score")
+            for spelled in (f"s:{key}", f"s:{'-' if key[0] == '-' else ''}000{key.lstrip('-')}"):
+                self.line.get("SET", spelled, 41)
+                self.assertEqual(lines_of(self.ask("JENTRY.DETAIL", score, spelled, 1), self.ask("GET", spelled)), wanted)
+
+    def test_values(self):
+        for value in ("x", "", "007", "+7", " 7", "7 ", "-0", "9223372036854775808", "-9223372036854775809", "1.0", "1e3"):
+            self.line.get("SET", "v:1", value)
+            for command in ("JENTRY.INVOKE", "JENTRY.DETAIL", "JENTRY.PEEK"):
+                self.fails(self.ask(command, self.add, "v:1", 1), NOT_A_LONG)
+            self.assertEqual(self.ask("GET", "v:1"), value.encode())
+            self.assertEqual(str(self.ask("INCR", "v:1")), NOT_A_LONG)
+        for value in (LEAST, -1, 0, 9999, 10_000, MOST):
+            self.line.get("SET", "v:1", value)
+            self.assertEqual(self.ask("JENTRY.INVOKE", self.add, "v:1", 1), (value + 1 + 2**63) % 2**64 - 2**63)
+        self.line.get("SET", "v:1", 1)
+        self.line.get("APPEND", "v:1", 2)
+        self.assertEqual(self.ask("JENTRY.INVOKE", self.add, "v:1", 1), 13)
+        self.line.get("SET", "v:1", 9007199254740993)
+        self.assertEqual(self.ask("JENTRY.INVOKE", self.add, "v:1", 1), 9007199254740994)
+
+    def test_wrong_type(self):
+        self.line.get("LPUSH", "v:1", 1)
+        for command in ("JENTRY.INVOKE", "JENTRY.DETAIL", "JENTRY.PEEK"):
+            self.fails(self.ask(command, self.add, "v:1", 1), "WRONGTYPE Operation against a key holding the wrong kind of value")
+        self.assertEqual(self.ask("LRANGE", "v:1", 0, -1), [b"1"])
+
+    def test_arguments(self):
+        for place, words in [(1, ["x"]), (1, [""]), (1, ["1I"]), (1, ["2147483648i"]), (1, ["-2147483649i"]), (1, ["i"]), (1, ["NULL"]), (1, ["+1"]),
+                             (1, ["007"]), (1, ["9223372036854775808"]), (2, [1, "1.5"]), (8, [1, 2, 3, 4, 5, 6, 7, "8x"])]:
+            self.fails(self.ask("JENTRY.INVOKE", self.add, "v:1", *words), f"ERR argument {place} is no long, Integer or null")
+        self.fails(self.ask("JENTRY.INVOKE", self.add, "v:1", *range(9)), "ERR more than eight arguments")
+        self.assertEqual(self.ask("EXISTS", "v:1"), 0)
+        self.assertEqual(self.ask("JENTRY.INVOKE", self.add, "v:1", *range(1, 9)), 1)
+
+    def test_thrown(self):
+        self.line.get("SET", "v:1", 41)
+        self.fails(self.ask("JENTRY.INVOKE", self.add, "v:1"), "THREW 2 ArrayIndexOutOfBoundsException")
+        self.fails(self.ask("JENTRY.INVOKE", self.add, "v:1", "1i"), "THREW 4 ClassCastException")
+        self.fails(self.ask("JENTRY.DETAIL", self.add, "v:1", "null"), "THREW 3 NullPointerException")
+        ratio = self.define(self.line, "Ratio")
+        self.line.get("SET", "v:2", 0)
+        self.fails(self.ask("JENTRY.PEEK", ratio, "v:2"), "THREW 1 ArithmeticException")
+        self.assertEqual(self.ask("MGET", "v:1", "v:2"), [b"41", b"0"])
+
+    def test_order_of_errors(self):
+        self.fails(self.ask("JENTRY.INVOKE", "0" * 40, "v", "x"), NO_CLASS)
+        self.fails(self.ask("JENTRY.INVOKE", self.add, "v", "x"), NO_KEY)
+        self.line.get("SET", "v:1", "y")
+        self.fails(self.ask("JENTRY.INVOKE", self.add, "v:1", "x"), "ERR argument 1 is no long, Integer or null")
+
+    def test_arity(self):
+        for words in (["DEFINE"], ["DEFINE", 1, 2], ["INVOKE", self.add], ["DETAIL", self.add], ["PEEK", self.add], ["LIST", 1], ["CLASS"], ["CLASS", 1, 2],
+                      ["EXPLAIN"], ["EXPLAIN", 1, 2], ["FORGET"], ["FORGET", 1, 2], ["INVOKEALL", self.add, 1], ["APPLY", -1, -1, -1, "do", self.add]):
+            name = "jentry." + words[0].lower()
+            self.fails(self.ask(name, *words[1:]), f"ERR wrong number of arguments for '{name}' command")
+
+    @NEEDS_PROGRAM
+    def test_examples_as_the_program_runs_them(self):
+        random.seed(60)
+        names = examples()
+        calls = [(name, *random_call()) for name in names for _ in range(1 + TRIES // len(names))]
+        ids = {name: self.define(self.line, name) for name in names}
+        for name, key, before, words in calls:
+            entry = f"e:{key}"
+            self.line.get("DEL", entry) if before is None else self.line.get("SET", entry, before)
+            told = lines_of(self.ask("JENTRY.DETAIL", ids[name], entry, *words), self.ask("GET", entry))
+            said = program("run", path_of(name), key, "none" if before is None else before, *words)
+            if "threw" in said:
+                said = said[:said.index("steps")]
+            self.assertEqual(told, said, (name, key, before, words))
+        self.assertGreaterEqual(len(calls), TRIES)
+
+
+def random_number():
+    return random.choice([*NUMBERS, random.randrange(-10**6, 10**6), random.getrandbits(64) - 2**63])
+
+
+def random_call():
+    """A key, an entry, and arguments."""
+    words = [random.choice([str(random_number()), str(random_number()), f"{random.randrange(-2**31, 2**31)}i", "null"]) for _ in range(random.randrange(4))]
+    return random_number(), random.choice([None, random_number(), random_number()]), words
+
+
+def lines_of(told, entry):
+    """The lines that `jentry run` prints of what DETAIL replied and what the entry is. Of a run that threw no steps are told."""
+    value = "none" if entry is None else entry.decode()
+    if isinstance(told, ReplyError):
+        return str(told).replace("THREW", "threw") + f"\nvalue {value}\n"
+    result = "null" if told[1] == b"null" else f"{told[0]}i" if told[1] == b"Integer" else str(told[0])
+    return f"result {result}\nvalue {value}\nsteps {told[3]} words {told[4]}\n"
+
+
+class SeveralKeys(OneServer):
+    def test_invoke_all(self):
+        self.line.get("MSET", "a:1", 1, "a:2", "x", "a:4", 4)
+        self.line.get("LPUSH", "a:3", 1)
+        told = self.ask("JENTRY.INVOKEALL", self.add, 6, "a:1", "a:2", "a:3", "a:4", "a:5", "a", 10)
+        self.assertEqual([str(it) if isinstance(it, ReplyError) else it for it in told],
+                         [11, NOT_A_LONG, "WRONGTYPE Operation against a key holding the wrong kind of value", 14, 10, NO_KEY])
+        self.assertEqual(self.ask("MGET", "a:1", "a:2", "a:4", "a:5"), [b"11", b"x", b"14", b"10"])
+
+    def test_a_key_twice_and_what_is_thrown(self):
+        self.assertEqual(self.ask("JENTRY.INVOKEALL", self.add, 3, "a:1", "a:1", "a:1", 1), [1, 2, 3])
+        told = self.ask("JENTRY.INVOKEALL", self.add, 2, "a:1", "a:2")
+        self.assertEqual([str(it) for it in told], ["THREW 2 ArrayIndexOutOfBoundsException"] * 2)
+        limited = self.define(self.line, "BoundedIncrement")
+        self.assertEqual(self.ask("JENTRY.INVOKEALL", limited, 2, "a:1", "a:2", 3), [None, 1])
+
+    def test_errors_of_the_whole(self):
+        self.fails(self.ask("JENTRY.INVOKEALL", "0" * 40, 1, "a:1", 1), NO_CLASS)
+        self.fails(self.ask("JENTRY.INVOKEALL", self.add, 0, "a:1", 1), "ERR numkeys should be greater than 0")
+        self.fails(self.ask("JENTRY.INVOKEALL", self.add, -1, "a:1", 1), "ERR numkeys should be greater than 0")
+        self.fails(self.ask("JENTRY.INVOKEALL", self.add, "x", "a:1", 1), NOT_A_LONG)
+        self.fails(self.ask("JENTRY.INVOKEALL", self.add, 3, "a:1", 1), "ERR Number of keys can't be greater than number of args")
+        self.fails(self.ask("JENTRY.INVOKEALL", self.add, MOST, "a:1", 1), "ERR Number of keys can't be greater than number of args")
+        self.fails(self.ask("JENTRY.INVOKEALL", self.add, 1, "a:1", "x"), "ERR argument 1 is no long, Integer or null")
+        self.fails(self.ask("JENTRY.INVOKEALL", self.add, 1, "a:1", *range(9)), "ERR more than eight arguments")
+        self.assertEqual(self.ask("DBSIZE"), 0)
+
+
+class Applied(OneServer):
+    def apply(self, *words):
+        return self.ask("JENTRY.APPLY", *words)
+
+    def test_replies(self):
+        cas = self.define(self.line, "CompareAndSet")
+        self.assertEqual(self.apply(-1, -1, -1, "do", self.add, "v:1", 5), [5, b"Long", b"put", None, b"5", 23, 0])
+        self.assertEqual(self.apply(-1, -1, -1, "do", self.add, "v:1", 5), [10, b"Long", b"put", b"5", b"10", 29, 0])
+        self.assertEqual(self.apply(-1, -1, -1, "do", cas, "v:1", 1, 2)[:5], [0, b"Integer", b"keep", b"10", b"10"])
+        self.assertEqual(self.apply(-1, -1, -1, "do", cas, "v:1", 10, "null")[:5], [1, b"Integer", b"delete", b"10", None])
+        self.assertEqual(self.ask("EXISTS", "v:1"), 0)
+        self.assertEqual(self.apply(-1, -1, -1, "do", cas, "v:1", 1, 2)[:5], [0, b"Integer", b"keep", None, None])
+
+    def test_a_put_of_the_value_that_is_there(self):
+        self.line.get("SET", "v:1", 10, "PX", 100_000)
+        self.assertEqual(self.ask("JENTRY.DETAIL", self.add, "v:1", 0)[2], b"keep")
+        self.assertEqual(self.apply(-1, 5_000, -1, "do", self.add, "v:1", 0), [10, b"Long", b"put", b"10", b"10", 29, 0])
+        self.assertTrue(0 < self.ask("PTTL", "v:1") <= 5_000)
+
+    def test_a_removal_of_no_entry(self):
+        removes = self.line.get("JENTRY.DEFINE", row_classes().named("SetRemove"))[0]
+        self.assertEqual(self.apply(0, 0, 0, "do", removes, "v:1")[2:5], [b"keep", None, None])
+        self.line.get("SET", "v:1", 5)
+        self.assertEqual(self.apply(-1, -1, -1, "do", removes, "v:1")[2:5], [b"delete", b"5", None])
+        self.assertEqual(self.ask("EXISTS", "v:1"), 0)
+
+    def times(self, created, updated, accessed, before, argument, mode="do"):
+        """The time to live that is left of one of 100 s, -1 for none, -2 for no entry, and the reply."""
+        cas = self.define(self.line, "CompareAndSet")
+        self.line.get("DEL", "v:1")
+        if before is not None:
+            self.line.get("SET", "v:1", before, "PX", 100_000)
+        told = self.apply(created, updated, accessed, mode, cas, "v:1", "null" if before is None else before if argument else before + 1, 7)
+        return self.ask("PTTL", "v:1"), told
+
+    def test_times_of_a_created_entry(self):
+        self.assertEqual(self.times(-1, 5, 5, None, True)[0], -1)
+        self.assertEqual(self.times(-2, 5, 5, None, True)[0], -1)
+        self.assertTrue(0 < self.times(50_000, 5, 5, None, True)[0] <= 50_000)
+        left, told = self.times(0, 5, 5, None, True)
+        self.assertEqual((left, told[2:5]), (-2, [b"put", None, None]))
+
+    def test_times_of_an_updated_entry(self):
+        self.assertTrue(90_000 < self.times(5, -1, 5, 1, True)[0] <= 100_000)
+        self.assertEqual(self.times(5, -2, 5, 1, True)[0], -1)
+        self.assertTrue(0 < self.times(5, 50_000, 5, 1, True)[0] <= 50_000)
+        left, told = self.times(5, 0, 5, 1, True)
+        self.assertEqual((left, told[2:5]), (-2, [b"put", b"1", None]))
+
+    def test_times_of_an_accessed_entry(self):
+        self.assertTrue(90_000 < self.times(5, 5, -1, 1, False)[0] <= 100_000)
+        self.assertEqual(self.times(5, 5, -2, 1, False)[0], -1)
+        self.assertTrue(0 < self.times(5, 5, 50_000, 1, False)[0] <= 50_000)
+        left, told = self.times(5, 5, 0, 1, False)
+        self.assertEqual((left, told[2:5]), (-2, [b"keep", b"1", None]))
+
+    def test_dry_leaves_the_entry(self):
+        for times, before, argument in [((-1, -1, -1), 1, True), ((0, 0, 0), 1, True), ((0, 0, 0), 1, False), ((5, 5, 5), 1, True), ((5, 5, 5), None, True)]:
+            left, told = self.times(*times, before, argument, "dry")
+            self.assertTrue(left == -2 if before is None else 90_000 < left <= 100_000, left)
+            self.assertEqual(self.ask("GET", "v:1"), None if before is None else b"1")
+            if 5 not in times:
+                self.assertEqual(told, self.times(*times, before, argument)[1])
+        removes = self.line.get("JENTRY.DEFINE", row_classes().named("SetRemove"))[0]
+        self.line.get("SET", "v:1", 5)
+        self.assertEqual(self.apply(-1, -1, -1, "dry", removes, "v:1")[2:5], [b"delete", b"5", None])
+        self.assertEqual(self.ask("GET", "v:1"), b"5")
+
+    def test_errors(self):
+        for times in (("x", -1, -1), (-1, -3, -1), (-1, -1, ""), (-1, "1.5", -1)):
+            self.fails(self.apply(*times, "do", self.add, "v:1", 1), "ERR a time is milliseconds, 0, -1 or -2")
+        self.fails(self.apply(-1, -1, -1, "did", self.add, "v:1", 1), "ERR the mode is do or dry")
+        self.fails(self.apply(-1, -1, -1, "do", "0" * 40, "v:1", 1), NO_CLASS)
+        self.fails(self.apply(-1, -1, -1, "do", self.add, "v", 1), NO_KEY)
+        self.fails(self.apply(-1, -1, -1, "do", self.add, "v:1", "x"), "ERR argument 1 is no long, Integer or null")
+        self.fails(self.apply(-1, -1, -1, "do", self.add, "v:1", *range(9)), "ERR more than eight arguments")
+        self.fails(self.apply(-1, -1, -1, "DRY", self.add, "v:1"), "THREW 2 ArrayIndexOutOfBoundsException")
+        self.fails(self.apply(2**63 - 1, -1, -1, "do", self.add, "v:1", 1), "ERR invalid expire time in 'set' command")
+        self.line.get("LPUSH", "v:2", 1)
+        self.fails(self.apply(-1, -1, -1, "do", self.add, "v:2", 1), "WRONGTYPE Operation against a key holding the wrong kind of value")
+        self.assertEqual(self.ask("EXISTS", "v:1"), 0)
+
+
+class Counted(OneServer):
+    def test_info(self):
+        with Server() as server, server.open() as line:
+            add, file = self.define(line, "Add"), class_file("Add")
+            line.ask("JENTRY.INVOKE", add, "v:1", 5)
+            line.ask("JENTRY.INVOKE", add, "v:1", 5)
+            line.ask("JENTRY.INVOKE", add, "v:1")
+            line.ask("JENTRY.INVOKE", add, "v:1", "1i")
+            line.ask("JENTRY.INVOKE", add, "v", 1)
+            line.ask("JENTRY.DEFINE", class_file("refused/Loop"))
+            line.ask("JENTRY.DEFINE", class_file("refused/Loop"))
+            line.ask("JENTRY.DEFINE", class_file("refused/Text"))
+            told = {name: int(value) for name, value in line.info("jentry").items()}
+            self.assertEqual({name: value for name, value in told.items() if value}, {
+                "jentry_classes": 1, "jentry_class_bytes": len(file), "jentry_runs_total": 4, "jentry_steps_total": 23 + 29 + told_steps(told),
+                "jentry_exceptions_2_total": 1, "jentry_exceptions_4_total": 1, "jentry_refusals_20_total": 2, "jentry_refusals_17_total": 1})
+            self.assertLess(told_steps(told), 2 * 29)
+            self.assertEqual(len(told), 4 + 6 + 30 + 1)
+            line.get("JENTRY.FORGET", add)
+            self.assertEqual(line.info("jentry")["jentry_class_bytes"], "0")
+
+    def test_memory_is_redis_own(self):
+        with Server() as server, server.open() as line:
+            before = int(line.info("memory")["used_memory"])
+            plus = class_file("Plus").replace(b"\1\0\3Row", b"\1\0\7Row0000")
+            large = [plus.replace(b"Row0000", b"Row%04d" % number) for number in range(2000)]
+            for file in large:
+                line.get("JENTRY.DEFINE", file)
+            grown = int(line.info("memory")["used_memory"]) - before
+            self.assertGreater(grown, sum(map(len, large)))
+
+
+def told_steps(told):
+    """The steps of the two runs that threw."""
+    return told["jentry_steps_total"] - 23 - 29
+
+
+class Costly(ModuleTest):
+    def test_argument_and_config(self):
+        with Server(arguments=("max-steps", 28)) as server, server.open() as line:
+            self.fails(line.ask("JENTRY.DEFINE", class_file("Add")), "COSTLY steps 29, and this server takes 28")
+            self.assertEqual(line.get("JENTRY.LIST"), [])
+            self.assertEqual(line.info("jentry")["jentry_costly_total"], "1")
+            self.assertEqual(line.get("CONFIG", "GET", "jentry.max-steps"), [b"jentry.max-steps", b"28"])
+            self.assertEqual(line.get("CONFIG", "SET", "jentry.max-steps", 29), b"OK")
+            add = self.define(line, "Add")
+            self.assertEqual(line.get("CONFIG", "SET", "jentry.max-steps", 1), b"OK")
+            self.assertEqual(line.ask("JENTRY.INVOKE", add, "v:1", 1), 1)
+            self.assertEqual(self.define(line, "Add"), add)
+            for number in (0, 4_000_001, "x"):
+                self.assertIsInstance(line.ask("CONFIG", "SET", "jentry.max-steps", number), ReplyError)
+
+    def test_default(self):
+        with Server() as server, server.open() as line:
+            self.assertEqual(line.get("CONFIG", "GET", "jentry.max-steps"), [b"jentry.max-steps", b"200000"])
+
+    def test_wrong_words_of_the_module(self):
+        for words in (("max-steps",), ("max-steps", 0), ("max-steps", "x"), ("steps", 5), ("max-steps", 5, 6), ("max-steps", 4_000_001)):
+            with self.assertRaises(RuntimeError) as told:
+                Server(arguments=words).__exit__()
+            self.assertIn("the module's words are `max-steps N`", str(told.exception))
+
+    def test_replicas_and_files_take_what_was_taken(self):
+        with Server("--appendonly", "yes", arguments=("max-steps", 100)) as server, server.open() as line:
+            add = self.define(line, "Add")
+            with Server("--replicaof", f"127.0.0.1 {server.port}", arguments=("max-steps", 1)) as replica, replica.open() as other:
+                plus = self.define(line, "Plus")
+                line.get("WAIT", 1, 10_000)
+                self.assertEqual(sorted(row[0] for row in other.get("JENTRY.LIST")), sorted([add, plus]))
+            server.arguments = ("max-steps", 1)
+            server.restart()
+            with server.open() as again:
+                self.assertEqual(sorted(row[0] for row in again.get("JENTRY.LIST")), sorted([add, plus]))

@@ -1,0 +1,25 @@
+"""What the tests of the module share."""
+import hashlib
+import unittest
+
+from servers import MODULE, PROGRAM, REDIS, ReplyError, class_file
+
+LACKS = ("there is no redis-server (apt-get install redis-server)" if not REDIS else
+         "there is no module: JENTRY_REDIS_MODULE names it" if not MODULE else None)
+NEEDS_PROGRAM = unittest.skipIf(PROGRAM is None, "there is no built jentry")
+NO_CLASS = "NOCLASS no class of this id here: JENTRY.DEFINE it"
+
+
+@unittest.skipIf(LACKS, LACKS)
+class ModuleTest(unittest.TestCase):
+    def fails(self, told, text):
+        """Whether a reply is an error with just this text."""
+        self.assertIsInstance(told, ReplyError, told)
+        self.assertEqual(str(told), text)
+
+    def define(self, line, name):
+        """Defines an example. Its id."""
+        file = class_file(name)
+        told = line.get("JENTRY.DEFINE", file)
+        self.assertEqual(told[0].decode(), hashlib.sha1(file).hexdigest())
+        return told[0]

@@ -1,0 +1,234 @@
+"""Classes and values over restarts, in replicas, and what their files and streams hold."""
+import os
+import re
+
+from module_test import NO_CLASS, ModuleTest
+from servers import ReplyError, Server, class_file, wait_for
+
+
+def ids_of(line):
+    return [row[0] for row in line.get("JENTRY.LIST")]
+
+
+class Restarts(ModuleTest):
+    def fill(self, line):
+        """Two classes, of three that were defined, and a value."""
+        add, plus, gone = self.define(line, "Add"), self.define(line, "Plus"), self.define(line, "Ratio")
+        line.get("JENTRY.FORGET", gone)
+        line.get("JENTRY.INVOKE", add, "v:1", 41)
+        return add, plus
+
+    def holds(self, server, add, plus):
+        with server.open() as line:
+            self.assertEqual(ids_of(line), sorted([add, plus]))
+            self.assertEqual(line.get("JENTRY.CLASS", add), class_file("Add"))
+            self.assertEqual(line.ask("JENTRY.INVOKE", add, "v:1", 1), 42)
+
+    def test_rdb(self):
+        with Server() as server:
+            with server.open() as line:
+                add, plus = self.fill(line)
+                line.get("SAVE")
+            server.restart("kill")
+            self.holds(server, add, plus)
+
+    def test_rdb_in_the_background(self):
+        with Server() as server:
+            with server.open() as line:
+                add, plus = self.fill(line)
+                line.get("BGSAVE")
+                wait_for(lambda: line.info("persistence")["rdb_bgsave_in_progress"] == "0", "BGSAVE")
+                self.assertEqual(line.info("persistence")["rdb_last_bgsave_status"], "ok")
+            server.restart("kill")
+            self.holds(server, add, plus)
+
+    def test_aof(self):
+        with Server("--appendonly", "yes") as server:
+            with server.open() as line:
+                add, plus = self.fill(line)
+            server.restart()
+            self.holds(server, add, plus)
+
+    def test_aof_rewritten(self):
+        with Server("--appendonly", "yes") as server:
+            with server.open() as line:
+                add, plus = self.fill(line)
+                rewrite(line)
+            server.restart()
+            self.holds(server, add, plus)
+
+    def test_aof_that_is_always_synchronous_and_a_kill(self):
+        with Server("--appendonly", "yes", "--appendfsync", "always") as server:
+            with server.open() as line:
+                add, plus = self.fill(line)
+            server.restart("kill")
+            self.holds(server, add, plus)
+
+    def test_classes_outlive_flushall(self):
+        with Server() as server, server.open() as line:
+            add, plus = self.fill(line)
+            line.get("FLUSHALL")
+            self.assertEqual(ids_of(line), sorted([add, plus]))
+
+    def test_a_load_replaces_all_classes(self):
+        with Server("--enable-debug-command", "yes") as server, server.open() as line:
+            add, plus = self.fill(line)
+            line.get("SAVE")
+            line.get("JENTRY.FORGET", plus)
+            self.define(line, "Lease")
+            line.get("DEBUG", "RELOAD", "NOSAVE")
+            self.assertEqual(ids_of(line), sorted([add, plus]))
+            self.assertEqual(line.ask("JENTRY.INVOKE", add, "v:1", 1), 42)
+
+    def test_a_class_that_is_refused_now_is_left_out(self):
+        with Server("--rdbcompression", "no", "--rdbchecksum", "no") as server:
+            with server.open() as line:
+                add, plus = self.fill(line)
+                line.get("SAVE")
+            path = os.path.join(server.folder, "dump.rdb")
+            with open(path, "rb") as file:
+                saved = file.read()
+            self.assertEqual(saved.count(class_file("Plus")), 1)
+            place = saved.index(class_file("Plus"))
+            with open(path, "wb") as file:
+                file.write(saved[:place] + b"\xca\xfe\xba\xbf" + saved[place + 4:])
+            server.restart("kill")
+            with server.open() as line:
+                self.assertEqual(ids_of(line), [add])
+                self.assertEqual(line.ask("JENTRY.INVOKE", add, "v:1", 1), 42)
+                self.fails(line.ask("JENTRY.INVOKE", plus, "v:1"), NO_CLASS)
+            self.assertIn("a class of the file is left out: REFUSED 3 BadMagic", server.log())
+
+
+def rewrite(line):
+    """Has the AOF rewritten."""
+    wait_for(lambda: line.info("persistence")["aof_rewrite_in_progress"] == "0", "an earlier rewrite")
+    line.get("BGREWRITEAOF")
+    wait_for(lambda: line.info("persistence")["aof_rewrite_in_progress"] == "0" and line.info("persistence")["aof_rewrite_scheduled"] == "0", "the rewrite")
+
+
+class Pitfalls(ModuleTest):
+    def test_a_rewrite_without_an_rdb_part_loses_classes(self):
+        with Server("--appendonly", "yes", "--aof-use-rdb-preamble", "no") as server:
+            self.assertIn("aof-use-rdb-preamble is no: a rewrite of the AOF loses the classes", server.log())
+            with server.open() as line:
+                add = self.define(line, "Add")
+                line.get("JENTRY.INVOKE", add, "v:1", 41)
+            server.restart()
+            with server.open() as line:
+                self.assertEqual(ids_of(line), [add])
+                rewrite(line)
+            server.restart()
+            with server.open() as line:
+                self.assertEqual(ids_of(line), [])
+                self.fails(line.ask("JENTRY.INVOKE", add, "v:1", 1), NO_CLASS)
+                self.define(line, "Add")
+                self.assertEqual(line.ask("JENTRY.INVOKE", add, "v:1", 1), 42)
+        with Server() as server:
+            self.assertNotIn("aof-use-rdb-preamble", server.log())
+
+    def test_a_file_with_the_module_is_not_read_without_it(self):
+        with Server() as server:
+            with server.open() as line:
+                line.get("SAVE")
+            server.module = False
+            with self.assertRaises(RuntimeError) as told:
+                server.restart()
+            self.assertIn("AUX module data I can't load", str(told.exception))
+            server.module = True
+            server.start()
+            with server.open() as line:
+                self.assertEqual(ids_of(line), [])
+
+    def test_replication_of_a_new_server_waits_for_its_delay(self):
+        with Server() as master, master.open() as line:
+            self.assertEqual(line.get("CONFIG", "GET", "repl-diskless-sync-delay")[1], b"0")
+            line.get("CONFIG", "SET", "repl-diskless-sync-delay", 2)
+            add = self.define(line, "Add")
+            with Server("--replicaof", f"127.0.0.1 {master.port}") as replica, replica.open() as other:
+                self.assertEqual(ids_of(other), [])
+                wait_for(lambda: ids_of(other) == [add], "the classes")
+
+
+class Replicas(ModuleTest):
+    def test_a_replica_has_classes_and_values(self):
+        with Server() as master, master.open() as line:
+            add = self.define(line, "Add")
+            line.get("JENTRY.INVOKE", add, "v:1", 5)
+            with Server("--replicaof", f"127.0.0.1 {master.port}") as replica, replica.open() as other:
+                wait_for(lambda: other.info("replication")["master_link_status"] == "up", "the link")
+                plus = self.define(line, "Plus")
+                line.get("JENTRY.INVOKE", add, "v:1", 6)
+                line.get("JENTRY.FORGET", self.define(line, "Ratio"))
+                self.assertEqual(line.ask("WAIT", 1, 10_000), 1)
+                self.assertEqual((ids_of(other), other.ask("GET", "v:1")), (sorted([add, plus]), b"11"))
+                self.assertEqual(other.ask("OBJECT", "ENCODING", "v:1"), b"int")
+                master.end("kill")
+                other.get("REPLICAOF", "NO", "ONE")
+                self.assertEqual(other.ask("JENTRY.INVOKE", add, "v:1", 1), 12)
+
+    def test_a_replica_that_takes_over_drops_its_own_classes(self):
+        with Server() as master, Server() as replica, master.open() as line, replica.open() as other:
+            add = self.define(line, "Add")
+            self.define(other, "Plus")
+            other.get("REPLICAOF", "127.0.0.1", master.port)
+            wait_for(lambda: other.info("replication").get("master_link_status") == "up", "the link")
+            self.assertEqual(ids_of(other), [add])
+
+    def test_what_is_sent(self):
+        """Replicas are sent plain commands: never a call of a processor, and nothing of one that leaves the entry."""
+        with Server() as server, server.open() as line, server.open() as watcher:
+            watcher.line.settimeout(30)
+            add, cas = self.define(line, "Add"), self.define(line, "CompareAndSet")
+            watcher.send("PSYNC", "?", "-1")
+            stream = watcher.file
+            self.assertTrue(stream.readline().startswith(b"+FULLRESYNC"))
+            head = stream.readline().strip()
+            while not head.startswith(b"$"):
+                head = stream.readline().strip()
+            if head.startswith(b"$EOF:"):
+                mark, data = head[5:], b""
+                while not data.endswith(mark):
+                    data += stream.read(1)
+            else:
+                stream.read(int(head[1:]))
+            line.get("JENTRY.INVOKE", add, "v:1", 5)
+            line.get("JENTRY.INVOKE", add, "v:1", 0)
+            line.get("JENTRY.PEEK", cas, "v:1", 7, 8)
+            line.ask("JENTRY.INVOKE", add, "v:1")
+            line.get("JENTRY.INVOKE", cas, "v:1", 5, "null")
+            line.get("JENTRY.INVOKEALL", add, 2, "v:1", "v:2", 3)
+            line.get("JENTRY.APPLY", 100_000, -1, -1, "do", add, "v:3", 3)
+            line.get("JENTRY.APPLY", -1, -1, -1, "dry", add, "v:3", 3)
+            self.define(line, "Add")
+            plus = self.define(line, "Plus")
+            line.get("JENTRY.FORGET", plus)
+            line.get("JENTRY.FORGET", plus)
+            line.get("SET", "end", 1)
+            sent = []
+            while sent[-1:] != [[b"SET", b"end", b"1"]]:
+                words = watcher.take()
+                if words[0].upper() not in (b"PING", b"SELECT", b"REPLCONF"):
+                    sent.append(words)
+            self.assertEqual(re.fullmatch(rb"1\d{12}", sent[6].pop()) is not None, True)
+            self.assertEqual(sent, [
+                [b"SET", b"v:1", b"5", b"KEEPTTL"], [b"DEL", b"v:1"],
+                [b"MULTI"], [b"SET", b"v:1", b"3", b"KEEPTTL"], [b"SET", b"v:2", b"3", b"KEEPTTL"], [b"EXEC"],
+                [b"SET", b"v:3", b"3", b"PXAT"],
+                [b"JENTRY.DEFINE", class_file("Plus")], [b"JENTRY.FORGET", plus], [b"SET", b"end", b"1"]])
+
+
+class Diskless(ModuleTest):
+    def test_a_load_that_breaks_off_keeps_the_classes(self):
+        with Server("--repl-diskless-load", "swapdb") as replica, replica.open() as other:
+            add = self.define(other, "Add")
+            with Server() as master, master.open() as line:
+                plus = self.define(line, "Plus")
+                other.get("REPLICAOF", "127.0.0.1", master.port)
+                wait_for(lambda: other.info("replication").get("master_link_status") == "up", "the link")
+                self.assertEqual(ids_of(other), [plus])
+            other.get("REPLICAOF", "NO", "ONE")
+            self.assertEqual(ids_of(other), [plus])
+            self.assertNotIn(add, ids_of(other))
+            self.assertNotIsInstance(other.ask("JENTRY.INVOKE", plus, "v:1"), bytes)
+            self.assertIsInstance(other.ask("JENTRY.INVOKE", add, "v:1", 1), ReplyError)

@@ -1,0 +1,122 @@
+"""Random commands with random words, and hostile classes: the server stays up, and what it replies is a reply.
+
+JENTRY_RANDOM is how many commands are sent, JENTRY_PRELOAD a library that the server is started with (that of an address sanitizer).
+"""
+import os
+import random
+
+from module_test import ModuleTest
+from servers import ReplyError, Server, class_file, examples, row_classes
+
+COMMANDS = int(os.environ.get("JENTRY_RANDOM", 5_000))
+NAMES = ["DEFINE", "INVOKE", "INVOKE", "INVOKE", "DETAIL", "PEEK", "APPLY", "INVOKEALL", "LIST", "CLASS", "EXPLAIN", "FORGET"]
+LEAST, MOST = -2**63, 2**63 - 1
+
+
+def damaged(file, chosen):
+    """A class file with some bytes changed, cut or repeated."""
+    file = bytearray(file)
+    for _ in range(chosen.randrange(4)):
+        place = chosen.randrange(len(file)) if file else 0
+        kind = chosen.randrange(4)
+        if kind == 0 and file:
+            file[place] = chosen.randrange(256)
+        elif kind == 1:
+            del file[place:place + chosen.randrange(20)]
+        elif kind == 2:
+            file[place:place] = bytes(chosen.randrange(256) for _ in range(chosen.randrange(8)))
+        else:
+            del file[place:]
+    return bytes(file)
+
+
+class Words:
+    """Random words for each place of a command, most of them nearly right."""
+
+    def __init__(self, seed):
+        self.chosen = random.Random(seed)
+        self.files = [class_file(name) for name in examples() + examples("refused")]
+        self.ids = ["0" * 40, "", "x" * 40]
+
+    def number(self):
+        return self.chosen.choice([0, 1, -1, 7, LEAST, MOST, 2**31, 2**63, 10**30, self.chosen.getrandbits(63)])
+
+    def junk(self):
+        return self.chosen.choice([b"", b"\0", b"\xff" * 40, b"-", b":", b"i", b"null", b"1i", b"\r\n", b"%s%n", b"9" * 40, bytes(self.chosen.randrange(256) for _ in range(self.chosen.randrange(60)))])
+
+    def key(self):
+        return self.chosen.choice([f"k:{self.chosen.randrange(8)}", f"k:{self.number()}", "k:0007", "list:1", "text:1", f"{self.number()}", self.junk()])
+
+    def args(self):
+        return [self.chosen.choice([self.number(), f"{self.chosen.randrange(-5, 5)}i", "null", self.junk()]) if self.chosen.random() < 0.2 else self.chosen.randrange(10)
+                for _ in range(self.chosen.choice([0, 1, 1, 2, 3, 8, 9]))]
+
+    def command(self):
+        name = self.chosen.choice(NAMES)
+        some_id, file = self.chosen.choice(self.ids), self.chosen.choice(self.files)
+        if name in ("DEFINE", "EXPLAIN"):
+            words = [damaged(file, self.chosen) if self.chosen.random() < 0.6 else file]
+        elif name in ("CLASS", "FORGET"):
+            words = [some_id]
+        elif name == "LIST":
+            words = []
+        elif name == "APPLY":
+            times = [self.chosen.choice([-2, -1, 0, 1, 1000, self.number()]) for _ in range(3)]
+            words = [*times, self.chosen.choice(["do", "dry", "DO", self.junk()]), some_id, self.key(), *self.args()]
+        elif name == "INVOKEALL":
+            keys = [self.key() for _ in range(self.chosen.randrange(5))]
+            count = len(keys) if self.chosen.random() < 0.8 else self.number()
+            words = [some_id, count, *keys, *self.args()]
+        else:
+            words = [some_id, self.key(), *self.args()]
+        if self.chosen.random() < 0.05:
+            words = words[:self.chosen.randrange(len(words) + 1)] + [self.junk() for _ in range(self.chosen.randrange(3))]
+        return ["JENTRY." + name, *words]
+
+
+class RandomCommands(ModuleTest):
+    def test_no_crash(self):
+        words = Words(60)
+        with Server() as server, server.open() as line:
+            line.get("LPUSH", "list:1", 1)
+            line.get("SET", "text:1", "x")
+            counted = {"replies": 0, "errors": 0}
+            for _ in range(COMMANDS):
+                command = words.command()
+                told = line.ask(*command)
+                counted["errors" if isinstance(told, ReplyError) else "replies"] += 1
+                if command[0] == "JENTRY.DEFINE" and isinstance(told, list):
+                    words.ids = (words.ids + [told[0]])[-12:]
+            self.assertGreater(counted["replies"], COMMANDS // 5)
+            self.assertGreater(counted["errors"], COMMANDS // 5)
+            self.assertEqual(line.ask("PING"), b"PONG")
+            add = self.define(line, "Add")
+            line.get("SET", "sum:1", 1)
+            self.assertEqual(line.ask("JENTRY.INVOKE", add, "sum:1", 1), 2)
+            self.assertNotIn("AddressSanitizer", server.log())
+            print(f"random commands: {counted}", flush=True)
+
+    def test_hostile_classes(self):
+        with Server() as server, server.open() as line:
+            for name, file in hostile_classes():
+                with self.subTest(name=name):
+                    for command in ("JENTRY.EXPLAIN", "JENTRY.DEFINE"):
+                        told = line.ask(command, file)
+                        self.assertIsInstance(told, (list, bytes, ReplyError))
+            self.assertEqual(line.ask("PING"), b"PONG")
+
+
+def hostile_classes():
+    """Classes of up to 64 KB that are dear to read or to judge."""
+    rows = row_classes()
+    yield "most bytes", class_file("Plus") + bytes(65_536 - len(class_file("Plus")))
+    yield "too many bytes", class_file("Plus") + bytes(65_537 - len(class_file("Plus")))
+    yield "zeroes", bytes(65_536)
+    yield "magic and ones", b"\xca\xfe\xba\xbe" + b"\xff" * 65_532
+    yield "a pool of names", b"\xca\xfe\xba\xbe\0\0\0\x34\xff\xff" + b"\1\0\0" * 21_842
+    yield "a pool of longs", b"\xca\xfe\xba\xbe\0\0\0\x34\xff\xff" + b"\5\0\0\0\0\0\0\0\0" * 7_280
+    yield "a pool of references", b"\xca\xfe\xba\xbe\0\0\0\x34\xff\xff" + b"\x0a\xff\xfe\xff\xfe" * 13_104
+    yield "many joins", rows.diamond(8000)
+    yield "a line of calls", rows.line_of(63, 2)
+    for name in ("TooLarge", "TooManySteps", "TwoBigArrays", "DeepChain"):
+        yield name, class_file("refused/" + name)

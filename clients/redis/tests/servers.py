@@ -1,0 +1,211 @@
+"""Redis servers with the module, on ports of their own, and a connection that speaks RESP.
+
+JENTRY_REDIS_MODULE names the built module, JENTRY_PROGRAM the built `jentry`, if it is there.
+"""
+import importlib
+import os
+import random
+import shutil
+import socket
+import subprocess
+import sys
+import tempfile
+import time
+
+HERE = os.path.dirname(os.path.abspath(__file__))
+EXAMPLES = os.path.join(HERE, "../../../examples")
+MODULE = os.environ.get("JENTRY_REDIS_MODULE")
+PROGRAM = os.environ.get("JENTRY_PROGRAM")
+REDIS = shutil.which("redis-server")
+PATIENCE = 120
+PORTS = range(20_000, 50_000)
+BUS = 10_000
+"""A node's cluster bus listens on its port and this."""
+
+
+class ReplyError(Exception):
+    """An error that a server replied."""
+
+
+def is_free(port):
+    with socket.socket() as tried:
+        try:
+            tried.bind(("127.0.0.1", port))
+        except OSError:
+            return False
+    return True
+
+
+def free_port():
+    """A port that nobody listens on, and neither on that of its cluster bus."""
+    for _ in range(1000):
+        port = random.choice(PORTS)
+        if is_free(port) and is_free(port + BUS):
+            return port
+    raise OSError("there is no free port")
+
+
+def bytes_of(word):
+    return word if isinstance(word, bytes) else str(word).encode()
+
+
+class Connection:
+    """A connection to a server. Texts are bytes, and an error is a ReplyError that `ask` gives and doesn't raise."""
+
+    def __init__(self, port):
+        self.port = port
+        self.line = socket.create_connection(("127.0.0.1", port), PATIENCE)
+        self.line.setsockopt(socket.IPPROTO_TCP, socket.TCP_NODELAY, 1)
+        self.file = self.line.makefile("rb")
+
+    def __enter__(self):
+        return self
+
+    def __exit__(self, *_):
+        self.close()
+
+    def close(self):
+        self.file.close()
+        self.line.close()
+
+    def send(self, *words):
+        words = [bytes_of(word) for word in words]
+        self.line.sendall(b"*%d\r\n" % len(words) + b"".join(b"$%d\r\n%s\r\n" % (len(word), word) for word in words))
+
+    def take(self):
+        """The next reply."""
+        head = self.file.readline()
+        if not head.endswith(b"\r\n"):
+            raise EOFError("the server closed the connection")
+        kind, rest = head[:1], head[1:-2]
+        if kind == b"-":
+            return ReplyError(rest.decode())
+        if kind == b"+":
+            return rest
+        if kind == b":":
+            return int(rest)
+        count = int(rest)
+        if count < 0:
+            return None
+        if kind == b"*":
+            return [self.take() for _ in range(count)]
+        text = self.file.read(count + 2)
+        if len(text) != count + 2:
+            raise EOFError("the server closed the connection")
+        return text[:-2]
+
+    def ask(self, *words):
+        self.send(*words)
+        return self.take()
+
+    def get(self, *words):
+        """The same for a command that has to be done."""
+        told = self.ask(*words)
+        if isinstance(told, ReplyError):
+            raise told
+        return told
+
+    def info(self, section):
+        """The fields of a section of INFO."""
+        lines = self.get("INFO", section).decode().splitlines()
+        return dict(line.split(":", 1) for line in lines if ":" in line)
+
+
+class Server:
+    """A redis-server with the module. Behind the `with` it is gone, and so is its folder."""
+
+    def __init__(self, *options, module=True, arguments=()):
+        self.options, self.module, self.arguments = options, module, arguments
+        self.folder = tempfile.mkdtemp(prefix="jentry-redis-")
+        self.port = free_port()
+        self.process = None
+        try:
+            self.start()
+        except BaseException:
+            self.__exit__()
+            raise
+
+    def start(self):
+        """Starts it, anew where it has ended, with the files that it left."""
+        words = [REDIS, "--port", str(self.port), "--bind", "127.0.0.1", "--dir", self.folder, "--save", "", "--repl-diskless-sync-delay", "0"]
+        words += [str(option) for option in self.options]
+        words += ["--loadmodule", MODULE, *map(str, self.arguments)] if self.module else []
+        with open(self.log_path(), "ab") as log:
+            self.process = subprocess.Popen(words, stdin=subprocess.DEVNULL, stdout=log, stderr=subprocess.STDOUT)
+        wait_for(self.is_up, "the server's start", lambda: self.log()[-2000:])
+
+    def is_up(self):
+        if self.process.poll() is not None:
+            raise RuntimeError("the server has ended:\n" + self.log()[-2000:])
+        try:
+            with self.open() as line:
+                return line.ask("PING") == b"PONG"
+        except OSError:
+            return False
+
+    def log_path(self):
+        return os.path.join(self.folder, "log")
+
+    def log(self):
+        with open(self.log_path(), encoding="utf-8", errors="replace") as log:
+            return log.read()
+
+    def open(self):
+        return Connection(self.port)
+
+    def end(self, by="terminate"):
+        """Ends it: by a signal that it handles, or by `kill`."""
+        if self.process and self.process.poll() is None:
+            getattr(self.process, by)()
+            self.process.wait(PATIENCE)
+
+    def restart(self, by="terminate"):
+        self.end(by)
+        self.start()
+
+    def __enter__(self):
+        return self
+
+    def __exit__(self, *_):
+        self.end("kill")
+        shutil.rmtree(self.folder, ignore_errors=True)
+
+
+def wait_for(holds, what, more=lambda: "", seconds=PATIENCE):
+    """Waits until something holds."""
+    until = time.monotonic() + seconds
+    while not holds():
+        if time.monotonic() > until:
+            raise TimeoutError(f"waited {seconds} s for {what}\n{more()}")
+        time.sleep(0.05)
+
+
+def path_of(name):
+    """The path of the class file of an example, or of a refused one, `refused/NAME`."""
+    return os.path.join(EXAMPLES, name + ".class")
+
+
+def class_file(name):
+    """The class file of an example, or of a refused one."""
+    with open(path_of(name), "rb") as file:
+        return file.read()
+
+
+def row_classes():
+    """The module that makes the classes of the program's tests."""
+    folder = os.path.join(HERE, "../../../tests/program")
+    if folder not in sys.path:
+        sys.path.append(folder)
+    return importlib.import_module("row_classes")
+
+
+def examples(folder=""):
+    """The names of all examples of a folder."""
+    names = sorted(os.listdir(os.path.join(EXAMPLES, folder)))
+    return [os.path.join(folder, name[:-6]) for name in names if name.endswith(".class")]
+
+
+def program(*words):
+    """What `jentry` prints of these words."""
+    done = subprocess.run([PROGRAM, *map(str, words)], stdout=subprocess.PIPE, stderr=subprocess.STDOUT, text=True, timeout=PATIENCE)
+    return done.stdout
