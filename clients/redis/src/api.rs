@@ -184,6 +184,8 @@ interface! {
     call "Call": unsafe extern "C" fn(*mut Context, *const c_char, *const c_char, ...) -> *mut Reply;
     log "Log": Log;
     log_io "LogIOError": unsafe extern "C" fn(*mut Io, *const c_char, *const c_char, ...);
+    is_keys_request "IsKeysPositionRequest": unsafe extern "C" fn(*mut Context) -> c_int;
+    key_at "KeyAtPosWithFlags": unsafe extern "C" fn(*mut Context, c_int, c_int);
     wrong_arity "WrongArity": unsafe extern "C" fn(*mut Context) -> c_int;
     text_bytes "StringPtrLen": unsafe extern "C" fn(*const Text, *mut usize) -> *const u8;
     reply_error "ReplyWithError": unsafe extern "C" fn(*mut Context, *const c_char) -> c_int;

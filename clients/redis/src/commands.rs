@@ -6,6 +6,7 @@ use crate::apply::apply;
 use crate::define::{class, define, explain, forget, list, receive};
 use crate::run::{detail, invoke, invoke_all, peek};
 use crate::server::{api, Answer, Server, Words};
+use crate::words::long_of;
 use std::mem::size_of;
 use std::os::raw::c_int;
 use std::ptr::null;
@@ -40,10 +41,24 @@ macro_rules! exported {
     }};
 }
 
+/// Tells the server the places of the keys behind a count, where it asks: 7.0 sends a command of a cluster's to its node by this, and
+/// reads the key specs for rights alone.
+unsafe fn tell_keys(context: *mut Context, words: Words) {
+    let count = words.bytes(2).ok().and_then(long_of).and_then(|count| c_int::try_from(count).ok()).unwrap_or(0);
+    let most = c_int::try_from(words.from(3).count()).unwrap_or(0);
+    for place in 3..3 + count.clamp(0, most) {
+        (api().key_at)(context, place, KEY_WRITTEN as c_int);
+    }
+}
+
 /// Runs a command, and replies its error where it has one.
 unsafe fn run(command: fn(Server, Words) -> Answer, context: *mut Context, argv: *mut *mut Text, argc: c_int) -> c_int {
-    let server = Server::of(context);
-    if let Err(failure) = command(server, Words::of(argv, argc)) {
+    let (server, words) = (Server::of(context), Words::of(argv, argc));
+    if (api().is_keys_request)(context) != 0 {
+        tell_keys(context, words);
+        return OK;
+    }
+    if let Err(failure) = command(server, words) {
         server.reply_failure(failure);
     }
     OK
@@ -53,6 +68,7 @@ fn rows() -> [Row; 10] {
     let row = |name, command, flags, arity, summary| Row { name, command, flags, arity, keys: Keys::None, access: 0, summary };
     let on = |keys, access, row| Row { keys, access, ..row };
     let (reads, writes): (&[u8], &[u8]) = (b"readonly\0", b"write deny-oom\0");
+    let writes_several = b"write deny-oom getkeys-api\0";
     [
         row(b"jentry.define\0", exported!(define), writes, 2, b"Judges a processor's class file and keeps the class\0"),
         row(b"jentry.forget\0", exported!(forget), b"write\0", 2, b"Forgets a class\0"),
@@ -63,7 +79,7 @@ fn rows() -> [Row; 10] {
         on(Keys::At(2), KEY_WRITTEN, row(b"jentry.detail\0", exported!(detail), writes, -3, b"Runs a class on an entry and tells all of its end\0")),
         on(Keys::At(2), KEY_READ, row(b"jentry.peek\0", exported!(peek), reads, -3, b"Runs a class that leaves the entry as it is\0")),
         on(Keys::At(6), KEY_WRITTEN, row(b"jentry.apply\0", exported!(apply), writes, -7, b"Runs a class on an entry with times to live\0")),
-        on(Keys::Counted(2), KEY_WRITTEN, row(b"jentry.invokeall\0", exported!(invoke_all), writes, -4, b"Runs a class on several entries\0")),
+        on(Keys::Counted(2), KEY_WRITTEN, row(b"jentry.invokeall\0", exported!(invoke_all), writes_several, -4, b"Runs a class on several entries\0")),
     ]
 }
 
