@@ -126,9 +126,16 @@ class Tables(unittest.TestCase):
         self.assertEqual([(row[1], row[0]) for row in page["Fault"]], faults)
 
     def test_the_page_for_authors_has_each_refusal(self):
-        text = text_of("docs/PROCESSORS.md")
-        for row in rows_of("refusals"):
-            self.assertRegex(text, rf"{row['number']}\W+{row['name']}\b")
+        """By a heading, or by a row of a table with one number or several, and their names in that order."""
+        page = "docs/PROCESSORS.md"
+        found = dict(re.findall(r"^### (\d+) (\w+)", text_of(page), re.M))
+        for _, rows in tables_of(page):
+            for row in rows:
+                if re.fullmatch(r"\d+(, \d+)*", row[0]):
+                    listed_names = [it for it in re.findall(r"\b[A-Z]\w+\b", row[1]) if it in names("refusals")]
+                    found.update(zip(row[0].split(", "), listed_names))
+        wanted = {row["number"]: row["name"] for row in rows_of("refusals")}
+        self.assertEqual({number: found.get(number) for number in wanted}, wanted)
 
 
 if __name__ == "__main__":
