@@ -15,7 +15,7 @@ PROGRAM = os.environ.get("JENTRY_PROGRAM")
 class Commands(unittest.TestCase):
     def test_pages_show_what_is_printed(self):
         shown = [(page, *it) for page in pages.pages_of_the_repository() for it in pages.commands_of(page)]
-        self.assertGreater(len(shown), 60)
+        self.assertGreater(len(shown), 30)
         self.assertLessEqual(
             {"docs/PROTOCOL.md", "docs/PROCESSORS.md", "examples/README.md", "README.md"}, {it[0] for it in shown}
         )

@@ -63,11 +63,11 @@ class Repository(unittest.TestCase):
                 ("bin/lint", text_of("bin/lint")),
                 (
                     "lint/words.tsv",
-                    "word\tinstead\twhere\nweave\ttranslate\tcrates/verify\ncrates/linked/\tcrates/vmcode/\t.\n",
+                    "word\tinstead\twhere\nweave\ttranslate\tcrates/verify\ncrates/older/\tcrates/newer/\t.\n",
                 ),
                 ("lint/phrases.tsv", "phrase\tinstead\nso many\ta number\n"),
                 ("crates/verify/src/lib.rt", "fn weave() {}\nfn weaver() {}\n"),
-                ("docs/A.md", "Read crates/linked/src.\nThere are so many.\n"),
+                ("docs/A.md", "Read crates/older/src.\nThere are so many.\n"),
             ):
                 os.makedirs(os.path.dirname(os.path.join(folder, path)), exist_ok=True)
                 with open(os.path.join(folder, path), "w", encoding="utf-8") as it:
@@ -84,7 +84,7 @@ class Repository(unittest.TestCase):
                     "docs/A.md:2: 'so many': write a number",
                     "lint pages: 1 lines above",
                     "crates/verify/src/lib.rt:1:fn weave() {}: write translate",
-                    "docs/A.md:1:Read crates/linked/src.: write crates/vmcode/",
+                    "docs/A.md:1:Read crates/older/src.: write crates/newer/",
                     "lint words: 2 lines above",
                     "0 passed, 2 failed",
                 ],
