@@ -6,6 +6,7 @@ import java.util.Set;
 import org.objectweb.asm.ClassReader;
 import org.objectweb.asm.ClassWriter;
 import org.objectweb.asm.MethodTooLargeException;
+import org.objectweb.asm.Opcodes;
 import org.objectweb.asm.tree.ClassNode;
 import org.objectweb.asm.tree.MethodNode;
 import jentry.compiler.profile.Bounds;
@@ -50,7 +51,14 @@ public final class ProcessorCompiler {
     /** Whether a class file implements EntryProcessor itself, or has lambdas that do. */
     public static boolean hasProcessors(byte[] classFile) throws CompileException {
         ClassNode node = read(classFile);
-        return node.interfaces.contains(Members.PROCESSOR) || !Lambdas.of(node).isEmpty();
+        return isProcessor(node) || !Lambdas.of(node).isEmpty();
+    }
+
+    /** Whether a class is a processor, or would be one if it named the interface itself. */
+    private static boolean isProcessor(ClassNode node) {
+        MethodNode process = Instructions.method(node, "process", Members.PROCESS);
+        return node.interfaces.contains(Members.PROCESSOR) && (node.access & Opcodes.ACC_INTERFACE) == 0
+            || process != null && (process.access & Opcodes.ACC_ABSTRACT) == 0;
     }
 
     /**
@@ -82,7 +90,7 @@ public final class ProcessorCompiler {
         List<CompiledClass> compiled = new ArrayList<>();
         List<Problem> problems = new ArrayList<>();
         List<Lambdas.Lambda> lambdas = Lambdas.of(read(classFile));
-        if (node.interfaces.contains(Members.PROCESSOR)) {
+        if (isProcessor(node)) {
             try {
                 compiled.add(compileClass(node, classFile));
             } catch (CompileException e) {
@@ -179,9 +187,8 @@ public final class ProcessorCompiler {
             LoopUnroller unroller = new LoopUnroller(node);
             long steps = unroller.steps();
             List<MethodNode> methods = List.copyOf(node.methods);
-            CodeWriter.Form form = isVerbatim ? CodeWriter.Form.VERBATIM : CodeWriter.Form.FOLDED;
-            List<String> unrolled = unroller.rewrite(form);
-            byte[] bytes = isVerbatim || fits(node) ? toBytes(node) : null;
+            List<String> unrolled = unroller.rewrite(isVerbatim ? CodeWriter.Form.VERBATIM : CodeWriter.Form.FOLDED);
+            byte[] bytes = isVerbatim ? toBytes(node) : toBytesThatFit(node);
             if (bytes == null) {
                 node.methods = new ArrayList<>(methods);
                 unrolled = unroller.rewrite(CodeWriter.Form.SHORT);
@@ -196,11 +203,12 @@ public final class ProcessorCompiler {
         }
     }
 
-    private static boolean fits(ClassNode node) {
+    private static byte[] toBytesThatFit(ClassNode node) {
         try {
-            return toBytes(node).length <= MOST_BYTES;
+            byte[] bytes = toBytes(node);
+            return bytes.length <= MOST_BYTES ? bytes : null;
         } catch (CompileException e) {
-            return false;
+            return null;
         }
     }
 

@@ -17,8 +17,8 @@ import org.junit.jupiter.api.Test;
 /** The processors of the repository: those that are accepted stay as they are, and some that are refused become accepted. */
 class ExamplesTest {
     private static final Path TOP = Javac.HERE.resolve("../..");
-    private static final List<String> COMPILED = List.of("Assertion", "BoxedConstant", "ByteArray", "FieldInitialiser", "Loop", "Main", "NewerVersion",
-        "StaticTable", "TextOfItself", "TryCatch", "UnknownCall", "VariableLength", "VoidResult");
+    private static final List<String> COMPILED = List.of("Assertion", "BoxedConstant", "ByteArray", "DeclaredComparable", "DoubleParameter", "FieldInitialiser",
+        "Loop", "Main", "NewerVersion", "StaticTable", "TextOfItself", "TryCatch", "UnknownCall", "VariableLength", "VoidResult");
 
     private static Map<String, byte[]> classesOf(String folder) throws IOException {
         Map<String, byte[]> classes = new TreeMap<>();

@@ -97,7 +97,7 @@ class PassesTest {
 
     @Test
     void classesOfNewerJavas() {
-        for (String release : List.of("9", "11", "17")) {
+        for (String release : List.of("11", "17")) {
             CompiledClass compiled = same("Object", "long s = 0; for (var one : args) { s += half(one); } assert s != 4; return s;",
                 "private long half(Object one) { return one instanceof Long ? (Long) one / 2 : 0; }\nstatic class Inner { }\n"
                 + "public static void main(String[] words) { System.out.println(words.length); }\n@Override public String toString() { return \"P\"; }", release);

@@ -67,7 +67,7 @@ class RefusalTest {
     @Test
     void everyProblemIsTold() {
         String refusal = refusal("Object", "double d = 1;\nString s = \"x\";\nreturn System.nanoTime();", "");
-        assertEquals(4, refusal.lines().count(), refusal);
+        assertEquals(3, refusal.lines().count(), refusal);
         assertTrue(refusal.contains("line 4: ") && refusal.contains("line 5: ") && refusal.contains("line 6: "), refusal);
     }
 

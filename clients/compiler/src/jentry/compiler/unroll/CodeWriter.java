@@ -56,6 +56,7 @@ public final class CodeWriter implements Opcodes {
         if (form != Form.VERBATIM) {
             new DeadCode(code, graph).eliminate();
         }
+        DeadCode.dropLabels(code);
         MethodNode made = new MethodNode(ASM9, old.access, old.name, old.desc, old.signature, old.exceptions.toArray(new String[0]));
         made.instructions = code;
         made.maxLocals = old.maxLocals;

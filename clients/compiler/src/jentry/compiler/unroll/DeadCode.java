@@ -12,6 +12,7 @@ import org.objectweb.asm.tree.IincInsnNode;
 import org.objectweb.asm.tree.InsnList;
 import org.objectweb.asm.tree.JumpInsnNode;
 import org.objectweb.asm.tree.LabelNode;
+import org.objectweb.asm.tree.LineNumberNode;
 import org.objectweb.asm.tree.LookupSwitchInsnNode;
 import org.objectweb.asm.tree.TableSwitchInsnNode;
 import org.objectweb.asm.tree.VarInsnNode;
@@ -48,7 +49,22 @@ final class DeadCode implements Opcodes {
         }
     }
 
-    private Set<LabelNode> targets() {
+    /** Drops the labels that no branch and no line needs: each would begin a basic block where frames are computed. */
+    static void dropLabels(InsnList code) {
+        Set<LabelNode> used = targets(code);
+        for (AbstractInsnNode at : code) {
+            if (at instanceof LineNumberNode line) {
+                used.add(line.start);
+            }
+        }
+        for (AbstractInsnNode at : code.toArray()) {
+            if (at instanceof LabelNode label && !used.contains(label)) {
+                code.remove(at);
+            }
+        }
+    }
+
+    private static Set<LabelNode> targets(InsnList code) {
         Set<LabelNode> all = new HashSet<>();
         for (AbstractInsnNode at : code) {
             all.addAll(targets(at));
@@ -85,7 +101,7 @@ final class DeadCode implements Opcodes {
 
     /** A push and its pop are nothing; a pure instruction and its pop are pops of its operands. */
     private boolean dropDiscarded() {
-        Set<LabelNode> targets = targets();
+        Set<LabelNode> targets = targets(code);
         boolean changed = false;
         for (AbstractInsnNode at : code.toArray()) {
             if (at.getOpcode() != POP && at.getOpcode() != POP2) {

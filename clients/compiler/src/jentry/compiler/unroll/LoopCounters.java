@@ -60,14 +60,23 @@ final class LoopCounters implements Opcodes {
         return choice == Choice.OF_ANY_TEST || loop.latches().get(place) || java.util.Arrays.stream(next).anyMatch(leaves);
     }
 
-    /** The locals that are loaded right before a test, through instructions without effect. */
+    /** The locals that are loaded right before a test, through instructions without effect, and such as i++ and (i = j) within an expression. */
     private void addLoads(int test, Set<Integer> locals) {
-        for (int place = test - 1; place >= 0 && Purity.isPure(graph.instruction(place)); place--) {
-            int opcode = graph.instruction(place).getOpcode();
+        for (int place = test - 1; place >= 0; place--) {
+            AbstractInsnNode at = graph.instruction(place);
+            int opcode = at.getOpcode();
             if (opcode == ILOAD || opcode == LLOAD) {
-                locals.add(((VarInsnNode) graph.instruction(place)).var);
+                locals.add(((VarInsnNode) at).var);
+            } else if ((opcode == ISTORE || opcode == LSTORE) && place > 0 && isCopy(place - 1)) {
+                place--;
+            } else if (opcode != IINC && !Purity.isPure(at)) {
+                return;
             }
         }
+    }
+
+    private boolean isCopy(int place) {
+        return graph.instruction(place).getOpcode() == DUP || graph.instruction(place).getOpcode() == DUP2;
     }
 
     private boolean isWritten(Loop loop, int local) {

@@ -111,7 +111,7 @@ final class UnrolledGraph implements Opcodes {
             if (decided < 0 && successors.length == 2 && at instanceof JumpInsnNode) {
                 next.add(enter(successors[i], refined(state.place(), after, i == 1)));
             } else if (decided < 0 || decided == i) {
-                next.add(enter(successors[i], after));
+                next.add(enter(successors[i], decided < 0 && successors.length > 1 ? new Frame<>(after) : after));
             }
         }
         state.next = next;
@@ -138,6 +138,7 @@ final class UnrolledGraph implements Opcodes {
         return value.fact() instanceof AbstractValue.Array array && array.isPresent();
     }
 
+    /** The state of a place with this frame, which belongs to the state from here on. */
     private State enter(int place, Frame<AbstractValue> frame) throws UnboundedLoopException, AnalyzerException {
         List<Object> values = new ArrayList<>(counters[place].length);
         for (int local : counters[place]) {
@@ -150,7 +151,7 @@ final class UnrolledGraph implements Opcodes {
             if (states.size() >= MOST_STATES) {
                 throw new UnboundedLoopException(mostCopiedLine(), true);
             }
-            state = new State(key, states.size(), graph.instruction(place), new Frame<>(frame));
+            state = new State(key, states.size(), graph.instruction(place), frame);
             states.put(key, state);
             byNumber.add(state);
             open.add(state);
