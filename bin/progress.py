@@ -74,8 +74,8 @@ class Progress:
     def line(self, last=""):
         now = time.monotonic()
         left = self.estimate.left(now - self.began, self.done, {name: now - since for name, since in self.running.items()})
-        told = "" if len(self.done) == len(self.estimate.weights) else f", {in_words(left)}"
-        return f"{self.name}: {len(self.done)} of {len(self.estimate.weights)} crates{last} after {now - self.began:.0f} s{told}"
+        ending = "" if len(self.done) == len(self.estimate.weights) else f", {in_words(left)}"
+        return f"{self.name}: {len(self.done)} of {len(self.estimate.weights)} crates{last} after {now - self.began:.0f} s{ending}"
 
     def tick(self):
         while not self.ended.wait(TICK):

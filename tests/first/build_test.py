@@ -42,10 +42,10 @@ class Builds(unittest.TestCase):
 
 class Lines(unittest.TestCase):
     def test_lines_of_another_form_are_answered(self):
-        for words, status, told in [(["--help"], 0, "usage: bin/build"), (["--nothing"], 2, "usage: bin/build"), (["absent"], 2, "crates/absent is no program")]:
+        for words, status, wanted in [(["--help"], 0, "usage: bin/build"), (["--nothing"], 2, "usage: bin/build"), (["absent"], 2, "crates/absent is no program")]:
             output, errors, found = tiny.run(tiny.TOP, "bin/build", *words)
             self.assertEqual(found, status)
-            self.assertIn(told, output if status == 0 else errors)
+            self.assertIn(wanted, output if status == 0 else errors)
 
     def test_a_machine_without_a_kit_is_told_what_to_install(self):
         output, errors, status = tiny.run(tiny.TOP, "bin/build", PATH="/usr/bin:/bin")

@@ -36,15 +36,15 @@ class Gate(unittest.TestCase):
         counted.add(2, "killed without a last line\n")
         counted.add(1, "5 passed, 4 failed\n")
         counted.add(7, "5 passed, 0 failed\n")
-        with contextlib.redirect_stdout(io.StringIO()) as told:
-            self.assertEqual(counted.tell(), 2)
-        self.assertEqual(told.getvalue(), "25 passed, 6 failed\n")
+        with contextlib.redirect_stdout(io.StringIO()) as printed:
+            self.assertEqual(counted.report(), 2)
+        self.assertEqual(printed.getvalue(), "25 passed, 6 failed\n")
 
     def test_a_failed_sum_has_a_status(self):
         counted = self.test.Sum()
         counted.add(0, "5 passed, 1 failed\n")
         with contextlib.redirect_stdout(io.StringIO()):
-            self.assertEqual(counted.tell(), 1)
+            self.assertEqual(counted.report(), 1)
 
     def test_what_an_unproved_crate_said_is_shown_again(self):
         self.assertEqual(self.test.unproved(LOG), "rt: crates/a/src/odd.rt is read by no check\n== middle\na long report\nerror: no proof\nrt: middle NOT PROVED")
@@ -65,14 +65,14 @@ class Gate(unittest.TestCase):
         """As another user than root. Nothing is installed, and nothing fails."""
         rows = [["no-such-package", "/no/such/file", "clients/java"], ["there", "sh", "all"]]
         with mock.patch.object(self.test, "packages", lambda: rows), mock.patch.object(os, "geteuid", lambda: 1000), \
-                mock.patch.object(self.test, "apt_get") as called, contextlib.redirect_stdout(io.StringIO()) as told:
+                mock.patch.object(self.test, "apt_get") as called, contextlib.redirect_stdout(io.StringIO()) as printed:
             self.test.install_missing()
         called.assert_not_called()
-        self.assertEqual(told.getvalue(), "bin/test: no-such-package is missing, and this user may not install it: of clients/java what needs it is skipped (apt-get install no-such-package)\n")
+        self.assertEqual(printed.getvalue(), "bin/test: no-such-package is missing, and this user may not install it: of clients/java what needs it is skipped (apt-get install no-such-package)\n")
 
     @unittest.skipUnless(os.geteuid() == 0 and os.path.exists("/usr/bin/apt-get"), "it needs root and apt-get")
     def test_a_package_that_cannot_be_installed_fails_nothing(self):
         """By a real apt-get, of a package that Debian hasn't."""
-        with mock.patch.object(self.test, "packages", lambda: [["no-such-package-of-debian", "/no/such/file", "clients/java"]]), contextlib.redirect_stdout(io.StringIO()) as told:
+        with mock.patch.object(self.test, "packages", lambda: [["no-such-package-of-debian", "/no/such/file", "clients/java"]]), contextlib.redirect_stdout(io.StringIO()) as printed:
             self.test.install_missing()
-        self.assertIn("no-such-package-of-debian is missing, and apt-get could not install it", told.getvalue())
+        self.assertIn("no-such-package-of-debian is missing, and apt-get could not install it", printed.getvalue())

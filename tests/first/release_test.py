@@ -44,7 +44,7 @@ class Refusals(unittest.TestCase):
         built = f"{self.folder}/crates/jentry/out/jentry"
         tiny.write(built, "a program")
         subprocess.run(["python3", "-B", "-c", NOTE], cwd=self.folder, check=True)
-        # What bin/test noted is enough but for the versions of the parts.
+        # What bin/test noted is enough, except the versions of the parts.
         self.refused("clients/front/Cargo.toml has version None, and not 0.1.0")
         for file, text in (("front/Cargo.toml", f'version = "{VERSION}"\n'), ("python/pyproject.toml", f'version = "{VERSION}"\n'), ("java/pom.xml", "<version>0.1.0-SNAPSHOT</version>")):
             tiny.write(f"{self.folder}/clients/{file}", text)
@@ -90,7 +90,7 @@ class Releases(unittest.TestCase):
     def test_the_tarball_has_all_parts_and_says_what_it_is(self):
         with tarfile.open(f"{self.folders[0]}/{NAMES[0]}") as it:
             members = {member.name.partition("/")[2]: member for member in it.getmembers()}
-            told = it.extractfile(f"jentry-{VERSION}+not.proved/share/doc/jentry/RELEASE").read().decode()
+            printed = it.extractfile(f"jentry-{VERSION}+not.proved/share/doc/jentry/RELEASE").read().decode()
             jar = it.extractfile(f"jentry-{VERSION}+not.proved/share/java/jentry-jcache.jar").read()
         for name in ("bin/jentry", "bin/jentry-front", "lib/jentry/jentry", "share/man/man1/jentry.1.gz", "lib/systemd/system/jentry-front.socket",
                      "lib/systemd/system/jentry-front.service", "lib/python3/dist-packages/jentry.py", "lib/python3/dist-packages/jentry_processors/GetAndPut.class"):
@@ -99,9 +99,9 @@ class Releases(unittest.TestCase):
         self.assertEqual(len({member.mtime for member in members.values()}), 1)
         self.assertEqual({oct(member.mode) for member in members.values()}, {"0o755", "0o644"})
         head = subprocess.run(["git", "-C", os.path.dirname(self.folders[0]), "rev-parse", "HEAD"], capture_output=True, text=True, check=True).stdout.strip()
-        self.assertIn(f"commit {head}, of ", told)
-        self.assertIn("verdict NOT PROVED", told)
-        self.assertIn(f"lib/jentry/jentry sha256 {sum_of(program())}\n", told)
+        self.assertIn(f"commit {head}, of ", printed)
+        self.assertIn("verdict NOT PROVED", printed)
+        self.assertIn(f"lib/jentry/jentry sha256 {sum_of(program())}\n", printed)
         self.assertTrue(jar.startswith(b"PK"))
 
     def test_the_tarball_runs_where_it_is_unpacked(self):

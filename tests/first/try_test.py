@@ -18,43 +18,43 @@ class Trials(unittest.TestCase):
         self.folder = f"{room.name}/tiny"
         tiny.make(self.folder)
 
-    def told(self, *words, **variables):
+    def run_here(self, *words, **variables):
         return tiny.run(self.folder, *words, **variables)
 
     def at_once(self, count):
         """What commands that are started at once write on standard error, in the order of their lengths. Each has to answer."""
         how = {"cwd": self.folder, "stdin": subprocess.DEVNULL, "stdout": subprocess.PIPE, "stderr": subprocess.PIPE, "text": True}
         ran = [subprocess.Popen(CHECK, **how) for _ in range(count)]
-        told = [it.communicate(timeout=900) for it in ran]
-        self.assertEqual([(it.returncode, output) for it, (output, _) in zip(ran, told)], count * [(0, "accepted 727\n")], told)
-        return sorted((errors for _, errors in told), key=len)
+        outputs = [it.communicate(timeout=900) for it in ran]
+        self.assertEqual([(it.returncode, output) for it, (output, _) in zip(ran, outputs)], count * [(0, "accepted 727\n")], outputs)
+        return sorted((errors for _, errors in outputs), key=len)
 
     def test_a_trial_is_made_once_and_anew_for_other_sources(self):
         # Of two at once one makes it, and both answer.
         self.assertEqual(self.at_once(2), sorted([MAKING + NOT_PROVED, WAITING + NOT_PROVED], key=len))
-        self.assertEqual(self.told(*CHECK), ("accepted 727\n", NOT_PROVED, 0))
+        self.assertEqual(self.run_here(*CHECK), ("accepted 727\n", NOT_PROVED, 0))
         # Without a kit the trial that is there answers.
-        self.assertEqual(self.told(*CHECK, PATH="/usr/bin:/bin"), ("accepted 727\n", NOT_PROVED, 0))
+        self.assertEqual(self.run_here(*CHECK, PATH="/usr/bin:/bin"), ("accepted 727\n", NOT_PROVED, 0))
         made = os.stat(f"{self.folder}/crates/jentry/out/trial/jentry").st_ino
         tiny.write(f"{self.folder}/crates/jentry/src/main.rt", tiny.PROGRAM.replace("accepted {n}", "accepted {n} more"))
-        self.assertEqual(self.told(*CHECK), ("accepted 727 more\n", MAKING + NOT_PROVED, 0))
+        self.assertEqual(self.run_here(*CHECK), ("accepted 727 more\n", MAKING + NOT_PROVED, 0))
         self.assertNotEqual(os.stat(f"{self.folder}/crates/jentry/out/trial/jentry").st_ino, made)
         self.assertEqual(sorted(os.listdir(f"{self.folder}/crates/jentry/out/trial")), ["jentry", "lock", "stamp"])
 
-    def test_sources_that_do_not_compile_are_told(self):
+    def test_the_error_of_sources_that_do_not_compile_is_shown(self):
         tiny.write(f"{self.folder}/crates/low/src/lib.rt", "#![tactic(auto)]\n\npub fn least(x: usize) -> usize { y }\n")
-        output, errors, status = self.told(*CHECK)
+        output, errors, status = self.run_here(*CHECK)
         self.assertEqual((output, status), ("", 3))
         self.assertTrue(errors.startswith(f"{MAKING}jentry: no trial build: its last words:\n"), errors)
         self.assertIn("lib.rt:3", errors)
 
     def test_without_a_kit_and_a_trial_a_line_says_what_to_install(self):
-        output, errors, status = self.told(*CHECK, PATH="/usr/bin:/bin")
+        output, errors, status = self.run_here(*CHECK, PATH="/usr/bin:/bin")
         self.assertEqual((output, status, errors.count("\n")), ("", 3, 1))
         self.assertRegex(errors, r"^jentry: no trial build: there is no Rattle kit .*: install rattle-kit-\S+ .*CHANGELOG\.md")
 
     def test_no_words_are_answered_by_a_usage_of_ten_lines(self):
-        output, errors, status = self.told("bin/jentry")
+        output, errors, status = self.run_here("bin/jentry")
         self.assertEqual((output, status), ("", 1))
         self.assertTrue(errors.startswith("usage: jentry check FILE "))
         self.assertLessEqual(errors.count("\n"), 12)
