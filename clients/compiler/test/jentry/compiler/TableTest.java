@@ -15,6 +15,7 @@ import org.junit.jupiter.params.provider.CsvSource;
 /** Processors with loops: what is made of them, by bytes and bounds. */
 class TableTest {
     private static final Map<String, byte[]> CLASSES = new TreeMap<>();
+    private static final long MOST_STEPS = 4_000_000;
 
     @BeforeAll
     static void compileSources() {
@@ -77,7 +78,8 @@ class TableTest {
             for (String name : CLASSES.keySet()) {
                 for (boolean isVerbatim : new boolean[] {false, true}) {
                     for (CompiledClass compiled : new ProcessorCompiler(isVerbatim).compileAll(CLASSES.get(name)).classes()) {
-                        Checks.sameByServer(server, CLASSES.get(name), compiled, 400);
+                        int calls = (int) Math.min(400, MOST_STEPS / compiled.bounds().steps());
+                        Checks.sameByServer(server, CLASSES.get(name), compiled, calls);
                     }
                 }
             }

@@ -10,6 +10,7 @@ import org.objectweb.asm.Opcodes;
 import org.objectweb.asm.tree.AbstractInsnNode;
 import org.objectweb.asm.tree.IincInsnNode;
 import org.objectweb.asm.tree.VarInsnNode;
+import org.objectweb.asm.tree.analysis.Frame;
 
 /** Chooses the locals whose values tell the passes of a loop apart. */
 final class LoopCounters implements Opcodes {
@@ -25,10 +26,13 @@ final class LoopCounters implements Opcodes {
 
     private final ControlFlowGraph graph;
     private final Choice choice;
+    private final Frame<LocalReads.Reads>[] reads;
 
-    LoopCounters(ControlFlowGraph graph, Choice choice) {
+    /** Of a method whose operands' reads are known. */
+    LoopCounters(ControlFlowGraph graph, Choice choice, Frame<LocalReads.Reads>[] reads) {
         this.graph = graph;
         this.choice = choice;
+        this.reads = reads;
     }
 
     /** For each instruction the counters of the loops around it, rising. */
@@ -46,7 +50,7 @@ final class LoopCounters implements Opcodes {
 
     private Set<Integer> counters(Loop loop) {
         Set<Integer> tested = new HashSet<>();
-        loop.body().stream().filter(place -> isTest(loop, place)).forEach(place -> addLoads(place, tested));
+        loop.body().stream().filter(place -> isTest(loop, place)).forEach(place -> addReads(place, tested));
         tested.removeIf(local -> !isWritten(loop, local));
         return tested;
     }
@@ -60,23 +64,14 @@ final class LoopCounters implements Opcodes {
         return choice == Choice.OF_ANY_TEST || loop.latches().get(place) || java.util.Arrays.stream(next).anyMatch(leaves);
     }
 
-    /** The locals that are loaded right before a test, through instructions without effect, and such as i++ and (i = j) within an expression. */
-    private void addLoads(int test, Set<Integer> locals) {
-        for (int place = test - 1; place >= 0; place--) {
-            AbstractInsnNode at = graph.instruction(place);
-            int opcode = at.getOpcode();
-            if (opcode == ILOAD || opcode == LLOAD) {
-                locals.add(((VarInsnNode) at).var);
-            } else if ((opcode == ISTORE || opcode == LSTORE) && place > 0 && isCopy(place - 1)) {
-                place--;
-            } else if (opcode != IINC && !Purity.isPure(at)) {
-                return;
-            }
+    /** The locals that the operands of a test read. */
+    private void addReads(int test, Set<Integer> locals) {
+        AbstractInsnNode at = graph.instruction(test);
+        Frame<LocalReads.Reads> frame = reads[graph.method().instructions.indexOf(at)];
+        boolean isOfTwo = at.getOpcode() >= IF_ICMPEQ && at.getOpcode() <= IF_ICMPLE;
+        for (int below = 1; frame != null && below <= (isOfTwo ? 2 : 1); below++) {
+            locals.addAll(frame.getStack(frame.getStackSize() - below).locals());
         }
-    }
-
-    private boolean isCopy(int place) {
-        return graph.instruction(place).getOpcode() == DUP || graph.instruction(place).getOpcode() == DUP2;
     }
 
     private boolean isWritten(Loop loop, int local) {

@@ -10,6 +10,7 @@ import org.objectweb.asm.Type;
 import org.objectweb.asm.tree.AbstractInsnNode;
 import org.objectweb.asm.tree.ClassNode;
 import org.objectweb.asm.tree.MethodNode;
+import org.objectweb.asm.tree.analysis.Frame;
 import jentry.compiler.profile.CallGraph;
 import jentry.compiler.profile.Instructions;
 import jentry.compiler.profile.Members;
@@ -44,10 +45,11 @@ public final class LoopUnroller implements Opcodes {
 
     private UnrolledGraph unrolled(MethodNode method) throws ProblemException {
         ControlFlowGraph graph = new ControlFlowGraph(method);
+        Frame<LocalReads.Reads>[] reads = graph.loops().isEmpty() ? null : LocalReads.of(method);
         UnboundedLoopException first = null;
         for (LoopCounters.Choice choice : LoopCounters.Choice.values()) {
             try {
-                return new UnrolledGraph(graph, new LoopCounters(graph, choice).byPlace(), given.get(method));
+                return new UnrolledGraph(graph, new LoopCounters(graph, choice, reads).byPlace(), given.get(method));
             } catch (UnboundedLoopException e) {
                 first = first == null ? e : first;
             }
