@@ -12,8 +12,8 @@ class FuzzTest {
     private static final int CLASSES = Integer.getInteger("jentry.fuzz", 200);
     private static final long SEED = Long.getLong("jentry.fuzz.seed", 1);
     private static final int BATCH = 100;
-    private static final int CALLS = 400;
-    private static final int CALLS_BY_SERVER = 12;
+    private static final int CALLS = 200;
+    private static final int CALLS_BY_SERVER = 8;
 
     private int compiled;
     private int refused;
@@ -44,8 +44,13 @@ class FuzzTest {
             for (Map.Entry<String, byte[]> one : Javac.compile(sources, "--release", release).entrySet()) {
                 check(one.getKey(), sources.get(one.getKey()), one.getValue(), server);
             }
+            report("  so far: ", server);
         }
-        System.out.println("fuzz: " + (server == null ? "HotSpot" : "jentry") + ": " + compiled + " classes compiled (" + unchanged + " unchanged), " + refused
+        report("fuzz: ", server);
+    }
+
+    private void report(String how, JentryServer server) {
+        System.out.println(how + (server == null ? "HotSpot" : "jentry") + ": " + compiled + " classes compiled (" + unchanged + " unchanged), " + refused
             + " refused, " + runs + " runs, 0 differences");
     }
 

@@ -53,6 +53,15 @@ class LoadedProcessorsTest {
         assertEquals(103L, handedOn(made()));
     }
 
+    private static Long doubled(javax.cache.processor.MutableEntry<Long, Long> entry, Object[] arguments) {
+        return entry.getKey() * 2;
+    }
+
+    @Test
+    void aReferenceToAStaticMethod() throws Exception {
+        assertEquals(200L, answer(LoadedProcessorsTest::doubled));
+    }
+
     @Test
     void aSerializableLambdaSaysItself() throws Exception {
         Object[] held = {(EntryProcessor<Long, Long, Long> & Serializable) (entry, arguments) -> entry.getKey() + 5};

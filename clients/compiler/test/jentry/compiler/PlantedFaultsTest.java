@@ -30,6 +30,9 @@ class PlantedFaultsTest {
             for (int i = 0; i < 3; i++) {
                 try { sum += entry.getKey() / (entry.getKey() - i); } catch (ArithmeticException e) { sum += 100; }
             }
+            for (int i = 0; i < 8; i += 2) {
+                sum = sum * 5 + i;
+            }
             byte[] small = new byte[2];
             small[0] = (byte) sum;
             small[1] += 200;
@@ -39,10 +42,10 @@ class PlantedFaultsTest {
 
     @ParameterizedTest
     @CsvSource(delimiter = '|', value = {
-        "SumOfAll | unroll/ConstantPropagation.java | MOST_ARGUMENTS = 8; | MOST_ARGUMENTS = 7;",
-        "Median | unroll/DeadCode.java | boolean isRead = live.get(local); | boolean isRead = live.get(local + 1);",
-        "Median | unroll/ConstantPropagation.java | number + ((IincInsnNode) at).incr | number + 1",
-        "Crc | unroll/ConstantPropagation.java | case 2 -> less ? 1 : least ? 0 : -1; | case 2 -> most ? 1 : more ? 0 : -1;",
+        "SumOfAll | unroll/UnrolledGraph.java | ConstantPropagation.MOST_ARGUMENTS, isProcess | 7, isProcess",
+        "BitCount | unroll/DeadCode.java | IincInsnNode it ? it.var : | IincInsnNode it ? it.var + 1 :",
+        "Safe | unroll/ConstantPropagation.java | AbstractValue.constant(number + by) | AbstractValue.constant(number + 1)",
+        "Crc | unroll/ConstantPropagation.java | case 3 -> least ? 1 : less ? 0 : -1; | case 3 -> more ? 1 : most ? 0 : -1;",
         "Limits | rewrite/FieldConstants.java | LASTORE)); | LASTORE)); if (i == 2) { i++; }",
         "Limits | unroll/CodeWriter.java | opcode >= IFNULL ? opcode ^ 1 : ((opcode + 1) ^ 1) - 1 | opcode",
         "Safe | rewrite/ArithmeticHandlers.java | code.add(new JumpInsnNode(IFNE, divides)); | code.add(new JumpInsnNode(IFGE, divides));",

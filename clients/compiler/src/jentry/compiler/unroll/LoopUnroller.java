@@ -52,6 +52,10 @@ public final class LoopUnroller implements Opcodes {
                 return new UnrolledGraph(graph, new LoopCounters(graph, choice, reads).byPlace(), given.get(method));
             } catch (UnboundedLoopException e) {
                 first = first == null ? e : first;
+                if (e.isTooLong()) {
+                    // more counters tell more passes apart, and not fewer
+                    break;
+                }
             }
         }
         throw new ProblemException(problem(method, first));
