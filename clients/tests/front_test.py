@@ -646,12 +646,35 @@ class Begins(FrontTest):
                     front.kill()
                     front.wait(PATIENCE)
 
+    def tried(self, *words):
+        return subprocess.run([FRONT, *words], capture_output=True, stdin=subprocess.DEVNULL, text=True, timeout=PATIENCE)
+
     def test_words_that_make_no_sense(self):
-        for words in ([], ["--unix", "x"], ["--steps", "0", "--unix", "x", "y"], ["--what", "1", "y"]):
+        for words, wanted in (
+                ([], "PROGRAM"), (["jentry"], "--unix <PATH>|--tcp <[HOST:]PORT>|--stdin"), (["--unix", "x"], "PROGRAM"),
+                (["--steps", "0", "--unix", "x", "y"], "--steps <N>"), (["--unix", "x", "--what", "1", "y"], "--what"),
+                (["--tcp", "x", "y"], "[HOST:]PORT")):
             with self.subTest(words=words):
-                told = subprocess.run([FRONT, *words], stderr=subprocess.PIPE, stdin=subprocess.DEVNULL, text=True, timeout=PATIENCE)
-                self.assertEqual(told.returncode, 1)
-                self.assertIn("--unix PATH", told.stderr)
+                told = self.tried(*words)
+                self.assertEqual((told.returncode, told.stdout), (1, ""))
+                self.assertIn(wanted, told.stderr)
+                self.assertIn("--help", told.stderr)
+
+    def test_help_and_version(self):
+        told = self.tried("--help")
+        self.assertEqual((told.returncode, told.stderr), (0, ""))
+        self.assertIn("--unix PATH", told.stdout)
+        told = self.tried("--version")
+        self.assertEqual((told.returncode, told.stderr), (0, ""))
+        self.assertRegex(told.stdout, r"^jentry-front \d+\.\d+\.\d+\n$")
+
+    def test_a_signal_removes_the_socket(self):
+        for number in (signal.SIGTERM, signal.SIGINT):
+            with self.subTest(number=number), Running() as front:
+                self.assertTrue(os.path.exists(front.place))
+                front.process.send_signal(number)
+                self.assertEqual(front.process.wait(PATIENCE), -number)
+                self.assertFalse(os.path.exists(front.place))
 
 
 if __name__ == "__main__":

@@ -1,4 +1,5 @@
-//! The classes that the server has, by their files. Equal files are one class of the server, however many connections bring them.
+//! The classes of the server, by their files. Equal files are one class of the server, however
+//! many connections bring them.
 
 use crate::request::number_at;
 use std::collections::HashMap;
@@ -8,26 +9,27 @@ use std::collections::HashMap;
 pub struct Class {
     /// Its number at the server.
     pub number: u32,
-    /// The most instructions of a run of it, as the server proved.
+    /// The most instructions of a run, as the server proved.
     pub steps: u32,
-    /// The most array words of a run of it.
+    /// The most array words of a run.
     pub words: u32,
 }
 
-/// How far a file is: on its way to the server, with the connections that wait for what comes of it, or a class.
-enum Known {
-    Asked(Vec<u64>),
+/// The state of a file: at the server, with the connections that wait for the verdict, or a class.
+enum State {
+    Pending(Vec<u64>),
     Accepted(Class),
 }
 
-/// What a file is, to a connection that brings it.
-pub enum Found {
+/// What a file is for a connection that brings it.
+pub enum Lookup {
     /// The server has it.
     Class(Class),
-    /// It is new; the connection has to bring it to the server, and what came of it is told by [`Classes::settle`].
+    /// It is new: the connection has to bring it to the server, and then to call
+    /// [`Classes::resolve`].
     New,
-    /// Another connection asks the server for it; [`Classes::settle`] tells when to look again.
-    Asked,
+    /// Another connection asks the server for it; [`Classes::resolve`] gives who waits.
+    Pending,
     /// It is new, and the connection may bring no more.
     TooMany,
 }
@@ -35,43 +37,50 @@ pub enum Found {
 /// The files that the server has or is asked for.
 #[derive(Default)]
 pub struct Classes {
-    known: HashMap<Vec<u8>, Known>,
+    states: HashMap<Vec<u8>, State>,
 }
 
 impl Classes {
-    /// Looks a file up for a connection. With `may_bring` false a file that is new isn't marked as asked for.
-    pub fn find(&mut self, file: &[u8], connection: u64, may_bring: bool) -> Found {
-        match self.known.get_mut(file) {
-            Some(Known::Accepted(class)) => Found::Class(*class),
-            Some(Known::Asked(waiting)) => {
+    /// Looks a file up for a connection. With `may_bring` false a new file isn't marked as pending.
+    pub fn find(&mut self, file: &[u8], connection: u64, may_bring: bool) -> Lookup {
+        match self.states.get_mut(file) {
+            Some(State::Accepted(class)) => Lookup::Class(*class),
+            Some(State::Pending(waiting)) => {
                 waiting.push(connection);
-                Found::Asked
+                Lookup::Pending
             }
             None if may_bring => {
-                self.known.insert(file.to_vec(), Known::Asked(Vec::new()));
-                Found::New
+                self.states
+                    .insert(file.to_vec(), State::Pending(Vec::new()));
+                Lookup::New
             }
-            None => Found::TooMany,
+            None => Lookup::TooMany,
         }
     }
 
-    /// Says what came of a file that was new: a class, or none. Tells the connections that waited for it.
-    pub fn settle(&mut self, file: &[u8], class: Option<Class>) -> Vec<u64> {
-        let was = match class {
-            Some(class) => self.known.insert(file.to_vec(), Known::Accepted(class)),
-            None => self.known.remove(file),
+    /// Stores the verdict on a file that was new: a class, or none. Gives the connections that
+    /// waited for it.
+    pub fn resolve(&mut self, file: &[u8], class: Option<Class>) -> Vec<u64> {
+        let before = match class {
+            Some(class) => self.states.insert(file.to_vec(), State::Accepted(class)),
+            None => self.states.remove(file),
         };
-        match was {
-            Some(Known::Asked(waiting)) => waiting,
+        match before {
+            Some(State::Pending(waiting)) => waiting,
             _ => Vec::new(),
         }
     }
 }
 
-/// The class that a reply tells, its length in front, where it is Defined.
-pub fn told(reply: &[u8]) -> Option<Class> {
+/// The class in a reply, its length in front, where the reply is Defined.
+pub fn class_of(reply: &[u8]) -> Option<Class> {
     if reply.len() == 17 && reply[4] == 1 {
-        Some(Class { number: number_at(reply, 5), steps: number_at(reply, 9), words: number_at(reply, 13) })
+        let (number, steps) = (number_at(reply, 5), number_at(reply, 9));
+        Some(Class {
+            number,
+            steps,
+            words: number_at(reply, 13),
+        })
     } else {
         None
     }
@@ -81,33 +90,38 @@ pub fn told(reply: &[u8]) -> Option<Class> {
 mod tests {
     use super::*;
 
-    const CLASS: Class = Class { number: 5, steps: 14, words: 0 };
+    const CLASS: Class = Class {
+        number: 5,
+        steps: 14,
+        words: 0,
+    };
 
     #[test]
     fn one_brings_a_file_and_others_wait() {
         let mut classes = Classes::default();
-        assert!(matches!(classes.find(b"a", 7, true), Found::New));
-        assert!(matches!(classes.find(b"a", 8, true), Found::Asked));
-        assert!(matches!(classes.find(b"a", 9, false), Found::Asked));
-        assert!(matches!(classes.find(b"b", 8, true), Found::New));
-        assert_eq!(classes.settle(b"a", Some(CLASS)), [8, 9]);
-        assert!(matches!(classes.find(b"a", 9, false), Found::Class(CLASS)));
+        assert!(matches!(classes.find(b"a", 7, true), Lookup::New));
+        assert!(matches!(classes.find(b"a", 8, true), Lookup::Pending));
+        assert!(matches!(classes.find(b"a", 9, false), Lookup::Pending));
+        assert!(matches!(classes.find(b"b", 8, true), Lookup::New));
+        assert_eq!(classes.resolve(b"a", Some(CLASS)), [8, 9]);
+        assert!(matches!(classes.find(b"a", 9, false), Lookup::Class(CLASS)));
     }
 
     #[test]
-    fn a_file_that_is_refused_is_new_again() {
+    fn a_refused_file_is_new_again() {
         let mut classes = Classes::default();
-        assert!(matches!(classes.find(b"a", 7, true), Found::New));
-        assert!(matches!(classes.find(b"a", 8, true), Found::Asked));
-        assert_eq!(classes.settle(b"a", None), [8]);
-        assert!(matches!(classes.find(b"a", 8, false), Found::TooMany));
-        assert!(matches!(classes.find(b"a", 8, true), Found::New));
-        assert_eq!(classes.settle(b"a", None), []);
+        assert!(matches!(classes.find(b"a", 7, true), Lookup::New));
+        assert!(matches!(classes.find(b"a", 8, true), Lookup::Pending));
+        assert_eq!(classes.resolve(b"a", None), [8]);
+        assert!(matches!(classes.find(b"a", 8, false), Lookup::TooMany));
+        assert!(matches!(classes.find(b"a", 8, true), Lookup::New));
+        assert_eq!(classes.resolve(b"a", None), []);
     }
 
     #[test]
-    fn a_class_is_told_by_its_reply_alone() {
-        assert_eq!(told(&[0, 0, 0, 13, 1, 0, 0, 0, 5, 0, 0, 0, 14, 0, 0, 0, 0]), Some(CLASS));
-        assert_eq!(told(&[0, 0, 0, 6, 2, 3, 0, 0, 0, 0]), None);
+    fn only_defined_has_a_class() {
+        let defined = [0, 0, 0, 13, 1, 0, 0, 0, 5, 0, 0, 0, 14, 0, 0, 0, 0];
+        assert_eq!(class_of(&defined), Some(CLASS));
+        assert_eq!(class_of(&[0, 0, 0, 6, 2, 3, 0, 0, 0, 0]), None);
     }
 }

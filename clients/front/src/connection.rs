@@ -1,24 +1,25 @@
-//! One connection, from its first byte to its last: the frames that came, the round that is open, and the replies on their way out. It never
-//! waits; who has its socket tells it when there is something to read or room to write.
+//! One connection, from its first byte to its last: the frames that arrived, the open round, and
+//! the replies on their way out. It never blocks; the event loop says when its socket is ready.
 
-use crate::classes::{told, Class, Classes, Found};
+use crate::classes::{class_of, Class, Classes, Lookup};
 use crate::listen::Stream;
-use crate::piece::Part;
 use crate::request::{frame_length, judge, set_class, Frame, MOST_JOBS};
+use crate::sub_batch::SubBatch;
 use std::io::{self, Read, Write};
 use std::mem::take;
 
-/// What a request takes beside the instructions of its class.
-const COST: u64 = 64;
+/// The instructions that a request costs beside those of its class.
+const REQUEST_COST: u64 = 64;
 
 /// The most class numbers of a connection, as of a stream of the server.
 const MOST_NUMBERS: usize = 4_096;
 
-/// Above this a buffer isn't kept for the next round, and replies that the front knows by itself are written before more are found.
+/// Above this capacity a buffer shrinks after a round, and replies of this size that the front
+/// knows by itself are written before more frames are taken.
 const KEPT: usize = 16_384;
 
-/// The most bytes that are read at a time, so that no connection holds up the others.
-const AT_A_TIME: usize = 16_384;
+/// The most bytes of one read, so that no connection holds up the others.
+pub const READ_SIZE: usize = 16_384;
 
 const UNKNOWN_CLASS: [u8; 6] = [0, 0, 0, 2, 8, 1];
 const TOO_MANY_CLASSES: [u8; 6] = [0, 0, 0, 2, 8, 4];
@@ -41,7 +42,13 @@ pub struct Shared {
 impl Shared {
     /// No class yet, and these limits.
     pub fn new(most_classes: usize, most_requests: usize) -> Shared {
-        Shared { classes: Classes::default(), most_classes, most_requests, buffer: vec![0; AT_A_TIME] }
+        let buffer = vec![0; READ_SIZE];
+        Shared {
+            classes: Classes::default(),
+            most_classes,
+            most_requests,
+            buffer,
+        }
     }
 }
 
@@ -50,29 +57,44 @@ pub enum Step {
     /// Its socket.
     Socket,
     /// The server's replies to a round.
-    Round(Part),
+    Round(SubBatch),
     /// The server's verdict on a class, by its frame.
     Class(Vec<u8>),
     /// The verdict on a class that another connection brings.
-    Other,
+    OthersClass,
+}
+
+/// How much a read found.
+#[derive(Clone, Copy, PartialEq, Eq)]
+enum Input {
+    /// Nothing has arrived.
+    Nothing,
+    /// All that had arrived.
+    All,
+    /// As much as one read takes; there may be more.
+    Full,
 }
 
 /// A connection, and the round that it has open.
 pub struct Connection {
     number: u64,
     stream: Stream,
-    /// Bytes that came, of which those before `taken` are done with.
+    /// Bytes that arrived, of which those before `taken` are done with.
     input: Vec<u8>,
     taken: usize,
-    /// Replies, of which those before `written` are gone.
+    /// Whether the socket may have more bytes than were read.
+    may_have_input: bool,
+    /// Whether the other end sends no more.
+    peer_closed: bool,
+    /// Replies, of which those before `written` are sent.
     output: Vec<u8>,
     written: usize,
     /// Whether its next frame waits for the server.
-    is_away: bool,
+    is_waiting: bool,
     classes: Vec<Class>,
     /// How many classes it brought that the server didn't have.
     brought: usize,
-    part: Part,
+    sub_batch: SubBatch,
     jobs: usize,
     requests: usize,
 }
@@ -85,47 +107,60 @@ impl Connection {
             stream,
             input: Vec::new(),
             taken: 0,
+            may_have_input: false,
+            peer_closed: false,
             output: Vec::new(),
             written: 0,
-            is_away: false,
+            is_waiting: false,
             classes: Vec::new(),
             brought: 0,
-            part: Part::default(),
+            sub_batch: SubBatch::default(),
             jobs: 0,
             requests: 0,
         }
     }
 
     /// Its socket.
-    pub fn stream(&self) -> &Stream {
-        &self.stream
+    pub fn stream(&mut self) -> &mut Stream {
+        &mut self.stream
     }
 
-    /// Whether it waits for room to write.
+    /// Whether it waits for its socket to take replies.
     pub fn is_writing(&self) -> bool {
         self.written < self.output.len()
     }
 
     /// Whether its next frame waits for the server.
-    pub fn is_away(&self) -> bool {
-        self.is_away
+    pub fn is_waiting(&self) -> bool {
+        self.is_waiting
     }
 
-    /// Reads what came, or writes what waits, and goes on as far as that goes. An error ends the connection, and what it had sent of an open
-    /// round is dropped.
-    pub fn go_on(&mut self, shared: &mut Shared) -> io::Result<Step> {
+    /// Whether the socket may have more bytes than were read.
+    pub fn may_have_input(&self) -> bool {
+        self.may_have_input
+    }
+
+    /// The socket is readable, which an edge-triggered event says once. With `is_closed` it has to
+    /// be read to its end, since no further event comes.
+    pub fn set_readable(&mut self, is_closed: bool) {
+        self.may_have_input = true;
+        self.peer_closed |= is_closed;
+    }
+
+    /// Reads what arrived, or writes what waits, and continues as far as that goes. An error ends
+    /// the connection, and drops what it had sent of an open round.
+    pub fn continue_io(&mut self, shared: &mut Shared) -> io::Result<Step> {
         if !self.is_writing() {
             self.read(&mut shared.buffer)?;
         }
         self.advance(shared)
     }
 
-    /// The same for a connection that isn't writing and may have sent nothing; then the answer is None.
-    pub fn hear(&mut self, shared: &mut Shared) -> io::Result<Option<Step>> {
-        if self.read(&mut shared.buffer)? {
-            self.advance(shared).map(Some)
-        } else {
-            Ok(None)
+    /// The same for a connection that isn't writing and may have sent nothing, which is None.
+    pub fn try_read(&mut self, shared: &mut Shared) -> io::Result<Option<Step>> {
+        match self.read(&mut shared.buffer)? {
+            Input::Nothing => Ok(None),
+            Input::All | Input::Full => self.advance(shared).map(Some),
         }
     }
 
@@ -133,50 +168,61 @@ impl Connection {
     pub fn answer(&mut self, replies: &[u8]) {
         self.output.extend_from_slice(replies);
         self.output.extend_from_slice(&ENDED);
-        self.is_away = false;
+        self.is_waiting = false;
     }
 
     /// Takes the verdict on a class that it brought.
-    pub fn judged(&mut self, reply: &[u8]) {
-        match told(reply) {
-            None => self.part.add_known(reply),
+    pub fn take_verdict(&mut self, reply: &[u8]) {
+        match class_of(reply) {
+            None => self.sub_batch.add_known(reply),
             Some(class) => {
                 self.brought += 1;
                 self.number_class(class);
             }
         }
-        self.is_away = false;
+        self.is_waiting = false;
     }
 
-    /// Looks at its next frame again, a class, since there is a verdict on it.
-    pub fn look_again(&mut self) {
-        self.is_away = false;
+    /// Looks at its next frame again, a class on which there is a verdict now.
+    pub fn retry(&mut self) {
+        self.is_waiting = false;
     }
 
-    /// Reads what came, or a part of it. Tells whether anything came.
-    fn read(&mut self, buffer: &mut [u8]) -> io::Result<bool> {
+    /// Reads what arrived, or a part of it.
+    fn read(&mut self, buffer: &mut [u8]) -> io::Result<Input> {
         self.input.drain(..take(&mut self.taken));
         if self.input.is_empty() {
             self.input.shrink_to(KEPT);
         }
-        match self.stream.read(buffer) {
-            Ok(0) => Err(io::ErrorKind::UnexpectedEof.into()),
+        let input = match self.stream.read(buffer) {
+            Ok(0) => return Err(io::ErrorKind::UnexpectedEof.into()),
             Ok(count) => {
                 self.input.extend_from_slice(&buffer[..count]);
-                Ok(true)
+                if count < buffer.len() {
+                    Input::All
+                } else {
+                    Input::Full
+                }
             }
-            Err(e) if is_for_later(&e) => Ok(false),
-            Err(e) => Err(e),
-        }
+            Err(e) if is_temporary(&e) => Input::Nothing,
+            Err(e) => return Err(e),
+        };
+        self.may_have_input = match input {
+            Input::Nothing => false,
+            Input::All => self.peer_closed,
+            Input::Full => true,
+        };
+        Ok(input)
     }
 
-    /// Writes replies as far as there is room.
+    /// Writes replies as far as the socket takes them.
     fn write(&mut self) -> io::Result<()> {
         while self.is_writing() {
             match self.stream.write(&self.output[self.written..]) {
                 Ok(0) => return Err(io::ErrorKind::WriteZero.into()),
                 Ok(count) => self.written += count,
-                Err(e) if is_for_later(&e) => return Ok(()),
+                Err(e) if e.kind() == io::ErrorKind::Interrupted => {}
+                Err(e) if is_temporary(&e) => return Ok(()),
                 Err(e) => return Err(e),
             }
         }
@@ -186,13 +232,15 @@ impl Connection {
         Ok(())
     }
 
-    /// Writes the replies that are there, and takes the frames that are there until one waits. While replies wait for room no frame is taken.
+    /// Writes the replies that are there, and takes the frames that are there until one waits.
+    /// While replies wait for the socket no frame is taken.
     pub fn advance(&mut self, shared: &mut Shared) -> io::Result<Step> {
         self.write()?;
-        while !self.is_writing() && !self.is_away {
+        while !self.is_writing() && !self.is_waiting {
             let step = self.take_frames(shared);
-            if self.is_away {
-                // What the server is asked for it has to be asked, even if this connection is gone: others may wait for the same class.
+            if self.is_waiting {
+                // The server has to be asked even if this connection is gone: others may wait for
+                // the same class.
                 let _ = self.write();
                 return step;
             }
@@ -218,27 +266,27 @@ impl Connection {
                 Frame::Define => self.define(text, shared)?,
                 frame => self.add(frame, &mut text, shared)?,
             };
-            self.is_away = !matches!(step, Step::Socket);
-            if !matches!(step, Step::Other) {
+            self.is_waiting = !matches!(step, Step::Socket);
+            if !matches!(step, Step::OthersClass) {
                 self.taken += length;
             }
-            if self.is_away {
+            if self.is_waiting {
                 return Ok(step);
             }
         }
         Ok(Step::Socket)
     }
 
-    /// Ends the round that is open. Where the server has nothing to answer, its replies are there.
+    /// Ends the open round. Where the server has nothing to answer, its replies are complete.
     fn end_round(&mut self) -> Step {
         self.jobs = 0;
         self.requests = 0;
-        let mut part = take(&mut self.part);
-        if part.is_done() {
-            self.answer(&part.into_replies());
+        let mut sub_batch = take(&mut self.sub_batch);
+        if sub_batch.is_done() {
+            self.answer(&sub_batch.into_replies());
             Step::Socket
         } else {
-            Step::Round(part)
+            Step::Round(sub_batch)
         }
     }
 
@@ -250,22 +298,22 @@ impl Connection {
         Ok(())
     }
 
-    /// Adds a request to the round that is open.
+    /// Adds a request to the open round.
     fn add(&mut self, frame: Frame, text: &mut [u8], shared: &Shared) -> io::Result<Step> {
         self.count_request(shared)?;
         match frame {
             Frame::Invoke(class) => match self.class(class) {
-                None => self.part.add_known(&UNKNOWN_CLASS),
+                None => self.sub_batch.add_known(&UNKNOWN_CLASS),
                 Some(class) => {
                     set_class(text, class.number);
-                    self.add_one(text, u64::from(class.steps) + COST);
+                    self.add_job(text, u64::from(class.steps) + REQUEST_COST);
                 }
             },
             Frame::InvokeAll { class, keys } => match self.class(class) {
-                None => self.part.add_known(&UNKNOWN_CLASS),
-                Some(class) => self.add_many(text, keys, class),
+                None => self.sub_batch.add_known(&UNKNOWN_CLASS),
+                Some(class) => self.add_invoke_all(text, keys, class),
             },
-            _ => self.add_one(text, COST),
+            _ => self.add_job(text, REQUEST_COST),
         }
         Ok(Step::Socket)
     }
@@ -275,24 +323,25 @@ impl Connection {
         self.classes.get(number as usize).copied()
     }
 
-    fn add_one(&mut self, text: &[u8], cost: u64) {
+    fn add_job(&mut self, text: &[u8], cost: u64) {
         if self.jobs == MOST_JOBS {
-            self.part.add_known(&TOO_MANY_JOBS);
+            self.sub_batch.add_known(&TOO_MANY_JOBS);
         } else {
             self.jobs += 1;
-            self.part.add_one(text, cost);
+            self.sub_batch.add_job(text, cost);
         }
     }
 
-    fn add_many(&mut self, text: &mut [u8], keys: usize, class: Class) {
+    fn add_invoke_all(&mut self, text: &mut [u8], keys: usize, class: Class) {
         if keys > MOST_JOBS - self.jobs {
-            self.part.add_known(&TOO_MANY_JOBS);
+            self.sub_batch.add_known(&TOO_MANY_JOBS);
         } else if keys == 0 {
-            self.part.add_known(&NO_RESULTS);
+            self.sub_batch.add_known(&NO_RESULTS);
         } else {
             self.jobs += keys;
             set_class(text, class.number);
-            self.part.add_many(text, keys, u64::from(class.steps) + COST);
+            self.sub_batch
+                .add_invoke_all(text, keys, u64::from(class.steps) + REQUEST_COST);
         }
     }
 
@@ -301,30 +350,38 @@ impl Connection {
         self.count_request(shared)?;
         let may_number = self.classes.len() < MOST_NUMBERS;
         let may_bring = self.brought < shared.most_classes;
-        match if may_number { shared.classes.find(&text[5..], self.number, may_bring) } else { Found::TooMany } {
-            Found::Class(class) => self.number_class(class),
-            Found::New => return Ok(Step::Class(text)),
-            Found::Asked => {
+        let lookup = if may_number {
+            shared.classes.find(&text[5..], self.number, may_bring)
+        } else {
+            Lookup::TooMany
+        };
+        match lookup {
+            Lookup::Class(class) => self.number_class(class),
+            Lookup::New => return Ok(Step::Class(text)),
+            Lookup::Pending => {
                 self.requests -= 1;
-                return Ok(Step::Other);
+                return Ok(Step::OthersClass);
             }
-            Found::TooMany => self.part.add_known(&TOO_MANY_CLASSES),
+            Lookup::TooMany => self.sub_batch.add_known(&TOO_MANY_CLASSES),
         }
         Ok(Step::Socket)
     }
 
-    /// Gives a class its number on this connection, and tells it.
+    /// Gives a class its number on this connection, and replies with it.
     fn number_class(&mut self, class: Class) {
         let mut reply = vec![0, 0, 0, 13, 1];
         reply.extend_from_slice(&(self.classes.len() as u32).to_be_bytes());
         reply.extend_from_slice(&class.steps.to_be_bytes());
         reply.extend_from_slice(&class.words.to_be_bytes());
         self.classes.push(class);
-        self.part.add_known(&reply);
+        self.sub_batch.add_known(&reply);
     }
 }
 
-/// Whether a socket only can't at this moment.
-fn is_for_later(e: &io::Error) -> bool {
-    matches!(e.kind(), io::ErrorKind::WouldBlock | io::ErrorKind::Interrupted)
+/// Whether a socket isn't ready at this moment.
+fn is_temporary(e: &io::Error) -> bool {
+    matches!(
+        e.kind(),
+        io::ErrorKind::WouldBlock | io::ErrorKind::Interrupted
+    )
 }

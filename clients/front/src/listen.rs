@@ -1,12 +1,16 @@
-//! Sockets, and who takes the connections that come.
+//! Listening sockets, and the threads that accept connections.
 
-use crate::options::Place;
+use crate::options::Address;
+use mio::event::Source;
+use mio::net::{TcpStream, UnixStream};
+use mio::{Interest, Registry, Token, Waker};
+use nix::sys::resource::{getrlimit, Resource};
 use std::fs;
 use std::io::{self, Read, Write};
 use std::mem::take;
-use std::net::{TcpListener, TcpStream};
-use std::os::unix::io::{AsFd, AsRawFd, OwnedFd, RawFd};
-use std::os::unix::net::{UnixListener, UnixStream};
+use std::net::TcpListener;
+use std::os::unix::io::{AsFd, OwnedFd};
+use std::os::unix::net::{UnixListener, UnixStream as StdUnixStream};
 use std::sync::atomic::{AtomicUsize, Ordering};
 use std::sync::Mutex;
 use std::thread;
@@ -15,16 +19,16 @@ use std::time::Duration;
 /// How many files the front needs beside its connections.
 const OTHER_FILES: usize = 16;
 
-/// How long the front waits where a connection can't be taken, for want of files for example.
+/// How long a thread waits after it couldn't accept, for example without free file descriptors.
 const PAUSE: Duration = Duration::from_millis(50);
 
-/// A socket that listens.
+/// A listening socket.
 pub enum Listener {
     Unix(UnixListener),
     Tcp(TcpListener),
 }
 
-/// A connection's socket, whose reads and writes never wait.
+/// A connection's socket, which doesn't block.
 pub enum Stream {
     Unix(UnixStream),
     Tcp(TcpStream),
@@ -52,72 +56,102 @@ impl Write for Stream {
     }
 }
 
-impl AsRawFd for Stream {
-    fn as_raw_fd(&self) -> RawFd {
+impl Source for Stream {
+    fn register(
+        &mut self,
+        registry: &Registry,
+        token: Token,
+        interest: Interest,
+    ) -> io::Result<()> {
         match self {
-            Stream::Unix(it) => it.as_raw_fd(),
-            Stream::Tcp(it) => it.as_raw_fd(),
+            Stream::Unix(it) => it.register(registry, token, interest),
+            Stream::Tcp(it) => it.register(registry, token, interest),
+        }
+    }
+
+    fn reregister(
+        &mut self,
+        registry: &Registry,
+        token: Token,
+        interest: Interest,
+    ) -> io::Result<()> {
+        match self {
+            Stream::Unix(it) => it.reregister(registry, token, interest),
+            Stream::Tcp(it) => it.reregister(registry, token, interest),
+        }
+    }
+
+    fn deregister(&mut self, registry: &Registry) -> io::Result<()> {
+        match self {
+            Stream::Unix(it) => it.deregister(registry),
+            Stream::Tcp(it) => it.deregister(registry),
         }
     }
 }
 
-/// Where those who take connections leave them. How many there are is counted here too.
-pub struct Gate {
-    most: usize,
+/// Where the accepting threads leave connections for the event loop. It also limits how many
+/// there are.
+pub struct Acceptor {
+    limit: usize,
     count: AtomicUsize,
     arrived: Mutex<Vec<Stream>>,
-    bell: UnixStream,
+    waker: Waker,
 }
 
-impl Gate {
-    /// A gate for at most so many connections. Beside it, what tells by a byte that connections have arrived.
-    pub fn new(most: usize) -> io::Result<(Gate, UnixStream)> {
-        let (bell, told) = UnixStream::pair()?;
-        bell.set_nonblocking(true)?;
-        Ok((Gate { most, count: AtomicUsize::new(0), arrived: Mutex::default(), bell }, told))
+impl Acceptor {
+    /// Accepts at most `limit` connections at a time, and wakes the event loop for each.
+    pub fn new(limit: usize, waker: Waker) -> Acceptor {
+        Acceptor {
+            limit,
+            count: AtomicUsize::new(0),
+            arrived: Mutex::default(),
+            waker,
+        }
     }
 
-    /// Takes a connection in, if there is room for one more. Else it is closed.
-    fn enter(&self, stream: Stream) {
-        if self.count.fetch_add(1, Ordering::SeqCst) >= self.most {
-            self.leave();
+    /// Hands a connection to the event loop, or closes it where there are as many as may be.
+    fn hand_over(&self, stream: Stream) {
+        if self.count.fetch_add(1, Ordering::SeqCst) >= self.limit {
+            self.release();
             return;
         }
         if let Ok(mut arrived) = self.arrived.lock() {
             arrived.push(stream);
         }
-        // A bell that takes no more bytes has rung.
-        let _ = (&self.bell).write(&[1]);
+        // It fails only where the event loop is gone, and then the process ends.
+        let _ = self.waker.wake();
     }
 
-    /// The connections that have arrived.
-    pub fn arrived(&self) -> Vec<Stream> {
-        self.arrived.lock().map_or_else(|_| Vec::new(), |mut arrived| take(&mut *arrived))
+    /// Takes the connections that have arrived.
+    pub fn take_arrived(&self) -> Vec<Stream> {
+        self.arrived
+            .lock()
+            .map_or_else(|_| Vec::new(), |mut arrived| take(&mut *arrived))
     }
 
-    /// Makes room for another in place of one that is gone.
-    pub fn leave(&self) {
+    /// Counts a connection that is closed.
+    pub fn release(&self) {
         self.count.fetch_sub(1, Ordering::SeqCst);
     }
 }
 
-/// Opens a place, and tells its name.
-pub fn open(place: &Place) -> io::Result<(Listener, String)> {
-    match place {
-        Place::Unix(path) => Ok((Listener::Unix(bind(path)?), path.clone())),
-        Place::Tcp(address) => {
+/// Opens a listening socket, and gives its name for the log.
+pub fn open(address: &Address) -> io::Result<(Listener, String)> {
+    match address {
+        Address::Unix(path) => Ok((Listener::Unix(bind_unix(path)?), path.clone())),
+        Address::Tcp(address) => {
             let listener = TcpListener::bind(address)?;
             let name = listener.local_addr()?.to_string();
             Ok((Listener::Tcp(listener), name))
         }
-        Place::Stdin => Ok((inherited()?, "the standard input".to_string())),
+        Address::Stdin => Ok((inherited()?, "the standard input".to_string())),
     }
 }
 
 /// Binds a unix socket. One that nobody listens on any more is replaced.
-fn bind(path: &str) -> io::Result<UnixListener> {
+fn bind_unix(path: &str) -> io::Result<UnixListener> {
     match UnixListener::bind(path) {
-        Err(e) if e.kind() == io::ErrorKind::AddrInUse => match UnixStream::connect(path) {
+        Err(e) if e.kind() == io::ErrorKind::AddrInUse => match StdUnixStream::connect(path) {
             Err(other) if other.kind() == io::ErrorKind::ConnectionRefused => {
                 fs::remove_file(path)?;
                 UnixListener::bind(path)
@@ -128,7 +162,7 @@ fn bind(path: &str) -> io::Result<UnixListener> {
     }
 }
 
-/// The socket that is the standard input, as systemd hands it on.
+/// The listening socket that is the standard input, as systemd passes it.
 fn inherited() -> io::Result<Listener> {
     let socket: OwnedFd = io::stdin().as_fd().try_clone_to_owned()?;
     let listener = TcpListener::from(socket);
@@ -140,35 +174,41 @@ fn inherited() -> io::Result<Listener> {
     Ok(Listener::Unix(listener))
 }
 
-/// How many connections there can be by the files that this process may open, where Linux tells that.
-pub fn most_by_files() -> Option<usize> {
-    let limits = fs::read_to_string("/proc/self/limits").ok()?;
-    let line = limits.lines().find(|line| line.starts_with("Max open files"))?;
-    let files: usize = line.split_whitespace().nth(3)?.parse().ok()?;
-    Some(files.saturating_sub(OTHER_FILES))
+/// How many connections this process may have by its limit of open files, where that is known.
+pub fn connections_by_files() -> Option<usize> {
+    let (files, _) = getrlimit(Resource::RLIMIT_NOFILE).ok()?;
+    Some(
+        usize::try_from(files)
+            .unwrap_or(usize::MAX)
+            .saturating_sub(OTHER_FILES),
+    )
 }
 
-/// Takes the connections of a listener, for ever.
-pub fn run(listener: &Listener, gate: &Gate) {
+/// Accepts the connections of a listener, for ever.
+pub fn run(listener: &Listener, acceptor: &Acceptor) {
     loop {
         match accept(listener) {
-            Ok(Some(stream)) => gate.enter(stream),
+            Ok(Some(stream)) => acceptor.hand_over(stream),
             Ok(None) => {}
             Err(_) => thread::sleep(PAUSE),
         }
     }
 }
 
-/// Takes the next connection. None where it has broken off already.
+/// Accepts the next connection. None where it has been reset already.
 fn accept(listener: &Listener) -> io::Result<Option<Stream>> {
     Ok(match listener {
         Listener::Unix(it) => {
             let (stream, _) = it.accept()?;
-            stream.set_nonblocking(true).ok().map(|_| Stream::Unix(stream))
+            stream
+                .set_nonblocking(true)
+                .ok()
+                .map(|_| Stream::Unix(UnixStream::from_std(stream)))
         }
         Listener::Tcp(it) => {
             let (stream, _) = it.accept()?;
-            stream.set_nonblocking(true).and(stream.set_nodelay(true)).ok().map(|_| Stream::Tcp(stream))
+            let ready = stream.set_nonblocking(true).and(stream.set_nodelay(true));
+            ready.ok().map(|_| Stream::Tcp(TcpStream::from_std(stream)))
         }
     })
 }

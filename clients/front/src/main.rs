@@ -1,37 +1,54 @@
 //! jentry-front: lets many connections share one jentry cache.
 //!
-//! It starts one server (as `jentry serve`), listens, and speaks the server's own frames with each connection. A connection's round is
-//! taken once its end is there. It is outside of what is proved about the server.
+//! It starts one server (`jentry serve`), listens, and speaks the server's own frames with each
+//! connection. A connection's round is taken once its end has arrived. The front is outside of
+//! what is proved about the server.
+#![forbid(unsafe_code)]
 
+mod affinity;
+mod batch;
 mod classes;
 mod connection;
-mod desk;
-mod front;
+mod event_loop;
 mod listen;
-mod near;
+mod logging;
 mod options;
-mod piece;
-mod poll;
 mod request;
+mod scheduler;
 mod server;
-mod spin;
+mod spin_wait;
+mod sub_batch;
 
 use connection::Shared;
-use desk::Desk;
-use front::Front;
-use listen::Gate;
-use options::{Options, Place};
+use event_loop::{EventLoop, WAKER};
+use listen::Acceptor;
+use log::{error, info, warn};
+use mio::{Poll, Waker};
+use options::{Address, Options};
+use scheduler::Scheduler;
+use signal_hook::consts::{SIGINT, SIGTERM};
+use signal_hook::iterator::Signals;
+use signal_hook::low_level::{emulate_default_handler, signal_name};
 use std::io;
 use std::process::exit;
 use std::sync::Arc;
 use std::thread;
 use std::time::Duration;
 
+/// The exit status for a command line that makes no sense, as `jentry` has it.
+const USAGE_STATUS: i32 = 1;
+
+/// The exit status where the front can't begin.
+const START_STATUS: i32 = 3;
+
 /// The most connections, as far as this process may open files.
-fn most_connections(wanted: usize) -> usize {
-    match listen::most_by_files() {
+fn connection_limit(wanted: usize) -> usize {
+    match listen::connections_by_files() {
         Some(most) if most < wanted => {
-            eprintln!("jentry-front: at most {} connections, since this process may not open more files (ulimit -n)", most);
+            warn!(
+                "at most {} connections, since this process may not open more files (ulimit -n)",
+                most
+            );
             most
         }
         _ => wanted,
@@ -39,49 +56,78 @@ fn most_connections(wanted: usize) -> usize {
 }
 
 /// Removes the unix sockets that the front made.
-fn remove_sockets(places: &[Place]) {
-    for place in places {
-        if let Place::Unix(path) = place {
+fn remove_sockets(addresses: &[Address]) {
+    for address in addresses {
+        if let Address::Unix(path) = address {
             let _ = std::fs::remove_file(path);
         }
     }
 }
 
-/// Opens the places, starts the server, and serves until it ends. The error says what went wrong before that.
-fn run(options: Options) -> Result<(), String> {
-    let Options { places, connections, classes, requests, steps, idle, program } = options;
-    let most = most_connections(connections);
-    let mut listeners = Vec::new();
-    for place in &places {
-        let (listener, name) = listen::open(place).map_err(|e| format!("can't listen on {:?}: {}", place, e))?;
-        listeners.push((listener, name));
-    }
-    let server = server::start(&program, move || remove_sockets(&places)).map_err(|e| format!("can't start {}: {}", program[0], e))?;
-    let (gate, bell) = Gate::new(most).map_err(no_files)?;
-    let gate = Arc::new(gate);
-    let desk = Desk::new(server, steps).map_err(no_files)?;
-    let idle = if idle == 0 { None } else { Some(Duration::from_secs(idle)) };
-    let front = Front::new(gate.clone(), bell, desk, Shared::new(classes, requests), idle).map_err(no_files)?;
-    for (listener, name) in listeners {
-        let gate = gate.clone();
-        eprintln!("jentry-front: listening on {}", name);
-        thread::spawn(move || listen::run(&listener, &gate));
-    }
-    front.run()
+/// Removes the sockets where a signal ends the front, which then ends by that signal.
+fn end_on_signals(addresses: Vec<Address>) -> io::Result<()> {
+    let mut signals = Signals::new([SIGINT, SIGTERM])?;
+    thread::spawn(move || {
+        for signal in signals.forever() {
+            info!("ended by {}", signal_name(signal).unwrap_or("a signal"));
+            remove_sockets(&addresses);
+            logging::flush();
+            let _ = emulate_default_handler(signal);
+        }
+    });
+    Ok(())
 }
 
-fn no_files(e: io::Error) -> String {
+/// Listens, starts the server, and serves until it ends. The error says what failed before that.
+fn run(options: Options) -> Result<(), String> {
+    let limit = connection_limit(options.connections);
+    let mut listeners = Vec::new();
+    for address in &options.addresses {
+        let listener =
+            listen::open(address).map_err(|e| format!("can't listen on {:?}: {}", address, e))?;
+        listeners.push(listener);
+    }
+    end_on_signals(options.addresses.clone()).map_err(setup_failed)?;
+    let addresses = options.addresses;
+    let server =
+        server::start(&options.program, move || remove_sockets(&addresses)).map_err(|e| {
+            format!(
+                "can't start {}: {}",
+                options.program[0].to_string_lossy(),
+                e
+            )
+        })?;
+    let scheduler = Scheduler::new(server, options.steps).map_err(setup_failed)?;
+    let shared = Shared::new(options.classes, options.requests);
+    let idle = Some(options.idle)
+        .filter(|it| *it > 0)
+        .map(Duration::from_secs);
+    let poll = Poll::new().map_err(setup_failed)?;
+    let waker = Waker::new(poll.registry(), WAKER).map_err(setup_failed)?;
+    let acceptor = Arc::new(Acceptor::new(limit, waker));
+    let event_loop =
+        EventLoop::new(poll, acceptor.clone(), scheduler, shared, idle).map_err(setup_failed)?;
+    for (listener, name) in listeners {
+        let acceptor = acceptor.clone();
+        info!("listening on {}", name);
+        thread::spawn(move || listen::run(&listener, &acceptor));
+    }
+    event_loop.run()
+}
+
+fn setup_failed(e: io::Error) -> String {
     format!("can't open what it needs: {}", e)
 }
 
 fn main() {
-    let words: Vec<String> = std::env::args().skip(1).collect();
-    let options = options::read(&words).unwrap_or_else(|wrong| {
-        eprintln!("jentry-front: {}\n{}", wrong, options::USAGE);
-        exit(1);
+    let options = options::parse(std::env::args_os()).unwrap_or_else(|e| {
+        let _ = e.print();
+        exit(if e.use_stderr() { USAGE_STATUS } else { 0 });
     });
-    if let Err(wrong) = run(options) {
-        eprintln!("jentry-front: {}", wrong);
-        exit(3);
+    logging::start(options.log);
+    if let Err(reason) = run(options) {
+        error!("{}", reason);
+        logging::flush();
+        exit(START_STATUS);
     }
 }

@@ -1,86 +1,179 @@
-//! The words of the command line.
+//! The command line.
 
-/// What is printed where the words make no sense.
-pub const USAGE: &str = "\
-jentry-front [OPTIONS] PROGRAM [WORDS..]: starts one server and lets many connections share it
-  --unix PATH        listen on a unix socket
-  --tcp [HOST:]PORT  listen on TCP, on 127.0.0.1 where no host is given
-  --stdin            listen on the socket that is the standard input
-  --connections N    the most connections (1 to 4096, 1024)
-  --classes N        the most new classes of a connection (0 to 4096, 64)
-  --requests N       the most requests of a round (1 to 1000000, 65536)
-  --steps N          the most instructions of a piece (1 to 1000000000, 1000000)
-  --idle SECONDS     close a connection that stands still for so long (0 to 1000000, 0: never)
-At least one of the first three, each as often as one likes. PROGRAM with its WORDS speaks as `jentry serve` does.";
+use clap::builder::PossibleValuesParser;
+use clap::{value_parser, Arg, ArgAction, ArgGroup, ArgMatches, Command};
+use log::LevelFilter;
+use std::ffi::OsString;
 
-/// Where to listen.
-#[derive(Debug, PartialEq, Eq)]
-pub enum Place {
+const USAGE: &str = "jentry-front [OPTIONS] <--unix PATH | --tcp [HOST:]PORT | --stdin> \
+                     PROGRAM [WORDS]...";
+
+const AFTER_HELP: &str = "\
+Options come before PROGRAM. What comes after it is the server's. \
+The server speaks the frames of `jentry serve` on its standard streams.
+
+Example: jentry-front --unix /run/jentry.sock jentry serve";
+
+/// An address to listen on.
+#[derive(Clone, Debug, PartialEq, Eq)]
+pub enum Address {
     /// A unix socket at this path.
     Unix(String),
-    /// A TCP address, with its port.
+    /// A TCP address, `HOST:PORT`.
     Tcp(String),
-    /// The standard input is a socket that listens.
+    /// The standard input, which is a listening socket.
     Stdin,
 }
 
-/// The options, and the server's words.
+/// The options and the server's command line.
 #[derive(Debug, PartialEq, Eq)]
 pub struct Options {
-    pub places: Vec<Place>,
-    /// The most connections.
+    pub addresses: Vec<Address>,
+    /// The most connections at a time.
     pub connections: usize,
     /// The most new classes of a connection.
     pub classes: usize,
     /// The most requests of a round.
     pub requests: usize,
-    /// The most instructions of a piece.
+    /// The most instructions of a batch.
     pub steps: u64,
-    /// Seconds after which a connection that stands still is closed, 0 for never.
+    /// Seconds after which a connection without progress is closed, 0 for never.
     pub idle: u64,
-    pub program: Vec<String>,
+    /// The least important level that is logged.
+    pub log: LevelFilter,
+    /// The server's program and its arguments.
+    pub program: Vec<OsString>,
 }
 
-/// Reads the words behind the front's own name. The error says which word is wrong.
-pub fn read(words: &[String]) -> Result<Options, String> {
-    let mut it = Options { places: Vec::new(), connections: 1_024, classes: 64, requests: 65_536, steps: 1_000_000, idle: 0, program: Vec::new() };
-    let mut rest = words.iter();
-    while let Some(word) = rest.next() {
-        if !word.starts_with("--") {
-            it.program.push(word.clone());
-            it.program.extend(rest.cloned());
-            break;
-        }
-        if word == "--stdin" {
-            it.places.push(Place::Stdin);
-            continue;
-        }
-        let value = rest.next().ok_or_else(|| format!("{} needs a value", word))?;
-        match word.as_str() {
-            "--unix" => it.places.push(Place::Unix(value.clone())),
-            "--tcp" if value.contains(':') => it.places.push(Place::Tcp(value.clone())),
-            "--tcp" => it.places.push(Place::Tcp(format!("127.0.0.1:{}", value))),
-            "--connections" => it.connections = number(word, value, 1, 4_096)? as usize,
-            "--classes" => it.classes = number(word, value, 0, 4_096)? as usize,
-            "--requests" => it.requests = number(word, value, 1, 1_000_000)? as usize,
-            "--steps" => it.steps = number(word, value, 1, 1_000_000_000)?,
-            "--idle" => it.idle = number(word, value, 0, 1_000_000)?,
-            _ => return Err(format!("there is no option {}", word)),
-        }
-    }
-    if it.places.is_empty() {
-        return Err("there is no place to listen on".to_string());
-    }
-    if it.program.is_empty() {
-        return Err("there is no program".to_string());
-    }
-    Ok(it)
+/// Reads the command line, the front's own name first.
+///
+/// The error is clap's, which is also how `--help` and `--version` come back.
+pub fn parse(words: impl IntoIterator<Item = OsString>) -> Result<Options, clap::Error> {
+    command()
+        .try_get_matches_from(words)
+        .map(|matches| options(&matches))
 }
 
-fn number(word: &str, value: &str, least: u64, most: u64) -> Result<u64, String> {
-    match value.parse() {
-        Ok(number) if (least..=most).contains(&number) => Ok(number),
-        _ => Err(format!("{} takes a number from {} to {}", word, least, most)),
+fn command() -> Command {
+    Command::new("jentry-front")
+        .version(env!("CARGO_PKG_VERSION"))
+        .about("Starts one jentry server and lets many connections share it")
+        .override_usage(USAGE)
+        .after_help(AFTER_HELP)
+        .args(address_args())
+        .args(limit_args())
+        .arg(
+            Arg::new("log")
+                .long("log")
+                .value_name("LEVEL")
+                .default_value("info")
+                .value_parser(PossibleValuesParser::new([
+                    "error", "warn", "info", "debug",
+                ]))
+                .help("The least important level of events on standard error"),
+        )
+        .arg(
+            Arg::new("program")
+                .value_name("PROGRAM")
+                .required(true)
+                .num_args(1..)
+                .trailing_var_arg(true)
+                .value_parser(value_parser!(OsString))
+                .help("The server and its arguments, such as `jentry serve`"),
+        )
+        .group(
+            ArgGroup::new("address")
+                .args(["unix", "tcp", "stdin"])
+                .multiple(true)
+                .required(true),
+        )
+}
+
+fn address_args() -> [Arg; 3] {
+    let unix = Arg::new("unix")
+        .long("unix")
+        .value_name("PATH")
+        .action(ArgAction::Append)
+        .help("Listen on a unix socket; can be given several times");
+    let tcp = Arg::new("tcp")
+        .long("tcp")
+        .value_name("[HOST:]PORT")
+        .action(ArgAction::Append)
+        .value_parser(tcp_address)
+        .help("Listen on TCP, on 127.0.0.1 without a host; can be given several times");
+    let stdin = Arg::new("stdin")
+        .long("stdin")
+        .action(ArgAction::SetTrue)
+        .help("Listen on the socket that is the standard input, as systemd passes it");
+    [unix, tcp, stdin]
+}
+
+fn limit_args() -> [Arg; 5] {
+    let limit = |name: &'static str, value: &'static str, least: u64, most: u64| {
+        Arg::new(name)
+            .long(name)
+            .value_name(value)
+            .value_parser(value_parser!(u64).range(least..=most))
+    };
+    [
+        limit("connections", "N", 1, 4_096)
+            .default_value("1024")
+            .help("The most connections at a time, 1 to 4096"),
+        limit("classes", "N", 0, 4_096)
+            .default_value("64")
+            .help("The most new classes that a connection may bring, 0 to 4096"),
+        limit("requests", "N", 1, 1_000_000)
+            .default_value("65536")
+            .help("The most requests of a round, 1 to 1000000"),
+        limit("steps", "N", 1, 1_000_000_000)
+            .default_value("1000000")
+            .help("The most instructions of a batch, 1 to 1000000000"),
+        limit("idle", "SECONDS", 0, 1_000_000)
+            .default_value("0")
+            .help("Close a connection after so long without progress, 0 for never"),
+    ]
+}
+
+/// A TCP address with its port; the host is the loopback where none is given.
+fn tcp_address(text: &str) -> Result<String, String> {
+    let (host, port) = text.rsplit_once(':').unwrap_or(("127.0.0.1", text));
+    match port.parse::<u16>() {
+        Ok(port) if !host.is_empty() => Ok(format!("{}:{}", host, port)),
+        _ => Err("expected [HOST:]PORT with a port from 0 to 65535".to_string()),
+    }
+}
+
+fn options(matches: &ArgMatches) -> Options {
+    let number = |name: &str| matches.get_one::<u64>(name).copied().unwrap_or_default();
+    let texts = |name: &str| {
+        matches
+            .get_many::<String>(name)
+            .into_iter()
+            .flatten()
+            .cloned()
+    };
+    let mut addresses: Vec<Address> = texts("unix").map(Address::Unix).collect();
+    addresses.extend(texts("tcp").map(Address::Tcp));
+    if matches.get_flag("stdin") {
+        addresses.push(Address::Stdin);
+    }
+    Options {
+        addresses,
+        connections: number("connections") as usize,
+        classes: number("classes") as usize,
+        requests: number("requests") as usize,
+        steps: number("steps"),
+        idle: number("idle"),
+        log: texts("log")
+            .next()
+            .and_then(|it| it.parse().ok())
+            .unwrap_or(LevelFilter::Info),
+        program: matches
+            .get_many::<OsString>("program")
+            .into_iter()
+            .flatten()
+            .cloned()
+            .collect(),
     }
 }
 
@@ -88,30 +181,74 @@ fn number(word: &str, value: &str, least: u64, most: u64) -> Result<u64, String>
 mod tests {
     use super::*;
 
-    fn read_line(line: &str) -> Result<Options, String> {
-        read(&line.split(' ').map(str::to_string).collect::<Vec<_>>())
+    fn parse_line(line: &str) -> Result<Options, String> {
+        let words = std::iter::once("jentry-front").chain(line.split_whitespace());
+        parse(words.map(OsString::from)).map_err(|e| e.to_string())
+    }
+
+    fn error(line: &str) -> String {
+        parse_line(line).expect_err(line)
     }
 
     #[test]
-    fn words_behind_the_program_are_the_servers() {
-        let it = read_line("--unix a --tcp 7 --steps 5 jentry serve --workers 1").expect("options");
-        assert_eq!(it.places, [Place::Unix("a".to_string()), Place::Tcp("127.0.0.1:7".to_string())]);
+    fn clap_accepts_the_definitions() {
+        command().debug_assert();
+    }
+
+    #[test]
+    fn words_after_the_program_are_the_servers() {
+        let it = parse_line("--unix a --tcp 7 --steps 5 jentry serve --workers 1 --unix b")
+            .expect("options");
+        let tcp = Address::Tcp("127.0.0.1:7".to_string());
+        assert_eq!(it.addresses, [Address::Unix("a".to_string()), tcp]);
         assert_eq!(it.steps, 5);
-        assert_eq!(it.program, ["jentry", "serve", "--workers", "1"]);
+        assert_eq!(
+            it.program,
+            ["jentry", "serve", "--workers", "1", "--unix", "b"]
+        );
     }
 
     #[test]
     fn limits_have_defaults() {
-        let it = read_line("--unix a jentry serve").expect("options");
-        assert_eq!((it.connections, it.classes, it.requests, it.steps, it.idle), (1_024, 64, 65_536, 1_000_000, 0));
+        let it = parse_line("--unix a --unix b jentry serve").expect("options");
+        assert_eq!(it.addresses.len(), 2);
+        assert_eq!(
+            (it.connections, it.classes, it.requests),
+            (1_024, 64, 65_536)
+        );
+        assert_eq!(
+            (it.steps, it.idle, it.log),
+            (1_000_000, 0, LevelFilter::Info)
+        );
     }
 
     #[test]
-    fn wrong_words_are_named() {
-        assert_eq!(read_line("jentry serve"), Err("there is no place to listen on".to_string()));
-        assert_eq!(read_line("--unix a"), Err("there is no program".to_string()));
-        assert_eq!(read_line("--steps 0 jentry"), Err("--steps takes a number from 1 to 1000000000".to_string()));
-        assert_eq!(read_line("--what 0 jentry"), Err("there is no option --what".to_string()));
-        assert_eq!(read_line("--unix"), Err("--unix needs a value".to_string()));
+    fn errors_name_the_word_and_the_usage() {
+        let address = error("jentry serve");
+        assert!(
+            address.contains("--unix <PATH>|--tcp <[HOST:]PORT>|--stdin"),
+            "{}",
+            address
+        );
+        assert!(error("--unix a").contains("<PROGRAM>"));
+        assert!(error("--unix a --steps 0 jentry").contains("0 is not in 1..=1000000000"));
+        assert!(error("--unix a --tcp x jentry").contains("expected [HOST:]PORT"));
+        let unknown = error("--what 0 jentry");
+        assert!(
+            unknown.contains("--what") && unknown.contains(USAGE),
+            "{}",
+            unknown
+        );
+        assert!(error("--unix").contains("--unix <PATH>"));
+    }
+
+    #[test]
+    fn help_and_version_are_no_usage_errors() {
+        for word in ["--help", "--version"] {
+            let it = parse([OsString::from("jentry-front"), word.into()]).expect_err(word);
+            assert!(!it.use_stderr());
+        }
+        assert!(error("--version").contains(env!("CARGO_PKG_VERSION")));
+        assert!(error("--help").contains("--idle <SECONDS>"));
     }
 }

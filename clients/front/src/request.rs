@@ -1,18 +1,18 @@
-//! The frames of a connection: what is a request, and what it asks for.
+//! The frames of a connection: which are requests, and what they ask for.
 //!
-//! The server answers what is no request by ending its stream, and that is everybody's. So each frame is judged here to the byte
-//! before it goes on.
+//! The server answers an invalid frame by ending its stream, which all connections share. So each
+//! frame is validated here to the byte before it goes to the server.
 
 use std::collections::HashSet;
 use std::io;
 
-/// The longest frame, in bytes behind its length.
+/// The longest frame, in bytes after its length.
 pub const LONGEST: usize = 131_072;
 
 /// The most jobs of a round of the server.
 pub const MOST_JOBS: usize = 4_096;
 
-/// Where the keys of an invokeAll begin: behind length, kind, class number and count.
+/// Where the keys of an invokeAll begin: after length, kind, class number and count.
 pub const KEYS_AT: usize = 11;
 
 /// What a frame asks for.
@@ -30,8 +30,8 @@ pub enum Frame {
     InvokeAll { class: u32, keys: usize },
 }
 
-/// How many bytes the frame has that begins here, with its length in front. None where it isn't there to its end; an error where its length is
-/// 0 or too long.
+/// The bytes of the frame that begins here, with its length in front. None where it hasn't arrived
+/// to its end; an error where its length is 0 or too long.
 pub fn frame_length(input: &[u8]) -> io::Result<Option<usize>> {
     if input.len() < 4 {
         return Ok(None);
@@ -40,15 +40,19 @@ pub fn frame_length(input: &[u8]) -> io::Result<Option<usize>> {
     if length < 1 || length > LONGEST {
         return Err(io::ErrorKind::InvalidData.into());
     }
-    Ok(if input.len() < 4 + length { None } else { Some(4 + length) })
+    Ok(if input.len() < 4 + length {
+        None
+    } else {
+        Some(4 + length)
+    })
 }
 
-/// The number in the four bytes from here on. The caller has seen that they are there.
+/// The number in the four bytes from here on, which have to be there.
 pub fn number_at(text: &[u8], at: usize) -> u32 {
     u32::from_be_bytes([text[at], text[at + 1], text[at + 2], text[at + 3]])
 }
 
-/// Where the arguments that begin here end, if they are arguments.
+/// Where the arguments that begin here end. None where they aren't valid.
 fn arguments_end(text: &[u8], at: usize) -> Option<usize> {
     let count = *text.get(at)?;
     if count > 8 {
@@ -66,8 +70,8 @@ fn arguments_end(text: &[u8], at: usize) -> Option<usize> {
     Some(at)
 }
 
-/// Judges a whole frame. None is no request. Keys that stand in an invokeAll twice are taken out of it: the server runs each key once,
-/// and tells it where it first stood.
+/// Validates a whole frame. None is no request. Duplicate keys of an invokeAll are removed: the
+/// server runs each key once, and answers it in its first position.
 pub fn judge(text: &mut Vec<u8>) -> Option<Frame> {
     let length = text.len();
     match (*text.get(4)?, length) {
@@ -80,18 +84,26 @@ pub fn judge(text: &mut Vec<u8>) -> Option<Frame> {
             if arguments_end(text, KEYS_AT + 8 * count)? != length {
                 return None;
             }
-            let keys = drop_doubles(text, count);
-            Some(Frame::InvokeAll { class: number_at(text, 5), keys })
+            let keys = remove_duplicates(text, count);
+            Some(Frame::InvokeAll {
+                class: number_at(text, 5),
+                keys,
+            })
         }
         _ => None,
     }
 }
 
-/// Takes out of an invokeAll the keys that stood before, and tells how many are left.
-fn drop_doubles(text: &mut Vec<u8>, count: usize) -> usize {
+/// Removes the duplicate keys of an invokeAll, and gives how many are left.
+fn remove_duplicates(text: &mut Vec<u8>, count: usize) -> usize {
     let end = KEYS_AT + 8 * count;
     let mut seen = HashSet::with_capacity(count);
-    let kept: Vec<u8> = text[KEYS_AT..end].chunks(8).filter(|key| seen.insert(*key)).flatten().copied().collect();
+    let kept: Vec<u8> = text[KEYS_AT..end]
+        .chunks(8)
+        .filter(|key| seen.insert(*key))
+        .flatten()
+        .copied()
+        .collect();
     let keys = kept.len() / 8;
     if keys < count {
         text.splice(KEYS_AT..end, kept);
@@ -102,7 +114,7 @@ fn drop_doubles(text: &mut Vec<u8>, count: usize) -> usize {
     keys
 }
 
-/// Puts the server's number of a class in place of the connection's.
+/// Replaces the connection's number of a class by the server's.
 pub fn set_class(text: &mut [u8], number: u32) {
     text[5..9].copy_from_slice(&number.to_be_bytes());
 }
@@ -122,10 +134,15 @@ mod tests {
     }
 
     #[test]
-    fn a_frame_is_there_once_its_end_is() {
+    fn a_frame_has_arrived_with_its_end() {
         let text = [framed(&[8]), framed(&[3; 9])].concat();
         for end in 0..text.len() {
-            assert_eq!(frame_length(&text[..end]).ok(), Some(if end < 5 { None } else { Some(5) }), "a beginning of {} bytes", end);
+            assert_eq!(
+                frame_length(&text[..end]).ok(),
+                Some(if end < 5 { None } else { Some(5) }),
+                "a beginning of {} bytes",
+                end
+            );
         }
         assert_eq!(frame_length(&text[5..]).ok(), Some(Some(13)));
         assert_eq!(frame_length(&[0, 2, 0, 0]).ok(), Some(None));
@@ -163,14 +180,17 @@ mod tests {
     }
 
     #[test]
-    fn doubles_are_dropped_and_first_places_stay() {
+    fn duplicates_are_removed_and_first_positions_stay() {
         let mut body = vec![7, 0, 0, 0, 2, 0, 4];
         for key in [9u64, 3, 9, 3] {
             body.extend_from_slice(&key.to_be_bytes());
         }
         body.extend_from_slice(&[1, 0]);
         let mut text = framed(&body);
-        assert_eq!(judge(&mut text), Some(Frame::InvokeAll { class: 2, keys: 2 }));
+        assert_eq!(
+            judge(&mut text),
+            Some(Frame::InvokeAll { class: 2, keys: 2 })
+        );
         let mut wanted = vec![7, 0, 0, 0, 2, 0, 2];
         wanted.extend_from_slice(&9u64.to_be_bytes());
         wanted.extend_from_slice(&3u64.to_be_bytes());
@@ -181,6 +201,9 @@ mod tests {
     #[test]
     fn a_count_beyond_the_frame_is_no_request() {
         assert_eq!(judged(&[7, 0, 0, 0, 0, 0xff, 0xff, 0]), None);
-        assert_eq!(judged(&[7, 0, 0, 0, 0, 0, 0, 0]), Some(Frame::InvokeAll { class: 0, keys: 0 }));
+        assert_eq!(
+            judged(&[7, 0, 0, 0, 0, 0, 0, 0]),
+            Some(Frame::InvokeAll { class: 0, keys: 0 })
+        );
     }
 }

@@ -1,0 +1,216 @@
+//! A batch: what is sent to the server as one of its rounds. It is gathered from the sub-batches
+//! that wait, and its replies are dealt back to them by position. Nothing here does I/O.
+
+use crate::request::MOST_JOBS;
+use crate::sub_batch::{Next, Sent, SubBatch};
+
+/// A request of a round's end.
+pub const END: [u8; 5] = [0, 0, 0, 1, 8];
+
+/// A sub-batch that waits for the server, with what its owner is found by.
+pub struct Queued<T> {
+    pub owner: T,
+    pub sub_batch: SubBatch,
+}
+
+/// What a position in a batch is.
+enum Kind {
+    /// Replies that the front knows by itself.
+    Known(Vec<u8>),
+    /// A request that the server answers.
+    Sent(Sent),
+}
+
+/// A position in a batch: its sub-batch, by the position among those that waited, and what it is.
+struct Position {
+    queued: usize,
+    kind: Kind,
+}
+
+/// A batch of the sub-batches that waited.
+pub struct Batch {
+    text: Vec<u8>,
+    positions: Vec<Position>,
+    /// For each sub-batch that waited, whether nothing of it fitted.
+    left_out: Vec<bool>,
+}
+
+/// How much more fits into a batch, in jobs and instructions.
+struct Budget {
+    steps: u64,
+    jobs_each: usize,
+    steps_each: u64,
+    /// Instructions of the jobs that exceed their share.
+    expensive: u64,
+    has_class: bool,
+}
+
+/// What of a sub-batch is in this batch already.
+#[derive(Default)]
+struct Share {
+    jobs: usize,
+    steps: u64,
+}
+
+impl Batch {
+    /// Gathers a batch, from each sub-batch as much as its share allows.
+    ///
+    /// Half of `steps` is divided equally for jobs that fit into their share, so that a cheap job
+    /// is always in the next batch. The other half is for jobs that don't fit, one of each
+    /// sub-batch, the first of them whatever it costs. A batch has one class at most.
+    pub fn gather<T>(queued: &mut [Queued<T>], steps: u64) -> Batch {
+        let mut budget = Budget::new(queued.len().max(1), steps);
+        let mut batch = Batch {
+            text: Vec::new(),
+            positions: Vec::new(),
+            left_out: Vec::new(),
+        };
+        for (index, it) in queued.iter_mut().enumerate().take(MOST_JOBS) {
+            let before = batch.positions.len();
+            batch.take_from(index, &mut it.sub_batch, &mut budget);
+            batch.left_out.push(batch.positions.len() == before);
+        }
+        batch.text.extend_from_slice(&END);
+        batch
+    }
+
+    fn take_from(&mut self, queued: usize, sub_batch: &mut SubBatch, budget: &mut Budget) {
+        let mut share = Share::default();
+        loop {
+            if let Some(replies) = sub_batch.take_known() {
+                self.positions.push(Position {
+                    queued,
+                    kind: Kind::Known(replies),
+                });
+            }
+            let count = match sub_batch.next() {
+                Next::Class if !budget.has_class => {
+                    budget.has_class = true;
+                    1
+                }
+                Next::Jobs { count, cost } => budget.grant(count, cost, &mut share),
+                Next::Class | Next::Nothing => 0,
+            };
+            if count == 0 {
+                return;
+            }
+            let kind = Kind::Sent(sub_batch.send(count, &mut self.text));
+            self.positions.push(Position { queued, kind });
+        }
+    }
+
+    /// The batch's text: requests and their end.
+    pub fn text(&self) -> &[u8] {
+        &self.text
+    }
+
+    /// How many replies the server has to send, without the end.
+    pub fn replies(&self) -> usize {
+        self.positions
+            .iter()
+            .filter(|it| matches!(it.kind, Kind::Sent(_)))
+            .count()
+    }
+
+    /// Whether nothing of this sub-batch fitted.
+    pub fn left_out(&self, queued: usize) -> bool {
+        self.left_out.get(queued).copied().unwrap_or(true)
+    }
+
+    /// Deals the server's replies, frames one after the other, with where each ends. False where
+    /// one of them is no reply to its request.
+    pub fn deal<T>(&self, queued: &mut [Queued<T>], text: &[u8], ends: &[usize]) -> bool {
+        let mut ends = ends.iter();
+        let mut begin = 0;
+        for position in &self.positions {
+            let sub_batch = &mut queued[position.queued].sub_batch;
+            let sent = match &position.kind {
+                Kind::Known(replies) => {
+                    sub_batch.add_reply(replies);
+                    continue;
+                }
+                Kind::Sent(sent) => sent,
+            };
+            let end = match ends.next() {
+                Some(end) => *end,
+                None => return false,
+            };
+            let reply = &text[begin..end];
+            begin = end;
+            match sent {
+                Sent::Whole => sub_batch.add_reply(reply),
+                Sent::Keys { keys, is_last } => {
+                    if sub_batch
+                        .join(keys.clone(), *is_last, &reply[4..])
+                        .is_none()
+                    {
+                        return false;
+                    }
+                }
+            }
+        }
+        true
+    }
+}
+
+impl Budget {
+    /// The budget of a batch of so many sub-batches.
+    fn new(count: usize, steps: u64) -> Budget {
+        let steps = steps / 2;
+        Budget {
+            steps,
+            jobs_each: (MOST_JOBS / count).max(1),
+            steps_each: steps / count as u64,
+            expensive: 0,
+            has_class: false,
+        }
+    }
+
+    /// How many of `most` jobs, each of this cost, a sub-batch may send beyond its share so far.
+    fn grant(&mut self, most: usize, cost: u64, share: &mut Share) -> usize {
+        let steps_left = self.steps_each.saturating_sub(share.steps);
+        let fit = (steps_left / cost.max(1)).min(most as u64) as usize;
+        let mut count = fit.min(self.jobs_each.saturating_sub(share.jobs));
+        let is_expensive = fit == 0 && share.jobs == 0;
+        if is_expensive && (self.expensive == 0 || self.expensive + cost <= self.steps) {
+            self.expensive += cost;
+            count = 1;
+        }
+        share.jobs += count;
+        share.steps += cost * count as u64;
+        count
+    }
+}
+
+/// Which sub-batches of a batch are done, and which wait on.
+pub struct Dealt<T> {
+    pub done: Vec<Queued<T>>,
+    /// Those of which nothing fitted. They go first next time.
+    pub left_out: Vec<Queued<T>>,
+    pub unfinished: Vec<Queued<T>>,
+}
+
+impl<T> Dealt<T> {
+    /// Sorts the sub-batches of a batch.
+    pub fn of(queued: Vec<Queued<T>>, left_out: impl Fn(usize) -> bool) -> Dealt<T> {
+        let mut it = Dealt {
+            done: Vec::new(),
+            left_out: Vec::new(),
+            unfinished: Vec::new(),
+        };
+        for (index, mut queued) in queued.into_iter().enumerate() {
+            if queued.sub_batch.is_done() {
+                it.done.push(queued);
+            } else if left_out(index) {
+                it.left_out.push(queued);
+            } else {
+                it.unfinished.push(queued);
+            }
+        }
+        it
+    }
+}
+
+#[cfg(test)]
+#[path = "batch_tests.rs"]
+mod tests;

@@ -1,0 +1,107 @@
+//! The log: one line for each event on standard error, with time and level.
+//!
+//! A thread of its own writes the lines, so that a reader of standard error who is slow never holds
+//! up calls. Where too many lines wait, further ones are dropped, and their number is logged.
+
+use env_logger::{Builder, Target};
+use log::LevelFilter;
+use std::io::{self, Write};
+use std::sync::atomic::{AtomicUsize, Ordering};
+use std::sync::mpsc::{sync_channel, Receiver, SyncSender};
+use std::sync::Mutex;
+use std::thread;
+use std::time::Duration;
+
+/// The most lines that wait to be written.
+const QUEUE: usize = 1_024;
+
+/// How long the end of the process waits for lines to be written.
+const PATIENCE: Duration = Duration::from_secs(1);
+
+static QUEUE_INPUT: Mutex<Option<SyncSender<Entry>>> = Mutex::new(None);
+static DROPPED: AtomicUsize = AtomicUsize::new(0);
+
+/// What the writing thread gets.
+enum Entry {
+    Line(Vec<u8>),
+    /// All lines before it have been written once this is answered.
+    Flush(SyncSender<()>),
+}
+
+/// Puts lines into the queue, or drops them where it is full.
+struct QueueWriter(SyncSender<Entry>);
+
+impl Write for QueueWriter {
+    fn write(&mut self, line: &[u8]) -> io::Result<usize> {
+        if self.0.try_send(Entry::Line(line.to_vec())).is_err() {
+            DROPPED.fetch_add(1, Ordering::Relaxed);
+        }
+        Ok(line.len())
+    }
+
+    fn flush(&mut self) -> io::Result<()> {
+        Ok(())
+    }
+}
+
+/// Begins to log events of this level and more important ones.
+pub fn start(level: LevelFilter) {
+    let (input, output) = sync_channel(QUEUE);
+    thread::spawn(move || write_lines(&output, &mut io::stderr()));
+    if let Ok(mut it) = QUEUE_INPUT.lock() {
+        *it = Some(input.clone());
+    }
+    Builder::new()
+        .filter_module("jentry_front", level)
+        .format(|out, record| {
+            let (time, level) = (out.timestamp(), record.level());
+            writeln!(out, "{} {:5} jentry-front: {}", time, level, record.args())
+        })
+        .target(Target::Pipe(Box::new(QueueWriter(input))))
+        .init();
+}
+
+/// Waits until all lines so far have been written, for a second at most.
+pub fn flush() {
+    let input = QUEUE_INPUT.lock().ok().and_then(|it| it.clone());
+    let (done, is_done) = sync_channel(1);
+    if input.map_or(false, |it| it.try_send(Entry::Flush(done)).is_ok()) {
+        let _ = is_done.recv_timeout(PATIENCE);
+    }
+}
+
+fn write_lines(queue: &Receiver<Entry>, out: &mut dyn Write) {
+    for entry in queue {
+        match entry {
+            Entry::Line(line) => {
+                let _ = out.write_all(&line);
+            }
+            Entry::Flush(done) => {
+                let _ = done.try_send(());
+            }
+        }
+        let dropped = DROPPED.swap(0, Ordering::Relaxed);
+        if dropped > 0 {
+            let _ = writeln!(out, "jentry-front: {} log lines were dropped", dropped);
+        }
+    }
+}
+
+#[cfg(test)]
+mod tests {
+    use super::*;
+
+    #[test]
+    fn a_full_queue_drops_lines_and_says_how_many() {
+        let (input, output) = sync_channel(2);
+        let mut writer = QueueWriter(input);
+        for line in ["one\n", "two\n", "three\n", "four\n"] {
+            writer.write_all(line.as_bytes()).expect("never waits");
+        }
+        drop(writer);
+        let mut out = Vec::new();
+        write_lines(&output, &mut out);
+        let text = String::from_utf8(out).expect("text");
+        assert_eq!(text, "one\njentry-front: 2 log lines were dropped\ntwo\n");
+    }
+}
