@@ -51,8 +51,7 @@ impl Server {
                 self.tell(&[&[1], &number, &[0, 0, 0, 14, 0, 0, 0, 0]]);
             }
             2 => {
-                self.entries
-                    .insert(key_at(text, 1), i64::from_be_bytes(key_at(text, 9)));
+                self.entries.insert(key_at(text, 1), i64::from_be_bytes(key_at(text, 9)));
                 self.tell(&[&[3]]);
             }
             3 => match self.entries.get(&key_at(text, 1)).copied() {
@@ -85,10 +84,7 @@ fn main() {
         text.resize(u32::from_be_bytes(head) as usize, 0);
         input.read_exact(&mut text).expect("a frame");
         if server.take(&text) {
-            output
-                .write_all(&server.out)
-                .and_then(|_| output.flush())
-                .expect("written");
+            output.write_all(&server.out).and_then(|_| output.flush()).expect("written");
             server.out.clear();
         }
     }

@@ -169,9 +169,7 @@ mod tests {
     /// How many processors a set has.
     fn size(set: Option<CpuSet>) -> usize {
         let is_set = |it: &CpuSet, n| it.is_set(n).unwrap_or(false);
-        set.map_or(0, |set| {
-            (0..CpuSet::count()).filter(|n| is_set(&set, *n)).count()
-        })
+        set.map_or(0, |set| (0..CpuSet::count()).filter(|n| is_set(&set, *n)).count())
     }
 
     #[test]

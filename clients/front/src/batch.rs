@@ -3,6 +3,7 @@
 
 use crate::request::MOST_JOBS;
 use crate::sub_batch::{Next, Sent, SubBatch};
+use crate::tally::Tally;
 
 /// A request of a round's end.
 pub const END: [u8; 5] = [0, 0, 0, 1, 8];
@@ -60,11 +61,7 @@ impl Batch {
     /// sub-batch, the first of them whatever it costs. A batch has one class at most.
     pub fn gather<T>(queued: &mut [Queued<T>], steps: u64) -> Batch {
         let mut budget = Budget::new(queued.len().max(1), steps);
-        let mut batch = Batch {
-            text: Vec::new(),
-            positions: Vec::new(),
-            left_out: Vec::new(),
-        };
+        let mut batch = Batch { text: Vec::new(), positions: Vec::new(), left_out: Vec::new() };
         for (index, it) in queued.iter_mut().enumerate().take(MOST_JOBS) {
             let before = batch.positions.len();
             batch.take_from(index, &mut it.sub_batch, &mut budget);
@@ -78,10 +75,7 @@ impl Batch {
         let mut share = Share::default();
         loop {
             if let Some(replies) = sub_batch.take_known() {
-                self.positions.push(Position {
-                    queued,
-                    kind: Kind::Known(replies),
-                });
+                self.positions.push(Position { queued, kind: Kind::Known(replies) });
             }
             let count = match sub_batch.next() {
                 Next::Class if !budget.has_class => {
@@ -106,10 +100,7 @@ impl Batch {
 
     /// How many replies the server has to send, without the end.
     pub fn replies(&self) -> usize {
-        self.positions
-            .iter()
-            .filter(|it| matches!(it.kind, Kind::Sent(_)))
-            .count()
+        self.positions.iter().filter(|it| matches!(it.kind, Kind::Sent(_))).count()
     }
 
     /// Whether nothing of this sub-batch fitted.
@@ -117,9 +108,15 @@ impl Batch {
         self.left_out.get(queued).copied().unwrap_or(true)
     }
 
-    /// Deals the server's replies, frames one after the other, with where each ends. False where
-    /// one of them is no reply to its request.
-    pub fn deal<T>(&self, queued: &mut [Queued<T>], text: &[u8], ends: &[usize]) -> bool {
+    /// Deals the server's replies, frames one after the other, with where each ends, and counts
+    /// them. False where one of them is no reply to its request.
+    pub fn deal<T>(
+        &self,
+        queued: &mut [Queued<T>],
+        text: &[u8],
+        ends: &[usize],
+        tally: &mut Tally,
+    ) -> bool {
         let mut ends = ends.iter();
         let mut begin = 0;
         for position in &self.positions {
@@ -138,12 +135,13 @@ impl Batch {
             let reply = &text[begin..end];
             begin = end;
             match sent {
-                Sent::Whole => sub_batch.add_reply(reply),
-                Sent::Keys { keys, is_last } => {
-                    if sub_batch
-                        .join(keys.clone(), *is_last, &reply[4..])
-                        .is_none()
-                    {
+                Sent::Whole(asked) => {
+                    tally.reply(*asked, &reply[4..]);
+                    sub_batch.add_reply(reply);
+                }
+                Sent::Keys { keys, is_last, asked } => {
+                    tally.partial_reply(*asked, *is_last, &reply[4..]);
+                    if sub_batch.join(keys.clone(), *is_last, &reply[4..]).is_none() {
                         return false;
                     }
                 }
@@ -193,11 +191,7 @@ pub struct Dealt<T> {
 impl<T> Dealt<T> {
     /// Sorts the sub-batches of a batch.
     pub fn of(queued: Vec<Queued<T>>, left_out: impl Fn(usize) -> bool) -> Dealt<T> {
-        let mut it = Dealt {
-            done: Vec::new(),
-            left_out: Vec::new(),
-            unfinished: Vec::new(),
-        };
+        let mut it = Dealt { done: Vec::new(), left_out: Vec::new(), unfinished: Vec::new() };
         for (index, mut queued) in queued.into_iter().enumerate() {
             if queued.sub_batch.is_done() {
                 it.done.push(queued);

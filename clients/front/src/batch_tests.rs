@@ -1,6 +1,7 @@
 //! Batches of made-up rounds, and replies that are dealt to them.
 
 use super::*;
+use crate::tally::NO_CLASS;
 
 const DONE: [u8; 5] = [0, 0, 0, 1, 3];
 
@@ -13,8 +14,7 @@ fn get(key: u8) -> Vec<u8> {
 fn invoke_all(keys: &[u8]) -> Vec<u8> {
     let mut text = (8 + 8 * keys.len() as u32).to_be_bytes().to_vec();
     text.extend_from_slice(&[7, 0, 0, 0, 1, 0, keys.len() as u8]);
-    keys.iter()
-        .for_each(|key| text.extend_from_slice(&[0, 0, 0, 0, 0, 0, 0, *key]));
+    keys.iter().for_each(|key| text.extend_from_slice(&[0, 0, 0, 0, 0, 0, 0, *key]));
     text.push(0);
     text
 }
@@ -26,7 +26,7 @@ fn queued(owner: u8, sub_batch: SubBatch) -> Queued<u8> {
 /// A round of so many requests, each of this cost.
 fn round(owner: u8, jobs: usize, cost: u64) -> Queued<u8> {
     let mut sub_batch = SubBatch::default();
-    (0..jobs).for_each(|_| sub_batch.add_job(&get(owner), cost));
+    (0..jobs).for_each(|_| sub_batch.add_job(&get(owner), cost, NO_CLASS));
     queued(owner, sub_batch)
 }
 
@@ -46,7 +46,7 @@ fn deal_to_all(batch: &Batch, queued: &mut [Queued<u8>], reply: &[u8]) -> bool {
     let count = batch.replies();
     let text = reply.repeat(count);
     let ends: Vec<usize> = (1..=count).map(|n| n * reply.len()).collect();
-    batch.deal(queued, &text, &ends)
+    batch.deal(queued, &text, &ends, &mut Tally::default())
 }
 
 #[test]
@@ -64,10 +64,7 @@ fn a_cheap_job_is_sent_beside_expensive_ones() {
     let mut all = vec![round(1, 9, 400_000), round(2, 9, 400_000), round(3, 2, 64)];
     let batch = Batch::gather(&mut all, 1_000_000);
     assert_eq!(last_bytes(&batch), [1, 3, 3, 0]);
-    assert_eq!(
-        [batch.left_out(0), batch.left_out(1), batch.left_out(2)],
-        [false, true, false]
-    );
+    assert_eq!([batch.left_out(0), batch.left_out(1), batch.left_out(2)], [false, true, false]);
 }
 
 #[test]
@@ -78,11 +75,7 @@ fn a_job_of_more_instructions_than_a_batch_is_sent() {
 
 #[test]
 fn who_was_left_out_is_first() {
-    let mut all = vec![
-        round(1, 3, 800_000),
-        round(2, 3, 800_000),
-        round(3, 3, 800_000),
-    ];
+    let mut all = vec![round(1, 3, 800_000), round(2, 3, 800_000), round(3, 3, 800_000)];
     let mut keys = Vec::new();
     while !all.is_empty() {
         let batch = Batch::gather(&mut all, 1_000_000);
@@ -107,24 +100,18 @@ fn a_batch_has_one_class() {
 #[test]
 fn replies_go_to_their_positions() {
     let (mut one, mut other) = (SubBatch::default(), SubBatch::default());
-    one.add_job(&get(1), 1);
+    one.add_job(&get(1), 1, NO_CLASS);
     one.add_known(&[0, 0, 0, 1, 77]);
-    one.add_job(&get(2), 1);
+    one.add_job(&get(2), 1, NO_CLASS);
     other.add_known(&[0, 0, 0, 1, 78]);
-    other.add_job(&get(3), 1);
+    other.add_job(&get(3), 1, NO_CLASS);
     let mut all = vec![queued(1, one), queued(2, other)];
     let batch = Batch::gather(&mut all, 1_000);
     assert_eq!(batch.replies(), 3);
     let text = [0, 0, 0, 2, 5, 1, 0, 0, 0, 2, 5, 2, 0, 0, 0, 2, 5, 3];
-    assert!(batch.deal(&mut all, &text, &[6, 12, 18]));
-    let replies: Vec<Vec<u8>> = all
-        .into_iter()
-        .map(|it| it.sub_batch.into_replies())
-        .collect();
-    assert_eq!(
-        replies[0],
-        [0, 0, 0, 2, 5, 1, 0, 0, 0, 1, 77, 0, 0, 0, 2, 5, 2]
-    );
+    assert!(batch.deal(&mut all, &text, &[6, 12, 18], &mut Tally::default()));
+    let replies: Vec<Vec<u8>> = all.into_iter().map(|it| it.sub_batch.into_replies()).collect();
+    assert_eq!(replies[0], [0, 0, 0, 2, 5, 1, 0, 0, 0, 1, 77, 0, 0, 0, 2, 5, 2]);
     assert_eq!(replies[1], [0, 0, 0, 1, 78, 0, 0, 0, 2, 5, 3]);
 }
 
@@ -133,7 +120,7 @@ fn replies_go_to_their_positions() {
 #[test]
 fn replies_to_some_keys_of_an_invoke_all_are_joined() {
     let mut sub_batch = SubBatch::default();
-    sub_batch.add_invoke_all(&invoke_all(&[4, 3, 2, 1]), 4, 100);
+    sub_batch.add_invoke_all(&invoke_all(&[4, 3, 2, 1]), 4, 100, 1);
     let mut all = vec![queued(1, sub_batch)];
     let key = |key: u8| [0, 0, 0, 0, 0, 0, 0, key].to_vec();
     let five = [0, 1, 0, 0, 0, 0, 0, 0, 0, 5];
@@ -148,19 +135,10 @@ fn replies_to_some_keys_of_an_invoke_all_are_joined() {
         let sent = invoke_all(&[4 - index as u8]);
         assert_eq!(batch.text()[..sent.len()], sent[..]);
         let frame = [&(reply.len() as u32).to_be_bytes()[..], reply].concat();
-        assert!(batch.deal(&mut all, &frame, &[frame.len()]));
+        assert!(batch.deal(&mut all, &frame, &[frame.len()], &mut Tally::default()));
     }
     assert!(all[0].sub_batch.is_done());
-    let body = [
-        &[7, 0, 3][..],
-        &key(4),
-        &five,
-        &key(2),
-        &[2, 3],
-        &key(1),
-        &[1, 2],
-    ]
-    .concat();
+    let body = [&[7, 0, 3][..], &key(4), &five, &key(2), &[2, 3], &key(1), &[1, 2]].concat();
     let wanted = [&(body.len() as u32).to_be_bytes()[..], &body].concat();
     assert_eq!(all.remove(0).sub_batch.into_replies(), wanted);
 }
@@ -168,7 +146,7 @@ fn replies_to_some_keys_of_an_invoke_all_are_joined() {
 #[test]
 fn a_reply_of_another_kind_is_none_for_keys() {
     let mut sub_batch = SubBatch::default();
-    sub_batch.add_invoke_all(&invoke_all(&[1, 2]), 2, 100);
+    sub_batch.add_invoke_all(&invoke_all(&[1, 2]), 2, 100, 1);
     let mut all = vec![queued(1, sub_batch)];
     let batch = Batch::gather(&mut all, 1);
     assert!(!deal_to_all(&batch, &mut all, &DONE));
@@ -178,5 +156,5 @@ fn a_reply_of_another_kind_is_none_for_keys() {
 fn missing_replies_are_noticed() {
     let mut all = vec![round(1, 2, 64)];
     let batch = Batch::gather(&mut all, 1_000);
-    assert!(!batch.deal(&mut all, &DONE, &[5]));
+    assert!(!batch.deal(&mut all, &DONE, &[5], &mut Tally::default()));
 }

@@ -2,6 +2,7 @@
 //! many connections bring them.
 
 use crate::request::number_at;
+use sha1::{Digest, Sha1};
 use std::collections::HashMap;
 
 /// A class of the server.
@@ -34,10 +35,25 @@ pub enum Lookup {
     TooMany,
 }
 
+/// A class that the server has accepted, for whoever watches it.
+#[derive(Clone, Debug)]
+pub struct Accepted {
+    pub class: Class,
+    /// The SHA-1 of its file in hexadecimal, as `sha1sum` prints it.
+    pub hash: String,
+    /// The length of its file.
+    pub bytes: usize,
+    /// The connection that brought it, and that connection's other end.
+    pub connection: u64,
+    pub peer: String,
+}
+
 /// The files that the server has or is asked for.
 #[derive(Default)]
 pub struct Classes {
     states: HashMap<Vec<u8>, State>,
+    accepted: Vec<Accepted>,
+    bytes: usize,
 }
 
 impl Classes {
@@ -50,12 +66,28 @@ impl Classes {
                 Lookup::Pending
             }
             None if may_bring => {
-                self.states
-                    .insert(file.to_vec(), State::Pending(Vec::new()));
+                self.states.insert(file.to_vec(), State::Pending(Vec::new()));
                 Lookup::New
             }
             None => Lookup::TooMany,
         }
+    }
+
+    /// The classes that the server has accepted, in that order.
+    pub fn accepted(&self) -> &[Accepted] {
+        &self.accepted
+    }
+
+    /// The length of all their files.
+    pub fn bytes(&self) -> usize {
+        self.bytes
+    }
+
+    /// Notes a class that the server has accepted.
+    pub fn note(&mut self, class: Class, file: &[u8], connection: u64, peer: String) {
+        let bytes = file.len();
+        self.bytes += bytes;
+        self.accepted.push(Accepted { class, hash: hash(file), bytes, connection, peer });
     }
 
     /// Stores the verdict on a file that was new: a class, or none. Gives the connections that
@@ -72,15 +104,16 @@ impl Classes {
     }
 }
 
+/// The SHA-1 of a class file in hexadecimal.
+pub fn hash(file: &[u8]) -> String {
+    Sha1::digest(file).iter().map(|byte| format!("{:02x}", byte)).collect()
+}
+
 /// The class in a reply, its length in front, where the reply is Defined.
 pub fn class_of(reply: &[u8]) -> Option<Class> {
     if reply.len() == 17 && reply[4] == 1 {
         let (number, steps) = (number_at(reply, 5), number_at(reply, 9));
-        Some(Class {
-            number,
-            steps,
-            words: number_at(reply, 13),
-        })
+        Some(Class { number, steps, words: number_at(reply, 13) })
     } else {
         None
     }
@@ -90,11 +123,7 @@ pub fn class_of(reply: &[u8]) -> Option<Class> {
 mod tests {
     use super::*;
 
-    const CLASS: Class = Class {
-        number: 5,
-        steps: 14,
-        words: 0,
-    };
+    const CLASS: Class = Class { number: 5, steps: 14, words: 0 };
 
     #[test]
     fn one_brings_a_file_and_others_wait() {
@@ -115,7 +144,12 @@ mod tests {
         assert_eq!(classes.resolve(b"a", None), [8]);
         assert!(matches!(classes.find(b"a", 8, false), Lookup::TooMany));
         assert!(matches!(classes.find(b"a", 8, true), Lookup::New));
-        assert_eq!(classes.resolve(b"a", None), []);
+        assert!(classes.resolve(b"a", None).is_empty());
+    }
+
+    #[test]
+    fn a_hash_is_that_of_sha1sum() {
+        assert_eq!(hash(b"abc"), "a9993e364706816aba3e25717850c26c9cd0d89d");
     }
 
     #[test]

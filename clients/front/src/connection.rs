@@ -3,16 +3,15 @@
 
 use crate::classes::{class_of, Class, Classes, Lookup};
 use crate::listen::Stream;
-use crate::request::{frame_length, judge, set_class, Frame, MOST_JOBS};
+use crate::request::{frame_length, judge, set_class, Frame, MOST_CLASSES, MOST_JOBS};
 use crate::sub_batch::SubBatch;
+use crate::tally::{Tally, NO_CLASS};
 use std::io::{self, Read, Write};
 use std::mem::take;
+use std::time::Instant;
 
 /// The instructions that a request costs beside those of its class.
 const REQUEST_COST: u64 = 64;
-
-/// The most class numbers of a connection, as of a stream of the server.
-const MOST_NUMBERS: usize = 4_096;
 
 /// Above this capacity a buffer shrinks after a round, and replies of this size that the front
 /// knows by itself are written before more frames are taken.
@@ -31,6 +30,8 @@ const ENDED: [u8; 5] = [0, 0, 0, 1, 9];
 pub struct Shared {
     /// The classes of the server.
     pub classes: Classes,
+    /// What is counted of all connections.
+    pub tally: Tally,
     /// The most new classes of a connection.
     pub most_classes: usize,
     /// The most requests of a round.
@@ -43,12 +44,8 @@ impl Shared {
     /// No class yet, and these limits.
     pub fn new(most_classes: usize, most_requests: usize) -> Shared {
         let buffer = vec![0; READ_SIZE];
-        Shared {
-            classes: Classes::default(),
-            most_classes,
-            most_requests,
-            buffer,
-        }
+        let (classes, tally) = (Classes::default(), Tally::default());
+        Shared { classes, tally, most_classes, most_requests, buffer }
     }
 }
 
@@ -56,8 +53,8 @@ impl Shared {
 pub enum Step {
     /// Its socket.
     Socket,
-    /// The server's replies to a round.
-    Round(SubBatch),
+    /// The server's replies to a round of so many requests.
+    Round { sub_batch: SubBatch, requests: usize },
     /// The server's verdict on a class, by its frame.
     Class(Vec<u8>),
     /// The verdict on a class that another connection brings.
@@ -75,10 +72,23 @@ enum Input {
     Full,
 }
 
+/// What is counted of a connection.
+#[derive(Clone, Debug)]
+pub struct Traffic {
+    /// The other end.
+    pub peer: String,
+    pub opened: Instant,
+    pub rounds: u64,
+    pub requests: u64,
+    pub received_bytes: u64,
+    pub sent_bytes: u64,
+}
+
 /// A connection, and the round that it has open.
 pub struct Connection {
     number: u64,
     stream: Stream,
+    traffic: Traffic,
     /// Bytes that arrived, of which those before `taken` are done with.
     input: Vec<u8>,
     taken: usize,
@@ -102,9 +112,18 @@ pub struct Connection {
 impl Connection {
     /// A connection that has sent nothing yet, by its number.
     pub fn new(number: u64, stream: Stream) -> Connection {
+        let traffic = Traffic {
+            peer: stream.peer(),
+            opened: Instant::now(),
+            rounds: 0,
+            requests: 0,
+            received_bytes: 0,
+            sent_bytes: 0,
+        };
         Connection {
             number,
             stream,
+            traffic,
             input: Vec::new(),
             taken: 0,
             may_have_input: false,
@@ -123,6 +142,26 @@ impl Connection {
     /// Its socket.
     pub fn stream(&mut self) -> &mut Stream {
         &mut self.stream
+    }
+
+    /// What is counted of it.
+    pub fn traffic(&self) -> &Traffic {
+        &self.traffic
+    }
+
+    /// What it does, in a word.
+    pub fn state(&self) -> &'static str {
+        match (self.is_writing(), self.is_waiting) {
+            (true, _) => "takes no replies",
+            (false, true) => "waits for the server",
+            (false, false) if self.requests > 0 => "sends a round",
+            (false, false) => "idle",
+        }
+    }
+
+    /// How many requests its open round has.
+    pub fn open_requests(&self) -> usize {
+        self.requests
     }
 
     /// Whether it waits for its socket to take replies.
@@ -151,14 +190,14 @@ impl Connection {
     /// the connection, and drops what it had sent of an open round.
     pub fn continue_io(&mut self, shared: &mut Shared) -> io::Result<Step> {
         if !self.is_writing() {
-            self.read(&mut shared.buffer)?;
+            self.read(shared)?;
         }
         self.advance(shared)
     }
 
     /// The same for a connection that isn't writing and may have sent nothing, which is None.
     pub fn try_read(&mut self, shared: &mut Shared) -> io::Result<Option<Step>> {
-        match self.read(&mut shared.buffer)? {
+        match self.read(shared)? {
             Input::Nothing => Ok(None),
             Input::All | Input::Full => self.advance(shared).map(Some),
         }
@@ -172,12 +211,12 @@ impl Connection {
     }
 
     /// Takes the verdict on a class that it brought.
-    pub fn take_verdict(&mut self, reply: &[u8]) {
+    pub fn take_verdict(&mut self, reply: &[u8], tally: &mut Tally) {
         match class_of(reply) {
-            None => self.sub_batch.add_known(reply),
+            None => self.add_known(reply, tally),
             Some(class) => {
                 self.brought += 1;
-                self.number_class(class);
+                self.number_class(class, tally);
             }
         }
         self.is_waiting = false;
@@ -189,7 +228,8 @@ impl Connection {
     }
 
     /// Reads what arrived, or a part of it.
-    fn read(&mut self, buffer: &mut [u8]) -> io::Result<Input> {
+    fn read(&mut self, shared: &mut Shared) -> io::Result<Input> {
+        let buffer = &mut shared.buffer;
         self.input.drain(..take(&mut self.taken));
         if self.input.is_empty() {
             self.input.shrink_to(KEPT);
@@ -198,6 +238,8 @@ impl Connection {
             Ok(0) => return Err(io::ErrorKind::UnexpectedEof.into()),
             Ok(count) => {
                 self.input.extend_from_slice(&buffer[..count]);
+                shared.tally.received_bytes += count as u64;
+                self.traffic.received_bytes += count as u64;
                 if count < buffer.len() {
                     Input::All
                 } else {
@@ -216,11 +258,15 @@ impl Connection {
     }
 
     /// Writes replies as far as the socket takes them.
-    fn write(&mut self) -> io::Result<()> {
+    fn write(&mut self, tally: &mut Tally) -> io::Result<()> {
         while self.is_writing() {
             match self.stream.write(&self.output[self.written..]) {
                 Ok(0) => return Err(io::ErrorKind::WriteZero.into()),
-                Ok(count) => self.written += count,
+                Ok(count) => {
+                    self.written += count;
+                    tally.sent_bytes += count as u64;
+                    self.traffic.sent_bytes += count as u64;
+                }
                 Err(e) if e.kind() == io::ErrorKind::Interrupted => {}
                 Err(e) if is_temporary(&e) => return Ok(()),
                 Err(e) => return Err(e),
@@ -235,19 +281,19 @@ impl Connection {
     /// Writes the replies that are there, and takes the frames that are there until one waits.
     /// While replies wait for the socket no frame is taken.
     pub fn advance(&mut self, shared: &mut Shared) -> io::Result<Step> {
-        self.write()?;
+        self.write(&mut shared.tally)?;
         while !self.is_writing() && !self.is_waiting {
             let step = self.take_frames(shared);
             if self.is_waiting {
                 // The server has to be asked even if this connection is gone: others may wait for
                 // the same class.
-                let _ = self.write();
+                let _ = self.write(&mut shared.tally);
                 return step;
             }
             if self.output.is_empty() {
                 return step;
             }
-            self.write()?;
+            self.write(&mut shared.tally)?;
         }
         Ok(Step::Socket)
     }
@@ -262,7 +308,10 @@ impl Connection {
             };
             let length = text.len();
             let step = match judge(&mut text).ok_or(io::ErrorKind::InvalidData)? {
-                Frame::End => self.end_round(),
+                Frame::End => {
+                    shared.tally.rounds += 1;
+                    self.end_round()
+                }
                 Frame::Define => self.define(text, shared)?,
                 frame => self.add(frame, &mut text, shared)?,
             };
@@ -279,41 +328,52 @@ impl Connection {
 
     /// Ends the open round. Where the server has nothing to answer, its replies are complete.
     fn end_round(&mut self) -> Step {
+        self.traffic.rounds += 1;
+        self.traffic.requests += self.requests as u64;
+        let requests = take(&mut self.requests);
         self.jobs = 0;
-        self.requests = 0;
         let mut sub_batch = take(&mut self.sub_batch);
         if sub_batch.is_done() {
             self.answer(&sub_batch.into_replies());
             Step::Socket
         } else {
-            Step::Round(sub_batch)
+            Step::Round { sub_batch, requests }
         }
     }
 
-    fn count_request(&mut self, shared: &Shared) -> io::Result<()> {
+    fn count_request(&mut self, kind: u8, shared: &mut Shared) -> io::Result<()> {
         self.requests += 1;
         if self.requests > shared.most_requests {
             return Err(io::ErrorKind::InvalidData.into());
         }
+        shared.tally.request(kind);
         Ok(())
     }
 
+    /// Adds a reply that the front knows by itself.
+    fn add_known(&mut self, reply: &[u8], tally: &mut Tally) {
+        tally.own_reply(reply);
+        self.sub_batch.add_known(reply);
+    }
+
     /// Adds a request to the open round.
-    fn add(&mut self, frame: Frame, text: &mut [u8], shared: &Shared) -> io::Result<Step> {
-        self.count_request(shared)?;
+    fn add(&mut self, frame: Frame, text: &mut [u8], shared: &mut Shared) -> io::Result<Step> {
+        self.count_request(text[4], shared)?;
+        let tally = &mut shared.tally;
         match frame {
             Frame::Invoke(class) => match self.class(class) {
-                None => self.sub_batch.add_known(&UNKNOWN_CLASS),
+                None => self.add_known(&UNKNOWN_CLASS, tally),
                 Some(class) => {
                     set_class(text, class.number);
-                    self.add_job(text, u64::from(class.steps) + REQUEST_COST);
+                    let cost = u64::from(class.steps) + REQUEST_COST;
+                    self.add_job(text, cost, class.number, tally);
                 }
             },
             Frame::InvokeAll { class, keys } => match self.class(class) {
-                None => self.sub_batch.add_known(&UNKNOWN_CLASS),
-                Some(class) => self.add_invoke_all(text, keys, class),
+                None => self.add_known(&UNKNOWN_CLASS, tally),
+                Some(class) => self.add_invoke_all(text, keys, class, tally),
             },
-            _ => self.add_job(text, REQUEST_COST),
+            _ => self.add_job(text, REQUEST_COST, NO_CLASS, tally),
         }
         Ok(Step::Socket)
     }
@@ -323,65 +383,65 @@ impl Connection {
         self.classes.get(number as usize).copied()
     }
 
-    fn add_job(&mut self, text: &[u8], cost: u64) {
+    fn add_job(&mut self, text: &[u8], cost: u64, class: u32, tally: &mut Tally) {
         if self.jobs == MOST_JOBS {
-            self.sub_batch.add_known(&TOO_MANY_JOBS);
+            self.add_known(&TOO_MANY_JOBS, tally);
         } else {
             self.jobs += 1;
-            self.sub_batch.add_job(text, cost);
+            self.sub_batch.add_job(text, cost, class);
         }
     }
 
-    fn add_invoke_all(&mut self, text: &mut [u8], keys: usize, class: Class) {
+    fn add_invoke_all(&mut self, text: &mut [u8], keys: usize, class: Class, tally: &mut Tally) {
         if keys > MOST_JOBS - self.jobs {
-            self.sub_batch.add_known(&TOO_MANY_JOBS);
+            self.add_known(&TOO_MANY_JOBS, tally);
         } else if keys == 0 {
-            self.sub_batch.add_known(&NO_RESULTS);
+            self.add_known(&NO_RESULTS, tally);
         } else {
             self.jobs += keys;
             set_class(text, class.number);
-            self.sub_batch
-                .add_invoke_all(text, keys, u64::from(class.steps) + REQUEST_COST);
+            let cost = u64::from(class.steps) + REQUEST_COST;
+            self.sub_batch.add_invoke_all(text, keys, cost, class.number);
         }
     }
 
     /// Looks a class up, or brings it.
     fn define(&mut self, text: Vec<u8>, shared: &mut Shared) -> io::Result<Step> {
-        self.count_request(shared)?;
-        let may_number = self.classes.len() < MOST_NUMBERS;
+        if self.requests >= shared.most_requests {
+            // Before the lookup, which marks a new class as on its way to the server.
+            return Err(io::ErrorKind::InvalidData.into());
+        }
+        let may_number = self.classes.len() < MOST_CLASSES;
         let may_bring = self.brought < shared.most_classes;
         let lookup = if may_number {
             shared.classes.find(&text[5..], self.number, may_bring)
         } else {
             Lookup::TooMany
         };
+        if matches!(lookup, Lookup::Pending) {
+            return Ok(Step::OthersClass);
+        }
+        self.count_request(text[4], shared)?;
         match lookup {
-            Lookup::Class(class) => self.number_class(class),
+            Lookup::Class(class) => self.number_class(class, &mut shared.tally),
             Lookup::New => return Ok(Step::Class(text)),
-            Lookup::Pending => {
-                self.requests -= 1;
-                return Ok(Step::OthersClass);
-            }
-            Lookup::TooMany => self.sub_batch.add_known(&TOO_MANY_CLASSES),
+            _ => self.add_known(&TOO_MANY_CLASSES, &mut shared.tally),
         }
         Ok(Step::Socket)
     }
 
     /// Gives a class its number on this connection, and replies with it.
-    fn number_class(&mut self, class: Class) {
+    fn number_class(&mut self, class: Class, tally: &mut Tally) {
         let mut reply = vec![0, 0, 0, 13, 1];
         reply.extend_from_slice(&(self.classes.len() as u32).to_be_bytes());
         reply.extend_from_slice(&class.steps.to_be_bytes());
         reply.extend_from_slice(&class.words.to_be_bytes());
         self.classes.push(class);
-        self.sub_batch.add_known(&reply);
+        self.add_known(&reply, tally);
     }
 }
 
 /// Whether a socket isn't ready at this moment.
 fn is_temporary(e: &io::Error) -> bool {
-    matches!(
-        e.kind(),
-        io::ErrorKind::WouldBlock | io::ErrorKind::Interrupted
-    )
+    matches!(e.kind(), io::ErrorKind::WouldBlock | io::ErrorKind::Interrupted)
 }

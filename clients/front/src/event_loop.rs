@@ -7,12 +7,18 @@
 
 use crate::batch::Queued;
 use crate::classes::class_of;
-use crate::connection::{Connection, Shared, Step};
+use crate::connection::{Connection, Shared, Step, Traffic};
 use crate::listen::{Acceptor, Stream};
+use crate::logging::LogLimit;
+use crate::metrics::Gauges;
+use crate::refusal::log_refusal;
 use crate::scheduler::{Owner, Scheduler};
 use crate::server::end_soon;
 use crate::spin_wait::SpinWait;
+use crate::status::{top, ClassRow, ConnectionRow, Publisher, Tables};
 use crate::sub_batch::SubBatch;
+use crate::tally::{Closed, Tally};
+use log::{debug, warn};
 use mio::{Events, Interest, Poll, Token};
 use std::collections::{HashMap, VecDeque};
 use std::io;
@@ -64,6 +70,10 @@ pub struct EventLoop {
     direct_reads: u32,
     idle: Option<Duration>,
     swept: Instant,
+    /// When the last wait ended.
+    now: Instant,
+    publisher: Option<Publisher>,
+    log_limit: LogLimit,
 }
 
 /// Why a wait ended.
@@ -85,9 +95,9 @@ impl EventLoop {
         mut scheduler: Scheduler,
         shared: Shared,
         idle: Option<Duration>,
+        publisher: Option<Publisher>,
     ) -> io::Result<EventLoop> {
-        poll.registry()
-            .register(scheduler.output(), SERVER, Interest::READABLE)?;
+        poll.registry().register(scheduler.output(), SERVER, Interest::READABLE)?;
         Ok(EventLoop {
             poll,
             acceptor,
@@ -104,6 +114,9 @@ impl EventLoop {
             direct_reads: 0,
             idle,
             swept: Instant::now(),
+            now: Instant::now(),
+            publisher,
+            log_limit: LogLimit::default(),
         })
     }
 
@@ -111,14 +124,8 @@ impl EventLoop {
     /// connections are closed, those too that come before the process ends.
     pub fn run(mut self) -> ! {
         while self.turn().is_ok() {}
-        let EventLoop {
-            mut poll,
-            acceptor,
-            mut events,
-            scheduler,
-            connections,
-            ..
-        } = self;
+        self.publish();
+        let EventLoop { mut poll, acceptor, mut events, scheduler, connections, .. } = self;
         drop((scheduler, connections));
         end_soon();
         loop {
@@ -130,15 +137,20 @@ impl EventLoop {
     /// Waits until there is something to do, and does it. The next batch is sent before the
     /// replies to the last are delivered. An error is the server's end.
     fn turn(&mut self) -> io::Result<()> {
-        let done = match self.wait()? {
+        let woken = self.wait()?;
+        if !matches!(woken, Woken::Connection) {
+            self.now = Instant::now();
+        }
+        let done = match woken {
             Woken::Replies(done) => done,
             Woken::Connection => Vec::new(),
             Woken::Events => self.handle_events()?,
         };
-        self.scheduler.send()?;
+        self.scheduler.send(self.now)?;
+        self.count_batch();
         done.into_iter().for_each(|it| self.deliver(it));
         self.sweep();
-        self.scheduler.send()
+        self.scheduler.send(self.now)
     }
 
     /// Waits until there is something to do. It polls for some time before it sleeps, except where
@@ -167,11 +179,8 @@ impl EventLoop {
     }
 
     fn sleep(&mut self) -> io::Result<Woken> {
-        let timeout = if self.has_backlog() {
-            Some(Duration::ZERO)
-        } else {
-            self.idle.map(|_| SWEEP)
-        };
+        let timeout =
+            if self.has_backlog() { Some(Duration::ZERO) } else { self.idle.map(|_| SWEEP) };
         self.poll_events(timeout)?;
         Ok(Woken::Events)
     }
@@ -187,7 +196,7 @@ impl EventLoop {
         if self.direct_reads < MOST_DIRECT_READS && self.scheduler.has_single_caller() {
             self.direct_reads += 1;
             if self.scheduler.is_in_flight() {
-                if let Some(done) = self.scheduler.receive()? {
+                if let Some(done) = self.scheduler.receive(&mut self.shared.tally)? {
                     return Ok(Some(Woken::Replies(done)));
                 }
             } else if self.read_directly(self.answered) {
@@ -208,11 +217,7 @@ impl EventLoop {
             Err(_) => return Ok(()),
             Ok(()) => {}
         }
-        self.ready.extend(
-            self.events
-                .iter()
-                .map(|it| (it.token(), it.is_read_closed())),
-        );
+        self.ready.extend(self.events.iter().map(|it| (it.token(), it.is_read_closed())));
         Ok(())
     }
 
@@ -224,7 +229,10 @@ impl EventLoop {
         };
         match entry.connection.try_read(&mut self.shared) {
             Ok(None) => return false,
-            Ok(Some(step)) => self.follow(number, Ok(step)),
+            Ok(Some(step)) => {
+                self.now = Instant::now();
+                self.follow(number, Ok(step));
+            }
             Err(e) => self.follow(number, Err(e)),
         }
         true
@@ -235,16 +243,18 @@ impl EventLoop {
     fn handle_events(&mut self) -> io::Result<Vec<Queued<Owner>>> {
         let mut done = Vec::new();
         if self.server_closed {
-            done.extend(self.scheduler.receive()?.unwrap_or_default());
+            done.extend(self.scheduler.receive(&mut self.shared.tally)?.unwrap_or_default());
         }
         let backlog = self.backlog.len();
         for index in 0..self.ready.len() {
             match self.ready[index] {
                 (SERVER, is_closed) => {
-                    done.extend(self.scheduler.receive()?.unwrap_or_default());
+                    done.extend(
+                        self.scheduler.receive(&mut self.shared.tally)?.unwrap_or_default(),
+                    );
                     self.server_closed = is_closed;
                 }
-                (WAKER, _) => self.open_arrived(),
+                (WAKER, _) => self.on_wake(),
                 (connection, is_closed) => self.on_ready(connection.0 as u64, is_closed),
             }
         }
@@ -256,31 +266,77 @@ impl EventLoop {
         Ok(done)
     }
 
-    fn open_arrived(&mut self) {
+    /// Connections have arrived, or somebody wants to know the counts.
+    fn on_wake(&mut self) {
         for stream in self.acceptor.take_arrived() {
             self.open(stream);
+        }
+        if self.publisher.as_ref().map_or(false, Publisher::is_wanted) {
+            self.publish();
+        }
+    }
+
+    fn publish(&self) {
+        let publisher = match &self.publisher {
+            Some(it) => it,
+            None => return,
+        };
+        let (waiting_rounds, waiting_requests) = self.scheduler.waiting();
+        let classes = &self.shared.classes;
+        let gauges = Gauges {
+            waiting_rounds,
+            waiting_requests,
+            connections: self.connections.len(),
+            connections_limit: self.acceptor.limit(),
+            classes: classes.accepted().len(),
+            class_bytes: classes.bytes(),
+            rejected: self.acceptor.rejected(),
+        };
+        publisher.publish(&self.shared.tally, &gauges, || self.tables());
+    }
+
+    fn tables(&self) -> Tables {
+        let accepted = self.shared.classes.accepted().iter();
+        let classes = accepted.map(|it| ClassRow {
+            accepted: it.clone(),
+            tally: self.shared.tally.class_tally(it.class.number),
+        });
+        let connections = self.connections.iter().map(|(number, entry)| ConnectionRow {
+            number: *number,
+            traffic: entry.connection.traffic().clone(),
+            state: entry.connection.state(),
+        });
+        let class_number = |it: &ClassRow| u64::from(it.accepted.class.number);
+        Tables {
+            classes: top(classes.collect(), |it| it.tally.runs, class_number),
+            connections: top(connections.collect(), |it| it.traffic.requests, |it| it.number),
+        }
+    }
+
+    fn count_batch(&mut self) {
+        if let Some(completed) = self.scheduler.take_completed() {
+            if let Some(publisher) = &self.publisher {
+                publisher.batch(&completed, self.now);
+            }
         }
     }
 
     fn open(&mut self, mut stream: Stream) {
         let number = self.next;
         let token = Token(number as usize);
-        if self
-            .poll
-            .registry()
-            .register(&mut stream, token, Interest::READABLE)
-            .is_err()
-        {
+        if self.poll.registry().register(&mut stream, token, Interest::READABLE).is_err() {
             self.acceptor.release();
             return;
         }
         self.next += 1;
+        self.shared.tally.opened += 1;
         let entry = Entry {
             connection: Connection::new(number, stream),
             interest: Interest::READABLE,
             moved: Instant::now(),
             in_backlog: false,
         };
+        debug!("connection {} opened by {}", number, entry.connection.traffic().peer);
         self.connections.insert(number, entry);
     }
 
@@ -311,26 +367,24 @@ impl EventLoop {
     fn follow(&mut self, number: u64, step: io::Result<Step>) {
         let result = step.and_then(|step| {
             match step {
-                Step::Round(sub_batch) => self.scheduler.queue(
-                    Owner {
-                        connection: number,
-                        class: None,
-                    },
-                    sub_batch,
-                ),
+                Step::Round { sub_batch, requests } => {
+                    let queued = self.now;
+                    let owner = Owner { connection: number, class: None, queued, requests };
+                    self.scheduler.queue(owner, sub_batch);
+                }
                 Step::Class(frame) => {
-                    let owner = Owner {
-                        connection: number,
-                        class: Some(frame.clone()),
-                    };
+                    let (class, queued) = (Some(frame.clone()), self.now);
+                    let owner = Owner { connection: number, class, queued, requests: 1 };
                     self.scheduler.queue(owner, SubBatch::of_class(frame));
                 }
                 Step::Socket | Step::OthersClass => {}
             }
             self.listen(number)
         });
-        if result.is_err() {
-            self.close(number);
+        match result {
+            Err(e) if e.kind() == io::ErrorKind::InvalidData => self.close(number, Closed::Invalid),
+            Err(_) => self.close(number, Closed::Ended),
+            Ok(()) => {}
         }
     }
 
@@ -352,9 +406,7 @@ impl EventLoop {
         if interest != entry.interest {
             entry.interest = interest;
             let token = Token(number as usize);
-            self.poll
-                .registry()
-                .reregister(connection.stream(), token, interest)?;
+            self.poll.registry().reregister(connection.stream(), token, interest)?;
         }
         if interest.is_readable() && connection.may_have_input() && !entry.in_backlog {
             entry.in_backlog = true;
@@ -363,33 +415,60 @@ impl EventLoop {
         Ok(())
     }
 
-    fn close(&mut self, number: u64) {
-        if self.connections.remove(&number).is_some() {
+    fn close(&mut self, number: u64, why: Closed) {
+        if let Some(entry) = self.connections.remove(&number) {
             self.acceptor.release();
+            self.shared.tally.closed[why as usize] += 1;
+            let Traffic { peer, rounds, .. } = entry.connection.traffic();
+            debug!("connection {} of {} closed after {} rounds: {:?}", number, peer, rounds, why);
+            if matches!(why, Closed::Invalid) && self.log_limit.allows(self.now) {
+                let requests = entry.connection.open_requests();
+                warn!(
+                    "connection {} of {} closed: no request, or too many in a round, after {}",
+                    number, peer, requests
+                );
+            }
         }
     }
 
     /// Delivers the replies to a round, or the verdict on a class.
     fn deliver(&mut self, queued: Queued<Owner>) {
-        let Owner { connection, class } = queued.owner;
+        let Owner { connection, class, queued: begun, requests } = queued.owner;
         self.answered = connection;
         let replies = queued.sub_batch.into_replies();
         match class {
-            None => self.resume(connection, |it| it.answer(&replies)),
-            Some(frame) => {
-                let waiting = self.shared.classes.resolve(&frame[5..], class_of(&replies));
-                self.resume(connection, |it| it.take_verdict(&replies));
-                waiting
-                    .into_iter()
-                    .for_each(|other| self.resume(other, Connection::retry));
+            None => {
+                if let Some(publisher) = &self.publisher {
+                    publisher.round(self.now.saturating_duration_since(begun), requests);
+                }
+                self.resume(connection, |it, _| it.answer(&replies));
             }
+            Some(frame) => self.deliver_verdict(connection, &frame[5..], &replies),
         }
     }
 
+    /// Delivers the verdict on a class to the connection that brought it and those that wait.
+    fn deliver_verdict(&mut self, connection: u64, file: &[u8], reply: &[u8]) {
+        let class = class_of(reply);
+        let entry = self.connections.get(&connection);
+        let peer = entry.map_or("gone".to_string(), |it| it.connection.traffic().peer.clone());
+        match class {
+            Some(class) => {
+                self.shared.tally.class(class.number, class.steps);
+                self.shared.classes.note(class, file, connection, peer);
+            }
+            None if self.log_limit.allows(self.now) => log_refusal(connection, &peer, file, reply),
+            None => {}
+        }
+        let waiting = self.shared.classes.resolve(file, class);
+        self.resume(connection, |it, tally| it.take_verdict(reply, tally));
+        waiting.into_iter().for_each(|other| self.resume(other, |it, _| it.retry()));
+    }
+
     /// Continues with a connection that waited for the server.
-    fn resume(&mut self, number: u64, deliver: impl FnOnce(&mut Connection)) {
+    fn resume(&mut self, number: u64, deliver: impl FnOnce(&mut Connection, &mut Tally)) {
         if let Some(entry) = self.connections.get_mut(&number) {
-            deliver(&mut entry.connection);
+            deliver(&mut entry.connection, &mut self.shared.tally);
             let step = entry.connection.advance(&mut self.shared);
             self.follow(number, step);
         }
@@ -408,6 +487,6 @@ impl EventLoop {
         };
         let found = self.connections.iter().filter(|(_, entry)| is_idle(entry));
         let found: Vec<u64> = found.map(|(number, _)| *number).collect();
-        found.into_iter().for_each(|number| self.close(number));
+        found.into_iter().for_each(|number| self.close(number, Closed::Idle));
     }
 }

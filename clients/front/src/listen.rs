@@ -5,14 +5,16 @@ use mio::event::Source;
 use mio::net::{TcpStream, UnixStream};
 use mio::{Interest, Registry, Token, Waker};
 use nix::sys::resource::{getrlimit, Resource};
+use nix::sys::socket::getsockopt;
+use nix::sys::socket::sockopt::PeerCredentials;
 use std::fs;
 use std::io::{self, Read, Write};
 use std::mem::take;
 use std::net::TcpListener;
-use std::os::unix::io::{AsFd, OwnedFd};
+use std::os::unix::io::{AsFd, AsRawFd, OwnedFd};
 use std::os::unix::net::{UnixListener, UnixStream as StdUnixStream};
-use std::sync::atomic::{AtomicUsize, Ordering};
-use std::sync::Mutex;
+use std::sync::atomic::{AtomicU64, AtomicUsize, Ordering};
+use std::sync::{Arc, Mutex};
 use std::thread;
 use std::time::Duration;
 
@@ -32,6 +34,19 @@ pub enum Listener {
 pub enum Stream {
     Unix(UnixStream),
     Tcp(TcpStream),
+}
+
+impl Stream {
+    /// Its other end: process and user of a unix socket, the address of a TCP one.
+    pub fn peer(&self) -> String {
+        match self {
+            Stream::Unix(it) => match getsockopt(it.as_raw_fd(), PeerCredentials) {
+                Ok(peer) => format!("pid {} uid {}", peer.pid(), peer.uid()),
+                Err(_) => "unknown".to_string(),
+            },
+            Stream::Tcp(it) => it.peer_addr().map_or("unknown".to_string(), |it| it.to_string()),
+        }
+    }
 }
 
 impl Read for Stream {
@@ -94,25 +109,23 @@ impl Source for Stream {
 pub struct Acceptor {
     limit: usize,
     count: AtomicUsize,
+    rejected: AtomicU64,
     arrived: Mutex<Vec<Stream>>,
-    waker: Waker,
+    waker: Arc<Waker>,
 }
 
 impl Acceptor {
     /// Accepts at most `limit` connections at a time, and wakes the event loop for each.
-    pub fn new(limit: usize, waker: Waker) -> Acceptor {
-        Acceptor {
-            limit,
-            count: AtomicUsize::new(0),
-            arrived: Mutex::default(),
-            waker,
-        }
+    pub fn new(limit: usize, waker: Arc<Waker>) -> Acceptor {
+        let (count, rejected) = (AtomicUsize::new(0), AtomicU64::new(0));
+        Acceptor { limit, count, rejected, arrived: Mutex::default(), waker }
     }
 
     /// Hands a connection to the event loop, or closes it where there are as many as may be.
     fn hand_over(&self, stream: Stream) {
         if self.count.fetch_add(1, Ordering::SeqCst) >= self.limit {
             self.release();
+            self.rejected.fetch_add(1, Ordering::Relaxed);
             return;
         }
         if let Ok(mut arrived) = self.arrived.lock() {
@@ -122,11 +135,19 @@ impl Acceptor {
         let _ = self.waker.wake();
     }
 
+    /// The most connections at a time.
+    pub fn limit(&self) -> usize {
+        self.limit
+    }
+
+    /// How many connections were closed at once, since there were as many as may be.
+    pub fn rejected(&self) -> u64 {
+        self.rejected.load(Ordering::Relaxed)
+    }
+
     /// Takes the connections that have arrived.
     pub fn take_arrived(&self) -> Vec<Stream> {
-        self.arrived
-            .lock()
-            .map_or_else(|_| Vec::new(), |mut arrived| take(&mut *arrived))
+        self.arrived.lock().map_or_else(|_| Vec::new(), |mut arrived| take(&mut *arrived))
     }
 
     /// Counts a connection that is closed.
@@ -174,14 +195,12 @@ fn inherited() -> io::Result<Listener> {
     Ok(Listener::Unix(listener))
 }
 
-/// How many connections this process may have by its limit of open files, where that is known.
-pub fn connections_by_files() -> Option<usize> {
+/// How many connections this process may have by its limit of open files, where that is known, if
+/// it needs so many files for others.
+pub fn connections_by_files(others: usize) -> Option<usize> {
     let (files, _) = getrlimit(Resource::RLIMIT_NOFILE).ok()?;
-    Some(
-        usize::try_from(files)
-            .unwrap_or(usize::MAX)
-            .saturating_sub(OTHER_FILES),
-    )
+    let files = usize::try_from(files).unwrap_or(usize::MAX);
+    Some(files.saturating_sub(OTHER_FILES + others))
 }
 
 /// Accepts the connections of a listener, for ever.
@@ -200,10 +219,7 @@ fn accept(listener: &Listener) -> io::Result<Option<Stream>> {
     Ok(match listener {
         Listener::Unix(it) => {
             let (stream, _) = it.accept()?;
-            stream
-                .set_nonblocking(true)
-                .ok()
-                .map(|_| Stream::Unix(UnixStream::from_std(stream)))
+            stream.set_nonblocking(true).ok().map(|_| Stream::Unix(UnixStream::from_std(stream)))
         }
         Listener::Tcp(it) => {
             let (stream, _) = it.accept()?;

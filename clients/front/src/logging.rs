@@ -4,16 +4,20 @@
 //! up calls. Where too many lines wait, further ones are dropped, and their number is logged.
 
 use env_logger::{Builder, Target};
-use log::LevelFilter;
+use log::{warn, LevelFilter};
 use std::io::{self, Write};
 use std::sync::atomic::{AtomicUsize, Ordering};
 use std::sync::mpsc::{sync_channel, Receiver, SyncSender};
 use std::sync::Mutex;
 use std::thread;
-use std::time::Duration;
+use std::time::{Duration, Instant};
 
 /// The most lines that wait to be written.
 const QUEUE: usize = 1_024;
+
+/// The most lines a second that strangers can cause.
+const LINES_A_SECOND: usize = 20;
+const SECOND: Duration = Duration::from_secs(1);
 
 /// How long the end of the process waits for lines to be written.
 const PATIENCE: Duration = Duration::from_secs(1);
@@ -70,6 +74,33 @@ pub fn flush() {
     }
 }
 
+/// Limits the lines that strangers can cause, so that they don't fill a disk.
+#[derive(Default)]
+pub struct LogLimit {
+    /// When the current second began, and how many lines were in it.
+    begun: Option<Instant>,
+    lines: usize,
+    suppressed: usize,
+}
+
+impl LogLimit {
+    /// Whether one more line is allowed. How many weren't is logged with the next that is.
+    pub fn allows(&mut self, now: Instant) -> bool {
+        let is_new = self.begun.map_or(true, |it| now.saturating_duration_since(it) >= SECOND);
+        if is_new {
+            (self.begun, self.lines) = (Some(now), 0);
+            if self.suppressed > 0 {
+                warn!("{} lines of this kind were not logged", self.suppressed);
+                self.suppressed = 0;
+            }
+        }
+        self.lines += 1;
+        let allowed = self.lines <= LINES_A_SECOND;
+        self.suppressed += usize::from(!allowed);
+        allowed
+    }
+}
+
 fn write_lines(queue: &Receiver<Entry>, out: &mut dyn Write) {
     for entry in queue {
         match entry {
@@ -90,6 +121,15 @@ fn write_lines(queue: &Receiver<Entry>, out: &mut dyn Write) {
 #[cfg(test)]
 mod tests {
     use super::*;
+
+    #[test]
+    fn strangers_cause_few_lines_a_second() {
+        let (mut limit, now) = (LogLimit::default(), Instant::now());
+        let allowed = (0..1_000).filter(|_| limit.allows(now)).count();
+        assert_eq!((allowed, limit.suppressed), (LINES_A_SECOND, 1_000 - LINES_A_SECOND));
+        assert!(limit.allows(now + SECOND));
+        assert_eq!(limit.suppressed, 0);
+    }
 
     #[test]
     fn a_full_queue_drops_lines_and_says_how_many() {

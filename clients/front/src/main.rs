@@ -10,14 +10,19 @@ mod batch;
 mod classes;
 mod connection;
 mod event_loop;
+mod http;
 mod listen;
 mod logging;
+mod metrics;
 mod options;
+mod refusal;
 mod request;
 mod scheduler;
 mod server;
 mod spin_wait;
+mod status;
 mod sub_batch;
+mod tally;
 
 use connection::Shared;
 use event_loop::{EventLoop, WAKER};
@@ -25,13 +30,16 @@ use listen::Acceptor;
 use log::{error, info, warn};
 use mio::{Poll, Waker};
 use options::{Address, Options};
+use prometheus::Registry;
 use scheduler::Scheduler;
 use signal_hook::consts::{SIGINT, SIGTERM};
 use signal_hook::iterator::Signals;
 use signal_hook::low_level::{emulate_default_handler, signal_name};
+use status::{Board, Publisher};
 use std::io;
+use std::net::TcpListener;
 use std::process::exit;
-use std::sync::Arc;
+use std::sync::{Arc, Mutex, PoisonError};
 use std::thread;
 use std::time::Duration;
 
@@ -41,17 +49,21 @@ const USAGE_STATUS: i32 = 1;
 /// The exit status where the front can't begin.
 const START_STATUS: i32 = 3;
 
+/// How long the front's end waits until those who watch the page know of the server's.
+const FAREWELL: Duration = Duration::from_millis(500);
+
 /// The most connections, as far as this process may open files.
-fn connection_limit(wanted: usize) -> usize {
-    match listen::connections_by_files() {
-        Some(most) if most < wanted => {
+fn connection_limit(options: &Options) -> usize {
+    let http = if options.http.is_some() { http::MOST_CONNECTIONS } else { 0 };
+    match listen::connections_by_files(http) {
+        Some(most) if most < options.connections => {
             warn!(
                 "at most {} connections, since this process may not open more files (ulimit -n)",
                 most
             );
             most
         }
-        _ => wanted,
+        _ => options.connections,
     }
 }
 
@@ -80,39 +92,56 @@ fn end_on_signals(addresses: Vec<Address>) -> io::Result<()> {
 
 /// Listens, starts the server, and serves until it ends. The error says what failed before that.
 fn run(options: Options) -> Result<(), String> {
-    let limit = connection_limit(options.connections);
+    let limit = connection_limit(&options);
     let mut listeners = Vec::new();
     for address in &options.addresses {
         let listener =
             listen::open(address).map_err(|e| format!("can't listen on {:?}: {}", address, e))?;
         listeners.push(listener);
     }
+    let http = match &options.http {
+        Some(address) => Some(
+            TcpListener::bind(address)
+                .map_err(|e| format!("can't listen on {}: {}", address, e))?,
+        ),
+        None => None,
+    };
     end_on_signals(options.addresses.clone()).map_err(setup_failed)?;
-    let addresses = options.addresses;
-    let server =
-        server::start(&options.program, move || remove_sockets(&addresses)).map_err(|e| {
-            format!(
-                "can't start {}: {}",
-                options.program[0].to_string_lossy(),
-                e
-            )
-        })?;
+    let poll = Poll::new().map_err(setup_failed)?;
+    let waker = Arc::new(Waker::new(poll.registry(), WAKER).map_err(setup_failed)?);
+    let board = Arc::new(Board::new(Registry::new(), waker.clone()));
+    let (http_waker, for_end) = (Arc::new(Mutex::new(None::<Waker>)), board.clone());
+    let (addresses, waker_for_end) = (options.addresses, http_waker.clone());
+    let server = server::start(&options.program, move |how| {
+        remove_sockets(&addresses);
+        say_ended(&for_end, &waker_for_end, how);
+    })
+    .map_err(|e| format!("can't start {}: {}", options.program[0].to_string_lossy(), e))?;
+    let mut publisher = None;
+    if let Some(listener) = http {
+        publisher = Some(Publisher::new(board.clone()).map_err(|e| e.to_string())?);
+        let waker = http::start(listener, board, server.process).map_err(setup_failed)?;
+        *http_waker.lock().unwrap_or_else(PoisonError::into_inner) = Some(waker);
+    }
     let scheduler = Scheduler::new(server, options.steps).map_err(setup_failed)?;
     let shared = Shared::new(options.classes, options.requests);
-    let idle = Some(options.idle)
-        .filter(|it| *it > 0)
-        .map(Duration::from_secs);
-    let poll = Poll::new().map_err(setup_failed)?;
-    let waker = Waker::new(poll.registry(), WAKER).map_err(setup_failed)?;
+    let idle = Some(options.idle).filter(|it| *it > 0).map(Duration::from_secs);
     let acceptor = Arc::new(Acceptor::new(limit, waker));
-    let event_loop =
-        EventLoop::new(poll, acceptor.clone(), scheduler, shared, idle).map_err(setup_failed)?;
+    let event_loop = EventLoop::new(poll, acceptor.clone(), scheduler, shared, idle, publisher)
+        .map_err(setup_failed)?;
     for (listener, name) in listeners {
         let acceptor = acceptor.clone();
         info!("listening on {}", name);
         thread::spawn(move || listen::run(&listener, &acceptor));
     }
     event_loop.run()
+}
+
+/// Has the HTTP thread, if there is one, say how the server has ended.
+fn say_ended(board: &Board, waker: &Mutex<Option<Waker>>, how: String) {
+    if let Some(waker) = &*waker.lock().unwrap_or_else(PoisonError::into_inner) {
+        board.set_ended(how, FAREWELL, || waker.wake().is_ok());
+    }
 }
 
 fn setup_failed(e: io::Error) -> String {

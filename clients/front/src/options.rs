@@ -39,6 +39,8 @@ pub struct Options {
     pub steps: u64,
     /// Seconds after which a connection without progress is closed, 0 for never.
     pub idle: u64,
+    /// The address of `/metrics`, `/healthz` and the page, if they are wanted.
+    pub http: Option<String>,
     /// The least important level that is logged.
     pub log: LevelFilter,
     /// The server's program and its arguments.
@@ -49,9 +51,7 @@ pub struct Options {
 ///
 /// The error is clap's, which is also how `--help` and `--version` come back.
 pub fn parse(words: impl IntoIterator<Item = OsString>) -> Result<Options, clap::Error> {
-    command()
-        .try_get_matches_from(words)
-        .map(|matches| options(&matches))
+    command().try_get_matches_from(words).map(|matches| options(&matches))
 }
 
 fn command() -> Command {
@@ -63,13 +63,18 @@ fn command() -> Command {
         .args(address_args())
         .args(limit_args())
         .arg(
+            Arg::new("http")
+                .long("http")
+                .value_name("[HOST:]PORT")
+                .value_parser(tcp_address)
+                .help("Serve /metrics, /healthz and a page, on 127.0.0.1 without a host"),
+        )
+        .arg(
             Arg::new("log")
                 .long("log")
                 .value_name("LEVEL")
                 .default_value("info")
-                .value_parser(PossibleValuesParser::new([
-                    "error", "warn", "info", "debug",
-                ]))
+                .value_parser(PossibleValuesParser::new(["error", "warn", "info", "debug"]))
                 .help("The least important level of events on standard error"),
         )
         .arg(
@@ -82,10 +87,7 @@ fn command() -> Command {
                 .help("The server and its arguments, such as `jentry serve`"),
         )
         .group(
-            ArgGroup::new("address")
-                .args(["unix", "tcp", "stdin"])
-                .multiple(true)
-                .required(true),
+            ArgGroup::new("address").args(["unix", "tcp", "stdin"]).multiple(true).required(true),
         )
 }
 
@@ -145,13 +147,7 @@ fn tcp_address(text: &str) -> Result<String, String> {
 
 fn options(matches: &ArgMatches) -> Options {
     let number = |name: &str| matches.get_one::<u64>(name).copied().unwrap_or_default();
-    let texts = |name: &str| {
-        matches
-            .get_many::<String>(name)
-            .into_iter()
-            .flatten()
-            .cloned()
-    };
+    let texts = |name: &str| matches.get_many::<String>(name).into_iter().flatten().cloned();
     let mut addresses: Vec<Address> = texts("unix").map(Address::Unix).collect();
     addresses.extend(texts("tcp").map(Address::Tcp));
     if matches.get_flag("stdin") {
@@ -164,16 +160,9 @@ fn options(matches: &ArgMatches) -> Options {
         requests: number("requests") as usize,
         steps: number("steps"),
         idle: number("idle"),
-        log: texts("log")
-            .next()
-            .and_then(|it| it.parse().ok())
-            .unwrap_or(LevelFilter::Info),
-        program: matches
-            .get_many::<OsString>("program")
-            .into_iter()
-            .flatten()
-            .cloned()
-            .collect(),
+        http: texts("http").next(),
+        log: texts("log").next().and_then(|it| it.parse().ok()).unwrap_or(LevelFilter::Info),
+        program: matches.get_many::<OsString>("program").into_iter().flatten().cloned().collect(),
     }
 }
 
@@ -202,43 +191,28 @@ mod tests {
         let tcp = Address::Tcp("127.0.0.1:7".to_string());
         assert_eq!(it.addresses, [Address::Unix("a".to_string()), tcp]);
         assert_eq!(it.steps, 5);
-        assert_eq!(
-            it.program,
-            ["jentry", "serve", "--workers", "1", "--unix", "b"]
-        );
+        assert_eq!(it.program, ["jentry", "serve", "--workers", "1", "--unix", "b"]);
     }
 
     #[test]
     fn limits_have_defaults() {
+        let it = parse_line("--unix a --http 0 jentry serve").expect("options");
+        assert_eq!(it.http.as_deref(), Some("127.0.0.1:0"));
         let it = parse_line("--unix a --unix b jentry serve").expect("options");
         assert_eq!(it.addresses.len(), 2);
-        assert_eq!(
-            (it.connections, it.classes, it.requests),
-            (1_024, 64, 65_536)
-        );
-        assert_eq!(
-            (it.steps, it.idle, it.log),
-            (1_000_000, 0, LevelFilter::Info)
-        );
+        assert_eq!((it.connections, it.classes, it.requests), (1_024, 64, 65_536));
+        assert_eq!((it.steps, it.idle, it.log), (1_000_000, 0, LevelFilter::Info));
     }
 
     #[test]
     fn errors_name_the_word_and_the_usage() {
         let address = error("jentry serve");
-        assert!(
-            address.contains("--unix <PATH>|--tcp <[HOST:]PORT>|--stdin"),
-            "{}",
-            address
-        );
+        assert!(address.contains("--unix <PATH>|--tcp <[HOST:]PORT>|--stdin"), "{}", address);
         assert!(error("--unix a").contains("<PROGRAM>"));
         assert!(error("--unix a --steps 0 jentry").contains("0 is not in 1..=1000000000"));
         assert!(error("--unix a --tcp x jentry").contains("expected [HOST:]PORT"));
         let unknown = error("--what 0 jentry");
-        assert!(
-            unknown.contains("--what") && unknown.contains(USAGE),
-            "{}",
-            unknown
-        );
+        assert!(unknown.contains("--what") && unknown.contains(USAGE), "{}", unknown);
         assert!(error("--unix").contains("--unix <PATH>"));
     }
 

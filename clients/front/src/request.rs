@@ -12,6 +12,9 @@ pub const LONGEST: usize = 131_072;
 /// The most jobs of a round of the server.
 pub const MOST_JOBS: usize = 4_096;
 
+/// The most classes of a server.
+pub const MOST_CLASSES: usize = 4_096;
+
 /// Where the keys of an invokeAll begin: after length, kind, class number and count.
 pub const KEYS_AT: usize = 11;
 
@@ -40,11 +43,7 @@ pub fn frame_length(input: &[u8]) -> io::Result<Option<usize>> {
     if length < 1 || length > LONGEST {
         return Err(io::ErrorKind::InvalidData.into());
     }
-    Ok(if input.len() < 4 + length {
-        None
-    } else {
-        Some(4 + length)
-    })
+    Ok(if input.len() < 4 + length { None } else { Some(4 + length) })
 }
 
 /// The number in the four bytes from here on, which have to be there.
@@ -85,10 +84,7 @@ pub fn judge(text: &mut Vec<u8>) -> Option<Frame> {
                 return None;
             }
             let keys = remove_duplicates(text, count);
-            Some(Frame::InvokeAll {
-                class: number_at(text, 5),
-                keys,
-            })
+            Some(Frame::InvokeAll { class: number_at(text, 5), keys })
         }
         _ => None,
     }
@@ -98,12 +94,8 @@ pub fn judge(text: &mut Vec<u8>) -> Option<Frame> {
 fn remove_duplicates(text: &mut Vec<u8>, count: usize) -> usize {
     let end = KEYS_AT + 8 * count;
     let mut seen = HashSet::with_capacity(count);
-    let kept: Vec<u8> = text[KEYS_AT..end]
-        .chunks(8)
-        .filter(|key| seen.insert(*key))
-        .flatten()
-        .copied()
-        .collect();
+    let kept: Vec<u8> =
+        text[KEYS_AT..end].chunks(8).filter(|key| seen.insert(*key)).flatten().copied().collect();
     let keys = kept.len() / 8;
     if keys < count {
         text.splice(KEYS_AT..end, kept);
@@ -187,10 +179,7 @@ mod tests {
         }
         body.extend_from_slice(&[1, 0]);
         let mut text = framed(&body);
-        assert_eq!(
-            judge(&mut text),
-            Some(Frame::InvokeAll { class: 2, keys: 2 })
-        );
+        assert_eq!(judge(&mut text), Some(Frame::InvokeAll { class: 2, keys: 2 }));
         let mut wanted = vec![7, 0, 0, 0, 2, 0, 2];
         wanted.extend_from_slice(&9u64.to_be_bytes());
         wanted.extend_from_slice(&3u64.to_be_bytes());
@@ -201,9 +190,6 @@ mod tests {
     #[test]
     fn a_count_beyond_the_frame_is_no_request() {
         assert_eq!(judged(&[7, 0, 0, 0, 0, 0xff, 0xff, 0]), None);
-        assert_eq!(
-            judged(&[7, 0, 0, 0, 0, 0, 0, 0]),
-            Some(Frame::InvokeAll { class: 0, keys: 0 })
-        );
+        assert_eq!(judged(&[7, 0, 0, 0, 0, 0, 0, 0]), Some(Frame::InvokeAll { class: 0, keys: 0 }));
     }
 }

@@ -6,10 +6,12 @@ use crate::batch::{Batch, Dealt, Queued};
 use crate::request::frame_length;
 use crate::server::Server;
 use crate::sub_batch::SubBatch;
+use crate::tally::Tally;
 use mio::unix::pipe::Receiver;
 use std::collections::VecDeque;
 use std::io::{self, Read, Write};
 use std::process::ChildStdin;
+use std::time::Instant;
 
 const ROUND_ENDED: u8 = 9;
 const LAST_REPLY: u8 = 8;
@@ -24,12 +26,22 @@ const KEPT: usize = 1_048_576;
 pub struct Owner {
     pub connection: u64,
     pub class: Option<Vec<u8>>,
+    /// When the sub-batch was queued, and how many requests its round has.
+    pub queued: Instant,
+    pub requests: usize,
+}
+
+/// A batch whose replies have all arrived.
+pub struct Completed {
+    pub sent: Instant,
+    pub requests: usize,
 }
 
 /// A batch at the server, and the sub-batches that waited when it was gathered.
 struct InFlight {
     batch: Batch,
     queued: Vec<Queued<Owner>>,
+    sent: Instant,
 }
 
 /// The server's replies to a batch as far as they have arrived: frames one after the other, and
@@ -52,16 +64,14 @@ pub struct Scheduler {
     waiting: VecDeque<Queued<Owner>>,
     steps: u64,
     affinity: Affinity,
+    /// The batch that was completed last, until it is counted.
+    completed: Option<Completed>,
 }
 
 impl Scheduler {
     /// A scheduler for this server, with so many instructions for a batch.
     pub fn new(server: Server, steps: u64) -> io::Result<Scheduler> {
-        let Server {
-            input,
-            output,
-            process,
-        } = server;
+        let Server { input, output, process } = server;
         let output = Receiver::from(output);
         output.set_nonblocking(true)?;
         Ok(Scheduler {
@@ -74,6 +84,7 @@ impl Scheduler {
             waiting: VecDeque::new(),
             steps,
             affinity: Affinity::new(process),
+            completed: None,
         })
     }
 
@@ -103,9 +114,22 @@ impl Scheduler {
         self.waiting.push_back(Queued { owner, sub_batch });
     }
 
+    /// How many sub-batches wait for the server or are there, and how many of their requests are in
+    /// no batch yet.
+    pub fn waiting(&self) -> (usize, usize) {
+        let in_flight = self.in_flight.iter().flat_map(|it| &it.queued);
+        let all = in_flight.chain(&self.waiting);
+        all.fold((0, 0), |(count, requests), it| (count + 1, requests + it.sub_batch.len()))
+    }
+
+    /// The batch that was completed since the last call.
+    pub fn take_completed(&mut self) -> Option<Completed> {
+        self.completed.take()
+    }
+
     /// Sends a batch of what waits, if anything waits and the server has no batch. An error is the
     /// server's end.
-    pub fn send(&mut self) -> io::Result<()> {
+    pub fn send(&mut self, now: Instant) -> io::Result<()> {
         if self.in_flight.is_some() || self.waiting.is_empty() {
             return Ok(());
         }
@@ -118,7 +142,7 @@ impl Scheduler {
         self.affinity.on_send(only, batch.replies());
         self.input.write_all(batch.text())?;
         self.was_single = queued.len() == 1;
-        self.in_flight = Some(InFlight { batch, queued });
+        self.in_flight = Some(InFlight { batch, queued, sent: now });
         Ok(())
     }
 
@@ -128,7 +152,7 @@ impl Scheduler {
     /// Of the others those are first in the next batch that had nothing in this one; those that
     /// had are after those that came meanwhile. An error is the server's end, or that its replies
     /// are invalid.
-    pub fn receive(&mut self) -> io::Result<Option<Vec<Queued<Owner>>>> {
+    pub fn receive(&mut self, tally: &mut Tally) -> io::Result<Option<Vec<Queued<Owner>>>> {
         loop {
             let count = match self.output.read(&mut self.buffer) {
                 Ok(0) => return Err(io::ErrorKind::UnexpectedEof.into()),
@@ -140,7 +164,7 @@ impl Scheduler {
             self.replies.text.extend_from_slice(&self.buffer[..count]);
             let in_flight = self.in_flight.take().ok_or(io::ErrorKind::InvalidData)?;
             if self.replies.are_complete(in_flight.batch.replies())? {
-                return self.deal(in_flight).map(Some);
+                return self.deal(in_flight, tally).map(Some);
             }
             self.in_flight = Some(in_flight);
             if count < READ_SIZE {
@@ -150,19 +174,16 @@ impl Scheduler {
         }
     }
 
-    fn deal(&mut self, in_flight: InFlight) -> io::Result<Vec<Queued<Owner>>> {
-        let InFlight { batch, mut queued } = in_flight;
-        if !batch.deal(&mut queued, &self.replies.text, &self.replies.ends) {
+    fn deal(&mut self, in_flight: InFlight, tally: &mut Tally) -> io::Result<Vec<Queued<Owner>>> {
+        let InFlight { batch, mut queued, sent } = in_flight;
+        self.completed = Some(Completed { sent, requests: batch.replies() });
+        if !batch.deal(&mut queued, &self.replies.text, &self.replies.ends, tally) {
             return Err(io::ErrorKind::InvalidData.into());
         }
         self.replies.clear();
         self.affinity.on_replies();
         let dealt = Dealt::of(queued, |index| batch.left_out(index));
-        dealt
-            .left_out
-            .into_iter()
-            .rev()
-            .for_each(|it| self.waiting.push_front(it));
+        dealt.left_out.into_iter().rev().for_each(|it| self.waiting.push_front(it));
         self.waiting.extend(dealt.unfinished);
         Ok(dealt.done)
     }
@@ -180,11 +201,7 @@ impl Replies {
             };
             if self.ends.len() == wanted {
                 let is_end = frame == [0, 0, 0, 1, ROUND_ENDED];
-                return if is_end {
-                    Ok(true)
-                } else {
-                    Err(io::ErrorKind::InvalidData.into())
-                };
+                return if is_end { Ok(true) } else { Err(io::ErrorKind::InvalidData.into()) };
             }
             if !(1..=LAST_REPLY).contains(&frame[4]) {
                 return Err(io::ErrorKind::InvalidData.into());
@@ -224,12 +241,7 @@ mod tests {
         let bytes = [0, 0, 0, 1, 3, 0, 0, 0, 2, 4, 0, 0, 0, 0, 1, 9];
         for end in 0..bytes.len() {
             let answer = are_complete(2, &bytes[..end]);
-            assert_eq!(
-                answer,
-                (Some(false), Some(false)),
-                "a beginning of {} bytes",
-                end
-            );
+            assert_eq!(answer, (Some(false), Some(false)), "a beginning of {} bytes", end);
         }
         assert_eq!(are_complete(2, &bytes), (Some(true), Some(true)));
         assert_eq!(are_complete(0, &[0, 0, 0, 1, 9]), (Some(true), Some(true)));
@@ -238,37 +250,18 @@ mod tests {
     #[test]
     fn invalid_replies_are_errors() {
         let error = (None, None);
-        assert_eq!(
-            are_complete(2, &[0, 0, 0, 1, 3, 0, 0, 0, 1, 9]),
-            error,
-            "a reply too few"
-        );
-        assert_eq!(
-            are_complete(1, &[0, 0, 0, 1, 3, 0, 0, 0, 1, 3]),
-            error,
-            "a reply too many"
-        );
+        assert_eq!(are_complete(2, &[0, 0, 0, 1, 3, 0, 0, 0, 1, 9]), error, "a reply too few");
+        assert_eq!(are_complete(1, &[0, 0, 0, 1, 3, 0, 0, 0, 1, 3]), error, "a reply too many");
         assert_eq!(are_complete(1, &[0, 0, 0, 1, 10]), error, "an unknown kind");
-        assert_eq!(
-            are_complete(1, &[0, 0, 0, 0]),
-            error,
-            "a frame of no length"
-        );
-        assert_eq!(
-            are_complete(1, &[0, 2, 0, 1]),
-            error,
-            "a frame that is too long"
-        );
+        assert_eq!(are_complete(1, &[0, 0, 0, 0]), error, "a frame of no length");
+        assert_eq!(are_complete(1, &[0, 2, 0, 1]), error, "a frame that is too long");
         let long_end = [0, 0, 0, 1, 3, 0, 0, 0, 2, 9, 0];
         assert_eq!(are_complete(1, &long_end), error, "an end that is too long");
     }
 
     #[test]
     fn bytes_after_the_end_are_an_error() {
-        let mut replies = Replies {
-            text: vec![0, 0, 0, 1, 9, 0],
-            ends: Vec::new(),
-        };
+        let mut replies = Replies { text: vec![0, 0, 0, 1, 9, 0], ends: Vec::new() };
         assert!(replies.are_complete(0).is_err());
     }
 }

@@ -20,10 +20,8 @@ const PATIENCE: Duration = Duration::from_secs(5);
 
 /// Keeps glibc from returning a round's memory to the system, since to get it anew page by page
 /// costs as much as the calls of the round.
-const MALLOC_SETTINGS: [(&str, &str); 2] = [
-    ("MALLOC_MMAP_THRESHOLD_", "33554432"),
-    ("MALLOC_TRIM_THRESHOLD_", "67108864"),
-];
+const MALLOC_SETTINGS: [(&str, &str); 2] =
+    [("MALLOC_MMAP_THRESHOLD_", "33554432"), ("MALLOC_TRIM_THRESHOLD_", "67108864")];
 
 /// A running server: its streams and its process id.
 pub struct Server {
@@ -32,17 +30,15 @@ pub struct Server {
     pub process: u32,
 }
 
-/// Starts the server, and a thread that ends the front after it. `before_exit` runs right before.
-pub fn start(program: &[OsString], before_exit: impl Fn() + Send + 'static) -> io::Result<Server> {
+/// Starts the server, and a thread that ends the front after it. `before_exit` runs right
+/// before, with the server's status and last message.
+pub fn start(
+    program: &[OsString],
+    before_exit: impl Fn(String) + Send + 'static,
+) -> io::Result<Server> {
     let mut command = Command::new(&program[0]);
-    command
-        .args(&program[1..])
-        .stdin(Stdio::piped())
-        .stdout(Stdio::piped())
-        .stderr(Stdio::piped());
-    let unset = MALLOC_SETTINGS
-        .iter()
-        .filter(|(name, _)| env::var_os(name).is_none());
+    command.args(&program[1..]).stdin(Stdio::piped()).stdout(Stdio::piped()).stderr(Stdio::piped());
+    let unset = MALLOC_SETTINGS.iter().filter(|(name, _)| env::var_os(name).is_none());
     command.envs(unset.copied());
     let mut child = command.spawn()?;
     match (child.stdin.take(), child.stdout.take(), child.stderr.take()) {
@@ -50,11 +46,7 @@ pub fn start(program: &[OsString], before_exit: impl Fn() + Send + 'static) -> i
             let last_message = log_messages(messages);
             let process = child.id();
             thread::spawn(move || wait_for_end(child, &last_message, before_exit));
-            Ok(Server {
-                input,
-                output,
-                process,
-            })
+            Ok(Server { input, output, process })
         }
         _ => Err(io::ErrorKind::BrokenPipe.into()),
     }
@@ -76,7 +68,7 @@ fn log_messages(messages: ChildStderr) -> Receiver<String> {
 }
 
 /// Waits for the server's end, and ends the front, which closes all connections.
-fn wait_for_end(mut child: Child, last_message: &Receiver<String>, before_exit: impl Fn()) {
+fn wait_for_end(mut child: Child, last_message: &Receiver<String>, before_exit: impl Fn(String)) {
     let status = match child.wait() {
         Ok(status) => status.to_string(),
         Err(e) => e.to_string(),
@@ -85,8 +77,9 @@ fn wait_for_end(mut child: Child, last_message: &Receiver<String>, before_exit: 
         Ok(message) if !message.is_empty() => message,
         _ => "it said nothing".to_string(),
     };
-    error!("the server has ended ({}): {}", status, message);
-    before_exit();
+    let how = format!("({}): {}", status, message);
+    error!("the server has ended {}", how);
+    before_exit(how);
     logging::flush();
     exit(STATUS);
 }

@@ -26,11 +26,7 @@ pub struct SpinWait {
 impl SpinWait {
     /// No wait has polled in vain yet.
     pub fn new() -> SpinWait {
-        SpinWait {
-            skip: 0,
-            skipped: 0,
-            rests_until: Instant::now(),
-        }
+        SpinWait { skip: 0, skipped: 0, rests_until: Instant::now() }
     }
 
     /// Begins a wait. None is that it should sleep at once, since polling was in vain lately, or

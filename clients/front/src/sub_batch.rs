@@ -2,9 +2,12 @@
 //! several batches; its replies are put together again in the order of its requests.
 
 use crate::request::KEYS_AT;
+use crate::tally::{Asked, NO_CLASS};
 use std::collections::VecDeque;
 use std::ops::Range;
 
+const DEFINE: u8 = 1;
+const INVOKE_ALL: u8 = 7;
 const RESULTS: u8 = 7;
 const DENIED: u8 = 8;
 
@@ -12,15 +15,10 @@ const DENIED: u8 = 8;
 #[derive(Debug)]
 enum Request {
     /// A frame that is one job, its length in bytes, and the most instructions that it takes.
-    Job { bytes: usize, cost: u64 },
+    Job { bytes: usize, cost: u64, kind: u8, class: u32 },
     /// An invokeAll with this many keys, of which the first `sent` are in batches already. Each
     /// key takes `cost` instructions at most.
-    InvokeAll {
-        bytes: usize,
-        keys: usize,
-        sent: usize,
-        cost: u64,
-    },
+    InvokeAll { bytes: usize, keys: usize, sent: usize, cost: u64, class: u32 },
     /// A class, which may take long to judge.
     Class { bytes: usize },
     /// Replies that the front knows by itself.
@@ -43,9 +41,9 @@ pub enum Next {
 /// What a part of a batch belongs to.
 pub enum Sent {
     /// A whole request.
-    Whole,
+    Whole(Asked),
     /// Some keys of an invokeAll, by their position in the sub-batch's text.
-    Keys { keys: Range<usize>, is_last: bool },
+    Keys { keys: Range<usize>, is_last: bool, asked: Asked },
 }
 
 /// A round of a connection, or a class of it, on its way through the server.
@@ -64,31 +62,21 @@ impl SubBatch {
     /// A class alone, by its frame.
     pub fn of_class(text: Vec<u8>) -> SubBatch {
         let requests = VecDeque::from(vec![Request::Class { bytes: text.len() }]);
-        SubBatch {
-            requests,
-            text,
-            ..SubBatch::default()
-        }
+        SubBatch { requests, text, ..SubBatch::default() }
     }
 
-    /// Adds a request of one job.
-    pub fn add_job(&mut self, text: &[u8], cost: u64) {
+    /// Adds a request of one job, with the server's number of its class.
+    pub fn add_job(&mut self, text: &[u8], cost: u64, class: u32) {
         self.text.extend_from_slice(text);
-        self.requests.push_back(Request::Job {
-            bytes: text.len(),
-            cost,
-        });
+        let kind = text[4];
+        self.requests.push_back(Request::Job { bytes: text.len(), cost, kind, class });
     }
 
     /// Adds an invokeAll of this many different keys, at least one.
-    pub fn add_invoke_all(&mut self, text: &[u8], keys: usize, cost: u64) {
+    pub fn add_invoke_all(&mut self, text: &[u8], keys: usize, cost: u64, class: u32) {
         self.text.extend_from_slice(text);
-        self.requests.push_back(Request::InvokeAll {
-            bytes: text.len(),
-            keys,
-            sent: 0,
-            cost,
-        });
+        let bytes = text.len();
+        self.requests.push_back(Request::InvokeAll { bytes, keys, sent: 0, cost, class });
     }
 
     /// Adds a reply that is known already.
@@ -98,6 +86,11 @@ impl SubBatch {
         } else {
             self.requests.push_back(Request::Known(reply.to_vec()));
         }
+    }
+
+    /// How many requests wait for the server.
+    pub fn len(&self) -> usize {
+        self.requests.iter().filter(|it| !matches!(it, Request::Known(_))).count()
     }
 
     /// The replies, in the order of the requests, once the sub-batch is done.
@@ -132,16 +125,10 @@ impl SubBatch {
     /// The next request for the server. Known replies have been taken before.
     pub fn next(&self) -> Next {
         match self.requests.front() {
-            Some(Request::Job { cost, .. }) => Next::Jobs {
-                count: 1,
-                cost: *cost,
-            },
-            Some(Request::InvokeAll {
-                keys, sent, cost, ..
-            }) => Next::Jobs {
-                count: keys - sent,
-                cost: *cost,
-            },
+            Some(Request::Job { cost, .. }) => Next::Jobs { count: 1, cost: *cost },
+            Some(Request::InvokeAll { keys, sent, cost, .. }) => {
+                Next::Jobs { count: keys - sent, cost: *cost }
+            }
             Some(Request::Class { .. }) => Next::Class,
             Some(Request::Known(_)) | None => Next::Nothing,
         }
@@ -153,29 +140,35 @@ impl SubBatch {
             Some(Request::InvokeAll { keys, sent, .. }) if *sent > 0 || *keys != count => {
                 self.send_keys(count, text)
             }
-            Some(
-                Request::Job { bytes, .. }
-                | Request::InvokeAll { bytes, .. }
-                | Request::Class { bytes },
-            ) => {
-                let end = self.sent + bytes;
-                text.extend_from_slice(&self.text[self.sent..end]);
-                self.sent = end;
-                self.requests.pop_front();
-                Sent::Whole
+            Some(Request::Job { bytes, kind, class, .. }) => {
+                let asked = Asked { kind: *kind, class: *class, keys: 0 };
+                self.send_whole(*bytes, asked, text)
+            }
+            Some(Request::InvokeAll { bytes, keys, class, .. }) => {
+                let asked = Asked { kind: INVOKE_ALL, class: *class, keys: *keys as u16 };
+                self.send_whole(*bytes, asked, text)
+            }
+            Some(Request::Class { bytes }) => {
+                self.send_whole(*bytes, Asked { kind: DEFINE, class: NO_CLASS, keys: 0 }, text)
             }
             Some(Request::Known(_)) | None => unreachable!("there is a next request"),
         }
     }
 
+    fn send_whole(&mut self, bytes: usize, asked: Asked, text: &mut Vec<u8>) -> Sent {
+        let end = self.sent + bytes;
+        text.extend_from_slice(&self.text[self.sent..end]);
+        self.sent = end;
+        self.requests.pop_front();
+        Sent::Whole(asked)
+    }
+
     /// Moves the next keys of the first invokeAll into a batch's text, as an invokeAll.
     fn send_keys(&mut self, count: usize, text: &mut Vec<u8>) -> Sent {
-        let (bytes, keys, sent) = match self.requests.front_mut() {
-            Some(Request::InvokeAll {
-                bytes, keys, sent, ..
-            }) => {
+        let (bytes, keys, sent, class) = match self.requests.front_mut() {
+            Some(Request::InvokeAll { bytes, keys, sent, class, .. }) => {
                 *sent += count;
-                (*bytes, *keys, *sent)
+                (*bytes, *keys, *sent, *class)
             }
             _ => unreachable!("the first request is an invokeAll"),
         };
@@ -193,10 +186,8 @@ impl SubBatch {
             self.sent += bytes;
             self.requests.pop_front();
         }
-        Sent::Keys {
-            keys: range,
-            is_last: sent == keys,
-        }
+        let asked = Asked { kind: INVOKE_ALL, class, keys: count as u16 };
+        Sent::Keys { keys: range, is_last: sent == keys, asked }
     }
 
     /// Joins a reply, without its length, to some keys of an invokeAll with those before it. None

@@ -1,0 +1,249 @@
+//! The operator's side: `/metrics`, `/healthz` and a page, on a thread of its own.
+//!
+//! Whoever connects here can hold up neither calls nor memory: there are at most
+//! [`MOST_CONNECTIONS`], each with a limit of bytes and of time. Where there are as many, the one
+//! that has been silent for longest makes room for a new one.
+
+mod connection;
+mod page;
+mod process;
+mod request;
+mod watch;
+
+use crate::status::Board;
+use connection::Connection;
+use log::{debug, info};
+use mio::net::TcpListener;
+use mio::{Events, Interest, Poll, Token, Waker};
+use request::Route;
+use std::collections::HashMap;
+use std::io;
+use std::net::TcpListener as StdTcpListener;
+use std::sync::Arc;
+use std::thread;
+use std::time::{Duration, Instant};
+use watch::Watch;
+
+/// The most HTTP connections at a time.
+pub const MOST_CONNECTIONS: usize = 64;
+
+/// The most of them that watch the page.
+const MOST_WATCHERS: usize = 16;
+
+/// The most connections that are accepted before others have their turn, and the pause after that.
+const ACCEPTS: usize = 32;
+const ACCEPT_PAUSE: Duration = Duration::from_millis(20);
+
+/// How often the counts are sampled for the page.
+const TICK: Duration = Duration::from_secs(1);
+
+/// The event loop is asked for its counts at most once in this time.
+const REFRESH_PAUSE: Duration = Duration::from_millis(20);
+
+/// How long the HTTP thread waits for the event loop, which answers between two reads.
+const REFRESH_PATIENCE: Duration = Duration::from_millis(300);
+
+const LISTENER: Token = Token(0);
+const WAKER: Token = Token(1);
+const FIRST_CONNECTION: usize = 2;
+
+/// The HTTP thread.
+struct Server {
+    poll: Poll,
+    listener: TcpListener,
+    /// Whether connections wait to be accepted, and when that may go on.
+    accepts: bool,
+    accepts_from: Instant,
+    board: Arc<Board>,
+    connections: HashMap<usize, Connection>,
+    next: usize,
+    /// Connections that may have sent more than was answered.
+    backlog: Vec<usize>,
+    watch: Watch,
+    refreshed: Instant,
+    ticked: Instant,
+}
+
+/// Starts the HTTP thread on a listening socket. What it gives wakes it for the server's end.
+pub fn start(listener: StdTcpListener, board: Arc<Board>, server: u32) -> io::Result<Waker> {
+    listener.set_nonblocking(true)?;
+    info!("http on {}", listener.local_addr()?);
+    let poll = Poll::new()?;
+    let mut listener = TcpListener::from_std(listener);
+    poll.registry().register(&mut listener, LISTENER, Interest::READABLE)?;
+    let waker = Waker::new(poll.registry(), WAKER)?;
+    let now = Instant::now();
+    let watch = Watch::new(board.clone(), server)
+        .map_err(|e| io::Error::new(io::ErrorKind::Other, e.to_string()))?;
+    let it = Server {
+        poll,
+        listener,
+        accepts: true,
+        accepts_from: now,
+        board,
+        connections: HashMap::new(),
+        next: FIRST_CONNECTION,
+        backlog: Vec::new(),
+        watch,
+        refreshed: now,
+        ticked: now,
+    };
+    thread::Builder::new().name("http".to_string()).spawn(move || it.run())?;
+    Ok(waker)
+}
+
+impl Server {
+    fn run(mut self) {
+        let mut events = Events::with_capacity(MOST_CONNECTIONS + 2);
+        loop {
+            match self.poll.poll(&mut events, Some(self.timeout())) {
+                Err(e) if e.kind() != io::ErrorKind::Interrupted => {
+                    debug!("http: {}", e);
+                    thread::sleep(TICK);
+                }
+                _ => {}
+            }
+            let mut ready: Vec<usize> = events.iter().map(|it| it.token().0).collect();
+            ready.append(&mut self.backlog);
+            self.turn(&ready);
+        }
+    }
+
+    fn timeout(&self) -> Duration {
+        if !self.backlog.is_empty() {
+            return Duration::ZERO;
+        }
+        let now = Instant::now();
+        let tick = (self.ticked + TICK).saturating_duration_since(now);
+        if self.accepts {
+            tick.min(self.accepts_from.saturating_duration_since(now) + Duration::from_millis(1))
+        } else {
+            tick
+        }
+    }
+
+    fn turn(&mut self, ready: &[usize]) {
+        self.accepts |= ready.contains(&LISTENER.0);
+        let mut asked = Vec::new();
+        for token in ready.iter().filter(|it| **it >= FIRST_CONNECTION) {
+            asked.extend(self.on_ready(*token).map(|route| (*token, route)));
+        }
+        if self.accepts && Instant::now() >= self.accepts_from {
+            asked.extend(self.accept());
+        }
+        self.answer(asked);
+        if ready.contains(&WAKER.0) {
+            self.say_ended();
+        }
+        if self.ticked.elapsed() >= TICK {
+            self.tick();
+        }
+    }
+
+    /// Accepts connections. Gives the requests that came with them.
+    fn accept(&mut self) -> Vec<(usize, Route)> {
+        let mut asked = Vec::new();
+        for _ in 0..ACCEPTS {
+            let mut stream = match self.listener.accept() {
+                Ok((stream, _)) => stream,
+                Err(e) => {
+                    self.accepts = e.kind() != io::ErrorKind::WouldBlock;
+                    break;
+                }
+            };
+            self.make_room();
+            let token = self.next;
+            let interest = Interest::READABLE | Interest::WRITABLE;
+            if self.poll.registry().register(&mut stream, Token(token), interest).is_ok() {
+                self.next += 1;
+                self.connections.insert(token, Connection::new(stream));
+                asked.extend(self.on_ready(token).map(|route| (token, route)));
+            }
+        }
+        self.accepts_from = Instant::now() + ACCEPT_PAUSE;
+        asked
+    }
+
+    /// Closes the connection that has been silent for longest, where there are as many as may be.
+    /// Watchers are closed last.
+    fn make_room(&mut self) {
+        if self.connections.len() < MOST_CONNECTIONS {
+            return;
+        }
+        let order = |it: &Connection| (it.is_watching(), it.active());
+        let oldest = self.connections.iter().min_by_key(|(_, it)| order(it)).map(|it| *it.0);
+        if let Some(token) = oldest {
+            self.connections.remove(&token);
+        }
+    }
+
+    /// Reads and writes as far as a connection is ready. Gives what it asks for, if it does.
+    fn on_ready(&mut self, token: usize) -> Option<Route> {
+        match self.connections.get_mut(&token)?.on_ready() {
+            Ok(route) => route,
+            Err(_) => {
+                self.connections.remove(&token);
+                None
+            }
+        }
+    }
+
+    /// Answers requests. What came behind them on their connections has its turn later, so that
+    /// nobody who asks much keeps the others waiting.
+    fn answer(&mut self, asked: Vec<(usize, Route)>) {
+        if asked.iter().any(|(_, route)| route.needs_counts()) {
+            let wants_tables = asked.iter().any(|(_, route)| *route == Route::Events);
+            self.refresh(wants_tables);
+        }
+        for (token, route) in asked {
+            let watchers = self.connections.values().filter(|it| it.is_watching()).count();
+            let connection = match self.connections.get_mut(&token) {
+                Some(it) => it,
+                None => continue,
+            };
+            if route == Route::Events && watchers < MOST_WATCHERS {
+                connection.watch(&self.watch.first_event());
+            } else {
+                connection.respond(&self.watch.response(route), route.is_head());
+            }
+            match connection.write() {
+                Ok(()) => self.backlog.push(token),
+                Err(_) => drop(self.connections.remove(&token)),
+            }
+        }
+    }
+
+    /// Has the event loop publish its counts, not too often.
+    fn refresh(&mut self, wants_tables: bool) {
+        thread::sleep(REFRESH_PAUSE.saturating_sub(self.refreshed.elapsed()));
+        self.board.refresh(wants_tables, REFRESH_PATIENCE);
+        self.refreshed = Instant::now();
+    }
+
+    /// Samples the counts, tells those who watch, and closes who took too long.
+    fn tick(&mut self) {
+        self.ticked = Instant::now();
+        let watched = self.connections.values().any(Connection::is_watching);
+        self.refresh(watched);
+        self.watch.sample();
+        if watched {
+            self.tell(&self.watch.event());
+        }
+        self.connections.retain(|_, it| !it.is_late());
+    }
+
+    /// Sends an event to those who watch. Who hasn't taken the one before misses it.
+    fn tell(&mut self, event: &str) {
+        self.connections.retain(|_, it| !it.is_watching() || it.tell(event).is_ok());
+    }
+
+    /// Tells those who watch that the server has ended.
+    fn say_ended(&mut self) {
+        if let Some(how) = self.board.ended() {
+            self.watch.sample();
+            self.tell(&self.watch.event());
+            self.tell(&watch::ended_event(&how));
+            self.board.set_ended_told();
+        }
+    }
+}

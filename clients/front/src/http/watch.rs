@@ -1,0 +1,222 @@
+//! What the HTTP thread answers with: metrics, health, the page and its events, and the history of
+//! the last ten minutes.
+
+use super::connection::Response;
+use super::page;
+use super::process::{self, Process};
+use super::request::Route;
+use crate::status::Board;
+use prometheus::proto::MetricFamily;
+use prometheus::{Counter, Gauge, IntGauge, Opts, Registry, TextEncoder};
+use serde_json::{json, Value};
+use std::collections::VecDeque;
+use std::sync::Arc;
+use std::time::{Duration, Instant};
+
+/// How many samples the page has: those of ten minutes.
+const HISTORY: usize = 600;
+
+/// The event loop is not healthy if it hasn't answered for so long.
+const LONG_SILENCE: Duration = Duration::from_secs(5);
+
+const TEXT: &str = "Content-Type: text/plain; charset=utf-8\r\nCache-Control: no-store\r\n";
+const METRICS: &str =
+    "Content-Type: text/plain; version=0.0.4; charset=utf-8\r\nCache-Control: no-store\r\n";
+const PAGE: &str = "Content-Type: text/html; charset=utf-8\r\nCache-Control: no-store\r\n\
+    X-Content-Type-Options: nosniff\r\nReferrer-Policy: no-referrer\r\n\
+    Content-Security-Policy: default-src 'none'; style-src 'unsafe-inline'; \
+    script-src 'unsafe-inline'; connect-src 'self'; img-src data:; base-uri 'none'; \
+    form-action 'none'; frame-ancestors 'none'\r\n";
+const GET_ONLY: &str = "Content-Type: text/plain; charset=utf-8\r\nAllow: GET, HEAD\r\n";
+
+/// What the histogram of rounds and the counters had at a moment.
+#[derive(Clone, Debug, Default)]
+struct Sample {
+    requests: f64,
+    /// Cumulative counts by upper bound.
+    buckets: Vec<(f64, u64)>,
+}
+
+/// Metrics that the HTTP thread knows by itself.
+struct OwnMetrics {
+    server_up: IntGauge,
+    server: ProcessMetrics,
+    front: ProcessMetrics,
+    front_files: Gauge,
+    age: Gauge,
+}
+
+/// Metrics of a process.
+struct ProcessMetrics {
+    memory: Gauge,
+    start: Gauge,
+    cpu: Counter,
+}
+
+/// Answers, and the history for the page.
+pub struct Watch {
+    board: Arc<Board>,
+    server: String,
+    own: OwnMetrics,
+    last: Option<(Instant, Sample)>,
+    /// Seconds since 1970, calls a second, median and 99th of a round's time, waiting requests.
+    history: VecDeque<[f64; 5]>,
+}
+
+fn gauge(registry: &Registry, name: &str, help: &str) -> prometheus::Result<Gauge> {
+    let gauge = Gauge::with_opts(Opts::new(name, help))?;
+    registry.register(Box::new(gauge.clone()))?;
+    Ok(gauge)
+}
+
+impl ProcessMetrics {
+    fn new(registry: &Registry, prefix: &str, of: &str) -> prometheus::Result<ProcessMetrics> {
+        let of_process = |name: &str, help: &str| {
+            gauge(registry, &format!("{}_{}", prefix, name), &format!("{} of {}.", help, of))
+        };
+        let name = format!("{}_cpu_seconds_total", prefix);
+        let cpu = Counter::new(name, format!("Processor time of {}.", of))?;
+        registry.register(Box::new(cpu.clone()))?;
+        Ok(ProcessMetrics {
+            memory: of_process("resident_memory_bytes", "Resident memory")?,
+            start: of_process("start_time_seconds", "Start, in seconds since 1970,")?,
+            cpu,
+        })
+    }
+
+    fn set(&self, it: &Process) {
+        self.memory.set(it.memory_bytes as f64);
+        self.start.set(it.start_seconds);
+        self.cpu.inc_by((it.cpu_seconds - self.cpu.get()).max(0.0));
+    }
+}
+
+impl OwnMetrics {
+    fn new(registry: &Registry) -> prometheus::Result<OwnMetrics> {
+        let up = IntGauge::new("jentry_server_up", "Whether the server runs.")?;
+        registry.register(Box::new(up.clone()))?;
+        let of = |name: &str, help: &str| gauge(registry, name, help);
+        Ok(OwnMetrics {
+            server_up: up,
+            server: ProcessMetrics::new(registry, "jentry_server", "the server")?,
+            front: ProcessMetrics::new(registry, "process", "the front")?,
+            front_files: of("process_open_fds", "Open files of the front.")?,
+            age: of("jentry_counts_age_seconds", "Time since the event loop gave its counts.")?,
+        })
+    }
+
+    fn set(&self, server: Option<Process>, age: Option<Duration>) {
+        self.server_up.set(i64::from(server.is_some()));
+        self.server.set(&server.unwrap_or_default());
+        let front = process::read("self").unwrap_or_default();
+        self.front.set(&front);
+        self.front_files.set(front.open_files as f64);
+        self.age.set(age.map_or(0.0, |it| it.as_secs_f64()));
+    }
+}
+
+impl Watch {
+    /// Watches this board, and the server by its process id.
+    pub fn new(board: Arc<Board>, server: u32) -> prometheus::Result<Watch> {
+        let own = OwnMetrics::new(board.registry())?;
+        let history = VecDeque::with_capacity(HISTORY);
+        Ok(Watch { board, server: server.to_string(), own, last: None, history })
+    }
+
+    /// The answer to a request. That to [`Route::Events`] is for a watcher too many.
+    pub fn response(&self, route: Route) -> Response {
+        let text = |status, text: &str| Response { status, headers: TEXT, body: text.into() };
+        match route {
+            Route::Page { .. } => {
+                Response { status: "200 OK", headers: PAGE, body: page::HTML.into() }
+            }
+            Route::Metrics { .. } => self.metrics(),
+            Route::Health { .. } => self.health(),
+            Route::Events => text("503 Service Unavailable", "too many pages watch this front\n"),
+            Route::NotFound { .. } => text("404 Not Found", "there are /, /metrics and /healthz\n"),
+            Route::BadMethod => {
+                let body = "only GET and HEAD\n".into();
+                Response { status: "405 Method Not Allowed", headers: GET_ONLY, body }
+            }
+            Route::Bad => text("400 Bad Request", "no request of HTTP without a body\n"),
+            Route::TooLong => {
+                text("431 Request Header Fields Too Large", "the request is too long\n")
+            }
+        }
+    }
+
+    fn families(&self) -> Vec<MetricFamily> {
+        let server = match self.board.ended() {
+            Some(_) => None,
+            None => process::read(&self.server),
+        };
+        self.own.set(server, self.board.age());
+        self.board.registry().gather()
+    }
+
+    fn metrics(&self) -> Response {
+        match TextEncoder::new().encode_to_string(&self.families()) {
+            Ok(text) => Response { status: "200 OK", headers: METRICS, body: text.into_bytes() },
+            Err(e) => {
+                let (status, body) = ("500 Internal Server Error", format!("{}\n", e).into_bytes());
+                Response { status, headers: TEXT, body }
+            }
+        }
+    }
+
+    fn health(&self) -> Response {
+        let problem = match (self.board.ended(), self.board.age()) {
+            (Some(how), _) => Some(format!("the server has ended: {}\n", how)),
+            (None, Some(age)) if age < LONG_SILENCE => None,
+            (None, Some(age)) => Some(format!("no answer for {} seconds\n", age.as_secs())),
+            (None, None) => Some("no answer yet\n".to_string()),
+        };
+        let (status, body) = match problem {
+            None => ("200 OK", "ok\n".into()),
+            Some(problem) => ("503 Service Unavailable", problem.into_bytes()),
+        };
+        Response { status, headers: TEXT, body }
+    }
+
+    /// Adds a sample to the history.
+    pub fn sample(&mut self) {
+        let families = self.families();
+        let now = Instant::now();
+        let sample = Sample {
+            requests: page::total(&families, "jentry_requests_total"),
+            buckets: page::buckets(&families, "jentry_round_seconds"),
+        };
+        if let Some((at, last)) = &self.last {
+            let seconds = (now - *at).as_secs_f64().max(1e-3);
+            let calls = (sample.requests - last.requests) / seconds;
+            let waiting = page::total(&families, "jentry_waiting_requests");
+            let between = page::difference(&sample.buckets, &last.buckets);
+            let (median, most) = (page::quantile(&between, 0.5), page::quantile(&between, 0.99));
+            if self.history.len() == HISTORY {
+                self.history.pop_front();
+            }
+            self.history.push_back([process::now_seconds(), calls, median, most, waiting]);
+        }
+        self.last = Some((now, sample));
+    }
+
+    fn state(&self, history: Value) -> String {
+        let state = page::state(&self.families(), &self.board.tables(), history);
+        format!("event: state\ndata: {}\n\n", state)
+    }
+
+    /// The first event for a page: all of the history.
+    pub fn first_event(&self) -> String {
+        self.state(json!(self.history))
+    }
+
+    /// The next event: the newest sample.
+    pub fn event(&self) -> String {
+        self.state(self.history.back().map_or(json!([]), |it| json!([it])))
+    }
+}
+
+/// The last event: how the server has ended.
+pub fn ended_event(how: &str) -> String {
+    format!("event: ended\ndata: {}\n\n", json!(how))
+}

@@ -1,0 +1,334 @@
+//! What the event loop counts: plain numbers without locks or atomics, so that counting costs the
+//! calls nothing that can be measured. [`crate::metrics`] publishes them when somebody asks.
+
+use crate::request;
+
+/// Request kinds, by their number in a frame.
+pub const REQUESTS: [&str; 8] =
+    ["", "define", "put", "get", "remove", "contains", "invoke", "invoke_all"];
+
+/// Reply kinds, by their number in a frame.
+pub const REPLIES: [&str; 9] =
+    ["", "defined", "refused", "done", "value", "flag", "result", "results", "denied"];
+
+/// Why the server or the front doesn't run a request, by number.
+pub const DENIALS: [&str; 6] =
+    ["", "UnknownClass", "JournalFull", "NoMemory", "TooManyClasses", "TooManyJobs"];
+
+/// How a processor ends without a result, by number.
+pub const EXCEPTIONS: [&str; 7] = [
+    "",
+    "ArithmeticException",
+    "ArrayIndexOutOfBoundsException",
+    "NullPointerException",
+    "ClassCastException",
+    "IncompatibleClassChangeError",
+    "CacheLoaderException",
+];
+
+/// Why the server refuses a class, by number.
+pub const REFUSALS: [&str; 31] = [
+    "",
+    "TooLarge",
+    "Truncated",
+    "BadMagic",
+    "BadVersion",
+    "BadPool",
+    "TrailingBytes",
+    "BadDescriptor",
+    "BadHeader",
+    "ConstructorForm",
+    "ClassInitialiser",
+    "NoProcess",
+    "DuplicateMethod",
+    "NoBody",
+    "BadCode",
+    "ExceptionTable",
+    "UnknownOpcode",
+    "OutsideProfile",
+    "BadOperand",
+    "BadTarget",
+    "BackwardBranch",
+    "BadStackMap",
+    "TypeMismatch",
+    "FallsOff",
+    "UnknownMember",
+    "Recursive",
+    "LengthNotConstant",
+    "StepLimit",
+    "WordLimit",
+    "FrameLimit",
+    "NoMemory",
+];
+
+/// Why a connection was closed.
+#[derive(Clone, Copy, Debug)]
+pub enum Closed {
+    /// Its other end closed it, or it broke.
+    Ended = 0,
+    /// It sent what is no request, or a round of too many requests.
+    Invalid = 1,
+    /// It made no progress for as long as `--idle` says.
+    Idle = 2,
+}
+
+/// The labels of [`Closed`].
+pub const CLOSED: [&str; 3] = ["ended", "invalid", "idle"];
+
+const DEFINE: u8 = 1;
+const REMOVE: u8 = 4;
+const VALUE: u8 = 4;
+const FLAG: u8 = 5;
+const RESULT: u8 = 6;
+const RESULTS: u8 = 7;
+const REFUSED: u8 = 2;
+const DENIED: u8 = 8;
+
+/// A class number that no class has, for requests that run none.
+pub const NO_CLASS: u32 = u32::MAX;
+
+/// What a reply answers.
+#[derive(Clone, Copy, Debug)]
+pub struct Asked {
+    /// The kind of the request.
+    pub kind: u8,
+    /// The server's number of its class, or [`NO_CLASS`].
+    pub class: u32,
+    /// How many keys it has, for an invokeAll.
+    pub keys: u16,
+}
+
+/// What is counted of a class.
+#[derive(Clone, Copy, Debug, Default, PartialEq, Eq)]
+pub struct ClassTally {
+    /// The most instructions of a run.
+    pub steps: u32,
+    pub runs: u64,
+    pub exceptions: u64,
+}
+
+/// Counts since the process began.
+#[derive(Clone, Debug, Default)]
+pub struct Tally {
+    pub requests: [u64; REQUESTS.len()],
+    pub replies: [u64; REPLIES.len()],
+    /// By number; what has no name is counted at 0.
+    pub denials: [u64; DENIALS.len()],
+    pub exceptions: [u64; EXCEPTIONS.len()],
+    pub refusals: [u64; REFUSALS.len()],
+    /// Gets that found no entry, and those that found one.
+    pub gets: [u64; 2],
+    /// Removes that found no entry, and those that found one.
+    pub removes: [u64; 2],
+    pub runs: u64,
+    /// The most instructions that all runs together took, by their classes' bounds.
+    pub steps: u64,
+    pub rounds: u64,
+    pub opened: u64,
+    pub closed: [u64; CLOSED.len()],
+    pub received_bytes: u64,
+    pub sent_bytes: u64,
+    /// By the server's class numbers.
+    pub classes: Vec<ClassTally>,
+}
+
+fn count<const N: usize>(counts: &mut [u64; N], number: u8) {
+    let index = usize::from(number);
+    counts[if index < N { index } else { 0 }] += 1;
+}
+
+impl Tally {
+    /// Counts a request of a connection.
+    pub fn request(&mut self, kind: u8) {
+        count(&mut self.requests, kind);
+    }
+
+    /// Counts a class that the server accepted.
+    pub fn class(&mut self, number: u32, steps: u32) {
+        let index = number as usize;
+        if index >= self.classes.len() && index < request::MOST_CLASSES {
+            self.classes.resize(index + 1, ClassTally::default());
+        }
+        if let Some(class) = self.classes.get_mut(index) {
+            class.steps = steps;
+        }
+    }
+
+    /// What was counted of a class.
+    pub fn class_tally(&self, number: u32) -> ClassTally {
+        self.classes.get(number as usize).copied().unwrap_or_default()
+    }
+
+    /// Counts a reply that the front makes itself, or passes on without a request of its own: its
+    /// length, kind and body.
+    pub fn own_reply(&mut self, reply: &[u8]) {
+        let kind = reply[4];
+        count(&mut self.replies, kind);
+        match kind {
+            REFUSED => count(&mut self.refusals, reply[5]),
+            DENIED => count(&mut self.denials, reply[5]),
+            _ => {}
+        }
+    }
+
+    /// Counts a reply of the server, its kind and body. Verdicts on classes are counted by
+    /// [`Tally::own_reply`] for each connection that gets them.
+    pub fn reply(&mut self, asked: Asked, reply: &[u8]) {
+        if asked.kind == DEFINE {
+            return;
+        }
+        let kind = reply[0];
+        count(&mut self.replies, kind);
+        match (kind, reply.get(1)) {
+            (VALUE, Some(tag)) => self.gets[usize::from(*tag != 0)] += 1,
+            (FLAG, Some(flag)) if asked.kind == REMOVE => {
+                self.removes[usize::from(*flag != 0)] += 1
+            }
+            (RESULT, Some(_)) => self.outcome(asked.class, &reply[1..]),
+            (RESULTS, Some(_)) => self.results(asked, &reply[3..]),
+            (DENIED, Some(number)) => count(&mut self.denials, *number),
+            _ => {}
+        }
+    }
+
+    /// Counts a reply to some keys of an invokeAll. Only the last makes the client's reply.
+    pub fn partial_reply(&mut self, asked: Asked, is_last: bool, reply: &[u8]) {
+        if is_last {
+            count(&mut self.replies, RESULTS);
+        }
+        match reply {
+            [RESULTS, _, _, results @ ..] => self.results(asked, results),
+            // The front makes it a denial of each key.
+            [DENIED, number] => {
+                (0..asked.keys).for_each(|_| count(&mut self.denials, *number));
+            }
+            _ => {}
+        }
+    }
+
+    /// Counts the outcome of one run, or of a get whose loader failed.
+    fn outcome(&mut self, class: u32, outcome: &[u8]) {
+        match outcome {
+            [0, ..] => self.runs(class, 1, 0),
+            [1, number, ..] => {
+                count(&mut self.exceptions, *number);
+                self.runs(class, 1, 1);
+            }
+            [2, number, ..] => count(&mut self.denials, *number),
+            _ => {}
+        }
+    }
+
+    /// Counts the outcomes of an invokeAll: keys without one returned null.
+    fn results(&mut self, asked: Asked, mut results: &[u8]) {
+        let (mut runs, mut exceptions) = (u64::from(asked.keys), 0);
+        while let Some(outcome) = results.get(8..) {
+            let length = match outcome {
+                [0, 0, ..] => 2,
+                [0, 1, ..] => 10,
+                [0, 2, ..] => 6,
+                [1, number, ..] => {
+                    count(&mut self.exceptions, *number);
+                    exceptions += 1;
+                    2
+                }
+                [2, number, ..] => {
+                    count(&mut self.denials, *number);
+                    runs = runs.saturating_sub(1);
+                    2
+                }
+                _ => break,
+            };
+            results = outcome.get(length..).unwrap_or_default();
+        }
+        self.runs(asked.class, runs, exceptions);
+    }
+
+    fn runs(&mut self, class: u32, runs: u64, exceptions: u64) {
+        if class == NO_CLASS {
+            return;
+        }
+        self.runs += runs;
+        if let Some(class) = self.classes.get_mut(class as usize) {
+            class.runs += runs;
+            class.exceptions += exceptions;
+            self.steps += runs * u64::from(class.steps);
+        }
+    }
+}
+
+/// The name of a number in one of the tables above.
+pub fn name(names: &[&'static str], number: u8) -> &'static str {
+    names.get(usize::from(number)).copied().filter(|it| !it.is_empty()).unwrap_or("unknown")
+}
+
+#[cfg(test)]
+mod tests {
+    use super::*;
+
+    fn asked(kind: u8, class: u32, keys: u16) -> Asked {
+        Asked { kind, class, keys }
+    }
+
+    fn with_class() -> Tally {
+        let mut tally = Tally::default();
+        tally.class(0, 14);
+        tally
+    }
+
+    #[test]
+    fn runs_count_steps_by_their_bound() {
+        let mut tally = with_class();
+        tally.reply(asked(6, 0, 0), &[6, 0, 0]);
+        tally.reply(asked(6, 0, 0), &[6, 1, 3]);
+        tally.reply(asked(6, 0, 0), &[6, 2, 3]);
+        assert_eq!((tally.runs, tally.steps, tally.replies[6]), (2, 28, 3));
+        assert_eq!((tally.exceptions[3], tally.denials[3]), (1, 1));
+        assert_eq!(tally.classes[0], ClassTally { steps: 14, runs: 2, exceptions: 1 });
+    }
+
+    #[test]
+    fn keys_without_an_outcome_returned_null() {
+        let mut tally = with_class();
+        let mut reply = vec![7, 0, 4];
+        for outcome in [&[0, 1, 0, 0, 0, 0, 0, 0, 0, 5][..], &[0, 2, 0, 0, 0, 1], &[1, 1], &[2, 3]]
+        {
+            reply.extend_from_slice(&[0; 8]);
+            reply.extend_from_slice(outcome);
+        }
+        tally.reply(asked(7, 0, 6), &reply);
+        assert_eq!((tally.runs, tally.exceptions[1], tally.denials[3]), (5, 1, 1));
+    }
+
+    #[test]
+    fn parts_of_an_invoke_all_are_one_reply() {
+        let mut tally = with_class();
+        tally.partial_reply(asked(7, 0, 2), false, &[7, 0, 0]);
+        tally.partial_reply(asked(7, 0, 3), true, &[8, 3]);
+        assert_eq!(
+            (tally.replies[7], tally.replies[8], tally.runs, tally.denials[3]),
+            (1, 0, 2, 3)
+        );
+    }
+
+    #[test]
+    fn hits_and_misses_are_told_apart() {
+        let mut tally = Tally::default();
+        tally.reply(asked(3, NO_CLASS, 0), &[4, 0]);
+        tally.reply(asked(3, NO_CLASS, 0), &[4, 1, 0, 0, 0, 0, 0, 0, 0, 0]);
+        tally.reply(asked(4, NO_CLASS, 0), &[5, 1]);
+        tally.reply(asked(5, NO_CLASS, 0), &[5, 1]);
+        tally.reply(asked(3, NO_CLASS, 0), &[6, 1, 6]);
+        assert_eq!((tally.gets, tally.removes), ([1, 1], [0, 1]));
+        assert_eq!((tally.exceptions[6], tally.runs), (1, 0));
+    }
+
+    #[test]
+    fn unknown_numbers_are_counted_at_0() {
+        let mut tally = Tally::default();
+        tally.own_reply(&[0, 0, 0, 2, 8, 99]);
+        tally.own_reply(&[0, 0, 0, 6, 2, 20, 0, 0, 0, 0]);
+        assert_eq!((tally.denials[0], tally.refusals[20]), (1, 1));
+        assert_eq!((name(&REFUSALS, 20), name(&DENIALS, 99)), ("BackwardBranch", "unknown"));
+    }
+}
