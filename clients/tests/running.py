@@ -1,14 +1,17 @@
 """A front that runs for a test, before the program or before its stand-in.
 
-JENTRY_FRONT names the front, JENTRY_PROGRAM the built program, if it is there.
+JENTRY_FRONT names the front, JENTRY_PROGRAM the built program, if it is there, JENTRY_OUT a folder for what tests keep.
 """
+import http.client
 import os
+import re
 import select
 import socket
 import subprocess
 import sys
 import tempfile
 import threading
+import time
 
 HERE = os.path.dirname(os.path.abspath(__file__))
 PROGRAM = os.environ.get("JENTRY_PROGRAM")
@@ -57,6 +60,47 @@ class Running:
         self.process.stderr.close()
         return status
 
+    def http(self, path, method="GET", timeout=PATIENCE):
+        """The answer of the front's HTTP side: status, headers, and body."""
+        host, port = self.http_address()
+        connection = http.client.HTTPConnection(host, port, timeout=timeout)
+        try:
+            connection.request(method, path)
+            answer = connection.getresponse()
+            return answer.status, dict(answer.getheaders()), answer.read().decode()
+        finally:
+            connection.close()
+
+    def http_address(self):
+        """Host and port that `--http` has told."""
+        for line in self.words:
+            found = re.search(r" http on (.*):(\d+)$", line)
+            if found:
+                return found[1], int(found[2])
+        raise ValueError("the front has no --http")
+
+    def metrics(self):
+        """The metrics, by name with labels."""
+        status, _, text = self.http("/metrics")
+        if status != 200:
+            raise ValueError(text)
+        return parse_metrics(text)
+
+    def logged(self, pattern):
+        """The lines of the log that have this pattern, once there is one."""
+        end = time.monotonic() + PATIENCE
+        while time.monotonic() < end:
+            lines = [line for line in self.words if re.search(pattern, line)]
+            if lines:
+                return lines
+            time.sleep(0.02)
+        raise TimeoutError("\n".join(self.words))
+
+    def memory(self):
+        """The front's resident memory in bytes."""
+        with open(f"/proc/{self.process.pid}/statm") as statm:
+            return int(statm.read().split()[1]) * os.sysconf("SC_PAGE_SIZE")
+
     def open(self):
         line = socket.socket(socket.AF_INET if isinstance(self.place, tuple) else socket.AF_UNIX)
         line.connect(self.place)    # it waits where many connect at once
@@ -67,6 +111,12 @@ class Running:
         """The number of the server's process."""
         with open(f"/proc/{self.process.pid}/task/{self.process.pid}/children") as children:
             return int(children.read().split()[0])
+
+
+def parse_metrics(text):
+    """Prometheus's text form, as values by name with labels."""
+    lines = [line.rsplit(" ", 1) for line in text.splitlines() if not line.startswith("#")]
+    return {name: float(value) for name, value in lines}
 
 
 def take(line, count):

@@ -105,6 +105,9 @@ impl Server {
             }
             let mut ready: Vec<usize> = events.iter().map(|it| it.token().0).collect();
             ready.append(&mut self.backlog);
+            // Each connection has one turn: an event and the backlog may both name it.
+            ready.sort_unstable();
+            ready.dedup();
             self.turn(&ready);
         }
     }
