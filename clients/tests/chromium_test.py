@@ -16,9 +16,8 @@ import urllib.request
 
 from class_files import another, plus
 from frames import DONE, END, ENDED, define, denied, get, invoke, put
-from front_test import FrontTest
 from packages import need
-from running import PATIENCE, Running, take
+from running import PATIENCE, FrontTest, Running, take
 
 HERE = os.path.dirname(os.path.abspath(__file__))
 OUT = os.environ.get("JENTRY_OUT") or os.path.join(HERE, "out")
@@ -171,12 +170,14 @@ class OperatorsPage(FrontTest):
 
     def steady(self, browser):
         """Values change while nothing moves, and rows stay the same nodes."""
+        browser.devtools("Emulation.setDeviceMetricsOverride", width=1280, height=500, deviceScaleFactor=1, mobile=False)
         browser.run("document.querySelector('#classes tr').dataset.seen = 'yes'; scrollTo(0, 300)")
         before, calls = browser.run(self.TOPS), browser.run(self.TOTALS)["jentry_requests_total"]
         browser.wait_for(f"return Number(document.querySelector('[data-metric=jentry_requests_total]').dataset.value) > {calls}")
         time.sleep(2)
         self.assertEqual(browser.run(self.TOPS), before)
         self.assertEqual(browser.run("return [document.querySelector('#classes tr').dataset.seen, scrollY]"), ["yes", 300])
+        browser.devtools("Emulation.clearDeviceMetricsOverride")
 
     def only_this_front(self, browser, origin):
         """All requests went to the front, and the console has nothing."""

@@ -15,8 +15,7 @@ import unittest
 
 from class_files import another, plus
 from frames import DONE, END, ENDED, define, denied, frame, get, invoke, invoke_all, put, result, value
-from front_test import FrontTest
-from running import PATIENCE, PROGRAM, STAND_IN, Running, is_ended, take, take_frame
+from running import PATIENCE, PROGRAM, STAND_IN, FrontTest, Running, is_ended, take, take_frame
 
 MOST = 64
 THREW = b"\0\0\0\3\6\1\3"

@@ -13,9 +13,8 @@ import urllib.parse
 import urllib.request
 
 from frames import DONE, END, ENDED, put
-from front_test import FrontTest
 from packages import need
-from running import PATIENCE, Running
+from running import PATIENCE, FrontTest, Running
 
 HERE = os.path.dirname(os.path.abspath(__file__))
 PAGE = os.path.join(HERE, "../../docs/OPERATIONS.md")

@@ -7,11 +7,15 @@ import os
 import re
 import select
 import socket
+import struct
 import subprocess
 import sys
 import tempfile
 import threading
 import time
+import unittest
+
+from frames import END, ENDED, define
 
 HERE = os.path.dirname(os.path.abspath(__file__))
 PROGRAM = os.environ.get("JENTRY_PROGRAM")
@@ -147,3 +151,34 @@ def is_ended(line):
 def has_more(line):
     """Whether a connection has bytes to take, or has ended, at this moment."""
     return bool(select.select([line], [], [], 0)[0])
+
+
+class FrontTest(unittest.TestCase):
+    """A test of a front, with what most of them do."""
+
+    def ask(self, line, text, wanted):
+        line.sendall(text)
+        self.told(line, wanted)
+
+    def told(self, line, wanted):
+        self.assertEqual(take(line, len(wanted)), wanted)
+
+    def define(self, line, file, number=None):
+        """Defines a class, which has to be accepted, by this number if one is given, and tells its steps."""
+        line.sendall(define(file) + END)
+        told = take_frame(line)
+        self.assertEqual(told[0], 1, told)
+        if number is not None:
+            self.assertEqual(struct.unpack_from(">I", told, 1)[0], number)
+        self.assertEqual(take(line, 5), ENDED)
+        return struct.unpack_from(">I", told, 5)[0]
+
+    def send_all(self, line, text):
+        """Sends what may end its connection, and waits for that end."""
+        try:
+            line.sendall(text)
+            line.shutdown(socket.SHUT_WR)
+            while line.recv(65_536):
+                pass
+        except ConnectionError:
+            pass

@@ -26,7 +26,7 @@ mod tally;
 
 use connection::Shared;
 use event_loop::{EventLoop, WAKER};
-use listen::Acceptor;
+use listen::{Acceptor, Listener};
 use log::{error, info, warn};
 use mio::{Poll, Waker};
 use options::{Address, Options};
@@ -90,22 +90,29 @@ fn end_on_signals(addresses: Vec<Address>) -> io::Result<()> {
     Ok(())
 }
 
+/// Sockets that listen.
+struct Listeners {
+    /// For connections, each with its name.
+    front: Vec<(Listener, String)>,
+    http: Option<TcpListener>,
+}
+
+fn open_listeners(options: &Options) -> Result<Listeners, String> {
+    let mut front = Vec::new();
+    for address in &options.addresses {
+        let listener = listen::open(address);
+        front.push(listener.map_err(|e| format!("can't listen on {:?}: {}", address, e))?);
+    }
+    let http = options.http.as_ref().map(|address| {
+        TcpListener::bind(address).map_err(|e| format!("can't listen on {}: {}", address, e))
+    });
+    Ok(Listeners { front, http: http.transpose()? })
+}
+
 /// Listens, starts the server, and serves until it ends. The error says what failed before that.
 fn run(options: Options) -> Result<(), String> {
     let limit = connection_limit(&options);
-    let mut listeners = Vec::new();
-    for address in &options.addresses {
-        let listener =
-            listen::open(address).map_err(|e| format!("can't listen on {:?}: {}", address, e))?;
-        listeners.push(listener);
-    }
-    let http = match &options.http {
-        Some(address) => Some(
-            TcpListener::bind(address)
-                .map_err(|e| format!("can't listen on {}: {}", address, e))?,
-        ),
-        None => None,
-    };
+    let Listeners { front, http } = open_listeners(&options)?;
     end_on_signals(options.addresses.clone()).map_err(setup_failed)?;
     let poll = Poll::new().map_err(setup_failed)?;
     let waker = Arc::new(Waker::new(poll.registry(), WAKER).map_err(setup_failed)?);
@@ -129,7 +136,7 @@ fn run(options: Options) -> Result<(), String> {
     let acceptor = Arc::new(Acceptor::new(limit, waker));
     let event_loop = EventLoop::new(poll, acceptor.clone(), scheduler, shared, idle, publisher)
         .map_err(setup_failed)?;
-    for (listener, name) in listeners {
+    for (listener, name) in front {
         let acceptor = acceptor.clone();
         info!("listening on {}", name);
         thread::spawn(move || listen::run(&listener, &acceptor));

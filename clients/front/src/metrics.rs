@@ -20,7 +20,12 @@ const SECONDS: [f64; 22] = [
 /// Upper bounds of the requests of a round or a batch.
 const SIZES: [f64; 9] = [1.0, 2.0, 4.0, 8.0, 16.0, 64.0, 256.0, 1_024.0, 4_096.0];
 
-type Single = (&'static str, &'static str, fn(&Tally) -> u64);
+/// Picks a count, or a value of a moment.
+type OfTally = fn(&Tally) -> u64;
+type OfGauges = fn(&Gauges) -> usize;
+
+/// Name, help, and the count.
+type Single = (&'static str, &'static str, OfTally);
 
 const SINGLES: [Single; 6] = [
     ("jentry_runs_total", "Runs of processors, one for each key of an invokeAll.", |it| it.runs),
@@ -111,10 +116,10 @@ struct Family {
 
 /// The metrics of the event loop.
 pub struct Metrics {
-    singles: Vec<(IntCounter, fn(&Tally) -> u64)>,
+    singles: Vec<(IntCounter, OfTally)>,
     families: Vec<Family>,
     rejected: IntCounter,
-    gauges: Vec<(IntGauge, fn(&Gauges) -> usize)>,
+    gauges: Vec<(IntGauge, OfGauges)>,
     round_seconds: LocalHistogram,
     round_requests: LocalHistogram,
     batch_seconds: LocalHistogram,
@@ -241,8 +246,8 @@ impl Metrics {
     }
 }
 
-fn gauges(registry: &Registry) -> Result<Vec<(IntGauge, fn(&Gauges) -> usize)>> {
-    let all: [(&str, &str, fn(&Gauges) -> usize); 6] = [
+fn gauges(registry: &Registry) -> Result<Vec<(IntGauge, OfGauges)>> {
+    let all: [(&str, &str, OfGauges); 6] = [
         (
             "jentry_waiting_rounds",
             "Rounds and classes of connections that wait for the server or are there.",

@@ -40,7 +40,7 @@ pub fn frame_length(input: &[u8]) -> io::Result<Option<usize>> {
         return Ok(None);
     }
     let length = number_at(input, 0) as usize;
-    if length < 1 || length > LONGEST {
+    if !(1..=LONGEST).contains(&length) {
         return Err(io::ErrorKind::InvalidData.into());
     }
     Ok(if input.len() < 4 + length { None } else { Some(4 + length) })
