@@ -8,6 +8,9 @@ use crate::tally::Tally;
 /// A request of a round's end.
 pub const END: [u8; 5] = [0, 0, 0, 1, 8];
 
+/// The most bytes of a batch that are allocated before they are needed.
+const RESERVED: usize = 65_536;
+
 /// A sub-batch that waits for the server, with what its owner is found by.
 pub struct Queued<T> {
     pub owner: T,
@@ -24,7 +27,7 @@ enum Kind {
 
 /// A position in a batch: its sub-batch, by the position among those that waited, and what it is.
 struct Position {
-    queued: usize,
+    queued: u32,
     kind: Kind,
 }
 
@@ -61,17 +64,24 @@ impl Batch {
     /// sub-batch, the first of them whatever it costs. A batch has one class at most.
     pub fn gather<T>(queued: &mut [Queued<T>], steps: u64) -> Batch {
         let mut budget = Budget::new(queued.len().max(1), steps);
-        let mut batch = Batch { text: Vec::new(), positions: Vec::new(), left_out: Vec::new() };
+        let unsent = queued.iter().map(|it| it.sub_batch.unsent());
+        let (requests, bytes) = unsent.fold((0, 0), |all, it| (all.0 + it.0, all.1 + it.1));
+        // One allocation each is enough for most batches.
+        let mut batch = Batch {
+            text: Vec::with_capacity(bytes.min(RESERVED) + END.len()),
+            positions: Vec::with_capacity(requests.min(MOST_JOBS)),
+            left_out: Vec::with_capacity(queued.len()),
+        };
         for (index, it) in queued.iter_mut().enumerate().take(MOST_JOBS) {
             let before = batch.positions.len();
-            batch.take_from(index, &mut it.sub_batch, &mut budget);
+            batch.take_from(index as u32, &mut it.sub_batch, &mut budget);
             batch.left_out.push(batch.positions.len() == before);
         }
         batch.text.extend_from_slice(&END);
         batch
     }
 
-    fn take_from(&mut self, queued: usize, sub_batch: &mut SubBatch, budget: &mut Budget) {
+    fn take_from(&mut self, queued: u32, sub_batch: &mut SubBatch, budget: &mut Budget) {
         let mut share = Share::default();
         loop {
             if let Some(replies) = sub_batch.take_known() {
@@ -120,7 +130,7 @@ impl Batch {
         let mut ends = ends.iter();
         let mut begin = 0;
         for position in &self.positions {
-            let sub_batch = &mut queued[position.queued].sub_batch;
+            let sub_batch = &mut queued[position.queued as usize].sub_batch;
             let sent = match &position.kind {
                 Kind::Known(replies) => {
                     sub_batch.add_reply(replies);
@@ -139,9 +149,9 @@ impl Batch {
                     tally.reply(*asked, &reply[4..]);
                     sub_batch.add_reply(reply);
                 }
-                Sent::Keys { keys, is_last, asked } => {
+                Sent::Keys { position, is_last, asked } => {
                     tally.partial_reply(*asked, *is_last, &reply[4..]);
-                    if sub_batch.join(keys.clone(), *is_last, &reply[4..]).is_none() {
+                    if sub_batch.join(*position, asked.keys, *is_last, &reply[4..]).is_none() {
                         return false;
                     }
                 }

@@ -3,7 +3,7 @@
 
 use crate::classes::{class_of, Class, Classes, Lookup};
 use crate::listen::Stream;
-use crate::request::{frame_length, judge, set_class, Frame, MOST_CLASSES, MOST_JOBS};
+use crate::request::{frame_length, judge, remove_duplicates, Frame, MOST_CLASSES, MOST_JOBS};
 use crate::sub_batch::SubBatch;
 use crate::tally::{Tally, NO_CLASS};
 use std::io::{self, Read, Write};
@@ -300,20 +300,27 @@ impl Connection {
 
     /// Takes frames until one waits, none is there, or many replies are known.
     fn take_frames(&mut self, shared: &mut Shared) -> io::Result<Step> {
+        let input = take(&mut self.input);
+        let step = self.take_frames_of(&input, shared);
+        self.input = input;
+        step
+    }
+
+    fn take_frames_of(&mut self, input: &[u8], shared: &mut Shared) -> io::Result<Step> {
         while self.output.len() < KEPT {
-            let frame = &self.input[self.taken..];
-            let mut text = match frame_length(frame)? {
-                Some(length) => frame[..length].to_vec(),
+            let rest = &input[self.taken..];
+            let length = match frame_length(rest)? {
+                Some(length) => length,
                 None => break,
             };
-            let length = text.len();
-            let step = match judge(&mut text).ok_or(io::ErrorKind::InvalidData)? {
+            let text = &rest[..length];
+            let step = match judge(text).ok_or(io::ErrorKind::InvalidData)? {
                 Frame::End => {
                     shared.tally.rounds += 1;
                     self.end_round()
                 }
                 Frame::Define => self.define(text, shared)?,
-                frame => self.add(frame, &mut text, shared)?,
+                frame => self.add(frame, text, shared)?,
             };
             self.is_waiting = !matches!(step, Step::Socket);
             if !matches!(step, Step::OthersClass) {
@@ -357,14 +364,13 @@ impl Connection {
     }
 
     /// Adds a request to the open round.
-    fn add(&mut self, frame: Frame, text: &mut [u8], shared: &mut Shared) -> io::Result<Step> {
+    fn add(&mut self, frame: Frame, text: &[u8], shared: &mut Shared) -> io::Result<Step> {
         self.count_request(text[4], shared)?;
         let tally = &mut shared.tally;
         match frame {
             Frame::Invoke(class) => match self.class(class) {
                 None => self.add_known(&UNKNOWN_CLASS, tally),
                 Some(class) => {
-                    set_class(text, class.number);
                     let cost = u64::from(class.steps) + REQUEST_COST;
                     self.add_job(text, cost, class.number, tally);
                 }
@@ -392,21 +398,22 @@ impl Connection {
         }
     }
 
-    fn add_invoke_all(&mut self, text: &mut [u8], keys: usize, class: Class, tally: &mut Tally) {
+    fn add_invoke_all(&mut self, text: &[u8], keys: usize, class: Class, tally: &mut Tally) {
+        let mut text = text.to_vec();
+        let keys = remove_duplicates(&mut text, keys);
         if keys > MOST_JOBS - self.jobs {
             self.add_known(&TOO_MANY_JOBS, tally);
         } else if keys == 0 {
             self.add_known(&NO_RESULTS, tally);
         } else {
             self.jobs += keys;
-            set_class(text, class.number);
             let cost = u64::from(class.steps) + REQUEST_COST;
-            self.sub_batch.add_invoke_all(text, keys, cost, class.number);
+            self.sub_batch.add_invoke_all(&text, keys, cost, class.number);
         }
     }
 
     /// Looks a class up, or brings it.
-    fn define(&mut self, text: Vec<u8>, shared: &mut Shared) -> io::Result<Step> {
+    fn define(&mut self, text: &[u8], shared: &mut Shared) -> io::Result<Step> {
         if self.requests >= shared.most_requests {
             // Before the lookup, which marks a new class as on its way to the server.
             return Err(io::ErrorKind::InvalidData.into());
@@ -424,7 +431,7 @@ impl Connection {
         self.count_request(text[4], shared)?;
         match lookup {
             Lookup::Class(class) => self.number_class(class, &mut shared.tally),
-            Lookup::New => return Ok(Step::Class(text)),
+            Lookup::New => return Ok(Step::Class(text.to_vec())),
             _ => self.add_known(&TOO_MANY_CLASSES, &mut shared.tally),
         }
         Ok(Step::Socket)

@@ -29,7 +29,7 @@ pub enum Frame {
     Plain,
     /// An invocation of the class with this number.
     Invoke(u32),
-    /// An invocation of the class with this number on so many different keys.
+    /// An invocation of the class with this number on so many keys.
     InvokeAll { class: u32, keys: usize },
 }
 
@@ -69,9 +69,8 @@ fn arguments_end(text: &[u8], at: usize) -> Option<usize> {
     Some(at)
 }
 
-/// Validates a whole frame. None is no request. Duplicate keys of an invokeAll are removed: the
-/// server runs each key once, and answers it in its first position.
-pub fn judge(text: &mut Vec<u8>) -> Option<Frame> {
+/// Validates a whole frame. None is no request.
+pub fn judge(text: &[u8]) -> Option<Frame> {
     let length = text.len();
     match (*text.get(4)?, length) {
         (1, _) => Some(Frame::Define),
@@ -83,15 +82,15 @@ pub fn judge(text: &mut Vec<u8>) -> Option<Frame> {
             if arguments_end(text, KEYS_AT + 8 * count)? != length {
                 return None;
             }
-            let keys = remove_duplicates(text, count);
-            Some(Frame::InvokeAll { class: number_at(text, 5), keys })
+            Some(Frame::InvokeAll { class: number_at(text, 5), keys: count })
         }
         _ => None,
     }
 }
 
-/// Removes the duplicate keys of an invokeAll, and gives how many are left.
-fn remove_duplicates(text: &mut Vec<u8>, count: usize) -> usize {
+/// Removes the duplicate keys of an invokeAll, and gives how many are left: the server runs each key
+/// once, and answers it in its first position.
+pub fn remove_duplicates(text: &mut Vec<u8>, count: usize) -> usize {
     let end = KEYS_AT + 8 * count;
     let mut seen = HashSet::with_capacity(count);
     let kept: Vec<u8> =
@@ -122,7 +121,7 @@ mod tests {
     }
 
     fn judged(body: &[u8]) -> Option<Frame> {
-        judge(&mut framed(body))
+        judge(&framed(body))
     }
 
     #[test]
@@ -179,7 +178,8 @@ mod tests {
         }
         body.extend_from_slice(&[1, 0]);
         let mut text = framed(&body);
-        assert_eq!(judge(&mut text), Some(Frame::InvokeAll { class: 2, keys: 2 }));
+        assert_eq!(judge(&text), Some(Frame::InvokeAll { class: 2, keys: 4 }));
+        assert_eq!(remove_duplicates(&mut text, 4), 2);
         let mut wanted = vec![7, 0, 0, 0, 2, 0, 2];
         wanted.extend_from_slice(&9u64.to_be_bytes());
         wanted.extend_from_slice(&3u64.to_be_bytes());

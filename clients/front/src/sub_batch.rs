@@ -1,26 +1,25 @@
 //! A connection's round, or a class that it brings, on its way through the server. It may take
 //! several batches; its replies are put together again in the order of its requests.
 
-use crate::request::KEYS_AT;
+use crate::request::{set_class, KEYS_AT};
 use crate::tally::{Asked, NO_CLASS};
 use std::collections::VecDeque;
-use std::ops::Range;
 
 const DEFINE: u8 = 1;
 const INVOKE_ALL: u8 = 7;
 const RESULTS: u8 = 7;
 const DENIED: u8 = 8;
 
-/// A request of a sub-batch.
+/// A request of a sub-batch. There are many, so their numbers are as small as frames allow.
 #[derive(Debug)]
 enum Request {
     /// A frame that is one job, its length in bytes, and the most instructions that it takes.
-    Job { bytes: usize, cost: u64, kind: u8, class: u32 },
+    Job { bytes: u32, class: u32, cost: u64, kind: u8 },
     /// An invokeAll with this many keys, of which the first `sent` are in batches already. Each
     /// key takes `cost` instructions at most.
-    InvokeAll { bytes: usize, keys: usize, sent: usize, cost: u64, class: u32 },
+    InvokeAll { bytes: u32, class: u32, cost: u64, keys: u16, sent: u16 },
     /// A class, which may take long to judge.
-    Class { bytes: usize },
+    Class { bytes: u32 },
     /// Replies that the front knows by itself.
     Known(Vec<u8>),
 }
@@ -43,7 +42,7 @@ pub enum Sent {
     /// A whole request.
     Whole(Asked),
     /// Some keys of an invokeAll, by their position in the sub-batch's text.
-    Keys { keys: Range<usize>, is_last: bool, asked: Asked },
+    Keys { position: u32, is_last: bool, asked: Asked },
 }
 
 /// A round of a connection, or a class of it, on its way through the server.
@@ -61,22 +60,36 @@ pub struct SubBatch {
 impl SubBatch {
     /// A class alone, by its frame.
     pub fn of_class(text: Vec<u8>) -> SubBatch {
-        let requests = VecDeque::from(vec![Request::Class { bytes: text.len() }]);
+        let requests = VecDeque::from(vec![Request::Class { bytes: text.len() as u32 }]);
         SubBatch { requests, text, ..SubBatch::default() }
     }
 
     /// Adds a request of one job, with the server's number of its class.
     pub fn add_job(&mut self, text: &[u8], cost: u64, class: u32) {
-        self.text.extend_from_slice(text);
-        let kind = text[4];
-        self.requests.push_back(Request::Job { bytes: text.len(), cost, kind, class });
+        self.add_text(text, class);
+        let (bytes, kind) = (text.len() as u32, text[4]);
+        self.requests.push_back(Request::Job { bytes, class, cost, kind });
     }
 
     /// Adds an invokeAll of this many different keys, at least one.
     pub fn add_invoke_all(&mut self, text: &[u8], keys: usize, cost: u64, class: u32) {
+        self.add_text(text, class);
+        let (bytes, keys) = (text.len() as u32, keys as u16);
+        self.requests.push_back(Request::InvokeAll { bytes, class, cost, keys, sent: 0 });
+    }
+
+    /// Adds a frame, with the server's number of its class in place of the connection's.
+    fn add_text(&mut self, text: &[u8], class: u32) {
+        let begin = self.text.len();
         self.text.extend_from_slice(text);
-        let bytes = text.len();
-        self.requests.push_back(Request::InvokeAll { bytes, keys, sent: 0, cost, class });
+        if class != NO_CLASS {
+            set_class(&mut self.text[begin..], class);
+        }
+    }
+
+    /// How many requests and bytes are not in a batch yet.
+    pub fn unsent(&self) -> (usize, usize) {
+        (self.requests.len(), self.text.len() - self.sent)
     }
 
     /// Adds a reply that is known already.
@@ -127,7 +140,7 @@ impl SubBatch {
         match self.requests.front() {
             Some(Request::Job { cost, .. }) => Next::Jobs { count: 1, cost: *cost },
             Some(Request::InvokeAll { keys, sent, cost, .. }) => {
-                Next::Jobs { count: keys - sent, cost: *cost }
+                Next::Jobs { count: usize::from(keys - sent), cost: *cost }
             }
             Some(Request::Class { .. }) => Next::Class,
             Some(Request::Known(_)) | None => Next::Nothing,
@@ -137,7 +150,9 @@ impl SubBatch {
     /// Moves the next class, job, or this many keys of the next invokeAll into a batch's text.
     pub fn send(&mut self, count: usize, text: &mut Vec<u8>) -> Sent {
         match self.requests.front() {
-            Some(Request::InvokeAll { keys, sent, .. }) if *sent > 0 || *keys != count => {
+            Some(Request::InvokeAll { keys, sent, .. })
+                if *sent > 0 || usize::from(*keys) != count =>
+            {
                 self.send_keys(count, text)
             }
             Some(Request::Job { bytes, kind, class, .. }) => {
@@ -145,7 +160,7 @@ impl SubBatch {
                 self.send_whole(*bytes, asked, text)
             }
             Some(Request::InvokeAll { bytes, keys, class, .. }) => {
-                let asked = Asked { kind: INVOKE_ALL, class: *class, keys: *keys as u16 };
+                let asked = Asked { kind: INVOKE_ALL, class: *class, keys: *keys };
                 self.send_whole(*bytes, asked, text)
             }
             Some(Request::Class { bytes }) => {
@@ -155,8 +170,8 @@ impl SubBatch {
         }
     }
 
-    fn send_whole(&mut self, bytes: usize, asked: Asked, text: &mut Vec<u8>) -> Sent {
-        let end = self.sent + bytes;
+    fn send_whole(&mut self, bytes: u32, asked: Asked, text: &mut Vec<u8>) -> Sent {
+        let end = self.sent + bytes as usize;
         text.extend_from_slice(&self.text[self.sent..end]);
         self.sent = end;
         self.requests.pop_front();
@@ -167,8 +182,8 @@ impl SubBatch {
     fn send_keys(&mut self, count: usize, text: &mut Vec<u8>) -> Sent {
         let (bytes, keys, sent, class) = match self.requests.front_mut() {
             Some(Request::InvokeAll { bytes, keys, sent, class, .. }) => {
-                *sent += count;
-                (*bytes, *keys, *sent, *class)
+                *sent += count as u16;
+                (*bytes as usize, usize::from(*keys), usize::from(*sent), *class)
             }
             _ => unreachable!("the first request is an invokeAll"),
         };
@@ -181,18 +196,18 @@ impl SubBatch {
         text.extend_from_slice(&(count as u16).to_be_bytes());
         text.extend_from_slice(&frame[first..first + 8 * count]);
         text.extend_from_slice(arguments);
-        let range = self.sent + first..self.sent + first + 8 * count;
+        let position = (self.sent + first) as u32;
         if sent == keys {
             self.sent += bytes;
             self.requests.pop_front();
         }
         let asked = Asked { kind: INVOKE_ALL, class, keys: count as u16 };
-        Sent::Keys { keys: range, is_last: sent == keys, asked }
+        Sent::Keys { position, is_last: sent == keys, asked }
     }
 
-    /// Joins a reply, without its length, to some keys of an invokeAll with those before it. None
-    /// where it is no such reply.
-    pub fn join(&mut self, keys: Range<usize>, is_last: bool, reply: &[u8]) -> Option<()> {
+    /// Joins a reply, without its length, to `count` keys of an invokeAll, at this position of the
+    /// text, with those before it. None where it is no such reply.
+    pub fn join(&mut self, position: u32, count: u16, is_last: bool, reply: &[u8]) -> Option<()> {
         let replies = &mut self.replies;
         let begin = *self.joined.get_or_insert_with(|| {
             let begin = replies.len();
@@ -207,11 +222,12 @@ impl SubBatch {
             // A denial of the whole request becomes one of each key, since other keys of the
             // client's request have results.
             (DENIED, 2) => {
-                for key in self.text[keys.clone()].chunks(8) {
+                let keys = &self.text[position as usize..][..8 * usize::from(count)];
+                for key in keys.chunks(8) {
                     replies.extend_from_slice(key);
                     replies.extend_from_slice(&[2, reply[1]]);
                 }
-                (keys.len() / 8) as u16
+                count
             }
             _ => return None,
         };

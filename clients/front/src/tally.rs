@@ -132,6 +132,7 @@ pub struct Tally {
     pub classes: Vec<ClassTally>,
 }
 
+#[inline]
 fn count<const N: usize>(counts: &mut [u64; N], number: u8) {
     let index = usize::from(number);
     counts[if index < N { index } else { 0 }] += 1;
@@ -174,10 +175,15 @@ impl Tally {
     /// Counts a reply of the server, its kind and body. Verdicts on classes are counted by
     /// [`Tally::own_reply`] for each connection that gets them.
     pub fn reply(&mut self, asked: Asked, reply: &[u8]) {
+        let kind = reply[0];
+        if let (RESULT, Some(0), true) = (kind, reply.get(1), asked.class != NO_CLASS) {
+            // By far the most frequent reply.
+            self.replies[usize::from(RESULT)] += 1;
+            return self.runs(asked.class, 1, 0);
+        }
         if asked.kind == DEFINE {
             return;
         }
-        let kind = reply[0];
         count(&mut self.replies, kind);
         match (kind, reply.get(1)) {
             (VALUE, Some(tag)) => self.gets[usize::from(*tag != 0)] += 1,
