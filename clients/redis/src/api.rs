@@ -12,6 +12,8 @@ pub enum Context {}
 pub enum Text {}
 /// The reply of a command that the module called.
 pub enum Reply {}
+/// A key that is open.
+pub enum Key {}
 /// An RDB file that is read or written.
 pub enum Io {}
 /// A registered data type.
@@ -193,6 +195,10 @@ interface! {
     reply_long "ReplyWithLongLong": unsafe extern "C" fn(*mut Context, c_longlong) -> c_int;
     reply_text "ReplyWithStringBuffer": unsafe extern "C" fn(*mut Context, *const u8, usize) -> c_int;
     reply_null "ReplyWithNull": unsafe extern "C" fn(*mut Context) -> c_int;
+    server_version "GetServerVersion": unsafe extern "C" fn() -> c_int;
+    open_key "OpenKey": unsafe extern "C" fn(*mut Context, *mut Text, c_int) -> *mut Key;
+    close_key "CloseKey": unsafe extern "C" fn(*mut Key);
+    expire "GetExpire": unsafe extern "C" fn(*mut Key) -> c_longlong;
     free_reply "FreeCallReply": unsafe extern "C" fn(*mut Reply);
     reply_kind "CallReplyType": unsafe extern "C" fn(*mut Reply) -> c_int;
     reply_bytes "CallReplyStringPtr": unsafe extern "C" fn(*mut Reply, *mut usize) -> *const u8;

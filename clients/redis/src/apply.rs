@@ -1,7 +1,7 @@
 //! JENTRY.APPLY: a run as a JCache provider needs it, with times to live and the entry before and after.
 use crate::api::Text;
 use crate::engine::{Done, KEEP, PUT, SET_LAST};
-use crate::entry::{self, Lifetime};
+use crate::entry::{self, Entry, Lifetime};
 use crate::run::{number_of, reply_type, reply_value, Plan};
 use crate::server::{Answer, Failure, Server, Words};
 use crate::words::long_of;
@@ -59,10 +59,10 @@ fn change_of(done: &Done, before: Option<i64>, times: [Time; 3]) -> Change {
 impl Change {
     /// # Safety
     /// `key` is a string of the server's.
-    unsafe fn make(&self, server: Server, key: *mut Text) -> Answer {
+    unsafe fn make(&self, server: Server, key: *mut Text, before: Entry) -> Answer {
         match *self {
             Change::None => Ok(()),
-            Change::Set(value, lifetime) => entry::set(server, key, value, lifetime),
+            Change::Set(value, lifetime) => entry::set(server, key, before, value, lifetime),
             Change::Touch(lifetime) => entry::touch(server, key, lifetime),
             Change::Delete => entry::delete(server, key),
         }
@@ -110,12 +110,13 @@ pub fn apply(server: Server, words: Words) -> Answer {
     let number = number_of(name)?;
     let plan = plan.with_args(words.from(7))?;
     // SAFETY: the key is a word of the command.
-    let before = unsafe { entry::read(server, key)? };
+    let entry = unsafe { entry::read(server, key)? };
+    let before = entry.value;
     let done = plan.run(number, before)?;
     let change = change_of(&done, before, times);
     if !is_dry {
         // SAFETY: as above.
-        unsafe { change.make(server, key)? };
+        unsafe { change.make(server, key, entry)? };
     }
     server.reply_array(7);
     reply_value(server, &done);

@@ -1,12 +1,14 @@
 //! The classes that this server knows, each by its id.
 use crate::engine::{explain, refusal_name, Call, Arg, Done, Engine, Verdict};
 use crate::server::Failure;
-use crate::words::{digits_of, Id};
+use crate::words::{digits_of, id_of, Id};
 
 /// The most classes of a server.
 const MOST_CLASSES: usize = 4096;
 
 pub struct Class {
+    /// The digits of its id.
+    digits: [u8; 40],
     pub bytes: Vec<u8>,
     /// Accepted: its id, its number and its bounds.
     pub verdict: Verdict,
@@ -41,10 +43,10 @@ impl Classes {
         &self.known
     }
 
-    /// The class with an id.
-    pub fn find(&mut self, id: &Id) -> Option<&Class> {
-        if self.known.get(self.last).map_or(true, |class| class.verdict.id != *id) {
-            self.last = self.place_of(id).ok()?;
+    /// The class whose id has these digits.
+    pub fn find(&mut self, digits: &[u8]) -> Option<&Class> {
+        if self.known.get(self.last).map_or(true, |class| class.digits != *digits) {
+            self.last = self.place_of(&id_of(digits)?).ok()?;
         }
         self.known.get(self.last)
     }
@@ -75,7 +77,7 @@ impl Classes {
             Ok(_) => Denial::SameId(verdict.id),
             Err(_) if verdict.steps > most => Denial::Costly { steps: verdict.steps, most },
             Err(place) => {
-                self.known.insert(place, Class { bytes: kept, verdict });
+                self.known.insert(place, Class { digits: digits_of(&verdict.id), bytes: kept, verdict });
                 return Ok(verdict);
             }
         };
@@ -83,15 +85,15 @@ impl Classes {
         Err(denial)
     }
 
-    /// Forgets the class with an id: whether there was one.
-    pub fn forget(&mut self, id: &Id) -> bool {
-        match self.place_of(id) {
-            Ok(place) => {
+    /// Forgets the class whose id has these digits: whether there was one.
+    pub fn forget(&mut self, digits: &[u8]) -> bool {
+        match id_of(digits).map(|id| self.place_of(&id)) {
+            Some(Ok(place)) => {
                 let class = self.known.remove(place);
                 self.engine.forget(class.verdict.number);
                 true
             }
-            Err(_) => false,
+            _ => false,
         }
     }
 

@@ -3,9 +3,9 @@ use crate::api::{Context, IS_CLUSTER, IS_LOADING, IS_MASTER, IS_REPLICATED};
 use crate::classes::Denial;
 use crate::config::most_steps;
 use crate::engine::{explain as explanation, Verdict};
-use crate::server::{Answer, Called, Server, Words};
+use crate::server::{Answer, Called, Failure, Server, Words};
 use crate::state::with_state;
-use crate::words::{digits_of, id_of};
+use crate::words::digits_of;
 use std::os::raw::c_char;
 use std::slice;
 
@@ -23,7 +23,7 @@ fn reply_bounds(server: Server, verdict: &Verdict) {
 /// JENTRY.DEFINE BYTES: judges a class and keeps it. Its id and its bounds.
 pub fn define(server: Server, words: Words) -> Answer {
     if words.count() != 2 {
-        return Err(crate::server::Failure::Arity);
+        return Err(Failure::Arity);
     }
     let bytes = words.bytes(1)?;
     // What a master took its replicas take too, and what stands in the AOF was taken once.
@@ -75,16 +75,16 @@ pub unsafe extern "C" fn receive(context: *mut Context, _sender: *const c_char, 
         return;
     }
     let reply = (server.api().call)(context, b"JENTRY.DEFINE\0".as_ptr().cast(), b"!b\0".as_ptr().cast(), bytes, file.len());
-    if let Err(crate::server::Failure::Told(text)) = Called::of(server, reply) {
+    if let Err(Failure::Told(text)) = Called::of(server, reply) {
         server.warn(&format!("a class of another node is left out: {text}"));
     }
 }
 
 /// JENTRY.FORGET ID: 1, or 0 where there was no such class.
 pub fn forget(server: Server, words: Words) -> Answer {
-    let id = id_of(words.bytes(1)?);
+    let digits = words.bytes(1)?;
     // SAFETY: commands run on the main thread, behind the load.
-    let is_gone = id.map_or(false, |id| unsafe { with_state(|state| state.classes.forget(&id)) });
+    let is_gone = unsafe { with_state(|state| state.classes.forget(digits)) };
     if is_gone {
         server.replicate_verbatim();
     }
@@ -110,10 +110,10 @@ pub fn list(server: Server, _words: Words) -> Answer {
 
 /// JENTRY.CLASS ID: the class file, or null.
 pub fn class(server: Server, words: Words) -> Answer {
-    let id = id_of(words.bytes(1)?);
+    let digits = words.bytes(1)?;
     // SAFETY: commands run on the main thread, behind the load; a reply runs no command.
     unsafe {
-        with_state(|state| match id.and_then(|id| state.classes.find(&id)) {
+        with_state(|state| match state.classes.find(digits) {
             Some(class) => server.reply_text(&class.bytes),
             None => server.reply_null(),
         });

@@ -2,21 +2,50 @@
 //!
 //! Redis runs one command at a time, so nothing else comes between the reading and the writing of a run.
 use crate::api::{Text, REPLY_NULL, REPLY_TEXT};
+use crate::direct::{self, Found};
 use crate::server::{Called, Failure, Server};
 use crate::words::long_of;
 
-/// The value at a key, or none.
+/// The entry at a key.
+#[derive(Clone, Copy)]
+pub struct Entry {
+    pub value: Option<i64>,
+    /// Whether it has a time to live, or it isn't known that it has none.
+    may_expire: bool,
+}
+
+/// The entry at a key, by GET.
 ///
 /// # Safety
 /// `key` is a string of the server's.
-pub unsafe fn read(server: Server, key: *mut Text) -> Result<Option<i64>, Failure> {
+unsafe fn get(server: Server, key: *mut Text) -> Result<Entry, Failure> {
     let reply = (server.api().call)(server.context(), b"GET\0".as_ptr().cast(), b"s\0".as_ptr().cast(), key);
     let called = Called::of(server, reply)?;
-    match called.kind() {
-        REPLY_NULL => Ok(None),
-        REPLY_TEXT => long_of(called.bytes()).map(Some).ok_or_else(|| "ERR value is not an integer or out of range".into()),
-        _ => Err("ERR the entry can't be read".into()),
+    let value = match called.kind() {
+        REPLY_NULL => None,
+        REPLY_TEXT => Some(long_of(called.bytes()).ok_or("ERR value is not an integer or out of range")?),
+        _ => return Err("ERR the entry can't be read".into()),
+    };
+    Ok(Entry { value, may_expire: true })
+}
+
+/// The entry at a key.
+///
+/// # Safety
+/// `key` is a string of the server's.
+pub unsafe fn read(server: Server, key: *mut Text) -> Result<Entry, Failure> {
+    let entry = match direct::look(server, key) {
+        Found::Unknown => return get(server, key),
+        Found::Absent => Entry { value: None, may_expire: false },
+        Found::Value(value, may_expire) => Entry { value: Some(value), may_expire },
+    };
+    if direct::is_checked() {
+        let told = get(server, key)?;
+        let is_same = told.value == entry.value;
+        direct::count(server, is_same);
+        return Ok(if is_same { entry } else { told });
     }
+    Ok(entry)
 }
 
 /// What becomes of an entry's time to live.
@@ -30,15 +59,15 @@ pub enum Lifetime {
     Milliseconds(i64),
 }
 
-/// Sets the value at a key, and writes it to the AOF and to replicas as a SET.
+/// Sets the value of an entry, and writes it to the AOF and to replicas as a SET.
 ///
 /// # Safety
 /// `key` is a string of the server's.
-pub unsafe fn set(server: Server, key: *mut Text, value: i64, lifetime: Lifetime) -> Result<(), Failure> {
+pub unsafe fn set(server: Server, key: *mut Text, entry: Entry, value: i64, lifetime: Lifetime) -> Result<(), Failure> {
     let (call, context, name) = (server.api().call, server.context(), b"SET\0".as_ptr().cast());
     let reply = match lifetime {
-        Lifetime::Keep => call(context, name, b"!slc\0".as_ptr().cast(), key, value, b"KEEPTTL\0".as_ptr()),
-        Lifetime::Endless => call(context, name, b"!sl\0".as_ptr().cast(), key, value),
+        Lifetime::Keep if entry.may_expire => call(context, name, b"!slc\0".as_ptr().cast(), key, value, b"KEEPTTL\0".as_ptr()),
+        Lifetime::Keep | Lifetime::Endless => call(context, name, b"!sl\0".as_ptr().cast(), key, value),
         Lifetime::Milliseconds(time) => call(context, name, b"!slcl\0".as_ptr().cast(), key, value, b"PX\0".as_ptr(), time),
     };
     Called::of(server, reply).map(drop)

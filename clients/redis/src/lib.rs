@@ -9,6 +9,7 @@ mod classes;
 mod commands;
 mod config;
 mod define;
+mod direct;
 mod engine;
 mod entry;
 mod persistence;
@@ -19,7 +20,7 @@ mod words;
 
 use api::{Api, Context, Text, API_VERSION, ERR, HANDLE_IO_ERRORS, OK};
 use engine::Engine;
-use server::Words;
+use server::{Server, Words};
 use std::os::raw::c_int;
 
 /// What Redis calls when it loads the module.
@@ -56,5 +57,6 @@ pub unsafe extern "C" fn RedisModule_OnLoad(context: *mut Context, argv: *mut *m
         return ERR;
     }
     config::warn_of_rewrites(context);
+    direct::begin(Server::of(context));
     OK
 }

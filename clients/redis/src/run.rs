@@ -1,9 +1,9 @@
 //! The commands that run a class on an entry.
 use crate::engine::{exception_name, Arg, Call, Done, INTEGER, KEEP, LONG, NULL, PUT, THREW};
-use crate::entry::{self, Lifetime};
+use crate::entry::{self, Entry, Lifetime};
 use crate::server::{Answer, Failure, Server, Words};
 use crate::state::with_state;
-use crate::words::{arg_of, id_of, key_of, long_of};
+use crate::words::{arg_of, key_of, long_of};
 use crate::api::Text;
 
 const MOST_ARGS: usize = 8;
@@ -18,9 +18,9 @@ pub struct Plan {
 impl Plan {
     /// The class with the id at a place.
     pub fn of_class(words: Words, id: usize) -> Result<Plan, Failure> {
-        let id = id_of(words.bytes(id)?);
+        let digits = words.bytes(id)?;
         // SAFETY: commands run on the main thread, behind the load.
-        let number = id.and_then(|id| unsafe { with_state(|state| state.classes.find(&id).map(|class| class.verdict.number)) });
+        let number = unsafe { with_state(|state| state.classes.find(digits).map(|class| class.verdict.number)) };
         let number = number.ok_or("NOCLASS no class of this id here: JENTRY.DEFINE it")?;
         Ok(Plan { number, args: [Arg::default(); MOST_ARGS], count: 0 })
     }
@@ -65,12 +65,12 @@ pub fn number_of(name: &[u8]) -> Result<i64, Failure> {
 }
 
 /// Does to an entry what a run says.
-fn apply(server: Server, key: *mut Text, done: &Done) -> Answer {
+fn apply(server: Server, key: *mut Text, before: Entry, done: &Done) -> Answer {
     // SAFETY: the key is a word of the command.
     unsafe {
         match done.effect {
             KEEP => Ok(()),
-            PUT => entry::set(server, key, done.put, Lifetime::Keep),
+            PUT => entry::set(server, key, before, done.put, Lifetime::Keep),
             _ => entry::delete(server, key),
         }
     }
@@ -99,8 +99,8 @@ fn invoke_on(server: Server, plan: &Plan, key: *mut Text, name: &[u8]) -> Result
     let number = number_of(name)?;
     // SAFETY: the key is a word of the command.
     let before = unsafe { entry::read(server, key)? };
-    let done = plan.run(number, before)?;
-    apply(server, key, &done)?;
+    let done = plan.run(number, before.value)?;
+    apply(server, key, before, &done)?;
     Ok(done)
 }
 
@@ -142,7 +142,7 @@ pub fn peek(server: Server, words: Words) -> Answer {
     let number = number_of(name)?;
     let plan = plan.with_args(words.from(3))?;
     // SAFETY: the key is a word of the command.
-    let done = plan.run(number, unsafe { entry::read(server, key)? })?;
+    let done = plan.run(number, unsafe { entry::read(server, key)?.value })?;
     if done.effect != KEEP {
         return Err("WRITES the processor changes the entry: JENTRY.INVOKE it".into());
     }

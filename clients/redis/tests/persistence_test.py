@@ -200,6 +200,7 @@ class Replicas(ModuleTest):
             line.get("JENTRY.INVOKEALL", add, 2, "v:1", "v:2", 3)
             line.get("JENTRY.APPLY", 100_000, -1, -1, "do", add, "v:3", 3)
             line.get("JENTRY.APPLY", -1, -1, -1, "dry", add, "v:3", 3)
+            line.get("JENTRY.INVOKE", add, "v:3", 1)
             self.define(line, "Add")
             plus = self.define(line, "Plus")
             line.get("JENTRY.FORGET", plus)
@@ -212,9 +213,9 @@ class Replicas(ModuleTest):
                     sent.append(words)
             self.assertEqual(re.fullmatch(rb"1\d{12}", sent[6].pop()) is not None, True)
             self.assertEqual(sent, [
-                [b"SET", b"v:1", b"5", b"KEEPTTL"], [b"DEL", b"v:1"],
-                [b"MULTI"], [b"SET", b"v:1", b"3", b"KEEPTTL"], [b"SET", b"v:2", b"3", b"KEEPTTL"], [b"EXEC"],
-                [b"SET", b"v:3", b"3", b"PXAT"],
+                [b"SET", b"v:1", b"5"], [b"DEL", b"v:1"],
+                [b"MULTI"], [b"SET", b"v:1", b"3"], [b"SET", b"v:2", b"3"], [b"EXEC"],
+                [b"SET", b"v:3", b"3", b"PXAT"], [b"SET", b"v:3", b"4", b"KEEPTTL"],
                 [b"JENTRY.DEFINE", class_file("Plus")], [b"JENTRY.FORGET", plus], [b"SET", b"end", b"1"]])
 
 

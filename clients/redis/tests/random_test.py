@@ -1,6 +1,6 @@
 """Random commands with random words, and hostile classes: the server stays up, and what it replies is a reply.
 
-JENTRY_RANDOM is how many commands are sent, JENTRY_PRELOAD a library that the server is started with (that of an address sanitizer).
+JENTRY_RANDOM is how many commands are sent.
 """
 import os
 import random

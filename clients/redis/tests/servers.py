@@ -1,6 +1,7 @@
 """Redis servers with the module, on ports of their own, and a connection that speaks RESP.
 
-JENTRY_REDIS_MODULE names the built module, JENTRY_PROGRAM the built `jentry`, if it is there.
+JENTRY_REDIS_MODULE names the built module, JENTRY_PROGRAM the built `jentry`, if it is there. JENTRY_PRELOAD is a library that servers are
+started with, as that of an address sanitizer with which the module was built.
 """
 import importlib
 import os
@@ -17,6 +18,9 @@ EXAMPLES = os.path.join(HERE, "../../../examples")
 MODULE = os.environ.get("JENTRY_REDIS_MODULE")
 PROGRAM = os.environ.get("JENTRY_PROGRAM")
 REDIS = shutil.which("redis-server")
+PRELOAD = os.environ.get("JENTRY_PRELOAD")
+PRELOADED = {"LD_PRELOAD": PRELOAD, "ASAN_OPTIONS": "detect_leaks=0:abort_on_error=1"} if PRELOAD else {}
+"""Redis itself doesn't free all at its end."""
 PATIENCE = 120
 PORTS = range(20_000, 50_000)
 BUS = 10_000
@@ -131,7 +135,7 @@ class Server:
         words += [str(option) for option in self.options]
         words += ["--loadmodule", MODULE, *map(str, self.arguments)] if self.module else []
         with open(self.log_path(), "ab") as log:
-            self.process = subprocess.Popen(words, stdin=subprocess.DEVNULL, stdout=log, stderr=subprocess.STDOUT)
+            self.process = subprocess.Popen(words, stdin=subprocess.DEVNULL, stdout=log, stderr=subprocess.STDOUT, env={**os.environ, **PRELOADED})
         wait_for(self.is_up, "the server's start", lambda: self.log()[-2000:])
 
     def is_up(self):
