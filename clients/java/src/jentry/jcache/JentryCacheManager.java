@@ -12,16 +12,25 @@ import javax.cache.CacheManager;
 import javax.cache.configuration.CompleteConfiguration;
 import javax.cache.configuration.Configuration;
 import javax.cache.configuration.MutableConfiguration;
-import javax.cache.expiry.EternalExpiryPolicy;
 import javax.cache.spi.CachingProvider;
+import jentry.jcache.impl.Options;
+import jentry.jcache.impl.Unwrap;
+import jentry.jcache.redis.RedisStores;
+import jentry.jcache.store.Store;
+import jentry.jcache.store.StoreFactory;
+import jentry.jcache.stream.StreamStores;
 
-/** The caches of one URI. Each has a stream of its own: a child process, or a connection to a server that runs already. */
+/**
+ * The caches of one URI. On {@code jentry serve} each has a stream of its own: a child process, or a connection to a
+ * server that runs already. On Redis they share the connections.
+ */
 public final class JentryCacheManager implements CacheManager {
     private final JentryCachingProvider provider;
     private final URI uri;
     private final ClassLoader loader;
     private final Properties properties;
     private final Options options;
+    private final StoreFactory stores;
     private final Map<String, JentryCache> caches = new ConcurrentHashMap<>();
     private volatile boolean closed;
 
@@ -31,6 +40,7 @@ public final class JentryCacheManager implements CacheManager {
         this.loader = loader;
         this.properties = properties;
         options = new Options(uri, properties);
+        stores = options.isRedis() ? new RedisStores(options) : new StreamStores(options);
     }
 
     private void open() {
@@ -40,51 +50,56 @@ public final class JentryCacheManager implements CacheManager {
     }
 
     /**
-     * Opens a stream and makes a cache on it.
+     * Makes a cache, and connects or starts what it needs.
      *
-     * @throws IllegalArgumentException where the types aren't Long and Long
-     * @throws UnsupportedOperationException where something is wanted that isn't there
-     * @throws CacheException where there is a cache of that name already, or the stream can't be had
+     * @throws IllegalArgumentException where the types aren't Long and Long, or read-through has no loader, or
+     *     write-through no writer
+     * @throws UnsupportedOperationException where something is wanted that the server lacks
+     * @throws CacheException where there is a cache of that name already, or the server can't be had
      */
     @SuppressWarnings("unchecked")
-    @Override public synchronized <K, V, C extends Configuration<K, V>> Cache<K, V> createCache(String name, C configuration) {
+    @Override public synchronized <K, V, C extends Configuration<K, V>> Cache<K, V> createCache(String name,
+        C configuration) {
         open();
         Objects.requireNonNull(name, "name");
         Objects.requireNonNull(configuration, "configuration");
         if (caches.containsKey(name)) {
             throw new CacheException("there is a cache " + name + " already");
         }
-        if ((Class<?>) configuration.getKeyType() != Long.class || (Class<?>) configuration.getValueType() != Long.class) {
+        if (!isLong(configuration.getKeyType()) || !isLong(configuration.getValueType())) {
             throw new IllegalArgumentException("keys and values are Long here: setTypes(Long.class, Long.class)");
         }
         MutableConfiguration<Long, Long> checked = checked((Configuration<Long, Long>) configuration);
-        JentryCache cache = new JentryCache(name, this, checked, options.open());
-        caches.put(name, cache);
-        return (Cache<K, V>) cache;
+        Store store = stores.open(name);
+        try {
+            JentryCache cache = new JentryCache(name, this, checked, store, options);
+            caches.put(name, cache);
+            return (Cache<K, V>) cache;
+        } catch (RuntimeException e) {
+            store.close();
+            throw e;
+        }
+    }
+
+    private static boolean isLong(Class<?> type) {
+        return type == Long.class;
     }
 
     private static MutableConfiguration<Long, Long> checked(Configuration<Long, Long> wanted) {
-        refuse(!wanted.isStoreByValue(), "store by reference");
+        if (!wanted.isStoreByValue()) {
+            throw new UnsupportedOperationException("store by reference: the entries are in a server");
+        }
         if (!(wanted instanceof CompleteConfiguration)) {
             return new MutableConfiguration<Long, Long>().setTypes(Long.class, Long.class);
         }
         CompleteConfiguration<Long, Long> complete = (CompleteConfiguration<Long, Long>) wanted;
-        refuse(complete.isReadThrough(), "read-through");
-        refuse(complete.isWriteThrough(), "write-through");
-        refuse(complete.getCacheLoaderFactory() != null, "a loader");
-        refuse(complete.getCacheWriterFactory() != null, "a writer");
-        refuse(complete.isStatisticsEnabled(), "statistics");
-        refuse(complete.isManagementEnabled(), "management");
-        refuse(complete.getCacheEntryListenerConfigurations().iterator().hasNext(), "a listener");
-        boolean expires = complete.getExpiryPolicyFactory() != null && !(complete.getExpiryPolicyFactory().create() instanceof EternalExpiryPolicy);
-        refuse(expires, "expiry");
-        return new MutableConfiguration<>(complete);
-    }
-
-    private static void refuse(boolean wanted, String what) {
-        if (wanted) {
-            throw new UnsupportedOperationException(what + ": the server has none");
+        if (complete.isReadThrough() && complete.getCacheLoaderFactory() == null) {
+            throw new IllegalArgumentException("read-through without a loader: setCacheLoaderFactory");
         }
+        if (complete.isWriteThrough() && complete.getCacheWriterFactory() == null) {
+            throw new IllegalArgumentException("write-through without a writer: setCacheWriterFactory");
+        }
+        return new MutableConfiguration<>(complete);
     }
 
     @SuppressWarnings("unchecked")
@@ -97,7 +112,7 @@ public final class JentryCacheManager implements CacheManager {
         Objects.requireNonNull(key, "key type");
         Objects.requireNonNull(value, "value type");
         Cache<K, V> cache = find(name);
-        if (cache != null && ((Class<?>) key != Long.class || (Class<?>) value != Long.class)) {
+        if (cache != null && (!isLong(key) || !isLong(value))) {
             throw new ClassCastException("the cache " + name + " is of Long and Long");
         }
         return cache;
@@ -112,10 +127,16 @@ public final class JentryCacheManager implements CacheManager {
         return List.copyOf(caches.keySet());
     }
 
-    /** Closes the cache of that name, if there is one. The entries of a server that others use stay. */
+    /**
+     * Closes the cache of that name, if there is one. On Redis its entries are deleted first, as JCache says: everyone's.
+     * The entries of a {@code jentry serve} that others use stay, since it can't answer which keys there are.
+     */
     @Override public void destroyCache(String name) {
         Cache<Long, Long> cache = find(name);
         if (cache != null) {
+            if (options.isRedis()) {
+                cache.clear();
+            }
             cache.close();
         }
     }
@@ -124,16 +145,20 @@ public final class JentryCacheManager implements CacheManager {
         caches.remove(cache.getName(), cache);
     }
 
+    private JentryCache existing(String name) {
+        Cache<Long, Long> cache = find(name);
+        if (cache == null) {
+            throw new CacheException("there is no cache " + name);
+        }
+        return (JentryCache) cache;
+    }
+
     @Override public void enableManagement(String name, boolean enabled) {
-        open();
-        Objects.requireNonNull(name, "name");
-        refuse(enabled, "management");
+        existing(name).context().enableManagement(enabled);
     }
 
     @Override public void enableStatistics(String name, boolean enabled) {
-        open();
-        Objects.requireNonNull(name, "name");
-        refuse(enabled, "statistics");
+        existing(name).context().enableStatistics(enabled);
     }
 
     @Override public CachingProvider getCachingProvider() {
@@ -157,7 +182,11 @@ public final class JentryCacheManager implements CacheManager {
         if (!closed) {
             closed = true;
             provider.forget(this);
-            List.copyOf(caches.values()).forEach(JentryCache::close);
+            try {
+                List.copyOf(caches.values()).forEach(JentryCache::close);
+            } finally {
+                stores.close();
+            }
         }
     }
 
@@ -166,9 +195,6 @@ public final class JentryCacheManager implements CacheManager {
     }
 
     @Override public <T> T unwrap(Class<T> type) {
-        if (type.isInstance(this)) {
-            return type.cast(this);
-        }
-        throw new IllegalArgumentException("a cache manager of jentry is no " + type.getName());
+        return Unwrap.as(type, this, "a cache manager");
     }
 }

@@ -13,13 +13,16 @@ import javax.cache.spi.CachingProvider;
 
 /** The provider, which JCache finds by the services of its jar: a manager for each URI and class loader. */
 public final class JentryCachingProvider implements CachingProvider {
-    private static final URI DEFAULT = URI.create("jentry:default");
+    private static final URI DEFAULT = URI.create(System.getProperty("jentry.uri", "jentry:default"));
 
     private final Map<List<Object>, JentryCacheManager> managers = new HashMap<>();
 
+    /** Is called by JCache, which looks for providers by the service loader. */
+    public JentryCachingProvider() { }
+
     /**
-     * The manager of a URI and a class loader; a null stands for the default. While it is open it is the same for each call, with the properties of the
-     * first.
+     * The manager of a URI and a class loader; a null stands for the default. While it is open it is the same for each
+     * call, with the properties of the first.
      *
      * @throws javax.cache.CacheException where the URI or a property can't be understood
      */
@@ -45,7 +48,7 @@ public final class JentryCachingProvider implements CachingProvider {
         return getClass().getClassLoader();
     }
 
-    /** {@code jentry:default}: a child process for each cache. */
+    /** What the system property {@code jentry.uri} says, else {@code jentry:default}: a child process for each cache. */
     @Override public URI getDefaultURI() {
         return DEFAULT;
     }

@@ -2,6 +2,7 @@ package jentry.jcache;
 
 import java.util.List;
 import javax.cache.CacheException;
+import jentry.jcache.impl.Refusal;
 
 /** The server refuses the class of a processor. Nothing was run, and no entry is changed. */
 public final class ProcessorRefusedException extends CacheException {
@@ -13,7 +14,15 @@ public final class ProcessorRefusedException extends CacheException {
     private final int detail;
     private final String[] places;
 
-    ProcessorRefusedException(String processor, int number, int detail, List<String> places) {
+    /**
+     * Makes one of what the server answered.
+     *
+     * @param processor the name of the class
+     * @param number the number of the refusal
+     * @param detail the opcode of refusal 17, the place of refusal 22, else 0
+     * @param places where in the source the refusal may be meant
+     */
+    public ProcessorRefusedException(String processor, int number, int detail, List<String> places) {
         super(text(processor, number, detail, places));
         this.number = number;
         this.detail = detail;
@@ -50,8 +59,8 @@ public final class ProcessorRefusedException extends CacheException {
     }
 
     /**
-     * Where the refusal stands in the source, as far as it can be told: for 15, 17, 20 and 22 the places that may be meant, as
-     * {@code process line 12}, at most eight; an empty list for all others.
+     * Where in the source the refusal may be meant, as {@code process line 12}: at most eight places for the refusals
+     * 15, 17, 20 and 22, an empty list for all others.
      */
     public List<String> places() {
         return List.of(places);

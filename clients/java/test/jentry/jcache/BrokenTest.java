@@ -27,6 +27,8 @@ import javax.cache.Caching;
 import javax.cache.integration.CacheLoaderException;
 import javax.cache.processor.EntryProcessorException;
 import javax.cache.processor.EntryProcessorResult;
+import jentry.jcache.stream.StreamStore;
+import jentry.jcache.stream.Wire;
 import org.junit.jupiter.api.Test;
 import org.junit.jupiter.api.Timeout;
 import org.junit.jupiter.api.function.Executable;
@@ -151,7 +153,7 @@ class BrokenTest {
         try (StandIn server = StandIn.unix((it, round, requests) -> round == 2 ? null : it.right(requests))) {
             JentryCache cache = server.cache().unwrap(JentryCache.class);
             Throwable e = assertThrows(CompletionException.class, () -> cache.invokeAsync(1L, new Sample.Key()).join()).getCause();
-            assertEquals(CacheException.class, e.getClass());
+            assertEquals(CallOutcomeUnknownException.class, e.getClass());
             assertTrue(e.getMessage().contains(NOT_KNOWN), e.getMessage());
         }
     }
@@ -253,9 +255,13 @@ class BrokenTest {
         }
     }
 
+    private static int waiting(JentryCache cache) {
+        return ((StreamStore) cache.store()).waiting();
+    }
+
     private static void awaitWaiting(JentryCache cache, int count) throws InterruptedException {
-        for (int i = 0; cache.line().waiting() != count; i++) {
-            assertTrue(i < 30_000, "calls that wait: " + cache.line().waiting());
+        for (int i = 0; waiting(cache) != count; i++) {
+            assertTrue(i < 30_000, "calls that wait: " + waiting(cache));
             Thread.sleep(1);
         }
     }
@@ -271,7 +277,7 @@ class BrokenTest {
                 assertTrue(i < 30_000, "threads that don't wait");
                 Thread.sleep(1);
             }
-            assertEquals(2, cache.line().waiting());
+            assertEquals(2, waiting(cache));
             held.go.countDown();
             waits.join();
             assertEquals(Set.of(1L, 2L, 3L), Set.of(first.join(), second.join(), third.join()));
@@ -287,7 +293,7 @@ class BrokenTest {
             held.go.countDown();
             first.join();
             others.join();
-            assertEquals(3, held.cache.line().rounds());
+            assertEquals(3, held.cache.store().sent());
         }
     }
 

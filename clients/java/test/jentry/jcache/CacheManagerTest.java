@@ -112,11 +112,9 @@ class CacheManagerTest extends OnServer {
         }
     }
 
-    @Test void statisticsAndManagementAreRefused() {
-        assertThrows(UnsupportedOperationException.class, () -> manager.enableStatistics("test", true));
-        assertThrows(UnsupportedOperationException.class, () -> manager.enableManagement("test", true));
-        manager.enableStatistics("test", false);
-        manager.enableManagement("test", false);
+    @Test void statisticsAndManagementOfACacheThatIsNotThere() {
+        assertThrows(CacheException.class, () -> manager.enableStatistics("other", true));
+        assertThrows(CacheException.class, () -> manager.enableManagement("other", true));
     }
 
     @Test void aChildEndsWithItsCacheAndSoDoItsEntries() {

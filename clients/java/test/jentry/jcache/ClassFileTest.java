@@ -14,6 +14,7 @@ import java.util.Map;
 import javax.cache.CacheException;
 import javax.cache.processor.EntryProcessor;
 import javax.cache.processor.MutableEntry;
+import jentry.jcache.impl.ProcessorFile;
 import org.junit.jupiter.api.Test;
 
 /** The class files of processors: which can be sent, and what is told of those that can't or are refused, on the real server. */
@@ -55,7 +56,7 @@ class ClassFileTest extends OnServer {
         }
 
         private Class<?> define(Class<?> type) {
-            byte[] bytes = ClassFile.bytesOf(type);
+            byte[] bytes = ProcessorFile.bytesOf(type);
             return defineClass(type.getName(), bytes, 0, bytes.length);
         }
 

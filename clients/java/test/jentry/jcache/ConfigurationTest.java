@@ -6,6 +6,7 @@ import static org.junit.jupiter.api.Assertions.assertNotSame;
 import static org.junit.jupiter.api.Assertions.assertNull;
 import static org.junit.jupiter.api.Assertions.assertThrows;
 import static org.junit.jupiter.api.Assertions.assertTrue;
+import static org.junit.jupiter.api.Assumptions.assumeFalse;
 
 import java.util.List;
 import javax.cache.Cache;
@@ -13,7 +14,6 @@ import javax.cache.CacheManager;
 import javax.cache.configuration.CompleteConfiguration;
 import javax.cache.configuration.Configuration;
 import javax.cache.configuration.Factory;
-import javax.cache.configuration.MutableCacheEntryListenerConfiguration;
 import javax.cache.configuration.MutableConfiguration;
 import javax.cache.expiry.AccessedExpiryPolicy;
 import javax.cache.expiry.CreatedExpiryPolicy;
@@ -41,17 +41,18 @@ class ConfigurationTest extends OnServer {
 
     @Test void whatAConfigurationCannotHave() {
         refused("store by reference", Server.types().setStoreByValue(false));
-        refused("read-through", Server.types().setReadThrough(true));
-        refused("write-through", Server.types().setWriteThrough(true));
-        refused("statistics", Server.types().setStatisticsEnabled(true));
-        refused("management", Server.types().setManagementEnabled(true));
-        refused("a loader", Server.types().setCacheLoaderFactory(() -> null));
-        refused("a writer", Server.types().setCacheWriterFactory(() -> null));
+        for (var wanted : List.of(Server.types().setReadThrough(true), Server.types().setWriteThrough(true))) {
+            assertThrows(IllegalArgumentException.class, () -> manager.createCache("a", wanted));
+            assertNull(manager.getCache("a"));
+        }
+    }
+
+    @Test void expiryWhereTheServerHasNone() {
+        assumeFalse(Server.isRedis());
         for (Factory<? extends ExpiryPolicy> expiry : List.of(CreatedExpiryPolicy.factoryOf(Duration.ONE_DAY), AccessedExpiryPolicy.factoryOf(Duration.ONE_DAY),
             ModifiedExpiryPolicy.factoryOf(Duration.ONE_DAY), TouchedExpiryPolicy.factoryOf(Duration.ZERO))) {
             refused("expiry", Server.types().setExpiryPolicyFactory(expiry));
         }
-        refused("a listener", Server.types().addCacheEntryListenerConfiguration(new MutableCacheEntryListenerConfiguration<>(() -> null, null, false, false)));
     }
 
     @Test void whatAConfigurationMayHave() {

@@ -9,6 +9,7 @@ import static org.junit.jupiter.api.Assumptions.assumeFalse;
 import java.util.concurrent.atomic.AtomicLong;
 import javax.cache.Cache;
 import javax.cache.CacheException;
+import jentry.jcache.stream.StreamStore;
 import org.junit.jupiter.api.Test;
 
 /** The real server, a child process, is killed in the middle of a round that takes it seconds. */
@@ -17,9 +18,9 @@ class KilledTest extends OnServer {
         return assertThrows(CacheException.class, call::run).getMessage();
     }
 
-    private static void await(Line line, long rounds, int waiting) throws InterruptedException {
-        for (int i = 0; line.rounds() != rounds || line.waiting() != waiting; i++) {
-            assertTrue(i < 30_000, line.rounds() + " rounds, " + line.waiting() + " calls wait");
+    private static void await(StreamStore line, long rounds, int waiting) throws InterruptedException {
+        for (int i = 0; line.sent() != rounds || line.waiting() != waiting; i++) {
+            assertTrue(i < 30_000, line.sent() + " rounds, " + line.waiting() + " calls wait");
             Thread.sleep(1);
         }
     }
@@ -30,8 +31,8 @@ class KilledTest extends OnServer {
         }
         cache.put(k, 1L);
         cache.invoke(k, new Sample.Heavy());
-        Line line = cache.unwrap(JentryCache.class).line();
-        long before = line.rounds();
+        StreamStore line = (StreamStore) cache.unwrap(JentryCache.class).store();
+        long before = line.sent();
         AtomicLong last = new AtomicLong();
         Team out = Team.of(1, t -> {
             String message = failure(() -> cache.invokeAll(server.keys(0, 1_024), new Sample.Heavy()));
@@ -50,7 +51,7 @@ class KilledTest extends OnServer {
         out.join();
         waits.join();
         assertTrue(failure(() -> cache.get(k)).endsWith("this call was not sent"));
-        assertEquals(before + 1, line.rounds(), "nothing was sent any more");
+        assertEquals(before + 1, line.sent(), "nothing was sent any more");
         cache.close();
         return new long[] {from, last.get()};
     }

@@ -24,6 +24,6 @@ abstract class OnServer {
 
     /** How many rounds the cache has sent. */
     long rounds() {
-        return server.own().line().rounds();
+        return server.own().store().sent();
     }
 }

@@ -11,11 +11,11 @@ import javax.cache.Caching;
 import javax.cache.configuration.MutableConfiguration;
 
 /**
- * A cache on the real server, for one test: a child process of its own, or a connection to the front that {@code jentry.uri} names. A front's entries
+ * A cache on the real server, for one test: a child process of its own, or a connection to the front that {@code jentry.test.uri} names. A front's entries
  * stay from test to test, so each test has keys of its own.
  */
 final class Server implements AutoCloseable {
-    static final URI AT = URI.create(System.getProperty("jentry.uri", "jentry:default"));
+    static final URI AT = URI.create(System.getProperty("jentry.test.uri", "jentry:default"));
 
     final CacheManager manager;
     final Cache<Long, Long> cache;
@@ -59,6 +59,11 @@ final class Server implements AutoCloseable {
     /** Whether the server is a front, whose entries others see. */
     static boolean isShared() {
         return !AT.getScheme().equals("jentry");
+    }
+
+    /** Whether the server is Redis. */
+    static boolean isRedis() {
+        return AT.getScheme().startsWith("jentry+redis");
     }
 
     JentryCache own() {

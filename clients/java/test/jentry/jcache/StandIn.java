@@ -26,13 +26,14 @@ import java.util.concurrent.atomic.AtomicInteger;
 import javax.cache.Cache;
 import javax.cache.CacheManager;
 import javax.cache.Caching;
+import jentry.jcache.stream.Wire;
 
 /**
  * Speaks the server's frames without a machine, for what the real server can't be made to do. Every class is accepted and adds 1 to its entry. A script
  * says what is answered to a round; the bytes that it answers are sent as they are, and a null closes the connection.
  */
-final class StandIn implements AutoCloseable {
-    static final byte[] END = frame(9);
+public final class StandIn implements AutoCloseable {
+    public static final byte[] END = frame(9);
 
     interface Script {
         byte[] answer(StandIn it, int round, List<byte[]> requests) throws Exception;
@@ -170,7 +171,7 @@ final class StandIn implements AutoCloseable {
     }
 
     /** A frame of this kind and body. */
-    static byte[] frame(int... text) {
+    public static byte[] frame(int... text) {
         byte[] bytes = new byte[text.length];
         for (int i = 0; i < text.length; i++) {
             bytes[i] = (byte) text[i];
@@ -182,7 +183,7 @@ final class StandIn implements AutoCloseable {
         return join(bytes(ByteBuffer.allocate(4).putInt(text.length)), text);
     }
 
-    static byte[] join(byte[]... parts) {
+    public static byte[] join(byte[]... parts) {
         ByteArrayOutputStream out = new ByteArrayOutputStream();
         for (byte[] part : parts) {
             out.writeBytes(part);

@@ -8,17 +8,17 @@ import java.util.Collections;
 import java.util.List;
 
 /** Threads that do the same, and whose failures fail the test. */
-final class Team {
+public final class Team {
     static final long PATIENCE_MILLIS = 60_000;
 
     private final List<Thread> threads = new ArrayList<>();
     private final List<Throwable> wrong = Collections.synchronizedList(new ArrayList<>());
 
-    interface Work {
+    public interface Work {
         void run(int thread) throws Exception;
     }
 
-    static Team of(int count, Work work) {
+    public static Team of(int count, Work work) {
         Team team = new Team();
         for (int t = 0; t < count; t++) {
             int number = t;
@@ -40,7 +40,7 @@ final class Team {
         return threads;
     }
 
-    void join() throws InterruptedException {
+    public void join() throws InterruptedException {
         for (Thread thread : threads) {
             thread.join(PATIENCE_MILLIS);
             assertFalse(thread.isAlive(), "a thread hangs");

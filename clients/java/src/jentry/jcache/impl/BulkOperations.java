@@ -1,0 +1,191 @@
+package jentry.jcache.impl;
+
+import java.util.ArrayList;
+import java.util.HashMap;
+import java.util.Iterator;
+import java.util.LinkedHashMap;
+import java.util.List;
+import java.util.Map;
+import java.util.stream.LongStream;
+import javax.cache.Cache;
+import javax.cache.CacheException;
+import javax.cache.integration.CacheLoaderException;
+import javax.cache.integration.CompletionListener;
+import jentry.jcache.store.Durations;
+import jentry.jcache.store.Mutation;
+import jentry.jcache.store.Store;
+
+/** The methods of a cache on several keys. None of them is atomic over keys. */
+public final class BulkOperations {
+    private final CacheContext at;
+    private final Store store;
+    private final EntryOperations entries;
+
+    /** Makes the methods of a cache. */
+    public BulkOperations(CacheContext at, EntryOperations entries) {
+        this.at = at;
+        store = at.store;
+        this.entries = entries;
+    }
+
+    /** {@code getAll}: the keys that have entries, with their values. */
+    public Map<Long, Long> getAll(long[] keys) {
+        long begin = at.statistics.begin();
+        Map<Long, Long> found = new HashMap<>();
+        Long[] values = readAll(keys);
+        List<Long> missing = new ArrayList<>();
+        for (int i = 0; i < keys.length; i++) {
+            if (values[i] == null) {
+                missing.add(keys[i]);
+            } else {
+                found.put(keys[i], values[i]);
+            }
+        }
+        if (at.loader.isOnMiss()) {
+            at.loader.loadAll(missing).forEach((key, value) -> found.put(key, entries.loaded(key, value)));
+        }
+        at.statistics.got(keys.length - missing.size(), missing.size(), begin);
+        return found;
+    }
+
+    private Long[] readAll(long[] keys) {
+        if (keys.length == 0) {
+            return new Long[0];
+        } else if (at.expiry.isConstant()) {
+            return store.getAll(keys, at.expiry.constant().accessed());
+        }
+        Long[] values = store.getAll(keys, Durations.LEAVE);
+        for (int i = 0; i < keys.length; i++) {
+            if (values[i] != null) {
+                entries.touch(keys[i]);
+            }
+        }
+        return values;
+    }
+
+    /** {@code putAll}. With a writer, what it hasn't written isn't put. */
+    public void putAll(Map<Long, Long> map) {
+        if (map.isEmpty()) {
+            return;
+        }
+        WriteThrough.Written written = at.writer.isThere() ? at.writer.writeAll(map) : null;
+        Map<Long, Long> all = new LinkedHashMap<>(map);
+        if (written != null) {
+            all.keySet().retainAll(written.keys());
+        }
+        putWritten(all);
+        if (written != null && written.failure() != null) {
+            throw written.failure();
+        }
+    }
+
+    private void putWritten(Map<Long, Long> all) {
+        long begin = at.statistics.begin();
+        if (at.events.isAsked() || !at.expiry.isConstant()) {
+            all.forEach((key, value) -> {
+                Mutation change = entries.commit(key, value, Store.When.ALWAYS, at.events.isAsked());
+                at.events.changed(key, change.before(), value);
+            });
+        } else if (!all.isEmpty()) {
+            long[] keys = all.keySet().stream().mapToLong(it -> it).toArray();
+            store.setAll(keys, all.values().stream().mapToLong(it -> it).toArray(), at.expiry.constant());
+        }
+        at.statistics.put(all.size(), begin);
+    }
+
+    /** {@code removeAll(keys)}. With a writer, what it hasn't deleted stays. */
+    public void removeAll(long[] keys) {
+        if (keys.length == 0) {
+            return;
+        }
+        long begin = at.statistics.begin();
+        long[] all = keys;
+        WriteThrough.Written written = null;
+        if (at.writer.isThere()) {
+            written = at.writer.deleteAll(LongStream.of(keys).boxed().toList());
+            all = written.keys().stream().mapToLong(it -> it).toArray();
+        }
+        long count = 0;
+        if (at.events.isAsked()) {
+            for (long key : all) {
+                Mutation change = store.delete(key, true);
+                count += change.done() ? 1 : 0;
+                at.events.changed(key, change.before(), null);
+            }
+        } else if (all.length > 0) {
+            count = store.deleteAll(all);
+        }
+        at.statistics.removed(count, begin);
+        if (written != null && written.failure() != null) {
+            throw written.failure();
+        }
+    }
+
+    /** {@code removeAll()}. */
+    public void removeAll() {
+        for (Iterator<long[]> pages = store.scan("removeAll()"); pages.hasNext();) {
+            removeAll(pages.next());
+        }
+    }
+
+    /** {@code clear}: without the writer, the listeners and the statistics. */
+    public void clear() {
+        store.clear();
+    }
+
+    /** {@code iterator}. */
+    public Iterator<Cache.Entry<Long, Long>> iterator() {
+        return new EntryIterator(at, store.scan("iterator"), this::readAll, key -> entries.delete(key, false));
+    }
+
+    /** {@code loadAll}: in a thread of its own, where there is a loader. */
+    public void loadAll(List<Long> keys, boolean replaces, CompletionListener listener) {
+        if (!at.loader.isThere()) {
+            if (listener != null) {
+                listener.onCompletion();
+            }
+            return;
+        }
+        Thread thread = new Thread(() -> loadAndReport(keys, replaces, listener), "jentry-load-" + at.cache.getName());
+        thread.setDaemon(true);
+        thread.start();
+    }
+
+    private void loadAndReport(List<Long> keys, boolean replaces, CompletionListener listener) {
+        Exception failure = null;
+        try {
+            load(keys, replaces);
+        } catch (CacheException e) {
+            failure = e;
+        } catch (RuntimeException e) {
+            failure = new CacheLoaderException(e);
+        }
+        if (listener == null) {
+            return;
+        } else if (failure == null) {
+            listener.onCompletion();
+        } else {
+            listener.onException(failure);
+        }
+    }
+
+    private void load(List<Long> keys, boolean replaces) {
+        List<Long> wanted = new ArrayList<>(keys);
+        if (!replaces) {
+            Long[] values = store.getAll(keys.stream().mapToLong(it -> it).toArray(), Durations.LEAVE);
+            wanted.clear();
+            for (int i = 0; i < values.length; i++) {
+                if (values[i] == null) {
+                    wanted.add(keys.get(i));
+                }
+            }
+        }
+        Store.When when = replaces ? Store.When.ALWAYS : Store.When.ABSENT;
+        at.loader.loadAll(wanted).forEach((key, value) -> {
+            Mutation change = entries.commit(key, value, when, at.events.isAsked());
+            if (change.done()) {
+                at.events.changed(key, change.before(), value);
+            }
+        });
+    }
+}

@@ -1,0 +1,107 @@
+package jentry.jcache.impl;
+
+import javax.cache.Cache;
+import javax.cache.configuration.CacheEntryListenerConfiguration;
+import javax.cache.configuration.MutableConfiguration;
+import javax.cache.event.EventType;
+import jentry.jcache.store.Durations;
+import jentry.jcache.store.Store;
+import jentry.jcache.store.Watcher;
+
+/** The parts of one cache that its methods share. */
+public final class CacheContext {
+    final Cache<Long, Long> cache;
+    final Store store;
+    final MutableConfiguration<Long, Long> configuration;
+    final boolean isLocal;
+    final ExpiryDurations expiry;
+    final ReadThrough loader;
+    final WriteThrough writer;
+    final CacheStatistics statistics = new CacheStatistics();
+    final EventDispatcher events;
+    final KeyLocks locks = new KeyLocks();
+    private final AutoCloseable watching;
+
+    /**
+     * Makes the parts that a configuration names.
+     *
+     * @param cache the cache, as the source of events and for the names of the beans
+     */
+    public CacheContext(Cache<Long, Long> cache, MutableConfiguration<Long, Long> configuration, Store store,
+        Options options) {
+        this.cache = cache;
+        this.store = store;
+        this.configuration = configuration;
+        isLocal = options.isLocal();
+        expiry = new ExpiryDurations(configuration.getExpiryPolicyFactory().create());
+        if (!store.hasExpiry() && !expiry.isEternal()) {
+            throw new UnsupportedOperationException("expiry: the protocol of jentry serve has none; "
+                + "a cache in Redis has it (jentry+redis://HOST:PORT)");
+        }
+        loader = new ReadThrough(configuration);
+        writer = new WriteThrough(configuration);
+        events = new EventDispatcher(cache, options.events() == Options.Events.SERVER);
+        configuration.getCacheEntryListenerConfigurations().forEach(events::add);
+        watching = options.events() == Options.Events.LOCAL ? () -> { }
+            : store.watch((key, kind) -> heard(key, kind, options.events() == Options.Events.SERVER));
+        enableStatistics(configuration.isStatisticsEnabled());
+        enableManagement(configuration.isManagementEnabled());
+    }
+
+    /** Begins or ends counting, with the bean. */
+    public void enableStatistics(boolean wanted) {
+        configuration.setStatisticsEnabled(wanted);
+        statistics.enable(wanted);
+        CacheBeans.set("CacheStatistics", cache, statistics, wanted);
+    }
+
+    /** Registers or removes the bean of the configuration. */
+    public void enableManagement(boolean wanted) {
+        configuration.setManagementEnabled(wanted);
+        CacheBeans.set("CacheConfiguration", cache, new CacheBeans.Configured(configuration), wanted);
+    }
+
+    /** Adds a listener. */
+    public void register(CacheEntryListenerConfiguration<Long, Long> by) {
+        events.add(by);
+        configuration.addCacheEntryListenerConfiguration(by);
+    }
+
+    /** Removes a listener. */
+    public void deregister(CacheEntryListenerConfiguration<Long, Long> by) {
+        events.remove(by);
+        configuration.removeCacheEntryListenerConfiguration(by);
+    }
+
+    /** An event of the server. It has no value, so the value is read; where it is gone by then the event is dropped. */
+    private void heard(long key, Watcher.Kind kind, boolean hearsAll) {
+        if (events.isEmpty()) {
+            return;
+        }
+        if (kind == Watcher.Kind.EXPIRED) {
+            events.dispatch(EventType.EXPIRED, key, null, null);
+        } else if (hearsAll && kind == Watcher.Kind.REMOVED) {
+            events.dispatch(EventType.REMOVED, key, null, null);
+        } else if (hearsAll) {
+            Long value = store.get(key, Durations.LEAVE);
+            if (value != null) {
+                events.dispatch(kind == Watcher.Kind.CREATED ? EventType.CREATED : EventType.UPDATED, key, value, null);
+            }
+        }
+    }
+
+    /** Ends all parts. */
+    public void close() {
+        enableStatistics(false);
+        enableManagement(false);
+        events.close();
+        Closing.close(watching);
+        try {
+            store.close();
+        } finally {
+            Closing.close(loader.loader());
+            Closing.close(writer.writer());
+            Closing.close(expiry.policy());
+        }
+    }
+}

@@ -1,0 +1,208 @@
+package jentry.jcache.impl;
+
+import java.util.Objects;
+import java.util.function.Supplier;
+import javax.cache.CacheException;
+import jentry.jcache.store.Durations;
+import jentry.jcache.store.Mutation;
+import jentry.jcache.store.Store;
+
+/**
+ * The methods of a cache on one key: each is one atomic step of the store, with what the configuration adds to it. The
+ * order is the writer, the store, the statistics, the listeners.
+ *
+ * <p>Where the expiry policy is one of the program's own, a change takes two steps: whether there is an entry decides
+ * which method of the policy is asked, and the change is made only if that still holds, else again.
+ */
+public final class EntryOperations {
+    /** How often a change is tried that others spoil. */
+    static final int MOST_TRIES = 1_000;
+
+    private final CacheContext at;
+    private final Store store;
+
+    /** Makes the methods of a cache. */
+    public EntryOperations(CacheContext at) {
+        this.at = at;
+        store = at.store;
+    }
+
+    static CacheException spoiled(long key) {
+        return new CacheException("others changed the entry of " + key + " " + MOST_TRIES
+            + " times in between; this call changed nothing");
+    }
+
+    /** {@code get}. */
+    public Long get(long key) {
+        long begin = at.statistics.begin();
+        Long value = read(key);
+        boolean isHit = value != null;
+        if (!isHit) {
+            value = loaded(key, at.loader.load(key));
+        }
+        at.statistics.got(isHit ? 1 : 0, isHit ? 0 : 1, begin);
+        return value;
+    }
+
+    private Long read(long key) {
+        if (at.expiry.isConstant()) {
+            return store.get(key, at.expiry.constant().accessed());
+        }
+        Long value = store.get(key, Durations.LEAVE);
+        if (value != null) {
+            touch(key);
+        }
+        return value;
+    }
+
+    /** Gives an entry the time to live of an access. */
+    void touch(long key) {
+        long time = at.expiry.forAccess();
+        if (time != Durations.LEAVE) {
+            store.get(key, time);
+        }
+    }
+
+    /** Puts a value that was loaded where there is still no entry; answers it, or the other value that is there. */
+    Long loaded(long key, Long value) {
+        if (value == null) {
+            return null;
+        }
+        if (store.set(key, value, Store.When.ABSENT, at.expiry.forCreation(), false).done()) {
+            at.events.changed(key, null, value);
+            return value;
+        }
+        Long other = store.get(key, Durations.LEAVE);
+        return other == null ? value : other;
+    }
+
+    /** {@code containsKey}. */
+    public boolean contains(long key) {
+        return store.contains(key);
+    }
+
+    /** Does the work of one key. Where there is a writer, one thread of this JVM at a time is at a key. */
+    private <T> T guarded(long key, Supplier<T> work) {
+        return at.writer.isThere() ? at.locks.with(key, work) : work.get();
+    }
+
+    /**
+     * {@code put} and its kin.
+     *
+     * @param isLookup whether the method counts as a hit or a miss
+     */
+    public Mutation set(long key, long value, Store.When when, boolean asksBefore, boolean isLookup) {
+        long begin = at.statistics.begin();
+        Mutation change = guarded(key, () -> {
+            if (at.writer.isThere() && isToBeSet(key, when)) {
+                at.writer.write(key, value);
+            }
+            return commit(key, value, when, asksBefore || at.events.isAsked());
+        });
+        if (isLookup) {
+            at.statistics.looked(change.existed());
+        }
+        if (change.done()) {
+            at.statistics.put(1, begin);
+            at.events.changed(key, change.before(), value);
+        }
+        return change;
+    }
+
+    private boolean isToBeSet(long key, Store.When when) {
+        return when == Store.When.ALWAYS || store.contains(key) == (when == Store.When.PRESENT);
+    }
+
+    /** Sets a value in the store, with the time to live of a creation or an update. */
+    Mutation commit(long key, long value, Store.When when, boolean asksBefore) {
+        if (at.expiry.isConstant()) {
+            return store.set(key, value, when, at.expiry.constant(), asksBefore);
+        }
+        for (int tries = 0; tries < MOST_TRIES; tries++) {
+            boolean exists = store.contains(key);
+            if (when != Store.When.ALWAYS && exists != (when == Store.When.PRESENT)) {
+                return new Mutation(false, exists, null);
+            }
+            Durations times = exists ? at.expiry.forUpdate() : at.expiry.forCreation();
+            Store.When same = exists ? Store.When.PRESENT : Store.When.ABSENT;
+            Mutation change = store.set(key, value, same, times, asksBefore);
+            if (change.done()) {
+                return change;
+            }
+        }
+        throw spoiled(key);
+    }
+
+    /**
+     * {@code remove} and {@code getAndRemove}.
+     *
+     * @param isLookup whether the method counts as a hit or a miss
+     */
+    public Mutation delete(long key, boolean isLookup) {
+        long begin = at.statistics.begin();
+        Mutation change = guarded(key, () -> {
+            at.writer.delete(key);
+            return store.delete(key, isLookup || at.events.isAsked());
+        });
+        if (isLookup) {
+            at.statistics.looked(change.existed());
+        }
+        if (change.done()) {
+            at.statistics.removed(1, begin);
+            at.events.changed(key, change.before(), null);
+        }
+        return change;
+    }
+
+    /** {@code replace(key, old, next)}, or {@code remove(key, old)} where {@code next} is null. */
+    public boolean compare(long key, long old, Long next) {
+        long begin = at.statistics.begin();
+        Mutation change = guarded(key, () -> {
+            if (at.writer.isThere() && Objects.equals(store.get(key, Durations.LEAVE), old)) {
+                write(key, next);
+            }
+            return at.expiry.isConstant() ? compareAndSet(key, old, next, at.expiry.constant())
+                : compareByPolicy(key, old, next);
+        });
+        at.statistics.looked(change.existed());
+        if (change.done()) {
+            if (next == null) {
+                at.statistics.removed(1, begin);
+            } else {
+                at.statistics.put(1, begin);
+            }
+            at.events.changed(key, old, next);
+        }
+        return change.done();
+    }
+
+    private Mutation compareAndSet(long key, long old, Long next, Durations times) {
+        return store.compare(key, old, next, times, at.statistics.isEnabled() || at.events.isAsked());
+    }
+
+    private Mutation compareByPolicy(long key, long old, Long next) {
+        for (int tries = 0; tries < MOST_TRIES; tries++) {
+            Long value = store.get(key, Durations.LEAVE);
+            if (value == null) {
+                return new Mutation(false, false, null);
+            } else if (value != old) {
+                touch(key);
+                return new Mutation(false, true, value);
+            }
+            Mutation change = compareAndSet(key, old, next, next == null ? Durations.NONE : at.expiry.forUpdate());
+            if (change.done()) {
+                return change;
+            }
+        }
+        throw spoiled(key);
+    }
+
+    /** Asks the writer for a change, where there is one; null is a removal. */
+    void write(long key, Long value) {
+        if (value == null) {
+            at.writer.delete(key);
+        } else {
+            at.writer.write(key, value);
+        }
+    }
+}

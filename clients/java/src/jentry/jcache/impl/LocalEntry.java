@@ -1,0 +1,89 @@
+package jentry.jcache.impl;
+
+import java.util.Objects;
+import java.util.function.LongFunction;
+import javax.cache.processor.MutableEntry;
+import jentry.jcache.store.Effect;
+
+/**
+ * The entry that a processor in this JVM gets. What the processor does is noted here, and done to the store afterwards
+ * if the entry there is still the same.
+ */
+final class LocalEntry implements MutableEntry<Long, Long> {
+    private final long key;
+    private final LongFunction<Long> loader;
+    private Long value;
+    private boolean isSet;
+    private boolean isRemoved;
+    private boolean isLoaded;
+    private boolean isAccessed;
+    private boolean wasAsked;
+
+    /**
+     * Makes one.
+     *
+     * @param value the value in the store, or null
+     * @param loader answers the value of a key that has none, or null
+     */
+    LocalEntry(long key, Long value, LongFunction<Long> loader) {
+        this.key = key;
+        this.value = value;
+        this.loader = loader;
+    }
+
+    @Override public boolean exists() {
+        return value != null;
+    }
+
+    @Override public void remove() {
+        isSet = false;
+        isLoaded = false;
+        isRemoved = true;
+        value = null;
+    }
+
+    @Override public Long getKey() {
+        return key;
+    }
+
+    @Override public Long getValue() {
+        isAccessed |= value != null;
+        if (value == null && !isRemoved && !wasAsked) {
+            wasAsked = true;
+            value = loader.apply(key);
+            isLoaded = value != null;
+        }
+        return value;
+    }
+
+    @Override public void setValue(Long next) {
+        value = Objects.requireNonNull(next, "value");
+        isSet = true;
+        isRemoved = false;
+        isLoaded = false;
+    }
+
+    /** What the processor did; a value that was only loaded is no effect of the processor. */
+    Effect effect() {
+        return isSet ? Effect.PUT : isRemoved ? Effect.DELETE : Effect.KEEP;
+    }
+
+    /** Whether the value was loaded and neither set nor removed afterwards. */
+    boolean isLoaded() {
+        return isLoaded;
+    }
+
+    /** Whether the processor read a value that was in the store. */
+    boolean isAccessed() {
+        return isAccessed;
+    }
+
+    /** The value that is left, or null. */
+    Long value() {
+        return value;
+    }
+
+    @Override public <T> T unwrap(Class<T> type) {
+        return Unwrap.as(type, this, "an entry");
+    }
+}

@@ -1,0 +1,209 @@
+package jentry.jcache.impl;
+
+import java.io.File;
+import java.net.URI;
+import java.util.ArrayList;
+import java.util.List;
+import java.util.Properties;
+import java.util.Set;
+import javax.cache.CacheException;
+
+/**
+ * What the URI and the properties of a manager say. A property that the manager doesn't have is looked for among the
+ * system's.
+ */
+public final class Options {
+    private static final String CHILD = "jentry", UNIX = "jentry+unix", TCP = "jentry+tcp";
+    private static final String REDIS = "jentry+redis", REDIS_TLS = "jentry+rediss";
+    private static final String FORMS = "jentry:default, jentry:/PATH/OF/PROGRAM, jentry+unix:/PATH, "
+        + "jentry+tcp://HOST:PORT, jentry+redis://HOST:PORT[,HOST:PORT ..][/NAME] or the same with jentry+rediss";
+    private static final String PREFIX = "jentry.";
+    private static final Set<String> OF_A_CHILD = Set.of("jentry.program", "jentry.workers", "jentry.stripes");
+    private static final Set<String> OF_REDIS = Set.of("jentry.events", "jentry.user", "jentry.password");
+    private static final Set<String> OF_ALL = Set.of("jentry.timeout", "jentry.queue", "jentry.local");
+    private static final int STREAM_TIMEOUT_MILLIS = 120_000, REDIS_TIMEOUT_MILLIS = 10_000;
+    private static final int QUEUE = 65_536;
+    private static final int REDIS_PORT = 6_379;
+
+    /** Which events the listeners of a cache get. */
+    public enum Events {
+        /** Those of the changes that the cache object itself makes. */
+        LOCAL,
+        /** Those, and the expiries that Redis reports. */
+        EXPIRED,
+        /** Those that Redis reports, whoever made the change. */
+        SERVER
+    }
+
+    private final URI uri;
+    private final Properties properties;
+    private final int timeoutMillis;
+    private final int queue;
+    private final boolean isLocal;
+    private final Events events;
+
+    /**
+     * Reads them.
+     *
+     * @throws CacheException where the URI has another form, or a property isn't known, or isn't one of servers of this
+     *     kind, or has a value that it can't have
+     */
+    public Options(URI uri, Properties properties) {
+        this.uri = uri;
+        this.properties = properties;
+        if (!isKnown()) {
+            throw new CacheException(uri + ": a URI is " + FORMS);
+        }
+        for (String name : properties.stringPropertyNames()) {
+            if (name.startsWith(PREFIX) && !isProperty(name)) {
+                throw new CacheException("the property " + name + " isn't one of " + uri);
+            }
+        }
+        timeoutMillis = number("jentry.timeout", isRedis() ? REDIS_TIMEOUT_MILLIS : STREAM_TIMEOUT_MILLIS, 0,
+            Integer.MAX_VALUE);
+        queue = number("jentry.queue", QUEUE, 1, Integer.MAX_VALUE);
+        number("jentry.workers", 1, 0, 16);
+        number("jentry.stripes", 1, 1, 64);
+        isLocal = one("jentry.local", "false", "true") == 1;
+        events = isRedis() ? Events.values()[one("jentry.events", "local", "expired", "server")] : Events.LOCAL;
+    }
+
+    private boolean isProperty(String name) {
+        return OF_ALL.contains(name) || isChild() && OF_A_CHILD.contains(name) || isRedis() && OF_REDIS.contains(name);
+    }
+
+    private boolean isChild() {
+        return CHILD.equals(uri.getScheme());
+    }
+
+    /** Whether the server is Redis, or a cluster of it. */
+    public boolean isRedis() {
+        return REDIS.equals(uri.getScheme()) || isTls();
+    }
+
+    /** Whether connections are encrypted. */
+    public boolean isTls() {
+        return REDIS_TLS.equals(uri.getScheme());
+    }
+
+    /** Whether the server is behind a unix socket. */
+    public boolean isUnix() {
+        return UNIX.equals(uri.getScheme());
+    }
+
+    /** Whether the server is behind a TCP port and speaks the frames of {@code jentry serve}. */
+    public boolean isTcp() {
+        return TCP.equals(uri.getScheme());
+    }
+
+    private boolean isKnown() {
+        String path = uri.getSchemeSpecificPart();
+        if (isChild()) {
+            return path.equals("default") || path.startsWith(File.separator);
+        } else if (isUnix()) {
+            return path.startsWith(File.separator);
+        } else if (isRedis()) {
+            return isRedisAuthority(uri.getRawAuthority()) && uri.getQuery() == null && uri.getFragment() == null;
+        }
+        return isTcp() && uri.getHost() != null && uri.getPort() > 0;
+    }
+
+    private static boolean isRedisAuthority(String authority) {
+        if (authority != null && authority.indexOf('@') >= 0) {
+            throw new CacheException("a user and a password aren't written into the URI of Redis: "
+                + "set the properties jentry.user and jentry.password");
+        }
+        return authority != null && authority.matches("[^,:]+(:\\d{1,5})?(,[^,:]+(:\\d{1,5})?)*");
+    }
+
+    private int number(String name, int otherwise, int least, int most) {
+        String text = text(name);
+        if (text == null) {
+            return otherwise;
+        }
+        try {
+            int number = Integer.parseInt(text);
+            if (number >= least && number <= most) {
+                return number;
+            }
+        } catch (NumberFormatException e) {
+            // The message below is that of a number out of its limits.
+        }
+        throw new CacheException("the property " + name + " is a number from " + least + " to " + most + ", not " + text);
+    }
+
+    private int one(String name, String... values) {
+        String text = text(name);
+        int at = text == null ? 0 : List.of(values).indexOf(text);
+        if (at < 0) {
+            throw new CacheException("the property " + name + " is one of " + String.join(", ", values) + ", not " + text);
+        }
+        return at;
+    }
+
+    /** A property, or null. */
+    public String text(String name) {
+        return properties.getProperty(name, System.getProperty(name));
+    }
+
+    /** Where the server is. */
+    public URI uri() {
+        return uri;
+    }
+
+    /** How long a reply may take, 0 for ever. */
+    public int timeoutMillis() {
+        return timeoutMillis;
+    }
+
+    /** How many calls may wait. */
+    public int queue() {
+        return queue;
+    }
+
+    /** Whether a processor that the server doesn't take runs in this JVM. */
+    public boolean isLocal() {
+        return isLocal;
+    }
+
+    /** Which events listeners get. */
+    public Events events() {
+        return events;
+    }
+
+    /** The nodes of Redis that the URI names, each as HOST:PORT. */
+    public List<String> nodes() {
+        List<String> nodes = new ArrayList<>();
+        for (String node : uri.getRawAuthority().split(",")) {
+            nodes.add(node.indexOf(':') > 0 ? node : node + ":" + REDIS_PORT);
+        }
+        return nodes;
+    }
+
+    /** What the keys of a cache in Redis begin with. */
+    public String prefix(String cache) {
+        String path = uri.getPath().replaceFirst("^/", "");
+        return (path.isEmpty() ? "" : path + ":") + cache + ":";
+    }
+
+    /** The command of a child process. */
+    public List<String> command() {
+        List<String> command = new ArrayList<>(List.of(program(), "serve"));
+        for (String name : List.of("workers", "stripes")) {
+            String value = text(PREFIX + name);
+            if (value != null) {
+                command.addAll(List.of("--" + name, value));
+            }
+        }
+        return command;
+    }
+
+    private String program() {
+        String path = uri.getSchemeSpecificPart();
+        if (path.startsWith(File.separator)) {
+            return path;
+        }
+        String program = text("jentry.program");
+        return program == null ? "jentry" : program;
+    }
+}

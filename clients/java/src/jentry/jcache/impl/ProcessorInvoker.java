@@ -1,0 +1,322 @@
+package jentry.jcache.impl;
+
+import java.util.HashMap;
+import java.util.Map;
+import java.util.concurrent.CompletableFuture;
+import java.util.concurrent.ConcurrentHashMap;
+import java.util.concurrent.ThreadLocalRandom;
+import java.util.concurrent.atomic.LongAdder;
+import java.util.concurrent.locks.LockSupport;
+import java.util.function.Supplier;
+import java.util.stream.LongStream;
+import javax.cache.CacheException;
+import javax.cache.processor.EntryProcessor;
+import javax.cache.processor.EntryProcessorException;
+import javax.cache.processor.EntryProcessorResult;
+import jentry.jcache.ProcessorRefusedException;
+import jentry.jcache.store.Durations;
+import jentry.jcache.store.Effect;
+import jentry.jcache.store.Invocation;
+import jentry.jcache.store.Store;
+
+/**
+ * Runs processors: at the server, where it takes them; else, where {@code jentry.local} is true, in this JVM. A run in
+ * this JVM reads the entry, runs the processor and commits by a compare-and-set; where the entry is another one by then,
+ * the processor runs again.
+ */
+public final class ProcessorInvoker {
+    private static final System.Logger LOG = System.getLogger("jentry.jcache");
+    private static final int MOST_ARGUMENTS = 8;
+    private static final long FIRST_PAUSE_NANOS = 20_000;
+    private static final int MOST_DOUBLINGS = 8;
+
+    private final CacheContext at;
+    private final Store store;
+    private final EntryOperations entries;
+    private final Map<ProcessorFile, ProcessorRefusedException> refused = new ConcurrentHashMap<>();
+    private final Map<String, LongAdder> localRuns = new ConcurrentHashMap<>();
+
+    /** Makes the methods of a cache. */
+    public ProcessorInvoker(CacheContext at, EntryOperations entries) {
+        this.at = at;
+        store = at.store;
+        this.entries = entries;
+    }
+
+    /** How many runs there were in this JVM, by the names of the processors' classes. */
+    public Map<String, Long> localRuns() {
+        Map<String, Long> all = new HashMap<>();
+        localRuns.forEach((type, runs) -> all.put(type, runs.sum()));
+        return all;
+    }
+
+    /**
+     * How one call of a cache runs: at the server by a class file, or here because of a reason.
+     *
+     * @param file the class file, or null
+     * @param reason why the server can't run it, or null
+     */
+    private record Way(ProcessorFile file, RuntimeException reason) { }
+
+    private Way way(EntryProcessor<?, ?, ?> processor, Object[] arguments) {
+        RuntimeException reason = unsendable(arguments);
+        if (reason == null && at.writer.isThere() && !store.hasDetail()) {
+            reason = new CacheException("the cache has a writer, which is asked before a change: the server can't do that");
+        }
+        ProcessorFile file = null;
+        if (reason == null) {
+            try {
+                file = ProcessorFile.of(processor);
+                reason = refused.get(file);
+            } catch (CacheException e) {
+                reason = e;
+            }
+        }
+        if (reason != null && !at.isLocal) {
+            throw reason;
+        }
+        return new Way(file, reason);
+    }
+
+    private static RuntimeException unsendable(Object[] arguments) {
+        if (arguments.length > MOST_ARGUMENTS) {
+            return new IllegalArgumentException(
+                "an invocation takes at most " + MOST_ARGUMENTS + " arguments, not " + arguments.length);
+        }
+        for (int i = 0; i < arguments.length; i++) {
+            Object it = arguments[i];
+            if (it != null && !(it instanceof Long) && !(it instanceof Integer)) {
+                return new IllegalArgumentException("an argument is a Long, an Integer or null; argument " + (i + 1)
+                    + " is a " + it.getClass().getName());
+            }
+        }
+        return null;
+    }
+
+    /** A class that the server refused: what is to be thrown, or null where the processor may run here. */
+    private void refuse(Way way, ProcessorRefusedException e) {
+        refused.put(way.file(), e);
+        if (!at.isLocal) {
+            throw e;
+        }
+    }
+
+    /** {@code invoke}. */
+    @SuppressWarnings("unchecked")
+    public <T> T invoke(long key, EntryProcessor<Long, Long, T> processor, Object[] arguments) {
+        Way way = way(processor, arguments);
+        if (way.reason() == null) {
+            try {
+                return (T) there(key, way.file(), arguments);
+            } catch (ProcessorRefusedException e) {
+                refuse(way, e);
+            }
+        }
+        return here(key, processor, arguments);
+    }
+
+    /** Whether a run has to be divided into a dry run and a commit: a writer or a policy has to be asked in between. */
+    private boolean isDivided() {
+        return store.hasDetail() && (at.writer.isThere() || !at.expiry.isConstant());
+    }
+
+    private Object there(long key, ProcessorFile file, Object[] arguments) {
+        long begin = at.statistics.begin();
+        loadMissing(key);
+        if (isDivided()) {
+            return divided(key, file, arguments, begin);
+        }
+        Invocation done = store.run(file, key, arguments, at.expiry.constant());
+        return counted(key, done, begin);
+    }
+
+    private void loadMissing(long key) {
+        if (at.loader.isOnMiss() && !store.contains(key)) {
+            entries.loaded(key, at.loader.load(key));
+        }
+    }
+
+    /** Counts a run and calls the listeners, as far as the store says what happened; answers the result or throws. */
+    private Object counted(long key, Invocation done, long begin) {
+        Object result = done.result();
+        if (done.effect() != null) {
+            at.statistics.ran(done.before() != null, done.effect(), begin);
+            if (done.effect() != Effect.KEEP) {
+                at.events.changed(key, done.before(), done.after());
+            }
+        }
+        return result;
+    }
+
+    private Object divided(long key, ProcessorFile file, Object[] arguments, long begin) {
+        return at.locks.with(key, () -> {
+            for (int tries = 0; tries < EntryOperations.MOST_TRIES; tries++) {
+                Invocation dry = store.dryRun(file, key, arguments);
+                dry.result();
+                if (isCommitted(key, dry.effect(), dry.before(), dry.after(), true)) {
+                    return counted(key, dry, begin);
+                }
+                pause(tries);
+            }
+            throw EntryOperations.spoiled(key);
+        });
+    }
+
+    private static void pause(int tries) {
+        long most = FIRST_PAUSE_NANOS << Math.min(tries, MOST_DOUBLINGS);
+        LockSupport.parkNanos(ThreadLocalRandom.current().nextLong(1, most));
+    }
+
+    /** Does to the store what a run did, if the entry is still the one that the run began with. */
+    private boolean isCommitted(long key, Effect effect, Long before, Long after, boolean isAccess) {
+        if (effect == Effect.KEEP) {
+            if (before != null && isAccess) {
+                entries.touch(key);
+            }
+            return true;
+        } else if (effect == Effect.DELETE) {
+            at.writer.delete(key);
+            return before == null || store.compare(key, before, null, Durations.NONE, false).done();
+        }
+        at.writer.write(key, after);
+        return isSet(key, before, after);
+    }
+
+    private boolean isSet(long key, Long before, Long after) {
+        if (before == null) {
+            return store.set(key, after, Store.When.ABSENT, at.expiry.forCreation(), false).done();
+        }
+        return store.compare(key, before, after, at.expiry.forUpdate(), false).done();
+    }
+
+    private <T> T here(long key, EntryProcessor<Long, Long, T> processor, Object[] arguments) {
+        long begin = at.statistics.begin();
+        return at.locks.with(key, () -> {
+            for (int tries = 0; tries < EntryOperations.MOST_TRIES; tries++) {
+                Long before = store.get(key, Durations.LEAVE);
+                LocalEntry entry = new LocalEntry(key, before, at.loader::load);
+                T result = process(processor, entry, arguments);
+                Effect effect = entry.effect();
+                boolean done = entry.isLoaded() ? isSet(key, before, entry.value())
+                    : isCommitted(key, effect, before, entry.value(), entry.isAccessed());
+                if (done) {
+                    at.statistics.ran(before != null, effect, begin);
+                    if (effect != Effect.KEEP || entry.isLoaded()) {
+                        at.events.changed(key, before, entry.value());
+                    }
+                    return result;
+                }
+                pause(tries);
+            }
+            throw EntryOperations.spoiled(key);
+        });
+    }
+
+    private <T> T process(EntryProcessor<Long, Long, T> processor, LocalEntry entry, Object[] arguments) {
+        String type = processor.getClass().getName();
+        localRuns.computeIfAbsent(type, it -> {
+            LOG.log(System.Logger.Level.INFO, "the processor " + type + " runs in this JVM, not verified, for the cache "
+                + at.cache.getName() + " (jentry.local)");
+            return new LongAdder();
+        }).increment();
+        try {
+            return processor.process(entry, arguments);
+        } catch (EntryProcessorException e) {
+            throw e;
+        } catch (Exception e) {
+            throw new EntryProcessorException(e);
+        }
+    }
+
+    /** {@code invokeAll}: what a processor threw is thrown by the result of that key; keys with null are left out. */
+    public <T> Map<Long, EntryProcessorResult<T>> invokeAll(long[] keys, EntryProcessor<Long, Long, T> processor,
+        Object[] arguments) {
+        Way way = way(processor, arguments);
+        Map<Long, EntryProcessorResult<T>> results = new HashMap<>();
+        if (way.reason() == null && !isDivided()) {
+            try {
+                allThere(keys, way.file(), arguments, results);
+                return results;
+            } catch (ProcessorRefusedException e) {
+                refuse(way, e);
+            }
+        }
+        for (long key : keys) {
+            Invocation done;
+            try {
+                done = Invocation.of(invoke(key, processor, arguments));
+            } catch (EntryProcessorException e) {
+                done = Invocation.failed(() -> again(e));
+            }
+            add(results, key, done);
+        }
+        return results;
+    }
+
+    /** The same exception anew, so that each call of a result has a stack trace of its own. */
+    private static EntryProcessorException again(EntryProcessorException e) {
+        return new EntryProcessorException(e.getMessage(), e.getCause());
+    }
+
+    private <T> void allThere(long[] keys, ProcessorFile file, Object[] arguments,
+        Map<Long, EntryProcessorResult<T>> results) {
+        long begin = at.statistics.begin();
+        if (at.loader.isOnMiss()) {
+            LongStream.of(keys).forEach(this::loadMissing);
+        }
+        Map<Long, Invocation> all = new HashMap<>();
+        store.runAll(file, keys, arguments, at.expiry.constant(), (done, key) -> all.put(key, done));
+        all.forEach((key, done) -> add(results, key, done));
+        at.statistics.got(0, 0, begin);
+        all.forEach((key, done) -> {
+            if (done.failure() == null) {
+                counted(key, done, 0);
+            }
+        });
+    }
+
+    @SuppressWarnings("unchecked")
+    private static <T> void add(Map<Long, EntryProcessorResult<T>> results, long key, Invocation done) {
+        if (!done.isNull()) {
+            results.put(key, () -> {
+                try {
+                    return (T) done.result();
+                } catch (EntryProcessorException e) {
+                    throw e;
+                } catch (CacheException e) {
+                    throw new EntryProcessorException(e);
+                }
+            });
+        }
+    }
+
+    /** {@code invokeAsync}. */
+    @SuppressWarnings("unchecked")
+    public <T> CompletableFuture<T> invokeAsync(long key, EntryProcessor<Long, Long, T> processor, Object[] arguments) {
+        Way way = way(processor, arguments);
+        if (way.reason() == null && !isDivided() && !at.loader.isOnMiss()) {
+            long begin = at.statistics.begin();
+            try {
+                CompletableFuture<T> result = new CompletableFuture<>();
+                store.runAsync(way.file(), key, arguments, at.expiry.constant())
+                    .whenComplete((done, e) -> complete(result, () -> (T) counted(key, done, begin), e));
+                return result;
+            } catch (ProcessorRefusedException e) {
+                refuse(way, e);
+            }
+        }
+        return CompletableFuture.supplyAsync(() -> invoke(key, processor, arguments));
+    }
+
+    private static <T> void complete(CompletableFuture<T> result, Supplier<T> value, Throwable failure) {
+        if (failure != null) {
+            result.completeExceptionally(failure);
+            return;
+        }
+        try {
+            result.complete(value.get());
+        } catch (RuntimeException e) {
+            result.completeExceptionally(e);
+        }
+    }
+}

@@ -1,0 +1,194 @@
+package jentry.jcache.redis;
+
+import java.io.IOException;
+import java.nio.charset.StandardCharsets;
+import java.util.HashMap;
+import java.util.HashSet;
+import java.util.Map;
+import java.util.Set;
+import javax.cache.CacheException;
+import jentry.jcache.impl.Options;
+import jentry.jcache.store.Watcher;
+
+/**
+ * The keyspace notifications of Redis on the keys of a cache, by a connection to each master. A thread looks after the
+ * connections: where one is lost, or another node is a master, it connects anew. What happens in between is lost.
+ */
+final class KeyspaceEvents implements AutoCloseable {
+    private static final System.Logger LOG = System.getLogger("jentry.jcache");
+    private static final long PAUSE_MILLIS = 500;
+    private static final Set<String> SETS = Set.of("set", "incrby", "append", "setrange", "restore", "rename_to", "copy_to");
+    private static final Set<String> DELETES = Set.of("del", "rename_from", "move_from");
+
+    private final RedisCluster cluster;
+    private final Keys keys;
+    private final Watcher watcher;
+    private final Map<String, RedisSocket> sockets = new HashMap<>();
+    private final Thread keeper;
+    private boolean closed;
+
+    /**
+     * Begins to listen.
+     *
+     * @throws CacheException where a master doesn't send the events that are wanted
+     */
+    KeyspaceEvents(RedisCluster cluster, Keys keys, Watcher watcher) {
+        this.cluster = cluster;
+        this.keys = keys;
+        this.watcher = watcher;
+        try {
+            for (String node : cluster.masters()) {
+                check(node);
+                connect(node);
+            }
+        } catch (IOException e) {
+            close();
+            throw new CacheException("the events of Redis can't be had: " + e.getMessage(), e);
+        } catch (RuntimeException e) {
+            close();
+            throw e;
+        }
+        keeper = new Thread(this::keep, "jentry-events");
+        keeper.setDaemon(true);
+        keeper.start();
+    }
+
+    /** What a master lacks of {@code notify-keyspace-events}. */
+    private void check(String node) {
+        boolean isAll = cluster.options().events() == Options.Events.SERVER;
+        String wanted = isAll ? "K$gxn" : "Kx";
+        Object reply = cluster.at(node, new Resp.Commands().add("CONFIG", "GET", "notify-keyspace-events"))[0];
+        if (!(reply instanceof Object[] pair) || pair.length < 2) {
+            String why = reply instanceof Resp.Failure f ? f.text() : "no answer";
+            LOG.log(System.Logger.Level.WARNING, "whether " + node + " sends events can't be asked (" + why
+                + "); its notify-keyspace-events has to have " + wanted);
+            return;
+        }
+        String has = Replies.text(pair[1]).replace("A", "A$gx");
+        StringBuilder lacks = new StringBuilder();
+        wanted.chars().filter(it -> has.indexOf(it) < 0).forEach(it -> lacks.append((char) it));
+        if (lacks.length() > 0) {
+            throw new CacheException(node + " doesn't send the events that jentry.events asks for: its "
+                + "notify-keyspace-events lacks " + lacks + " (CONFIG SET notify-keyspace-events " + wanted + ")");
+        }
+    }
+
+    private void connect(String node) throws IOException {
+        RedisSocket socket = new RedisSocket(node, cluster.options());
+        synchronized (sockets) {
+            if (closed) {
+                socket.close();
+                return;
+            }
+            sockets.put(node, socket);
+        }
+        Object reply = socket.ask("PSUBSCRIBE", "__keyspace@0__:" + keys.pattern());
+        if (reply instanceof Resp.Failure f) {
+            socket.close();
+            throw new IOException(node + " refuses the events: " + f.text());
+        }
+        Thread thread = new Thread(() -> listen(node, socket), "jentry-events-" + node);
+        thread.setDaemon(true);
+        thread.start();
+    }
+
+    private void listen(String node, RedisSocket socket) {
+        Set<Long> fresh = new HashSet<>();
+        try {
+            while (true) {
+                Object[] message = (Object[]) socket.in.reply();
+                String channel = new String((byte[]) message[2], StandardCharsets.UTF_8);
+                Long key = keys.key(channel.substring(channel.indexOf(':') + 1));
+                if (key != null) {
+                    heard(key, Replies.text(message[3]), fresh);
+                }
+            }
+        } catch (IOException | RuntimeException e) {
+            boolean isOver;
+            synchronized (sockets) {
+                isOver = closed;
+                sockets.remove(node, socket);
+                sockets.notifyAll();
+            }
+            socket.close();
+            if (!isOver) {
+                LOG.log(System.Logger.Level.WARNING, "the events of " + node + " are lost until it is connected again", e);
+            }
+        }
+    }
+
+    /** Before the event of a SET that makes an entry there is one named new. */
+    private void heard(long key, String event, Set<Long> fresh) {
+        if (event.equals("new")) {
+            fresh.add(key);
+        } else if (SETS.contains(event)) {
+            call(key, fresh.remove(key) ? Watcher.Kind.CREATED : Watcher.Kind.UPDATED);
+        } else if (DELETES.contains(event)) {
+            call(key, Watcher.Kind.REMOVED);
+        } else if (event.equals("expired")) {
+            call(key, Watcher.Kind.EXPIRED);
+        }
+    }
+
+    private void call(long key, Watcher.Kind kind) {
+        try {
+            watcher.changed(key, kind);
+        } catch (RuntimeException e) {
+            LOG.log(System.Logger.Level.WARNING, "the event " + kind + " of " + key + " is lost", e);
+        }
+    }
+
+    /** Connects to masters that have no connection, and leaves nodes that aren't masters any more. */
+    private void keep() {
+        while (true) {
+            synchronized (sockets) {
+                try {
+                    sockets.wait(PAUSE_MILLIS);
+                } catch (InterruptedException e) {
+                    // Nobody has a reason to interrupt this thread; it goes on.
+                }
+                if (closed) {
+                    return;
+                }
+            }
+            try {
+                boolean isWhole;
+                synchronized (sockets) {
+                    isWhole = sockets.keySet().equals(cluster.masters());
+                }
+                if (!isWhole) {
+                    mend(cluster.refreshedMasters());
+                }
+            } catch (IOException | RuntimeException e) {
+                LOG.log(System.Logger.Level.DEBUG, "the events can't be had yet", e);
+            }
+        }
+    }
+
+    private void mend(Set<String> masters) throws IOException {
+        Set<String> missing = new HashSet<>(masters);
+        Set<RedisSocket> left = new HashSet<>();
+        synchronized (sockets) {
+            missing.removeAll(sockets.keySet());
+            sockets.forEach((node, socket) -> {
+                if (!masters.contains(node)) {
+                    left.add(socket);
+                }
+            });
+        }
+        left.forEach(RedisSocket::close);
+        for (String node : missing) {
+            connect(node);
+        }
+    }
+
+    @Override public void close() {
+        Set<RedisSocket> all;
+        synchronized (sockets) {
+            closed = true;
+            all = new HashSet<>(sockets.values());
+            sockets.notifyAll();
+        }
+        all.forEach(RedisSocket::close);
+    }
+}

@@ -1,0 +1,318 @@
+package jentry.jcache.redis;
+
+import java.io.IOException;
+import java.nio.charset.StandardCharsets;
+import java.util.Arrays;
+import java.util.List;
+import java.util.Map;
+import java.util.Set;
+import java.util.TreeSet;
+import java.util.concurrent.ConcurrentHashMap;
+import java.util.concurrent.Executor;
+import java.util.concurrent.RejectedExecutionException;
+import java.util.concurrent.atomic.AtomicReferenceArray;
+import java.util.concurrent.atomic.LongAdder;
+import java.util.concurrent.locks.LockSupport;
+import java.util.function.Consumer;
+import javax.cache.CacheException;
+import jentry.jcache.CallNotSentException;
+import jentry.jcache.CallOutcomeUnknownException;
+import jentry.jcache.impl.Options;
+
+/** One node, or the masters of a cluster: which node has a key, a connection to each, and redirections. */
+final class RedisCluster {
+    static final int SLOTS = 16_384;
+    private static final int MOST_REDIRECTIONS = 16;
+    private static final int MOST_RESENDS = 2;
+    private static final long PAUSE_NANOS = 20_000_000;
+
+    /** Errors by which a node says that it did nothing of a command. */
+    private static final Set<String> UNDONE =
+        Set.of("MOVED", "ASK", "TRYAGAIN", "CLUSTERDOWN", "LOADING", "READONLY", "MASTERDOWN");
+
+    private final Options options;
+    private final Map<String, RedisConnection> connections = new ConcurrentHashMap<>();
+    private final AtomicReferenceArray<String> nodes = new AtomicReferenceArray<>(SLOTS);
+    private final LongAdder sent = new LongAdder();
+    private volatile boolean isCluster;
+    private volatile boolean closed;
+    private long refreshed;
+
+    /** Connects to a node that the options name. */
+    RedisCluster(Options options) {
+        this.options = options;
+        refreshed = System.nanoTime() - 1;
+        try {
+            refresh(System.nanoTime());
+        } catch (RuntimeException e) {
+            close();
+            throw e;
+        }
+    }
+
+    boolean isCluster() {
+        return isCluster;
+    }
+
+    long sent() {
+        return sent.sum();
+    }
+
+    /** The slot of a key: CRC16 as of XMODEM, of the part in the first braces if there is one that isn't empty. */
+    static int slot(String key) {
+        byte[] text = key.getBytes(StandardCharsets.UTF_8);
+        int from = 0, to = text.length;
+        int open = indexOf(text, '{', 0);
+        int close = open < 0 ? -1 : indexOf(text, '}', open + 1);
+        if (close > open + 1) {
+            from = open + 1;
+            to = close;
+        }
+        int crc = 0;
+        for (int i = from; i < to; i++) {
+            crc ^= (text[i] & 0xFF) << 8;
+            for (int bit = 0; bit < 8; bit++) {
+                crc = (crc & 0x8000) != 0 ? crc << 1 ^ 0x1021 : crc << 1;
+            }
+            crc &= 0xFFFF;
+        }
+        return crc % SLOTS;
+    }
+
+    private static int indexOf(byte[] text, char c, int from) {
+        for (int i = from; i < text.length; i++) {
+            if (text[i] == c) {
+                return i;
+            }
+        }
+        return -1;
+    }
+
+    private RedisConnection connection(String node) {
+        RedisConnection known = connections.get(node);
+        if (known != null && !known.isBroken()) {
+            return known;
+        }
+        synchronized (connections) {
+            known = connections.get(node);
+            if (known != null && !known.isBroken()) {
+                return known;
+            } else if (closed) {
+                throw new IllegalStateException("the cache manager of " + options.uri() + " is closed");
+            }
+            try {
+                RedisConnection made = new RedisConnection(node, options);
+                connections.put(node, made);
+                return made;
+            } catch (IOException e) {
+                throw new CallNotSentException("there is no connection to " + node + " (" + e.getMessage() + ")", e);
+            }
+        }
+    }
+
+    /**
+     * Asks some node which nodes have which slots.
+     *
+     * @param since the moment of what made the map doubtful; an answer that is newer stays
+     */
+    private synchronized void refresh(long since) {
+        if (refreshed - since > 0) {
+            return;
+        }
+        TreeSet<String> all = new TreeSet<>(connections.keySet());
+        all.addAll(options.nodes());
+        CacheException last = null;
+        for (String node : all) {
+            try {
+                learn(node, at(node, new Resp.Commands().add("CLUSTER", "SLOTS"))[0]);
+                refreshed = System.nanoTime();
+                return;
+            } catch (CacheException e) {
+                last = e;
+            }
+        }
+        throw last;
+    }
+
+    private void learn(String node, Object reply) {
+        if (reply instanceof Resp.Failure f) {
+            if (!f.text().contains("cluster support disabled")) {
+                throw new CacheException(node + " doesn't say which slots it has: " + f.text());
+            }
+            isCluster = false;
+            for (int i = 0; i < SLOTS; i++) {
+                nodes.set(i, node);
+            }
+            return;
+        }
+        isCluster = true;
+        for (Object range : (Object[]) reply) {
+            Object[] row = (Object[]) range;
+            Object[] master = (Object[]) row[2];
+            String host = new String((byte[]) master[0], StandardCharsets.UTF_8);
+            String at = (host.isEmpty() ? host(node) : host) + ":" + master[1];
+            for (int i = Math.toIntExact((Long) row[0]); i <= (Long) row[1]; i++) {
+                nodes.set(i, at);
+            }
+        }
+    }
+
+    private static String host(String node) {
+        return node.substring(0, node.lastIndexOf(':'));
+    }
+
+    /** Asks for the map anew, and answers the masters. */
+    Set<String> refreshedMasters() {
+        refresh(System.nanoTime());
+        return masters();
+    }
+
+    /** The masters that have slots. */
+    Set<String> masters() {
+        Set<String> all = new TreeSet<>();
+        for (int i = 0; i < SLOTS; i++) {
+            String node = nodes.get(i);
+            if (node != null) {
+                all.add(node);
+            }
+        }
+        return all;
+    }
+
+    /** The node of a slot. */
+    String node(int slot) {
+        String node = nodes.get(slot);
+        if (node == null) {
+            throw new CallNotSentException("no node has the slot " + slot, null);
+        }
+        return node;
+    }
+
+    /** Begins a call at a node. */
+    RedisConnection.Call submit(String node, Resp.Commands commands) {
+        RedisConnection.Call call = new RedisConnection.Call(commands);
+        sent.increment();
+        connection(node).submit(call);
+        return call;
+    }
+
+    /**
+     * Begins a call at the node of a slot, which no thread waits for.
+     *
+     * @throws RejectedExecutionException where as many calls of that node wait as may
+     */
+    void submit(int slot, Resp.Commands commands, Executor executor, Consumer<RedisConnection.Call> then) {
+        RedisConnection at = connection(node(slot));
+        if (at.pending() >= options.queue()) {
+            throw new RejectedExecutionException(options.queue() + " calls wait for the server already");
+        }
+        sent.increment();
+        at.submit(new RedisConnection.Call(commands, executor, then));
+    }
+
+    /** Makes a call at a node, whatever it answers. */
+    Object[] at(String node, Resp.Commands commands) {
+        return submit(node, commands).await();
+    }
+
+    /** As {@link #at}, for what reads: where the reply doesn't come or the call can't be sent, once more. */
+    Object[] read(String node, Resp.Commands commands) {
+        try {
+            return at(node, commands);
+        } catch (CallNotSentException | CallOutcomeUnknownException e) {
+            return at(node, commands);
+        }
+    }
+
+    /** Replies, and the node that gave them. */
+    record Answer(String node, Object[] replies) { }
+
+    /**
+     * Sends a command on one key, or commands on it between MULTI and EXEC, to the node of the slot. What did nothing is
+     * sent again: what a node redirects or can't do yet, and what couldn't be sent. A read whose reply didn't come is
+     * sent once more.
+     */
+    Answer make(int slot, Resp.Commands commands, boolean isRead) {
+        String node = node(slot);
+        boolean asks = false;
+        int resends = isRead ? 0 : 1;
+        for (int tries = 0;; tries++) {
+            long since = System.nanoTime();
+            Object[] replies;
+            try {
+                replies = at(node, asks ? commands.asking() : commands);
+            } catch (CallNotSentException e) {
+                if (tries >= MOST_RESENDS) {
+                    throw e;
+                }
+                node = nodeAnew(slot, since);
+                asks = false;
+                continue;
+            } catch (CallOutcomeUnknownException e) {
+                if (resends++ > 0) {
+                    throw e;
+                }
+                node = nodeAnew(slot, since);
+                asks = false;
+                continue;
+            }
+            Resp.Failure undone = undone(replies);
+            if (undone == null) {
+                return new Answer(node, asks ? Arrays.copyOfRange(replies, 1, replies.length) : replies);
+            } else if (tries >= MOST_REDIRECTIONS) {
+                throw new CallNotSentException(node + " did nothing: " + undone.text(), null);
+            }
+            asks = undone.is("ASK");
+            node = next(slot, node, undone, since);
+        }
+    }
+
+    private String nodeAnew(int slot, long since) {
+        if (isCluster || options.nodes().size() > 1) {
+            refresh(since);
+        }
+        return node(slot);
+    }
+
+    /** Where to send a call that a node did nothing of. */
+    private String next(int slot, String node, Resp.Failure undone, long since) {
+        if (undone.is("MOVED") || undone.is("ASK")) {
+            String[] words = undone.text().split(" ");
+            String at = words[2].startsWith(":") ? host(node) + words[2] : words[2];
+            if (undone.is("MOVED")) {
+                nodes.set(slot, at);
+            }
+            return at;
+        }
+        LockSupport.parkNanos(PAUSE_NANOS);
+        return undone.is("TRYAGAIN") ? node : nodeAnew(slot, since);
+    }
+
+    /** The first error that says that nothing was done; in a MULTI it is the reply to the queued command. */
+    static Resp.Failure undone(Object... replies) {
+        for (Object reply : replies) {
+            if (reply instanceof Resp.Failure f && UNDONE.contains(f.code())) {
+                return f;
+            }
+        }
+        return null;
+    }
+
+    Options options() {
+        return options;
+    }
+
+    List<RedisConnection> connections() {
+        return List.copyOf(connections.values());
+    }
+
+    void close() {
+        List<RedisConnection> all;
+        synchronized (connections) {
+            closed = true;
+            all = connections();
+            connections.clear();
+        }
+        all.forEach(RedisConnection::close);
+    }
+}

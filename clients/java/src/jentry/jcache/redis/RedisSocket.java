@@ -1,0 +1,83 @@
+package jentry.jcache.redis;
+
+import java.io.IOException;
+import java.net.InetSocketAddress;
+import java.net.Socket;
+import javax.cache.CacheException;
+import javax.net.ssl.SSLParameters;
+import javax.net.ssl.SSLSocket;
+import javax.net.ssl.SSLSocketFactory;
+import jentry.jcache.impl.Options;
+
+/** A connection to one node that has passed TLS and AUTH, where the options ask for these. */
+final class RedisSocket {
+    private static final int CONNECT_MILLIS = 3_000;
+
+    final Socket socket;
+    final Resp.In in;
+
+    /**
+     * Connects.
+     *
+     * @param node HOST:PORT
+     * @throws IOException where the node can't be reached, or its certificate isn't one that this JVM trusts
+     * @throws CacheException where the node refuses the password
+     */
+    RedisSocket(String node, Options options) throws IOException {
+        Socket plain = new Socket();
+        try {
+            int colon = node.lastIndexOf(':');
+            String host = node.substring(0, colon);
+            int port = Integer.parseInt(node.substring(colon + 1));
+            plain.connect(new InetSocketAddress(host, port), CONNECT_MILLIS);
+            plain.setTcpNoDelay(true);
+            plain.setKeepAlive(true);
+            plain.setSoTimeout(CONNECT_MILLIS);
+            socket = options.isTls() ? encrypted(plain, host, port) : plain;
+            in = new Resp.In(socket.getInputStream());
+            authenticate(node, options);
+            socket.setSoTimeout(0);
+        } catch (IOException | RuntimeException e) {
+            plain.close();
+            throw e;
+        }
+    }
+
+    /** The certificate has to be one for the host, by an authority that the JVM trusts (javax.net.ssl.trustStore). */
+    private static Socket encrypted(Socket plain, String host, int port) throws IOException {
+        SSLSocket socket = (SSLSocket) ((SSLSocketFactory) SSLSocketFactory.getDefault())
+            .createSocket(plain, host, port, true);
+        SSLParameters parameters = socket.getSSLParameters();
+        parameters.setEndpointIdentificationAlgorithm("HTTPS");
+        socket.setSSLParameters(parameters);
+        socket.startHandshake();
+        return socket;
+    }
+
+    private void authenticate(String node, Options options) throws IOException {
+        String user = options.text("jentry.user"), password = options.text("jentry.password");
+        if (password == null) {
+            return;
+        }
+        Object reply = ask(user == null ? new Object[] {"AUTH", password} : new Object[] {"AUTH", user, password});
+        if (reply instanceof Resp.Failure f) {
+            throw new CacheException(node + " refuses jentry.user and jentry.password: " + f.text());
+        }
+    }
+
+    /** Sends one command and waits for its reply. */
+    Object ask(Object... words) throws IOException {
+        Resp.Commands command = new Resp.Commands().add(words);
+        socket.getOutputStream().write(command.bytes(), 0, command.length());
+        socket.getOutputStream().flush();
+        return in.reply();
+    }
+
+    void close() {
+        try {
+            socket.close();
+        } catch (IOException e) {
+            // It is closed as far as it can be.
+        }
+    }
+}

@@ -1,0 +1,324 @@
+package jentry.jcache.redis;
+
+import java.util.ArrayList;
+import java.util.Arrays;
+import java.util.Iterator;
+import java.util.List;
+import java.util.concurrent.CompletableFuture;
+import java.util.concurrent.atomic.AtomicLong;
+import java.util.function.ObjLongConsumer;
+import java.util.stream.LongStream;
+import javax.cache.CacheException;
+import jentry.jcache.impl.BuiltIn;
+import jentry.jcache.impl.ProcessorFile;
+import jentry.jcache.store.Durations;
+import jentry.jcache.store.Invocation;
+import jentry.jcache.store.Mutation;
+import jentry.jcache.store.Store;
+import jentry.jcache.store.Watcher;
+
+/**
+ * The entries of a cache in Redis: the entry of a key is the string at PREFIX:KEY, in decimal digits. Each method on one
+ * key is one command of Redis, or two between MULTI and EXEC; times to live pass by the server's clock.
+ */
+final class RedisStore implements Store {
+    private final RedisCluster cluster;
+    private final Keys keys;
+
+    /**
+     * Makes one.
+     *
+     * @throws CacheException where a master doesn't have the module
+     */
+    RedisStore(RedisCluster cluster, String prefix) {
+        this.cluster = cluster;
+        keys = new Keys(prefix);
+        cluster.masters().forEach(this::findModule);
+    }
+
+    /** A server that doesn't let a client ask for commands is taken as one that has the module. */
+    private void findModule(String node) {
+        Object reply = cluster.at(node, new Resp.Commands().add("COMMAND", "INFO", "JENTRY.APPLY"))[0];
+        if (reply instanceof Object[] commands && (commands.length == 0 || commands[0] == null)) {
+            throw new CacheException("Redis at " + node + " has no command JENTRY.APPLY: load the module there "
+                + "(redis-server --loadmodule PATH/libjentry.so)");
+        }
+    }
+
+    private Object one(long key, boolean isRead, Object... words) {
+        return Replies.checked(cluster.make(keys.slot(key), new Resp.Commands().add(words), isRead).replies()[0]);
+    }
+
+    private static Object[] reading(String name, long accessed) {
+        if (accessed == Durations.LEAVE) {
+            return new Object[] {"GET", name};
+        } else if (accessed == Durations.ZERO) {
+            return new Object[] {"GETDEL", name};
+        } else if (accessed == Durations.ETERNAL) {
+            return new Object[] {"GETEX", name, "PERSIST"};
+        }
+        return new Object[] {"GETEX", name, "PX", accessed};
+    }
+
+    @Override public Long get(long key, long accessed) {
+        return Replies.value(one(key, accessed != Durations.ZERO, reading(keys.name(key), accessed)));
+    }
+
+    @Override public boolean contains(long key) {
+        return Long.valueOf(1).equals(one(key, true, "EXISTS", keys.name(key)));
+    }
+
+    /** The words of a SET. Redis has no time to live of nothing, so an entry that expires at once has a millisecond. */
+    private static Object[] setting(String name, long value, long time, Object... options) {
+        List<Object> words = new ArrayList<>(List.of("SET", name, value));
+        words.addAll(List.of(options));
+        if (time == Durations.LEAVE) {
+            words.add("KEEPTTL");
+        } else if (time != Durations.ETERNAL) {
+            words.addAll(List.of("PX", Math.max(1, time)));
+        }
+        return words.toArray();
+    }
+
+    /** Whether one SET is right for entries that are there and for those that aren't. */
+    private static boolean isUniform(Durations times) {
+        return times.created() != Durations.ZERO && (times.created() == times.updated()
+            || times.created() == Durations.ETERNAL && times.updated() == Durations.LEAVE);
+    }
+
+    @Override public Mutation set(long key, long value, When when, Durations durations, boolean asksBefore) {
+        String name = keys.name(key);
+        if (when == When.ABSENT) {
+            if (durations.created() == Durations.ZERO) {
+                boolean existed = contains(key);
+                return new Mutation(!existed, existed, null);
+            }
+            boolean done = one(key, false, setting(name, value, durations.created(), "NX")) != null;
+            return new Mutation(done, !done, null);
+        } else if (when == When.PRESENT && !asksBefore) {
+            boolean done = one(key, false, setting(name, value, durations.updated(), "XX")) != null;
+            return new Mutation(done, done, null);
+        } else if (when == When.PRESENT) {
+            Long before = Replies.value(one(key, false, setting(name, value, durations.updated(), "XX", "GET")));
+            return new Mutation(before != null, before != null, before);
+        } else if (!isUniform(durations)) {
+            Long before = setInTwo(key, value, durations);
+            return new Mutation(true, before != null, before);
+        } else if (!asksBefore) {
+            one(key, false, setting(name, value, durations.updated()));
+            return new Mutation(true, null, null);
+        }
+        Long before = Replies.value(one(key, false, setting(name, value, durations.updated(), "GET")));
+        return new Mutation(true, before != null, before);
+    }
+
+    /** Where there is an entry the first SET acts, else the second; answers the value before. */
+    private Long setInTwo(long key, long value, Durations durations) {
+        String name = keys.name(key);
+        Resp.Commands commands = new Resp.Commands().add("MULTI")
+            .add(setting(name, value, durations.updated(), "XX", "GET"));
+        if (durations.created() != Durations.ZERO) {
+            commands.add(setting(name, value, durations.created(), "NX"));
+        }
+        Object[] replies = Replies.checked(cluster.make(keys.slot(key), commands.add("EXEC"), false).replies());
+        return Replies.value(Replies.checked((Object[]) replies[replies.length - 1])[0]);
+    }
+
+    @Override public Mutation delete(long key, boolean asksBefore) {
+        if (!asksBefore) {
+            boolean done = Long.valueOf(1).equals(one(key, false, "DEL", keys.name(key)));
+            return new Mutation(done, done, null);
+        }
+        Long before = Replies.value(one(key, false, "GETDEL", keys.name(key)));
+        return new Mutation(before != null, before != null, before);
+    }
+
+    private RedisBulk bulk(long[] all, boolean isRead, RedisBulk.Maker maker, RedisBulk.Taker taker,
+        java.util.function.IntConsumer single) {
+        return new RedisBulk(cluster, LongStream.of(all).mapToInt(keys::slot).toArray(), isRead, maker, taker, single);
+    }
+
+    private Object[] named(String command, long[] all, List<Integer> places) {
+        Object[] words = new Object[1 + places.size()];
+        words[0] = command;
+        Arrays.setAll(words, i -> i == 0 ? command : keys.name(all[places.get(i - 1)]));
+        return words;
+    }
+
+    @Override public Long[] getAll(long[] all, long accessed) {
+        Long[] found = new Long[all.length];
+        boolean isPlain = accessed == Durations.LEAVE;
+        bulk(all, accessed != Durations.ZERO, (places, commands) -> {
+            if (isPlain) {
+                commands.add(named("MGET", all, places));
+            } else {
+                places.forEach(i -> commands.add(reading(keys.name(all[i]), accessed)));
+            }
+        }, (places, replies) -> {
+            Object[] values = isPlain ? (Object[]) Replies.checked(replies[0]) : replies;
+            for (int i = 0; i < values.length; i++) {
+                found[places.get(i)] = Replies.value(values[i]);
+            }
+        }, i -> found[i] = get(all[i], accessed)).run();
+        return found;
+    }
+
+    @Override public void setAll(long[] all, long[] values, Durations durations) {
+        bulk(all, false, (places, commands) -> {
+            if (durations.equals(Durations.NONE) || durations.created() == Durations.ETERNAL && isUniform(durations)
+                && durations.updated() == Durations.LEAVE) {
+                List<Object> words = new ArrayList<>(List.of("MSET"));
+                places.forEach(i -> words.addAll(List.of(keys.name(all[i]), values[i])));
+                commands.add(words.toArray());
+            } else if (isUniform(durations)) {
+                places.forEach(i -> commands.add(setting(keys.name(all[i]), values[i], durations.updated())));
+            } else {
+                addInTwo(places, commands, all, values, durations);
+            }
+        }, (places, replies) -> {
+            Object last = Replies.checked(replies)[replies.length - 1];
+            if (last instanceof Object[] ofExec) {
+                Replies.checked(ofExec);
+            }
+        }, i -> set(all[i], values[i], When.ALWAYS, durations, false)).run();
+    }
+
+    private void addInTwo(List<Integer> places, Resp.Commands commands, long[] all, long[] values, Durations durations) {
+        commands.add("MULTI");
+        places.forEach(i -> {
+            commands.add(setting(keys.name(all[i]), values[i], durations.updated(), "XX"));
+            if (durations.created() != Durations.ZERO) {
+                commands.add(setting(keys.name(all[i]), values[i], durations.created(), "NX"));
+            }
+        });
+        commands.add("EXEC");
+    }
+
+    @Override public long deleteAll(long[] all) {
+        AtomicLong count = new AtomicLong();
+        bulk(all, false, (places, commands) -> commands.add(named("UNLINK", all, places)),
+            (places, replies) -> count.addAndGet((Long) Replies.checked(replies[0])),
+            i -> count.addAndGet(delete(all[i], false).done() ? 1 : 0)).run();
+        return count.get();
+    }
+
+    /** Whether it was done is what the processor answers: 1 or 0. */
+    @Override public Mutation compare(long key, long old, Long next, Durations durations, boolean asksBefore) {
+        BuiltIn by = next == null ? BuiltIn.REMOVE_IF : BuiltIn.REPLACE_IF;
+        Object[] arguments = next == null ? new Object[] {old} : new Object[] {old, next};
+        Invocation done = run(by.file(), key, arguments, durations);
+        return new Mutation(Integer.valueOf(1).equals(done.result()), done.before() != null, done.before());
+    }
+
+    private Object[] applying(ProcessorFile file, String name, Object[] arguments, Durations times, String mode) {
+        List<Object> words = new ArrayList<>(List.of("JENTRY.APPLY", times.created(), times.updated(), times.accessed(),
+            mode, file.id(), name));
+        for (Object it : arguments) {
+            words.add(it == null ? "null" : it instanceof Integer ? it + "i" : it);
+        }
+        return words.toArray();
+    }
+
+    private void define(String node, ProcessorFile file) {
+        Object[] replies = cluster.at(node, new Resp.Commands().add("JENTRY.DEFINE", file.bytes()));
+        Replies.defined(replies[0], file);
+    }
+
+    private static boolean isUndefined(Object reply) {
+        return reply instanceof Resp.Failure f && f.is("NOCLASS");
+    }
+
+    /** A node that doesn't have the class gets it, and the call again: it did nothing. */
+    private Invocation apply(ProcessorFile file, long key, Object[] words) {
+        Resp.Commands commands = new Resp.Commands().add(words);
+        RedisCluster.Answer answer = cluster.make(keys.slot(key), commands, false);
+        for (int tries = 0; isUndefined(answer.replies()[0]) && tries < 2; tries++) {
+            define(answer.node(), file);
+            answer = cluster.make(keys.slot(key), commands, false);
+        }
+        return Replies.invocation(answer.replies()[0], file);
+    }
+
+    @Override public Invocation run(ProcessorFile file, long key, Object[] arguments, Durations durations) {
+        return apply(file, key, applying(file, keys.name(key), arguments, durations, "do"));
+    }
+
+    @Override public boolean hasDetail() {
+        return true;
+    }
+
+    @Override public Invocation dryRun(ProcessorFile file, long key, Object[] arguments) {
+        return apply(file, key, applying(file, keys.name(key), arguments, Durations.NONE, "dry"));
+    }
+
+    @Override public void runAll(ProcessorFile file, long[] all, Object[] arguments, Durations durations,
+        ObjLongConsumer<Invocation> taker) {
+        if (all.length == 0) {
+            return;
+        }
+        cluster.masters().forEach(node -> define(node, file));
+        bulk(all, false, (places, commands) -> places.forEach(i ->
+            commands.add(applying(file, keys.name(all[i]), arguments, durations, "do"))),
+            (places, replies) -> {
+                for (int i = 0; i < replies.length; i++) {
+                    long key = all[places.get(i)];
+                    taker.accept(isUndefined(replies[i]) ? run(file, key, arguments, durations)
+                        : Replies.invocation(replies[i], file), key);
+                }
+            }, i -> taker.accept(run(file, all[i], arguments, durations), all[i])).run();
+    }
+
+    @Override public CompletableFuture<Invocation> runAsync(ProcessorFile file, long key, Object[] arguments,
+        Durations durations) {
+        Object[] words = applying(file, keys.name(key), arguments, durations, "do");
+        CompletableFuture<Invocation> result = new CompletableFuture<>();
+        cluster.submit(keys.slot(key), new Resp.Commands().add(words), result.defaultExecutor(), call -> {
+            try {
+                result.complete(answered(call, file, key, words));
+            } catch (RuntimeException e) {
+                result.completeExceptionally(e);
+            }
+        });
+        return result;
+    }
+
+    /** The end of a call that no thread waited for; what a node did nothing of is made again. */
+    private Invocation answered(RedisConnection.Call call, ProcessorFile file, long key, Object[] words) {
+        Object reply;
+        try {
+            reply = call.await()[0];
+        } catch (jentry.jcache.CallNotSentException e) {
+            return apply(file, key, words);
+        }
+        return isUndefined(reply) || RedisCluster.undone(reply) != null ? apply(file, key, words)
+            : Replies.invocation(reply, file);
+    }
+
+    @Override public Iterator<long[]> scan(String what) {
+        return new KeyScan(cluster, keys);
+    }
+
+    @Override public void clear() {
+        for (Iterator<long[]> pages = scan("clear"); pages.hasNext();) {
+            long[] page = pages.next();
+            if (page.length > 0) {
+                deleteAll(page);
+            }
+        }
+    }
+
+    @Override public boolean hasExpiry() {
+        return true;
+    }
+
+    @Override public AutoCloseable watch(Watcher watcher) {
+        return new KeyspaceEvents(cluster, keys, watcher);
+    }
+
+    @Override public long sent() {
+        return cluster.sent();
+    }
+
+    /** Does nothing: the connections are those of all caches of the manager. */
+    @Override public void close() { }
+}

@@ -1,0 +1,79 @@
+package jentry.jcache.redis;
+
+import java.nio.charset.StandardCharsets;
+import java.util.Locale;
+import javax.cache.CacheException;
+import jentry.jcache.ProcessorRefusedException;
+import jentry.jcache.impl.Places;
+import jentry.jcache.impl.ProcessorFaults;
+import jentry.jcache.impl.ProcessorFile;
+import jentry.jcache.store.Effect;
+import jentry.jcache.store.Invocation;
+
+/** The replies of Redis, as the answers of a store. */
+final class Replies {
+    private static final int MOST_SHOWN = 40;
+
+    private Replies() { }
+
+    /** The reply, if it isn't an error. */
+    static Object checked(Object reply) {
+        if (reply instanceof Resp.Failure f) {
+            throw new CacheException("Redis: " + f.text());
+        }
+        return reply;
+    }
+
+    /** The replies, if none is an error. */
+    static Object[] checked(Object[] replies) {
+        for (Object reply : replies) {
+            checked(reply);
+        }
+        return replies;
+    }
+
+    /** The value of a string that has a decimal long, or null where there is none. */
+    static Long value(Object reply) {
+        Object told = checked(reply);
+        if (told == null || told instanceof Long) {
+            return (Long) told;
+        }
+        String text = text(told);
+        try {
+            return Long.valueOf(text);
+        } catch (NumberFormatException e) {
+            String shown = text.length() > MOST_SHOWN ? text.substring(0, MOST_SHOWN) + ".." : text;
+            throw new CacheException("the entry is no long, but " + shown, e);
+        }
+    }
+
+    static String text(Object reply) {
+        return new String((byte[]) reply, StandardCharsets.ISO_8859_1);
+    }
+
+    /** The reply to JENTRY.APPLY: value, its kind, effect, before, after, steps, words. */
+    static Invocation invocation(Object reply, ProcessorFile file) {
+        if (reply instanceof Resp.Failure f && f.is("THREW")) {
+            int number = Integer.parseInt(f.text().split(" ")[1]);
+            return Invocation.failed(() -> ProcessorFaults.of(number, file.type()));
+        }
+        Object[] row = (Object[]) checked(reply);
+        boolean isInteger = text(row[1]).equals("Integer");
+        Object value = row[0] != null && isInteger ? (Object) Math.toIntExact((Long) row[0]) : row[0];
+        Effect effect = Effect.valueOf(text(row[2]).toUpperCase(Locale.ROOT));
+        return new Invocation(value, null, effect, value(row[3]), value(row[4]));
+    }
+
+    /** The reply to JENTRY.DEFINE. */
+    static void defined(Object reply, ProcessorFile file) {
+        if (reply instanceof Resp.Failure f && f.is("REFUSED")) {
+            String[] words = f.text().split(" ");
+            int number = Integer.parseInt(words[1]);
+            int detail = words.length > 4 && (words[3].equals("opcode") || words[3].equals("at"))
+                ? Integer.parseInt(words[4]) : 0;
+            throw new ProcessorRefusedException(file.type(), number, detail,
+                Places.of(file.bytes(), number, detail));
+        }
+        checked(reply);
+    }
+}

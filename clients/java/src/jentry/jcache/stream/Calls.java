@@ -1,0 +1,224 @@
+package jentry.jcache.stream;
+
+import java.io.IOException;
+import java.util.List;
+import java.util.concurrent.CompletableFuture;
+import java.util.function.ObjLongConsumer;
+import jentry.jcache.ProcessorRefusedException;
+import jentry.jcache.impl.Places;
+import jentry.jcache.impl.ProcessorFile;
+import jentry.jcache.store.Invocation;
+
+/** The calls of a cache: which replies each takes, and what it answers or throws by them. */
+final class Calls {
+    private Calls() { }
+
+    /** One put, get, remove, contains or invoke. */
+    static class One extends Call {
+        private final int expected;
+        private final String what;
+        private Object told;
+        private int denial;
+
+        /**
+         * @param expected the kind of its reply
+         * @param what the request, for messages
+         */
+        One(Wire.Out text, int expected, String what) {
+            super(text, 1, 1);
+            this.expected = expected;
+            this.what = what;
+        }
+
+        @Override void reply(int request, int kind, Wire.In body) throws IOException {
+            if (kind == Wire.DENIED) {
+                denial = body.u1();
+            } else if (kind != expected) {
+                throw unlike(kind);
+            } else if (kind == Wire.RESULT) {
+                told = Outcome.read(body, what);
+            } else {
+                told = simple(kind, body);
+            }
+        }
+
+        /** What the reply told, once the call has ended; throws where it failed. */
+        Object answer() {
+            check();
+            if (denial != 0) {
+                throw Outcome.denied(denial, what);
+            }
+            return told;
+        }
+    }
+
+    /** The Long or null of a value, the Boolean of a flag, null of Done. */
+    private static Object simple(int kind, Wire.In body) throws IOException {
+        if (kind == Wire.FLAG) {
+            return body.flag();
+        }
+        Object value = kind == Wire.VALUE ? body.argument() : null;
+        if (value instanceof Integer) {
+            throw new IOException("a value that is an Integer");
+        }
+        return value;
+    }
+
+    /** An invocation. */
+    static class Invoke extends One {
+        Invoke(Wire.Out text, String what) {
+            super(text, Wire.RESULT, what);
+        }
+
+        /** What became of the run, once the call has ended; throws where the call failed. */
+        final Invocation invocation() {
+            return (Invocation) answer();
+        }
+    }
+
+    /**
+     * An invocation that no thread waits for. Its future is completed by the future's own executor, since what depends
+     * on it may wait for other calls.
+     */
+    static final class Async extends Invoke {
+        final CompletableFuture<Invocation> future = new CompletableFuture<>();
+
+        Async(Wire.Out text, String what) {
+            super(text, what);
+        }
+
+        @Override void ended() {
+            future.defaultExecutor().execute(this::complete);
+        }
+
+        private void complete() {
+            try {
+                future.complete(invocation());
+            } catch (RuntimeException e) {
+                future.completeExceptionally(e);
+            }
+        }
+    }
+
+    /** Takes the reply to one of many requests. */
+    interface Taker {
+        void take(int request, Object told);
+    }
+
+    /** Many puts, gets or removes. */
+    static final class Many extends Call {
+        private final int expected;
+        private final String what;
+        private final Taker taker;
+        private int denial;
+
+        Many(Wire.Out text, int count, int expected, String what, Taker taker) {
+            super(text, count, count);
+            this.expected = expected;
+            this.what = what;
+            this.taker = taker;
+        }
+
+        @Override void reply(int request, int kind, Wire.In body) throws IOException {
+            if (kind == Wire.DENIED) {
+                denial = body.u1();
+            } else if (kind != expected) {
+                throw unlike(kind);
+            } else {
+                taker.take(request, simple(kind, body));
+            }
+        }
+
+        /** Throws where the call failed, or a request of it was denied. */
+        void answer() {
+            check();
+            if (denial != 0) {
+                throw Outcome.denied(denial, "a request of " + what);
+            }
+        }
+    }
+
+    /** One invokeAll. */
+    static final class InvokeAll extends Call {
+        private final long[] keys;
+        private final String processor;
+        private final ObjLongConsumer<Invocation> taker;
+        private int denial;
+
+        InvokeAll(Wire.Out text, long[] keys, String processor, ObjLongConsumer<Invocation> taker) {
+            super(text, 1, keys.length);
+            this.keys = keys;
+            this.processor = processor;
+            this.taker = taker;
+        }
+
+        /** The results come in the order of the keys, and may leave some out. */
+        @Override void reply(int request, int kind, Wire.In body) throws IOException {
+            if (kind == Wire.DENIED) {
+                denial = body.u1();
+                return;
+            } else if (kind != Wire.RESULTS) {
+                throw unlike(kind);
+            }
+            int at = 0;
+            for (int count = body.u2(); count > 0; count--) {
+                long key = body.s8();
+                while (at < keys.length && keys[at] != key) {
+                    at++;
+                }
+                if (at == keys.length) {
+                    throw new IOException("a result of the key " + key + ", which wasn't asked for, or not there");
+                }
+                at++;
+                taker.accept(Outcome.read(body, processor), key);
+            }
+        }
+
+        void answer() {
+            check();
+            if (denial != 0) {
+                throw Outcome.denied(denial, processor);
+            }
+        }
+    }
+
+    /** The definition of a class. It is no job. */
+    static final class Define extends Call {
+        private final ProcessorFile file;
+        private int kind;
+        private int number;
+        private int detail;
+
+        Define(ProcessorFile file) {
+            super(new Wire.Out(file.bytes().length + 5).define(file.bytes()), 1, 0);
+            this.file = file;
+        }
+
+        @Override void reply(int request, int told, Wire.In body) throws IOException {
+            kind = told;
+            if (told == Wire.DEFINED) {
+                number = body.s4();
+                body.s8();
+            } else if (told == Wire.REFUSED) {
+                number = body.u1();
+                detail = body.s4();
+            } else if (told == Wire.DENIED) {
+                number = body.u1();
+            } else {
+                throw unlike(told);
+            }
+        }
+
+        /** The class's number on the stream; throws where it is refused or denied. */
+        int answer() {
+            check();
+            if (kind == Wire.REFUSED) {
+                List<String> places = Places.of(file.bytes(), number, detail);
+                throw new ProcessorRefusedException(file.type(), number, detail, places);
+            } else if (kind == Wire.DENIED) {
+                throw Outcome.denied(number, "the class " + file.type());
+            }
+            return number;
+        }
+    }
+}

@@ -1,0 +1,415 @@
+package jentry.jcache.stream;
+
+import java.io.IOException;
+import java.util.ArrayDeque;
+import java.util.ArrayList;
+import java.util.List;
+import java.util.concurrent.RejectedExecutionException;
+import java.util.concurrent.TimeUnit;
+import java.util.concurrent.locks.Condition;
+import java.util.concurrent.locks.LockSupport;
+import java.util.concurrent.locks.ReentrantLock;
+import jentry.jcache.CallNotSentException;
+import jentry.jcache.impl.Watch;
+
+/**
+ * One stream that many threads share. One round is out at most; the calls that come meanwhile gather for the next one.
+ * An idle line sends at once.
+ *
+ * <p>The callers themselves drive it: one that waits leads its round, that is, it reads the replies and deals them, and
+ * before it goes on it sends the next round and hands the lead to a caller of that. So the server works while the next
+ * leader is being woken. Calls that nobody waits for are led by a thread of the line.
+ *
+ * <p>A thread waits for its call's replies, so no round has two calls of one thread, and each thread's calls keep their
+ * order. An interrupted thread goes on waiting, and finds itself interrupted afterwards.
+ */
+final class Line implements Watch.Watched {
+    private static final long CLOSE_NANOS = TimeUnit.SECONDS.toNanos(5);
+
+    private final Transport transport;
+    private final Wire.In in;
+    private final int limit;
+    private final long timeoutNanos;
+
+    private final ReentrantLock lock = new ReentrantLock();
+    private final Condition room = lock.newCondition();
+    private final Condition idle = lock.newCondition();
+    private final ArrayDeque<Call> queue = new ArrayDeque<>();
+    private final Wire.Out round = new Wire.Out(1 << 12);
+
+    // Whether some thread has the lead, or is about to take it. Where none has, the queue is empty and no round is out.
+    private boolean led;
+    // The calls of the round that was sent, for who reads their replies; null where none was. It is the leader's alone.
+    private List<Call> sent;
+    private boolean ownLeads;
+    private boolean out;
+    private long since;
+    private String broken;
+    private Throwable cause;
+    private Thread own;
+    private long rounds;
+
+    /**
+     * @param limit the most calls that wait
+     * @param timeoutMillis how long a round may be out, 0 for ever
+     */
+    Line(Transport transport, int limit, long timeoutMillis) {
+        this.transport = transport;
+        this.limit = limit;
+        timeoutNanos = TimeUnit.MILLISECONDS.toNanos(timeoutMillis);
+        in = new Wire.In(transport);
+        if (timeoutMillis > 0) {
+            Watch.add(this);
+        }
+    }
+
+    /**
+     * Makes a call and waits for its end. Where too many calls wait, it waits for room first.
+     *
+     * @throws javax.cache.CacheException where the stream is broken, or breaks before the call has its replies
+     */
+    void make(Call call) {
+        call.waiter = Thread.currentThread();
+        boolean leads;
+        lock.lock();
+        try {
+            while (broken == null && queue.size() >= limit) {
+                room.awaitUninterruptibly();
+            }
+            open();
+            queue.add(call);
+            leads = !led;
+            led = true;
+        } finally {
+            lock.unlock();
+        }
+        if (leads) {
+            lead();
+        } else {
+            await(call);
+        }
+        call.check();
+    }
+
+    /** Waits for a call's end, and leads its round if it is told to. */
+    private void await(Call call) {
+        boolean interrupted = false;
+        while (call.state != Call.State.ENDED) {
+            if (call.state == Call.State.LEADS) {
+                lead();
+            } else {
+                LockSupport.park(this);
+                interrupted |= Thread.interrupted();
+            }
+        }
+        if (interrupted) {
+            Thread.currentThread().interrupt();
+        }
+    }
+
+    /**
+     * Hands a call in and returns; {@link Call#ended} tells its end.
+     *
+     * @throws RejectedExecutionException where too many calls wait
+     * @throws CallNotSentException where the stream is broken
+     */
+    void hand(Call call) {
+        lock.lock();
+        try {
+            open();
+            if (queue.size() >= limit) {
+                throw new RejectedExecutionException(limit + " calls wait for the server already");
+            }
+            queue.add(call);
+            if (!led) {
+                led = true;
+                wakeOwn();
+            }
+        } finally {
+            lock.unlock();
+        }
+    }
+
+    /** Under the lock. */
+    private void open() {
+        if (broken != null) {
+            throw new CallNotSentException(broken, cause);
+        }
+    }
+
+    /** Gives the lead to the thread of the line; under the lock. */
+    private void wakeOwn() {
+        ownLeads = true;
+        if (own == null) {
+            own = new Thread(this::leadOthers, "jentry-leader");
+            own.setDaemon(true);
+            own.start();
+        }
+        LockSupport.unpark(own);
+    }
+
+    /** Leads the rounds that have no call that a thread waits for. */
+    private void leadOthers() {
+        while (true) {
+            boolean mine;
+            lock.lock();
+            try {
+                mine = ownLeads;
+                ownLeads = false;
+                if (!mine && broken != null) {
+                    return;
+                }
+            } finally {
+                lock.unlock();
+            }
+            if (mine) {
+                lead();
+            } else {
+                LockSupport.park(this);
+            }
+        }
+    }
+
+    /**
+     * Reads the replies of the round that is out, or of one that it sends where none is. Then it sends the next round,
+     * which runs while another thread is woken to lead it, and tells the calls of its own round their end.
+     */
+    private void lead() {
+        if (sent == null && !send()) {
+            return;
+        }
+        List<Call> taken = sent;
+        sent = null;
+        try {
+            readReplies(taken);
+        } catch (IOException | RuntimeException e) {
+            fail(taken, e);
+            return;
+        } catch (Error e) {
+            fail(taken, e);
+            throw e;
+        }
+        try {
+            if (send()) {
+                handOn();
+            }
+        } finally {
+            tell(taken);
+        }
+    }
+
+    /**
+     * Sends what waits as the next round. Where nothing waits, or the line breaks, nobody has the lead any more; then
+     * the answer is false.
+     */
+    private boolean send() {
+        List<Call> taken = take();
+        if (taken.isEmpty()) {
+            return false;
+        }
+        try {
+            transport.write(round.bytes(), round.length());
+        } catch (IOException | RuntimeException e) {
+            fail(taken, e);
+            return false;
+        } catch (Error e) {
+            fail(taken, e);
+            throw e;
+        }
+        sent = taken;
+        return true;
+    }
+
+    /** Gives the lead to a thread that waits for a call of the round that was sent. */
+    private void handOn() {
+        for (Call call : sent) {
+            if (call.waiter != null) {
+                call.state = Call.State.LEADS;
+                LockSupport.unpark(call.waiter);
+                return;
+            }
+        }
+        lock.lock();
+        try {
+            wakeOwn();
+        } finally {
+            lock.unlock();
+        }
+    }
+
+    /** The calls of the next round, which is out from now on; none where none waits. */
+    private List<Call> take() {
+        List<Call> taken = new ArrayList<>();
+        lock.lock();
+        try {
+            int jobs = 0;
+            round.clear();
+            while (!queue.isEmpty() && jobs + queue.peek().jobs() <= Wire.MOST_JOBS) {
+                Call call = queue.poll();
+                jobs += call.jobs();
+                round.put(call.text());
+                taken.add(call);
+            }
+            out = !taken.isEmpty();
+            if (out) {
+                round.end();
+                room.signalAll();
+                since = System.nanoTime();
+                rounds++;
+            } else {
+                led = false;
+                idle.signalAll();
+            }
+        } finally {
+            lock.unlock();
+        }
+        return taken;
+    }
+
+    private void readReplies(List<Call> taken) throws IOException {
+        for (Call call : taken) {
+            for (int request = 0; request < call.requests(); request++) {
+                int kind = in.next();
+                if (kind == Wire.ENDED) {
+                    throw new IOException("a round ended before all of its replies");
+                }
+                call.reply(request, kind, in);
+            }
+        }
+        if (in.next() != Wire.ENDED) {
+            throw new IOException("a round has more replies than requests");
+        }
+    }
+
+    private static void tell(List<Call> ended) {
+        for (Call call : ended) {
+            call.ended();
+            Thread waiter = call.waiter;
+            call.state = Call.State.ENDED;
+            if (waiter != null && waiter != Thread.currentThread()) {
+                LockSupport.unpark(waiter);
+            }
+        }
+    }
+
+    /** The leader's round failed: so did its calls, and all that wait. */
+    private void fail(List<Call> taken, Throwable why) {
+        // Before the cut, which closes what the words come by.
+        String last = transport.lastWords();
+        transport.cut();
+        String what = "the stream to the server is broken" + (last.isEmpty() ? "" : " (" + last + ")");
+        List<Call> waited = breakLine(what, why);
+        lock.lock();
+        try {
+            for (Call call : taken) {
+                call.fail(broken, why, true);
+            }
+            out = false;
+            led = false;
+            idle.signalAll();
+        } finally {
+            lock.unlock();
+        }
+        tell(taken);
+        tell(waited);
+    }
+
+    /**
+     * From now on every call fails; answers the calls that waited, which are to be told so. The first reason is the one
+     * that stays.
+     */
+    private List<Call> breakLine(String what, Throwable why) {
+        lock.lock();
+        try {
+            if (broken == null) {
+                broken = what;
+                cause = why;
+            }
+            List<Call> waited = new ArrayList<>(queue);
+            queue.clear();
+            for (Call call : waited) {
+                call.fail(broken, cause, false);
+                call.state = Call.State.ENDED;
+            }
+            room.signalAll();
+            LockSupport.unpark(own);
+            return waited;
+        } finally {
+            lock.unlock();
+        }
+    }
+
+    /**
+     * Ends a stream whose round is out for too long.
+     *
+     * @param now the time by {@link System#nanoTime}
+     */
+    @Override public void watch(long now) {
+        long millis = TimeUnit.NANOSECONDS.toMillis(timeoutNanos);
+        String what = "the stream to the server is broken (a round took longer than " + millis + " ms)";
+        List<Call> waited;
+        lock.lock();
+        try {
+            if (!out || now - since <= timeoutNanos || broken != null) {
+                return;
+            }
+            waited = breakLine(what, null);
+        } finally {
+            lock.unlock();
+        }
+        transport.cut();
+        tell(waited);
+    }
+
+    @Override public long timeoutNanos() {
+        return timeoutNanos;
+    }
+
+    /** How many rounds were sent so far. */
+    long rounds() {
+        lock.lock();
+        try {
+            return rounds;
+        } finally {
+            lock.unlock();
+        }
+    }
+
+    /** How many calls wait for their round. */
+    int waiting() {
+        lock.lock();
+        try {
+            return queue.size();
+        } finally {
+            lock.unlock();
+        }
+    }
+
+    /** Ends the stream. Calls that wait fail; the round that is out has some seconds to come to its end. */
+    void close() throws IOException {
+        Watch.remove(this);
+        tell(breakLine("the cache is closed", null));
+        boolean over = awaitIdle();
+        if (over) {
+            transport.close();
+        } else {
+            transport.cut();
+        }
+    }
+
+    private boolean awaitIdle() {
+        lock.lock();
+        try {
+            long left = CLOSE_NANOS;
+            while (out && left > 0) {
+                left = idle.awaitNanos(left);
+            }
+            return !out;
+        } catch (InterruptedException e) {
+            Thread.currentThread().interrupt();
+            return false;
+        } finally {
+            lock.unlock();
+        }
+    }
+}

@@ -1,0 +1,38 @@
+package jentry.jcache.stream;
+
+import java.io.IOException;
+import javax.cache.CacheException;
+import jentry.jcache.impl.ProcessorFaults;
+import jentry.jcache.store.Invocation;
+
+/** What the server answers to one invocation: a result, an exception of the processor, or a denial. */
+final class Outcome {
+    private static final int RETURNED = 0, THREW = 1, DENIED = 2;
+    private static final String[] DENIALS =
+        {"", "UnknownClass", "JournalFull", "NoMemory", "TooManyClasses", "TooManyJobs"};
+
+    private Outcome() { }
+
+    /**
+     * Reads one.
+     *
+     * @param processor the name of the class, for messages
+     */
+    static Invocation read(Wire.In body, String processor) throws IOException {
+        int kind = body.u1();
+        if (kind == RETURNED) {
+            return Invocation.of(body.argument());
+        } else if (kind != THREW && kind != DENIED) {
+            throw new IOException("an outcome of kind " + kind);
+        }
+        int number = body.u1();
+        return kind == THREW ? Invocation.failed(() -> ProcessorFaults.of(number, processor))
+            : Invocation.failed(() -> denied(number, processor));
+    }
+
+    /** What is thrown where the server denies a request. */
+    static CacheException denied(int number, String what) {
+        String name = number > 0 && number < DENIALS.length ? DENIALS[number] : "denial";
+        return new CacheException(what + " is denied by the server: " + number + " " + name + "; it changed nothing");
+    }
+}
