@@ -159,7 +159,7 @@ class BrokenTest {
     }
 
     private static CacheManager child(String script, String... properties) throws IOException {
-        Path program = Files.createTempDirectory("jentry").resolve("program");
+        Path program = Temporary.folder().resolve("program");
         Files.writeString(program, "#!/bin/sh\n" + script + "\n");
         Files.setPosixFilePermissions(program, PosixFilePermissions.fromString("rwx------"));
         return Caching.getCachingProvider().getCacheManager(URI.create("jentry:" + program), null, StandIn.properties(properties));

@@ -41,6 +41,7 @@ class CacheTest extends OnServer {
     }
 
     @Test void bulkCallsOf1024And1025() {
+        assumeFalse(Server.isRedis());
         for (int count : new int[] {1, 1_023, 1_024, 1_025, 2_048}) {
             Map<Long, Long> entries = new HashMap<>();
             server.keys(0, count).forEach(key -> entries.put(key, (long) count));
@@ -56,6 +57,7 @@ class CacheTest extends OnServer {
     }
 
     @Test void eachSingleCallIsOneRoundOnceItsClassIsThere() {
+        assumeFalse(Server.isRedis());
         Executable[] calls = {() -> cache.put(k, 1L), () -> cache.get(k), () -> cache.containsKey(k), () -> cache.getAndPut(k, 2L), () -> cache.putIfAbsent(k, 2L),
             () -> cache.replace(k, 2L, 3L), () -> cache.replace(k, 4L), () -> cache.getAndReplace(k, 5L), () -> cache.remove(k, 6L), () -> cache.getAndRemove(k),
             () -> cache.remove(k), () -> cache.invoke(k, new Sample.Key())};

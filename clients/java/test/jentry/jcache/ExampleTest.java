@@ -26,7 +26,7 @@ class ExampleTest {
 
     /** The folder of the class files of an example. */
     private static Path compiled(String example) throws IOException, InterruptedException {
-        Path folder = Files.createTempDirectory("example");
+        Path folder = Temporary.folder();
         String source = Path.of(System.getProperty("jentry.examples"), example + ".java").toString();
         String api = JARS.split(":")[0];
         List<String> told = lines(new ProcessBuilder("javac", "--release", "8", "-Xlint:-options", "-cp", api, "-d", folder.toString(), source));

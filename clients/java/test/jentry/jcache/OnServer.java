@@ -1,6 +1,10 @@
 package jentry.jcache;
 
+import java.util.ArrayList;
+import java.util.List;
 import javax.cache.Cache;
+import javax.cache.CacheManager;
+import javax.cache.configuration.MutableConfiguration;
 import org.junit.jupiter.api.AfterEach;
 import org.junit.jupiter.api.BeforeEach;
 import org.junit.jupiter.api.Tag;
@@ -11,6 +15,7 @@ abstract class OnServer {
     Server server;
     Cache<Long, Long> cache;
     long k;
+    private final List<CacheManager> managers = new ArrayList<>();
 
     @BeforeEach void open() {
         server = new Server();
@@ -18,7 +23,16 @@ abstract class OnServer {
         k = server.key(1);
     }
 
+    /** Another cache on the server, by a manager with these properties: names and values in turn. */
+    Cache<Long, Long> create(MutableConfiguration<Long, Long> configuration, String... properties) {
+        CacheManager own = server.manager.getCachingProvider().getCacheManager(Server.AT, new ClassLoader() { },
+            StandIn.properties(properties));
+        managers.add(own);
+        return own.createCache("configured", configuration);
+    }
+
     @AfterEach void close() {
+        managers.forEach(CacheManager::close);
         server.close();
     }
 

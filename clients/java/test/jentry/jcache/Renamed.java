@@ -13,7 +13,7 @@ final class Renamed {
     private Renamed() { }
 
     static URLClassLoader loader() throws Exception {
-        Path folder = Files.createTempDirectory("renamed");
+        Path folder = Temporary.folder();
         Path source = Files.createDirectories(folder.resolve("src/jentry/jcache")).resolve("TopLevel.java");
         Path original = Path.of(System.getProperty("jentry.test8"), "jentry", "jcache", "TopLevel.java");
         Files.writeString(source, Files.readString(original).replace("return 6L", "return 60L"));

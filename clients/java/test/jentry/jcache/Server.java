@@ -19,6 +19,7 @@ final class Server implements AutoCloseable {
 
     final CacheManager manager;
     final Cache<Long, Long> cache;
+    private CacheManager second;
     private final long base = ThreadLocalRandom.current().nextLong() >> 24 << 24;
 
     Server() {
@@ -47,16 +48,20 @@ final class Server implements AutoCloseable {
         return keys;
     }
 
-    /** The same entries by another connection, where a front has them; else the cache itself. */
+    /** The same entries by another connection, where a front or Redis has them; else the cache itself. */
     Cache<Long, Long> other() {
         if (!isShared()) {
             return cache;
+        } else if (isRedis()) {
+            second = second == null ? secondManager() : second;
+            Cache<Long, Long> known = second.getCache("test", Long.class, Long.class);
+            return known == null ? second.createCache("test", types()) : known;
         }
         Cache<Long, Long> there = manager.getCache("other", Long.class, Long.class);
         return there == null ? manager.createCache("other", types()) : there;
     }
 
-    /** Whether the server is a front, whose entries others see. */
+    /** Whether others see the server's entries: it is a front, or Redis. */
     static boolean isShared() {
         return !AT.getScheme().equals("jentry");
     }
@@ -70,7 +75,15 @@ final class Server implements AutoCloseable {
         return cache.unwrap(JentryCache.class);
     }
 
+    /** Another manager of the same URI, which shares no connection with the first. */
+    private static CacheManager secondManager() {
+        return Caching.getCachingProvider().getCacheManager(AT, new ClassLoader() { });
+    }
+
     @Override public void close() {
         manager.close();
+        if (second != null) {
+            second.close();
+        }
     }
 }

@@ -15,7 +15,6 @@ import java.nio.ByteBuffer;
 import java.nio.channels.Channels;
 import java.nio.channels.ServerSocketChannel;
 import java.nio.channels.SocketChannel;
-import java.nio.file.Files;
 import java.nio.file.Path;
 import java.util.ArrayList;
 import java.util.List;
@@ -56,7 +55,7 @@ public final class StandIn implements AutoCloseable {
     }
 
     static StandIn unix(Script script) throws IOException {
-        Path path = Files.createTempDirectory("jentry").resolve("socket");
+        Path path = Temporary.folder().resolve("socket");
         ServerSocketChannel listener = ServerSocketChannel.open(StandardProtocolFamily.UNIX);
         listener.bind(UnixDomainSocketAddress.of(path));
         return new StandIn(listener, URI.create("jentry+unix:" + path), script);

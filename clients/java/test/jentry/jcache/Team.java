@@ -9,7 +9,8 @@ import java.util.List;
 
 /** Threads that do the same, and whose failures fail the test. */
 public final class Team {
-    static final long PATIENCE_MILLIS = 60_000;
+    /** How long a thread may take; more on a machine that has other work. */
+    static final long PATIENCE_MILLIS = Long.getLong("jentry.test.patience", 60_000);
 
     private final List<Thread> threads = new ArrayList<>();
     private final List<Throwable> wrong = Collections.synchronizedList(new ArrayList<>());

@@ -105,7 +105,7 @@ public final class ProcessorInvoker {
     @SuppressWarnings("unchecked")
     public <T> T invoke(long key, EntryProcessor<Long, Long, T> processor, Object[] arguments) {
         Way way = way(processor, arguments);
-        if (way.reason() == null) {
+        if (way.reason() == null && !isToLoadLazily(key)) {
             try {
                 return (T) there(key, way.file(), arguments);
             } catch (ProcessorRefusedException e) {
@@ -113,6 +113,14 @@ public final class ProcessorInvoker {
             }
         }
         return here(key, processor, arguments);
+    }
+
+    /**
+     * Whether the entry is absent and a loader has its value once the processor asks for it, which only a run in this
+     * JVM can do as JCache says. Without {@code jentry.local} the value is loaded before the run.
+     */
+    private boolean isToLoadLazily(long key) {
+        return at.isLocal && at.loader.isOnMiss() && !store.contains(key);
     }
 
     /** Whether a run has to be divided into a dry run and a commit: a writer or a policy has to be asked in between. */
@@ -233,7 +241,7 @@ public final class ProcessorInvoker {
         Object[] arguments) {
         Way way = way(processor, arguments);
         Map<Long, EntryProcessorResult<T>> results = new HashMap<>();
-        if (way.reason() == null && !isDivided()) {
+        if (way.reason() == null && !isDivided() && !(at.isLocal && at.loader.isOnMiss())) {
             try {
                 allThere(keys, way.file(), arguments, results);
                 return results;

@@ -64,7 +64,8 @@ final class KeyspaceEvents implements AutoCloseable {
                 + "); its notify-keyspace-events has to have " + wanted);
             return;
         }
-        String has = Replies.text(pair[1]).replace("A", "A$gx");
+        // A has all of these but n, which Redis 7.0 doesn't show beside A, whether it is set or not.
+        String has = Replies.text(pair[1]).replace("A", "A$gxn");
         StringBuilder lacks = new StringBuilder();
         wanted.chars().filter(it -> has.indexOf(it) < 0).forEach(it -> lacks.append((char) it));
         if (lacks.length() > 0) {

@@ -4,11 +4,16 @@ import java.util.ArrayList;
 import java.util.Arrays;
 import java.util.Iterator;
 import java.util.List;
+import java.util.Map;
+import java.util.Set;
 import java.util.concurrent.CompletableFuture;
+import java.util.concurrent.ConcurrentHashMap;
 import java.util.concurrent.atomic.AtomicLong;
+import java.util.function.IntConsumer;
 import java.util.function.ObjLongConsumer;
 import java.util.stream.LongStream;
 import javax.cache.CacheException;
+import jentry.jcache.CallNotSentException;
 import jentry.jcache.impl.BuiltIn;
 import jentry.jcache.impl.ProcessorFile;
 import jentry.jcache.store.Durations;
@@ -24,6 +29,7 @@ import jentry.jcache.store.Watcher;
 final class RedisStore implements Store {
     private final RedisCluster cluster;
     private final Keys keys;
+    private final Map<String, Set<ProcessorFile>> defined = new ConcurrentHashMap<>();
 
     /**
      * Makes one.
@@ -134,7 +140,7 @@ final class RedisStore implements Store {
     }
 
     private RedisBulk bulk(long[] all, boolean isRead, RedisBulk.Maker maker, RedisBulk.Taker taker,
-        java.util.function.IntConsumer single) {
+        IntConsumer single) {
         return new RedisBulk(cluster, LongStream.of(all).mapToInt(keys::slot).toArray(), isRead, maker, taker, single);
     }
 
@@ -165,8 +171,8 @@ final class RedisStore implements Store {
 
     @Override public void setAll(long[] all, long[] values, Durations durations) {
         bulk(all, false, (places, commands) -> {
-            if (durations.equals(Durations.NONE) || durations.created() == Durations.ETERNAL && isUniform(durations)
-                && durations.updated() == Durations.LEAVE) {
+            boolean isEternal = durations.created() == Durations.ETERNAL && isUniform(durations);
+            if (isEternal) {
                 List<Object> words = new ArrayList<>(List.of("MSET"));
                 places.forEach(i -> words.addAll(List.of(keys.name(all[i]), values[i])));
                 commands.add(words.toArray());
@@ -222,6 +228,14 @@ final class RedisStore implements Store {
     private void define(String node, ProcessorFile file) {
         Object[] replies = cluster.at(node, new Resp.Commands().add("JENTRY.DEFINE", file.bytes()));
         Replies.defined(replies[0], file);
+        defined.computeIfAbsent(node, it -> ConcurrentHashMap.newKeySet()).add(file);
+    }
+
+    /** Defines a class at a node that didn't get it from this store yet. The node may have forgotten it since. */
+    private void defineOnce(String node, ProcessorFile file) {
+        if (!defined.getOrDefault(node, Set.of()).contains(file)) {
+            define(node, file);
+        }
     }
 
     private static boolean isUndefined(Object reply) {
@@ -256,7 +270,7 @@ final class RedisStore implements Store {
         if (all.length == 0) {
             return;
         }
-        cluster.masters().forEach(node -> define(node, file));
+        cluster.masters().forEach(node -> defineOnce(node, file));
         bulk(all, false, (places, commands) -> places.forEach(i ->
             commands.add(applying(file, keys.name(all[i]), arguments, durations, "do"))),
             (places, replies) -> {
@@ -272,6 +286,7 @@ final class RedisStore implements Store {
         Durations durations) {
         Object[] words = applying(file, keys.name(key), arguments, durations, "do");
         CompletableFuture<Invocation> result = new CompletableFuture<>();
+        defineOnce(cluster.node(keys.slot(key)), file);
         cluster.submit(keys.slot(key), new Resp.Commands().add(words), result.defaultExecutor(), call -> {
             try {
                 result.complete(answered(call, file, key, words));
@@ -287,7 +302,7 @@ final class RedisStore implements Store {
         Object reply;
         try {
             reply = call.await()[0];
-        } catch (jentry.jcache.CallNotSentException e) {
+        } catch (CallNotSentException e) {
             return apply(file, key, words);
         }
         return isUndefined(reply) || RedisCluster.undone(reply) != null ? apply(file, key, words)

@@ -1,0 +1,173 @@
+package jentry.jcache.redis;
+
+import static org.junit.jupiter.api.Assertions.assertEquals;
+import static org.junit.jupiter.api.Assertions.assertFalse;
+import static org.junit.jupiter.api.Assertions.assertNull;
+import static org.junit.jupiter.api.Assertions.assertTrue;
+
+import java.util.List;
+import java.util.Map;
+import java.util.Set;
+import java.util.concurrent.CopyOnWriteArrayList;
+import java.util.concurrent.TimeUnit;
+import javax.cache.Cache;
+import javax.cache.CacheManager;
+import javax.cache.configuration.Factory;
+import javax.cache.expiry.AccessedExpiryPolicy;
+import javax.cache.expiry.CreatedExpiryPolicy;
+import javax.cache.expiry.Duration;
+import javax.cache.expiry.EternalExpiryPolicy;
+import javax.cache.expiry.ExpiryPolicy;
+import javax.cache.expiry.ModifiedExpiryPolicy;
+import javax.cache.expiry.TouchedExpiryPolicy;
+import jentry.jcache.Renewing;
+import org.junit.jupiter.api.BeforeEach;
+import org.junit.jupiter.api.Test;
+
+/**
+ * Times to live. What a call does to the time of an entry is read from Redis by PTTL, whose clock alone decides: the
+ * entry is given a time of half an hour first, a policy gives an hour.
+ */
+class ExpiryTest extends WithRedis {
+    private static final long HOUR = TimeUnit.HOURS.toMillis(1);
+    private static final long HALF = HOUR / 2;
+    private static final Duration TIME = Duration.ONE_HOUR;
+
+    private RedisServer server;
+    private CacheManager manager;
+
+    @BeforeEach void start() {
+        server = open(new RedisServer());
+        manager = manager(server);
+    }
+
+    private Cache<Long, Long> create(Factory<? extends ExpiryPolicy> policy) {
+        manager.destroyCache("timed");
+        return manager.createCache("timed", types().setExpiryPolicyFactory(policy));
+    }
+
+    /** What the time to live is: an hour, half of it, none, or no entry. */
+    private String time(long key) {
+        long left = (Long) server.ask("PTTL", "app:timed:" + key);
+        return left == -2 ? "gone" : left == -1 ? "eternal" : left > HALF ? "hour" : "half";
+    }
+
+    interface Work {
+        void on(Cache<Long, Long> cache);
+    }
+
+    /** The times behind a call on the key 1, which has the value 5 and half an hour, or on an absent one. */
+    private String behind(Cache<Long, Long> cache, boolean exists, Work work) {
+        server.ask("DEL", "app:timed:1");
+        if (exists) {
+            server.ask("SET", "app:timed:1", 5, "PX", HALF);
+        }
+        work.on(cache);
+        return time(1);
+    }
+
+    private static final Map<String, Work> CREATING = Map.of("put", it -> it.put(1L, 6L), "getAndPut", it -> it.getAndPut(1L, 6L),
+        "putIfAbsent", it -> it.putIfAbsent(1L, 6L), "putAll", it -> it.putAll(Map.of(1L, 6L)), "invoke", it -> it.invoke(1L, new Renewing.Add(), 1L),
+        "invokeAll", it -> it.invokeAll(Set.of(1L), new Renewing.Add(), 1L));
+    private static final Map<String, Work> UPDATING = Map.of("put", it -> it.put(1L, 6L), "getAndPut", it -> it.getAndPut(1L, 6L),
+        "putAll", it -> it.putAll(Map.of(1L, 6L)), "replace", it -> it.replace(1L, 6L), "getAndReplace", it -> it.getAndReplace(1L, 6L),
+        "replaceIf", it -> it.replace(1L, 5L, 6L), "the same value", it -> it.replace(1L, 5L, 5L),
+        "invoke", it -> it.invoke(1L, new Renewing.Add(), 1L), "invoke to the same value", it -> it.invoke(1L, new Renewing.Add(), 0L));
+    private static final Map<String, Work> ACCESSING = Map.of("get", it -> it.get(1L), "getAll", it -> it.getAll(Set.of(1L)),
+        "replaceIf another", it -> it.replace(1L, 4L, 6L), "removeIf another", it -> it.remove(1L, 4L),
+        "invoke", it -> it.invoke(1L, new Renewing.Read()), "iterator", it -> it.iterator().next());
+    private static final Map<String, Work> LEAVING = Map.of("containsKey", it -> it.containsKey(1L), "putIfAbsent", it -> it.putIfAbsent(1L, 6L));
+
+    private void allAre(String wanted, Cache<Long, Long> cache, boolean exists, Map<String, Work> works) {
+        works.forEach((name, work) -> assertEquals(wanted, behind(cache, exists, work), name));
+    }
+
+    private void times(Factory<? extends ExpiryPolicy> policy, String created, String updated, String accessed) {
+        Cache<Long, Long> cache = create(policy);
+        allAre(created, cache, false, CREATING);
+        allAre(updated, cache, true, UPDATING);
+        allAre(accessed, cache, true, ACCESSING);
+        allAre("half", cache, true, LEAVING);
+    }
+
+    @Test void eternal() {
+        times(EternalExpiryPolicy.factoryOf(), "eternal", "half", "half");
+    }
+
+    @Test void created() {
+        times(CreatedExpiryPolicy.factoryOf(TIME), "hour", "half", "half");
+    }
+
+    @Test void modified() {
+        times(ModifiedExpiryPolicy.factoryOf(TIME), "hour", "hour", "half");
+    }
+
+    @Test void accessed() {
+        times(AccessedExpiryPolicy.factoryOf(TIME), "hour", "half", "hour");
+    }
+
+    @Test void touched() {
+        times(TouchedExpiryPolicy.factoryOf(TIME), "hour", "hour", "hour");
+    }
+
+    /** A policy of the test's own, which notes which of its methods is asked. */
+    private static final class Own implements ExpiryPolicy {
+        final List<String> asked = new CopyOnWriteArrayList<>();
+
+        @Override public Duration getExpiryForCreation() {
+            asked.add("creation");
+            return TIME;
+        }
+
+        @Override public Duration getExpiryForUpdate() {
+            asked.add("update");
+            return TIME;
+        }
+
+        @Override public Duration getExpiryForAccess() {
+            asked.add("access");
+            return Duration.ETERNAL;
+        }
+    }
+
+    @Test void aPolicyOfOnesOwn() {
+        times(Own::new, "hour", "hour", "eternal");
+    }
+
+    @Test void ofAPolicyOfOnesOwnTheMethodThatCountsIsAskedAlone() {
+        Own own = new Own();
+        Cache<Long, Long> cache = create(() -> own);
+        Map.of("creation", CREATING, "update", UPDATING, "access", ACCESSING).forEach((method, works) -> works.forEach((name, work) -> {
+            own.asked.clear();
+            behind(cache, !method.equals("creation"), work);
+            assertEquals(List.of(method), own.asked, name);
+        }));
+        own.asked.clear();
+        allAre("half", cache, true, LEAVING);
+        cache.get(77L);
+        cache.remove(77L);
+        assertEquals(List.of(), own.asked);
+    }
+
+    @Test void zero() {
+        Cache<Long, Long> atOnce = create(CreatedExpiryPolicy.factoryOf(Duration.ZERO));
+        allAre("gone", atOnce, false, CREATING);
+        Cache<Long, Long> onAccess = create(AccessedExpiryPolicy.factoryOf(Duration.ZERO));
+        server.ask("SET", "app:timed:1", 5);
+        assertEquals(5L, onAccess.get(1L));
+        assertNull(onAccess.get(1L));
+    }
+
+    @Test void entriesExpireByTheServersClock() throws InterruptedException {
+        Cache<Long, Long> cache = create(TouchedExpiryPolicy.factoryOf(new Duration(TimeUnit.MILLISECONDS, 1_000)));
+        cache.put(1L, 1L);
+        cache.put(2L, 1L);
+        for (int i = 0; i < 8; i++) {
+            Thread.sleep(250);
+            cache.get(1L);
+        }
+        assertTrue(cache.containsKey(1L), "touched all the while");
+        assertFalse(cache.containsKey(2L), "not touched for two seconds");
+        RedisNodes.await(() -> !cache.containsKey(1L), "an entry that stays");
+    }
+}

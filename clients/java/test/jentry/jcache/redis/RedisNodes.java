@@ -1,0 +1,108 @@
+package jentry.jcache.redis;
+
+import static org.junit.jupiter.api.Assertions.assertTrue;
+
+import java.net.URI;
+import java.util.ArrayList;
+import java.util.List;
+import java.util.stream.Collectors;
+
+/** A cluster of a test's own: three masters, and a replica of each where that is wanted. */
+final class RedisNodes implements AutoCloseable {
+    private static final int MASTERS = 3;
+    private static final int SLOTS = 16_384;
+    private static final int PATIENCE_MILLIS = 60_000;
+
+    final List<RedisServer> all = new ArrayList<>();
+
+    RedisNodes(boolean hasReplicas) throws InterruptedException {
+        int count = hasReplicas ? 2 * MASTERS : MASTERS;
+        for (int i = 0; i < count; i++) {
+            all.add(new RedisServer("--cluster-enabled", "yes", "--cluster-config-file", "nodes", "--cluster-node-timeout",
+                "2000", "--notify-keyspace-events", "K$gxn"));
+        }
+        for (int i = 0; i < MASTERS; i++) {
+            master(i).ask("CLUSTER", "ADDSLOTSRANGE", first(i), first(i + 1) - 1);
+            master(i).ask("CLUSTER", "SET-CONFIG-EPOCH", i + 1);
+        }
+        for (int i = 1; i < count; i++) {
+            all.get(i).ask("CLUSTER", "MEET", "127.0.0.1", master(0).port);
+        }
+        await(() -> all.stream().allMatch(it -> known(it) == count), "nodes that don't know each other");
+        for (int i = MASTERS; i < count; i++) {
+            all.get(i).ask("CLUSTER", "REPLICATE", id(master(i - MASTERS)));
+        }
+        await(() -> all.stream().allMatch(it -> it.text("CLUSTER", "INFO").contains("cluster_state:ok")), "no cluster");
+        for (int i = MASTERS; i < count; i++) {
+            RedisServer replica = all.get(i);
+            await(() -> replica.text("INFO", "replication").contains("master_link_status:up"), "a replica without data");
+        }
+    }
+
+    private static int first(int master) {
+        return master * SLOTS / MASTERS;
+    }
+
+    RedisServer master(int i) {
+        return all.get(i);
+    }
+
+    private static int known(RedisServer node) {
+        return node.text("CLUSTER", "NODES").split("\n").length;
+    }
+
+    static String id(RedisServer node) {
+        return node.text("CLUSTER", "MYID");
+    }
+
+    interface Condition {
+        boolean holds() throws InterruptedException;
+    }
+
+    static void await(Condition condition, String otherwise) throws InterruptedException {
+        long end = System.nanoTime() + PATIENCE_MILLIS * 1_000_000L;
+        while (!condition.holds()) {
+            assertTrue(System.nanoTime() < end, otherwise);
+            Thread.sleep(20);
+        }
+    }
+
+    URI uri(String name) {
+        String nodes = all.stream().map(it -> "127.0.0.1:" + it.port).collect(Collectors.joining(","));
+        return URI.create("jentry+redis://" + nodes + "/" + name);
+    }
+
+    /** Begins to move a slot: its keys may be at either master. */
+    void beginMove(int slot, RedisServer from, RedisServer to) {
+        to.ask("CLUSTER", "SETSLOT", slot, "IMPORTING", id(from));
+        from.ask("CLUSTER", "SETSLOT", slot, "MIGRATING", id(to));
+    }
+
+    /** Moves some keys of a slot that is moving, at most so many. */
+    int moveKeys(int slot, RedisServer from, RedisServer to, int most) {
+        Object[] names = (Object[]) from.ask("CLUSTER", "GETKEYSINSLOT", slot, most);
+        if (names.length > 0) {
+            List<Object> words = new ArrayList<>(List.of("MIGRATE", "127.0.0.1", to.port, "", 0, 10_000, "KEYS"));
+            words.addAll(List.of(names));
+            assertTrue(String.valueOf(from.ask(words.toArray())).contains("OK"));
+        }
+        return names.length;
+    }
+
+    void endMove(int slot, RedisServer to) {
+        String owner = id(to);
+        to.ask("CLUSTER", "SETSLOT", slot, "NODE", owner);
+        all.forEach(it -> it.ask("CLUSTER", "SETSLOT", slot, "NODE", owner));
+    }
+
+    /** Moves a slot with all its keys. */
+    void move(int slot, RedisServer from, RedisServer to) {
+        beginMove(slot, from, to);
+        while (moveKeys(slot, from, to, 1_000) > 0) { }
+        endMove(slot, to);
+    }
+
+    @Override public void close() {
+        all.forEach(RedisServer::close);
+    }
+}

@@ -1,0 +1,25 @@
+package jentry.jcache;
+
+import javax.cache.processor.EntryProcessor;
+import javax.cache.processor.MutableEntry;
+
+/** Processors for tests of other packages; compiled with --release 8. */
+public final class Renewing {
+    private Renewing() { }
+
+    /** Adds its argument, and begins with it. */
+    public static final class Add implements EntryProcessor<Long, Long, Long> {
+        @Override public Long process(MutableEntry<Long, Long> entry, Object... arguments) {
+            long after = (entry.exists() ? entry.getValue() : 0) + (Long) arguments[0];
+            entry.setValue(after);
+            return after;
+        }
+    }
+
+    /** Answers the value. */
+    public static final class Read implements EntryProcessor<Long, Long, Object> {
+        @Override public Object process(MutableEntry<Long, Long> entry, Object... arguments) {
+            return entry.getValue();
+        }
+    }
+}
