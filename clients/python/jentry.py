@@ -36,7 +36,7 @@ REFUSALS = (None, "TooLarge", "Truncated", "BadMagic", "BadVersion", "BadPool", 
             "BadOperand", "BadTarget", "BackwardBranch", "BadStackMap", "TypeMismatch", "FallsOff", "UnknownMember", "Recursive",
             "LengthNotConstant", "StepLimit", "WordLimit", "FrameLimit", "NoMemory")
 EXCEPTIONS = (None, "ArithmeticException", "ArrayIndexOutOfBoundsException", "NullPointerException", "ClassCastException",
-              "IncompatibleClassChangeError")
+              "IncompatibleClassChangeError", "CacheLoaderException")
 DENIALS = (None, "UnknownClass", "JournalFull", "NoMemory", "TooManyClasses", "TooManyJobs")
 END = b"\0\0\0\1\x08"
 ENDED = b"\x09"
@@ -81,7 +81,7 @@ class Refused(Error):
 
 
 class ProcessorThrew(Error):
-    """A processor ended by a Java exception, which `number` and `name` tell. Its entry is as before."""
+    """A processor, or the server's loader in a get, ended by a Java exception, which `number` and `name` say. The entry is as before."""
 
     def __init__(self, number):
         self.number, self.name = number, _name(EXCEPTIONS, number)
@@ -140,7 +140,7 @@ def _results(text):
 
 
 # The kinds of reply to each kind of request, beside Denied.
-_REPLIES = {DEFINE: (DEFINED, REFUSED), PUT: (DONE,), GET: (VALUE,), REMOVE: (FLAG,), CONTAINS: (FLAG,), INVOKE: (RESULT,), INVOKE_ALL: (RESULTS,)}
+_REPLIES = {DEFINE: (DEFINED, REFUSED), PUT: (DONE,), GET: (VALUE, RESULT), REMOVE: (FLAG,), CONTAINS: (FLAG,), INVOKE: (RESULT,), INVOKE_ALL: (RESULTS,)}
 _READERS = {
     DEFINED: lambda text: (Class(*struct.unpack_from(">III", text, 1)), 13),
     REFUSED: lambda text: (Refused(*struct.unpack_from(">BI", text, 1)), 6),
@@ -161,6 +161,8 @@ def read_answer(request, text):
         told, end = _READERS[text[0]](text)
         if end != len(text):
             raise ValueError("another length")
+        if request == GET and text[0] == RESULT and not isinstance(told, ProcessorThrew):
+            raise ValueError("a result of a get that is no exception")
         return told
     except (ValueError, IndexError, struct.error) as e:
         raise StreamEnded(f"the server told what is no reply to the request ({e})") from e

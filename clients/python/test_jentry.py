@@ -345,7 +345,19 @@ class Answers(unittest.TestCase):
         self.assertIsNone(jentry.read_answer(jentry.GET, b"\4\0"))
         self.assertIsInstance(jentry.read_answer(jentry.GET, b"\x08\3"), jentry.Denied)
 
+    def test_a_get_whose_loader_failed(self):
+        told = jentry.read_answer(jentry.GET, b"\6\1\6")
+        self.assertIsInstance(told, jentry.ProcessorThrew)
+        self.assertEqual((told.number, told.name), (6, "CacheLoaderException"))
+        for text in (b"\6\0\0", b"\6\2\3", b"\6\1", b"\6\1\6\0"):
+            with self.subTest(text=text), self.assertRaises(jentry.StreamEnded):
+                jentry.read_answer(jentry.GET, text)
+        with self.assertRaises(jentry.StreamEnded):
+            jentry.read_answer(jentry.CONTAINS, b"\6\1\6")
+
     def test_names(self):
+        names = [jentry.ProcessorThrew(number).name for number in range(1, 8)]
+        self.assertEqual(names[4:], ["IncompatibleClassChangeError", "CacheLoaderException", "unknown"])
         self.assertEqual(str(jentry.Refused(17, 186)), "refused: 17 OutsideProfile opcode 186")
         self.assertEqual(str(jentry.Refused(22, 9)), "refused: 22 TypeMismatch at 9")
         self.assertEqual(str(jentry.Denied(77)), "denied: 77 unknown")

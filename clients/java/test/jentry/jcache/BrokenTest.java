@@ -369,6 +369,19 @@ class BrokenTest {
         }
     }
 
+    @Test void aGetWhoseLoaderFailed() throws IOException {
+        byte[] failed = StandIn.join(StandIn.frame(6, 1, 6), StandIn.END);
+        try (StandIn server = StandIn.unix((it, round, requests) -> round % 2 == 1 ? failed : it.right(requests))) {
+            Cache<Long, Long> cache = server.cache();
+            assertThrows(CacheLoaderException.class, () -> cache.get(1L));
+            cache.put(1L, 5L);
+            assertThrows(CacheLoaderException.class, () -> cache.getAll(Set.of(1L)));
+            assertEquals(5L, cache.get(1L));
+        }
+        breaks(0, StandIn.join(StandIn.frame(6, 0, 0), StandIn.END), "a result of a get that is no exception", it -> it.get(1L));
+        breaks(0, StandIn.join(StandIn.frame(6, 2, 3), StandIn.END), "a result of a get that is no exception", it -> it.get(1L));
+    }
+
     private static void tellsThrown(Class<?> cause, Executable call) {
         Throwable thrown = assertThrows(EntryProcessorException.class, call).getCause();
         assertEquals(cause, thrown.getClass());

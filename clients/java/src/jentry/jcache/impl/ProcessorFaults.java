@@ -19,6 +19,12 @@ public final class ProcessorFaults {
             : new EntryProcessorException(thrown);
     }
 
+    /** What {@code get} throws where the server's loader ended by an exception. */
+    public static CacheLoaderException ofLoader(int number) {
+        Throwable thrown = thrown(number, "in the server's loader");
+        return thrown instanceof CacheLoaderException ? (CacheLoaderException) thrown : new CacheLoaderException(thrown);
+    }
+
     /** The fifth one is an error in Java. */
     private static Throwable thrown(int number, String where) {
         switch (number) {

@@ -6,6 +6,7 @@ import java.util.concurrent.CompletableFuture;
 import java.util.function.ObjLongConsumer;
 import jentry.jcache.ProcessorRefusedException;
 import jentry.jcache.impl.Places;
+import jentry.jcache.impl.ProcessorFaults;
 import jentry.jcache.impl.ProcessorFile;
 import jentry.jcache.store.Invocation;
 
@@ -19,6 +20,7 @@ final class Calls {
         private final String what;
         private Object told;
         private int denial;
+        private int loaderFault;
 
         /**
          * @param expected the kind of its reply
@@ -33,6 +35,8 @@ final class Calls {
         @Override void reply(int request, int kind, Wire.In body) throws IOException {
             if (kind == Wire.DENIED) {
                 denial = body.u1();
+            } else if (isLoaderFault(kind, expected)) {
+                loaderFault = Outcome.readLoaderFault(body);
             } else if (kind != expected) {
                 throw unlike(kind);
             } else if (kind == Wire.RESULT) {
@@ -47,9 +51,16 @@ final class Calls {
             check();
             if (denial != 0) {
                 throw Outcome.denied(denial, what);
+            } else if (loaderFault != 0) {
+                throw ProcessorFaults.ofLoader(loaderFault);
             }
             return told;
         }
+    }
+
+    /** A get is answered by a result where the server's loader was asked and failed. */
+    private static boolean isLoaderFault(int kind, int expected) {
+        return kind == Wire.RESULT && expected == Wire.VALUE;
     }
 
     /** The Long or null of a value, the Boolean of a flag, null of Done. */
@@ -111,6 +122,7 @@ final class Calls {
         private final String what;
         private final Taker taker;
         private int denial;
+        private int loaderFault;
 
         Many(Wire.Out text, int count, int expected, String what, Taker taker) {
             super(text, count, count);
@@ -122,6 +134,8 @@ final class Calls {
         @Override void reply(int request, int kind, Wire.In body) throws IOException {
             if (kind == Wire.DENIED) {
                 denial = body.u1();
+            } else if (isLoaderFault(kind, expected)) {
+                loaderFault = Outcome.readLoaderFault(body);
             } else if (kind != expected) {
                 throw unlike(kind);
             } else {
@@ -134,6 +148,8 @@ final class Calls {
             check();
             if (denial != 0) {
                 throw Outcome.denied(denial, "a request of " + what);
+            } else if (loaderFault != 0) {
+                throw ProcessorFaults.ofLoader(loaderFault);
             }
         }
     }

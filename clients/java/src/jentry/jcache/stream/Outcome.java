@@ -30,6 +30,15 @@ final class Outcome {
             : Invocation.failed(() -> denied(number, processor));
     }
 
+    /** The number of the exception by which the server's loader ended in a get. */
+    static int readLoaderFault(Wire.In body) throws IOException {
+        int kind = body.u1();
+        if (kind != THREW) {
+            throw new IOException("a result of a get that is no exception, but of kind " + kind);
+        }
+        return body.u1();
+    }
+
     /** What is thrown where the server denies a request. */
     static CacheException denied(int number, String what) {
         String name = number > 0 && number < DENIALS.length ? DENIALS[number] : "denial";

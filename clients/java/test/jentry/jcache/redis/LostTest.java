@@ -27,6 +27,8 @@ import org.junit.jupiter.api.Test;
 
 /** What callers see where a server ends, pauses, has no module, or errs. */
 class LostTest extends WithRedis {
+    private static final int CALLS = 100;
+
     @Test void aServerThatIsNotThere() {
         try (CacheManager manager = RedisServer.manager(URI.create("jentry+redis://127.0.0.1:1/"))) {
             String message = assertThrows(CacheException.class, () -> manager.createCache("a", types())).getMessage();
@@ -46,7 +48,7 @@ class LostTest extends WithRedis {
         Cache<Long, Long> cache = cache(server);
         AtomicLong done = new AtomicLong(), unknown = new AtomicLong(), unsent = new AtomicLong();
         Team team = Team.of(8, t -> {
-            for (int i = 0; i < 300; i++) {
+            for (int i = 0; i < CALLS; i++) {
                 try {
                     cache.invoke(1L, new Renewing.Add(), 1L);
                     done.incrementAndGet();
@@ -58,12 +60,12 @@ class LostTest extends WithRedis {
                 }
             }
         });
-        RedisNodes.await(() -> done.get() > 100, "calls that aren't made");
+        RedisNodes.await(() -> done.get() > CALLS, "calls that aren't made");
         server.kill();
         server.start();
         team.join();
         long sum = cache.get(1L);
-        assertEquals(8 * 300, done.get() + unknown.get() + unsent.get());
+        assertEquals(8 * CALLS, done.get() + unknown.get() + unsent.get());
         assertTrue(done.get() <= sum && sum <= done.get() + unknown.get(), done + " done, " + unknown + " unknown, sum " + sum);
         assertTrue(unknown.get() <= 8, "one call of each thread was out");
     }

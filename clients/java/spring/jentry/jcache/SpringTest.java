@@ -1,0 +1,82 @@
+package jentry.jcache;
+
+import static org.junit.jupiter.api.Assertions.assertEquals;
+import static org.junit.jupiter.api.Assertions.assertNull;
+import static org.junit.jupiter.api.Assertions.assertSame;
+import static org.junit.jupiter.api.Assertions.assertThrows;
+import static org.junit.jupiter.api.Assertions.assertTrue;
+
+import java.util.List;
+import java.util.concurrent.atomic.AtomicInteger;
+import org.junit.jupiter.api.BeforeEach;
+import org.junit.jupiter.api.Test;
+import org.springframework.cache.Cache;
+import org.springframework.cache.jcache.JCacheCacheManager;
+
+/** Spring's cache abstraction on the provider: every method of its Cache, as a program calls them that knows Spring alone. */
+class SpringTest extends OnServer {
+    private Cache spring;
+    private javax.cache.Cache<Long, Long> made;
+
+    @BeforeEach void wrap() {
+        made = create(Server.types(), "jentry.local", "true");
+        JCacheCacheManager manager = new JCacheCacheManager(made.getCacheManager());
+        manager.setAllowNullValues(false);
+        manager.afterPropertiesSet();
+        assertEquals(List.of("configured"), List.copyOf(manager.getCacheNames()));
+        spring = manager.getCache("configured");
+        assertNull(manager.getCache("another"));
+    }
+
+    @Test void names() {
+        assertEquals("configured", spring.getName());
+        assertSame(made, spring.getNativeCache());
+    }
+
+    @Test void getAndPut() {
+        assertNull(spring.get(k));
+        spring.put(k, 49L);
+        assertEquals(49L, spring.get(k).get());
+        assertEquals(49L, spring.get(k, Long.class));
+        assertThrows(IllegalStateException.class, () -> spring.get(k, String.class));
+    }
+
+    @Test void getWithALoader() {
+        AtomicInteger loads = new AtomicInteger();
+        for (int i = 0; i < 3; i++) {
+            assertEquals(49L, spring.get(k, () -> {
+                loads.incrementAndGet();
+                return 49L;
+            }));
+        }
+        assertEquals(1, loads.get());
+        assertThrows(Cache.ValueRetrievalException.class, () -> spring.get(k + 1, () -> {
+            throw new IllegalStateException();
+        }));
+        assertNull(spring.get(k + 1));
+    }
+
+    @Test void putIfAbsentAndEvict() {
+        assertNull(spring.putIfAbsent(k, 1L));
+        assertEquals(1L, spring.putIfAbsent(k, 2L).get());
+        spring.evict(k);
+        assertNull(spring.get(k));
+    }
+
+    /** Spring's clear is JCache's removeAll(). */
+    @Test void clear() {
+        spring.put(k, 1L);
+        if (Server.isRedis()) {
+            spring.clear();
+            assertNull(spring.get(k));
+        } else {
+            String message = assertThrows(UnsupportedOperationException.class, spring::clear).getMessage();
+            assertTrue(message.contains("jentry+redis://"), message);
+        }
+    }
+
+    @Test void nullValuesAreRefused() {
+        assertThrows(IllegalArgumentException.class, () -> spring.put(k, null));
+        assertNull(spring.get(k));
+    }
+}
