@@ -1,4 +1,6 @@
+import java.net.InetSocketAddress;
 import java.net.StandardProtocolFamily;
+import java.net.StandardSocketOptions;
 import java.net.URI;
 import java.net.UnixDomainSocketAddress;
 import java.nio.ByteBuffer;
@@ -13,7 +15,8 @@ import javax.cache.configuration.MutableConfiguration;
 /**
  * How many calls a second the threads of one JVM make, each of which adds 1 to one of 1,024 keys.
  *
- * Load THREADS SECONDS jentry URI: by the provider. Load THREADS SECONDS incrby|script SOCKET: by Redis at a unix socket, with a connection for each thread.
+ * Load THREADS SECONDS jentry URI: by the provider. Load THREADS SECONDS incrby|script PLACE: by Redis at a unix socket or
+ * at HOST:PORT, with a connection for each thread.
  */
 public class Load {
     private static final int KEYS = 1024;
@@ -45,9 +48,20 @@ public class Load {
         return () -> key -> cache.invoke(key, adds, 1L);
     }
 
+    private static SocketChannel connect(String place) throws Exception {
+        int colon = place.indexOf(':');
+        if (colon < 0) {
+            SocketChannel line = SocketChannel.open(StandardProtocolFamily.UNIX);
+            line.connect(UnixDomainSocketAddress.of(place));
+            return line;
+        }
+        SocketChannel line = SocketChannel.open(new InetSocketAddress(place.substring(0, colon), Integer.parseInt(place.substring(colon + 1))));
+        line.setOption(StandardSocketOptions.TCP_NODELAY, true);
+        return line;
+    }
+
     private static Call redis(String socket, boolean byScript) throws Exception {
-        SocketChannel line = SocketChannel.open(StandardProtocolFamily.UNIX);
-        line.connect(UnixDomainSocketAddress.of(socket));
+        SocketChannel line = connect(socket);
         ByteBuffer in = ByteBuffer.allocate(1024);
         if (!byScript) {
             return key -> ask(line, in, "INCRBY", "k" + key, "1");

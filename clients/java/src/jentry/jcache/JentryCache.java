@@ -27,9 +27,10 @@ import jentry.jcache.store.Store;
 /**
  * A cache whose entries are in a server, for any number of threads. What JCache wants atomic is one step of the server.
  *
- * <p>Every method throws NullPointerException for a null, before anything is sent; IllegalStateException where the cache
- * is closed; {@link CallNotSentException} where the call didn't reach the server; {@link CallOutcomeUnknownException}
- * where it was sent and its reply didn't come; and CacheException where the server answers by an error.
+ * <p>Every method throws NullPointerException for a null, before anything is sent; IllegalStateException where the
+ * cache is closed; {@link CallNotSentException} where the call didn't reach the server; {@link
+ * CallOutcomeUnknownException} where it was sent and its reply didn't come; and CacheException where the server answers
+ * by an error.
  */
 public final class JentryCache implements Cache<Long, Long> {
     private static final Object[] NONE = {};
@@ -185,7 +186,8 @@ public final class JentryCache implements Cache<Long, Long> {
     }
 
     /** Loads entries in a thread of its own. Where there is no loader it only calls the listener's onCompletion. */
-    @Override public void loadAll(Set<? extends Long> keys, boolean replaceExistingValues, CompletionListener listener) {
+    @Override public void loadAll(Set<? extends Long> keys, boolean replaceExistingValues,
+        CompletionListener listener) {
         open();
         Set<Long> all = new HashSet<>();
         keys.forEach(key -> all.add(key(key)));
@@ -219,7 +221,8 @@ public final class JentryCache implements Cache<Long, Long> {
      * @throws java.util.concurrent.RejectedExecutionException where as many calls wait as may ({@code jentry.queue});
      *     then nothing is sent
      */
-    public <T> CompletableFuture<T> invokeAsync(Long key, EntryProcessor<Long, Long, T> processor, Object... arguments) {
+    public <T> CompletableFuture<T> invokeAsync(Long key, EntryProcessor<Long, Long, T> processor,
+        Object... arguments) {
         open();
         long at = key(key);
         Objects.requireNonNull(processor, "processor");

@@ -128,8 +128,9 @@ public final class JentryCacheManager implements CacheManager {
     }
 
     /**
-     * Closes the cache of that name, if there is one. On Redis its entries are deleted first, as JCache says: everyone's.
-     * The entries of a {@code jentry serve} that others use stay, since it can't answer which keys there are.
+     * Closes the cache of that name, if there is one. On Redis its entries are deleted first, as JCache says:
+     * everyone's. The entries of a {@code jentry serve} that others use stay, since it can't answer which keys there
+     * are.
      */
     @Override public void destroyCache(String name) {
         Cache<Long, Long> cache = find(name);

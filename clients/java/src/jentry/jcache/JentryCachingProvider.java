@@ -48,7 +48,9 @@ public final class JentryCachingProvider implements CachingProvider {
         return getClass().getClassLoader();
     }
 
-    /** What the system property {@code jentry.uri} says, else {@code jentry:default}: a child process for each cache. */
+    /**
+     * What the system property {@code jentry.uri} says, else {@code jentry:default}: a child process for each cache.
+     */
     @Override public URI getDefaultURI() {
         return DEFAULT;
     }

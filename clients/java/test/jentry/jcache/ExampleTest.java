@@ -52,6 +52,17 @@ class ExampleTest {
         assertEquals(10, source.stream().filter(line -> !line.isEmpty() && !line.startsWith("import ")).count());
     }
 
+    @Test void theProviderAsAModule() throws Exception {
+        String[] jars = JARS.split(":");
+        Path api = Temporary.folder().resolve("cache-api.jar");
+        Files.copy(Path.of(jars[0]), api);
+        List<String> told = lines(new ProcessBuilder("java", "-p", api + ":" + jars[1], "--add-modules", "jentry.jcache", "-cp",
+            compiled("Brief").toString(), "-Djentry.program=" + PROGRAM, "Brief"));
+        assertEquals(List.of("42 44 false", "status 0"), told);
+        told = lines(new ProcessBuilder("java", "-p", api + ":" + jars[1], "--describe-module", "jentry.jcache"));
+        assertEquals(List.of("exports jentry.jcache"), told.stream().filter(it -> it.startsWith("exports")).toList());
+    }
+
     @Test void theProgramIsFoundOnThePath() throws Exception {
         Path folder = compiled("Brief");
         Files.createSymbolicLink(folder.resolve("jentry"), Path.of(PROGRAM));

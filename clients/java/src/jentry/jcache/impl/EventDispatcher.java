@@ -19,8 +19,8 @@ import javax.cache.event.CacheEntryUpdatedListener;
 import javax.cache.event.EventType;
 
 /**
- * The listeners of a cache. Synchronous ones run in the thread that made the change; the others run in one thread of the
- * cache, one event after the other. What a synchronous listener throws goes to the caller of the cache, behind the
+ * The listeners of a cache. Synchronous ones run in the thread that made the change; the others run in one thread of
+ * the cache, one event after the other. What a synchronous listener throws goes to the caller of the cache, behind the
  * change and behind the other listeners; what another one throws is logged.
  */
 final class EventDispatcher {
@@ -63,7 +63,8 @@ final class EventDispatcher {
             throw new IllegalArgumentException("the listener is registered already");
         }
         var filters = by.getCacheEntryEventFilterFactory();
-        all.add(new Registered(by, by.getCacheEntryListenerFactory().create(), filters == null ? null : filters.create()));
+        all.add(new Registered(by, by.getCacheEntryListenerFactory().create(),
+            filters == null ? null : filters.create()));
     }
 
     synchronized void remove(CacheEntryListenerConfiguration<Long, Long> by) {
@@ -137,7 +138,8 @@ final class EventDispatcher {
         try {
             run(to, event);
         } catch (CacheEntryListenerException e) {
-            LOG.log(System.Logger.Level.WARNING, "a listener threw at " + event.getEventType() + " of " + event.getKey(), e);
+            LOG.log(System.Logger.Level.WARNING,
+                "a listener threw at " + event.getEventType() + " of " + event.getKey(), e);
         }
     }
 

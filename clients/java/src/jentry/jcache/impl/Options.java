@@ -129,14 +129,16 @@ public final class Options {
         } catch (NumberFormatException e) {
             // The message below is that of a number out of its limits.
         }
-        throw new CacheException("the property " + name + " is a number from " + least + " to " + most + ", not " + text);
+        throw new CacheException(
+            "the property " + name + " is a number from " + least + " to " + most + ", not " + text);
     }
 
     private int one(String name, String... values) {
         String text = text(name);
         int at = text == null ? 0 : List.of(values).indexOf(text);
         if (at < 0) {
-            throw new CacheException("the property " + name + " is one of " + String.join(", ", values) + ", not " + text);
+            throw new CacheException(
+                "the property " + name + " is one of " + String.join(", ", values) + ", not " + text);
         }
         return at;
     }

@@ -22,7 +22,8 @@ public final class ProcessorFaults {
     /** What {@code get} throws where the server's loader ended by an exception. */
     public static CacheLoaderException ofLoader(int number) {
         Throwable thrown = thrown(number, "in the server's loader");
-        return thrown instanceof CacheLoaderException ? (CacheLoaderException) thrown : new CacheLoaderException(thrown);
+        return thrown instanceof CacheLoaderException ? (CacheLoaderException) thrown
+            : new CacheLoaderException(thrown);
     }
 
     /** The fifth one is an error in Java. */

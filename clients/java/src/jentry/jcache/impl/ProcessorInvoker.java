@@ -21,8 +21,8 @@ import jentry.jcache.store.Store;
 
 /**
  * Runs processors: at the server, where it takes them; else, where {@code jentry.local} is true, in this JVM. A run in
- * this JVM reads the entry, runs the processor and commits by a compare-and-set; where the entry is another one by then,
- * the processor runs again.
+ * this JVM reads the entry, runs the processor and commits by a compare-and-set; where the entry is another one by
+ * then, the processor runs again.
  */
 public final class ProcessorInvoker {
     private static final System.Logger LOG = System.getLogger("jentry.jcache");
@@ -61,7 +61,8 @@ public final class ProcessorInvoker {
     private Way way(EntryProcessor<?, ?, ?> processor, Object[] arguments) {
         RuntimeException reason = unsendable(arguments);
         if (reason == null && at.writer.isThere() && !store.hasDetail()) {
-            reason = new CacheException("the cache has a writer, which is asked before a change: the server can't do that");
+            reason = new CacheException(
+                "the cache has a writer, which is asked before a change: the server can't do that");
         }
         ProcessorFile file = null;
         if (reason == null) {
@@ -223,8 +224,8 @@ public final class ProcessorInvoker {
     private <T> T process(EntryProcessor<Long, Long, T> processor, LocalEntry entry, Object[] arguments) {
         String type = processor.getClass().getName();
         localRuns.computeIfAbsent(type, it -> {
-            LOG.log(System.Logger.Level.INFO, "the processor " + type + " runs in this JVM, not verified, for the cache "
-                + at.cache.getName() + " (jentry.local)");
+            LOG.log(System.Logger.Level.INFO, "the processor " + type
+                + " runs in this JVM, not verified, for the cache " + at.cache.getName() + " (jentry.local)");
             return new LongAdder();
         }).increment();
         try {

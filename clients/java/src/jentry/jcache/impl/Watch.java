@@ -4,7 +4,9 @@ import java.util.LinkedHashSet;
 import java.util.Set;
 import java.util.concurrent.TimeUnit;
 
-/** The one thread of the JVM that looks after calls that take too long. It is there while there is something to watch. */
+/**
+ * The one thread of the JVM that looks after calls that take too long. It is there while there is something to watch.
+ */
 public final class Watch {
     private static final long LEAST_MILLIS = 5;
     private static final long MOST_MILLIS = 1_000;

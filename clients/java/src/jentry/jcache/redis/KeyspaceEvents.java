@@ -17,7 +17,8 @@ import jentry.jcache.store.Watcher;
 final class KeyspaceEvents implements AutoCloseable {
     private static final System.Logger LOG = System.getLogger("jentry.jcache");
     private static final long PAUSE_MILLIS = 500;
-    private static final Set<String> SETS = Set.of("set", "incrby", "append", "setrange", "restore", "rename_to", "copy_to");
+    private static final Set<String> SETS =
+        Set.of("set", "incrby", "append", "setrange", "restore", "rename_to", "copy_to");
     private static final Set<String> DELETES = Set.of("del", "rename_from", "move_from");
 
     private final RedisCluster cluster;
@@ -113,7 +114,8 @@ final class KeyspaceEvents implements AutoCloseable {
             }
             socket.close();
             if (!isOver) {
-                LOG.log(System.Logger.Level.WARNING, "the events of " + node + " are lost until it is connected again", e);
+                LOG.log(System.Logger.Level.WARNING,
+                    "the events of " + node + " are lost until it is connected again", e);
             }
         }
     }

@@ -228,9 +228,9 @@ final class RedisCluster {
     record Answer(String node, Object[] replies) { }
 
     /**
-     * Sends a command on one key, or commands on it between MULTI and EXEC, to the node of the slot. What did nothing is
-     * sent again: what a node redirects or can't do yet, and what couldn't be sent. A read whose reply didn't come is
-     * sent once more.
+     * Sends a command on one key, or commands on it between MULTI and EXEC, to the node of the slot. What did nothing
+     * is sent again: what a node redirects or can't do yet, and what couldn't be sent. A read whose reply didn't come
+     * is sent once more.
      */
     Answer make(int slot, Resp.Commands commands, boolean isRead) {
         String node = node(slot);

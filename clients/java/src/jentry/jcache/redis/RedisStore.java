@@ -23,8 +23,8 @@ import jentry.jcache.store.Store;
 import jentry.jcache.store.Watcher;
 
 /**
- * The entries of a cache in Redis: the entry of a key is the string at PREFIX:KEY, in decimal digits. Each method on one
- * key is one command of Redis, or two between MULTI and EXEC; times to live pass by the server's clock.
+ * The entries of a cache in Redis: the entry of a key is the string at PREFIX:KEY, in decimal digits. Each method on
+ * one key is one command of Redis, or two between MULTI and EXEC; times to live pass by the server's clock.
  */
 final class RedisStore implements Store {
     private final RedisCluster cluster;
@@ -189,7 +189,8 @@ final class RedisStore implements Store {
         }, i -> set(all[i], values[i], When.ALWAYS, durations, false)).run();
     }
 
-    private void addInTwo(List<Integer> places, Resp.Commands commands, long[] all, long[] values, Durations durations) {
+    private void addInTwo(List<Integer> places, Resp.Commands commands, long[] all, long[] values,
+        Durations durations) {
         commands.add("MULTI");
         places.forEach(i -> {
             commands.add(setting(keys.name(all[i]), values[i], durations.updated(), "XX"));

@@ -45,7 +45,8 @@ public final class StreamStore implements Store {
     }
 
     private static UnsupportedOperationException lacks(String what, String why) {
-        return new UnsupportedOperationException(what + ": " + why + "; a cache in Redis has it (jentry+redis://HOST:PORT)");
+        return new UnsupportedOperationException(
+            what + ": " + why + "; a cache in Redis has it (jentry+redis://HOST:PORT)");
     }
 
     private static byte[] arguments(Object... arguments) {

@@ -5,6 +5,7 @@ import static org.junit.jupiter.api.Assertions.assertFalse;
 import static org.junit.jupiter.api.Assertions.assertNull;
 import static org.junit.jupiter.api.Assertions.assertTrue;
 
+import java.util.HashMap;
 import java.util.List;
 import java.util.Map;
 import java.util.Set;
@@ -90,8 +91,16 @@ class ExpiryTest extends WithRedis {
         allAre("half", cache, true, LEAVING);
     }
 
+    /** putAll of a cache whose entries never expire is an MSET, which ends a time to live that others gave. */
     @Test void eternal() {
-        times(EternalExpiryPolicy.factoryOf(), "eternal", "half", "half");
+        Cache<Long, Long> cache = create(EternalExpiryPolicy.factoryOf());
+        allAre("eternal", cache, false, CREATING);
+        Map<String, Work> single = new HashMap<>(UPDATING);
+        single.remove("putAll");
+        allAre("half", cache, true, single);
+        assertEquals("eternal", behind(cache, true, UPDATING.get("putAll")));
+        allAre("half", cache, true, ACCESSING);
+        allAre("half", cache, true, LEAVING);
     }
 
     @Test void created() {
