@@ -65,11 +65,11 @@ class ListenerTest extends OnServer {
     @Test void processors() {
         Heard it = listen(true, true);
         cache.invoke(k, new Sample.Add(), 4L);
-        cache.invoke(k, new Sample.Add(), 0L);
+        cache.invoke(k, new Sample.Add(), 2L);
         cache.invoke(k, new Sample.Value());
         cache.invoke(k, new Sample.Removes());
         cache.invoke(k, new Sample.Removes());
-        assertEquals(Server.isRedis() ? List.of("CREATED 0 4 null", "UPDATED 0 4 4", "REMOVED 0 4 4") : List.of(), it.all);
+        assertEquals(Server.isRedis() ? List.of("CREATED 0 4 null", "UPDATED 0 6 4", "REMOVED 0 6 6") : List.of(), it.all);
     }
 
     @Test void runsInThisJvm() {

@@ -114,7 +114,7 @@ class StatisticsTest extends OnServer {
     /** The reply of jentry serve to an invocation has no effect and no entry before, so nothing is counted there. */
     @Test void processors() {
         counted.invoke(k, new Sample.Add(), 1L);
-        counted.invoke(k, new Sample.Add(), 0L);
+        counted.invoke(k, new Sample.Add(), 2L);
         counted.invoke(k, new Sample.Exists());
         counted.invoke(k + 1, new Sample.Exists());
         counted.invoke(k, new Sample.Removes());

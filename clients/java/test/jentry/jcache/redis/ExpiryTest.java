@@ -73,8 +73,8 @@ class ExpiryTest extends WithRedis {
     private static final Map<String, Work> UPDATING = Map.of("put", it -> it.put(1L, 6L), "getAndPut", it -> it.getAndPut(1L, 6L),
         "putAll", it -> it.putAll(Map.of(1L, 6L)), "replace", it -> it.replace(1L, 6L), "getAndReplace", it -> it.getAndReplace(1L, 6L),
         "replaceIf", it -> it.replace(1L, 5L, 6L), "the same value", it -> it.replace(1L, 5L, 5L),
-        "invoke", it -> it.invoke(1L, new Renewing.Add(), 1L), "invoke to the same value", it -> it.invoke(1L, new Renewing.Add(), 0L));
-    private static final Map<String, Work> ACCESSING = Map.of("get", it -> it.get(1L), "getAll", it -> it.getAll(Set.of(1L)),
+        "invoke", it -> it.invoke(1L, new Renewing.Add(), 1L));
+    private static final Map<String, Work> ACCESSING = Map.of("replaceIf another by itself", it -> it.replace(1L, 4L, 4L), "get", it -> it.get(1L), "getAll", it -> it.getAll(Set.of(1L)),
         "replaceIf another", it -> it.replace(1L, 4L, 6L), "removeIf another", it -> it.remove(1L, 4L),
         "invoke", it -> it.invoke(1L, new Renewing.Read()), "iterator", it -> it.iterator().next());
     private static final Map<String, Work> LEAVING = Map.of("containsKey", it -> it.containsKey(1L), "putIfAbsent", it -> it.putIfAbsent(1L, 6L));

@@ -74,7 +74,7 @@ class LostTest extends WithRedis {
         RedisServer server = open(new RedisServer());
         Cache<Long, Long> cache = cache(server, "jentry.timeout", "300");
         cache.put(1L, 1L);
-        server.ask("CLIENT", "PAUSE", 100_000);
+        server.ask("CLIENT", "PAUSE", 100_000, "WRITE");
         CallOutcomeUnknownException e = assertThrows(CallOutcomeUnknownException.class, () -> cache.put(1L, 2L));
         assertTrue(e.getMessage().contains("no reply within 300 ms"), e.getMessage());
         server.ask("CLIENT", "UNPAUSE");
@@ -115,7 +115,7 @@ class LostTest extends WithRedis {
         RedisServer server = open(new RedisServer());
         JentryCache cache = cache(server, "jentry.queue", "50").unwrap(JentryCache.class);
         cache.invoke(1L, new Renewing.Add(), 0L);
-        server.ask("CLIENT", "PAUSE", 100_000);
+        server.ask("CLIENT", "PAUSE", 100_000, "WRITE");
         List<CompletableFuture<Long>> all = new java.util.ArrayList<>();
         for (int i = 0; i < 50; i++) {
             all.add(cache.invokeAsync(1L, new Renewing.Add(), 1L));

@@ -11,7 +11,8 @@ import java.util.stream.Collectors;
 final class RedisNodes implements AutoCloseable {
     private static final int MASTERS = 3;
     private static final int SLOTS = 16_384;
-    private static final int PATIENCE_MILLIS = 60_000;
+    private static final long PATIENCE_MILLIS = Long.getLong("jentry.test.patience", 60_000);
+    private static final String NODE_TIMEOUT = System.getProperty("jentry.test.node", "2000");
 
     final List<RedisServer> all = new ArrayList<>();
 
@@ -19,7 +20,7 @@ final class RedisNodes implements AutoCloseable {
         int count = hasReplicas ? 2 * MASTERS : MASTERS;
         for (int i = 0; i < count; i++) {
             all.add(new RedisServer("--cluster-enabled", "yes", "--cluster-config-file", "nodes", "--cluster-node-timeout",
-                "2000", "--notify-keyspace-events", "K$gxn"));
+                NODE_TIMEOUT, "--notify-keyspace-events", "K$gxn"));
         }
         for (int i = 0; i < MASTERS; i++) {
             master(i).ask("CLUSTER", "ADDSLOTSRANGE", first(i), first(i + 1) - 1);
