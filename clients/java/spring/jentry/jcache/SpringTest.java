@@ -76,7 +76,7 @@ class SpringTest extends OnServer {
     }
 
     @Test void nullValuesAreRefused() {
-        assertThrows(IllegalArgumentException.class, () -> spring.put(k, null));
+        assertThrows(NullPointerException.class, () -> spring.put(k, null));
         assertNull(spring.get(k));
     }
 }

@@ -52,6 +52,10 @@ class ExampleTest {
         assertEquals(10, source.stream().filter(line -> !line.isEmpty() && !line.startsWith("import ")).count());
     }
 
+    @Test void theDefaultUriIsASystemProperty() throws Exception {
+        assertEquals(List.of("42 44 false", "status 0"), lines(java(compiled("Brief"), "-Djentry.uri=jentry:" + PROGRAM, "Brief")));
+    }
+
     @Test void theProviderAsAModule() throws Exception {
         String[] jars = JARS.split(":");
         Path api = Temporary.folder().resolve("cache-api.jar");

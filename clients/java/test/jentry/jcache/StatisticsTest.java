@@ -183,6 +183,13 @@ class StatisticsTest extends OnServer {
         assertFalse(BEANS.isRegistered(name("CacheConfiguration", cache)));
     }
 
+    @Test void aCacheOfTheSameNameByAnotherManagerTakesNoBeanAway() throws JMException {
+        Cache<Long, Long> second = create(Server.types().setStatisticsEnabled(true));
+        second.close();
+        counted.get(k);
+        counts(0, 1, 0, 0);
+    }
+
     private Set<ObjectName> beans() throws JMException {
         return BEANS.queryNames(new ObjectName("javax.cache:*,Cache=test"), null);
     }

@@ -39,6 +39,13 @@ class UriTest extends OnServer {
             assertTrue(cannot("jentry:/a", name, "x").contains(name + " is a number from"), name);
         }
         assertTrue(cannot("jentry:/a", "jentry.queue", "0").contains("from 1"));
+        for (String uri : List.of("jentry+redis:host", "jentry+redis:///a", "jentry+redis://a:1,:2", "jentry+redis://a:x", "jentry+redis://a?b")) {
+            assertTrue(cannot(uri).contains("jentry+redis://HOST:PORT[,HOST:PORT ..][/NAME]"), uri);
+        }
+        assertTrue(cannot("jentry+redis://a", "jentry.workers", "1").contains("jentry.workers"));
+        assertTrue(cannot("jentry:/a", "jentry.events", "server").contains("jentry.events"));
+        assertTrue(cannot("jentry+redis://a", "jentry.events", "all").contains("is one of local, expired, server, not all"));
+        assertTrue(cannot("jentry+redis://a", "jentry.local", "yes").contains("is one of false, true, not yes"));
     }
 
     @Test void propertiesOfAChild() {

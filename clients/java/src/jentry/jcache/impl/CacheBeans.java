@@ -1,6 +1,8 @@
 package jentry.jcache.impl;
 
 import java.lang.management.ManagementFactory;
+import java.util.HashSet;
+import java.util.Set;
 import javax.cache.Cache;
 import javax.cache.CacheException;
 import javax.cache.CacheManager;
@@ -10,9 +12,17 @@ import javax.management.JMException;
 import javax.management.MBeanServer;
 import javax.management.ObjectName;
 
-/** A cache's beans in the JVM's MBean server, under the names that JCache gives them. */
+/**
+ * A cache's beans in the JVM's MBean server, under the names that JCache gives them. Two caches of one name by managers
+ * of one URI have the same names: the first that registers a bean has it.
+ */
 final class CacheBeans {
-    private CacheBeans() { }
+    private final Cache<?, ?> cache;
+    private final Set<String> registered = new HashSet<>();
+
+    CacheBeans(Cache<?, ?> cache) {
+        this.cache = cache;
+    }
 
     /** The configuration of a cache, as it is at the moment of the call. */
     public record Configured(CompleteConfiguration<?, ?> of) implements CacheMXBean {
@@ -45,7 +55,7 @@ final class CacheBeans {
         }
     }
 
-    private static ObjectName name(String type, Cache<?, ?> cache) throws JMException {
+    private ObjectName name(String type) throws JMException {
         CacheManager manager = cache.getCacheManager();
         return new ObjectName("javax.cache:type=" + type + ",CacheManager=" + clean(manager.getURI().toString())
             + ",Cache=" + clean(cache.getName()));
@@ -56,14 +66,15 @@ final class CacheBeans {
         return text.replaceAll("[,:=\r\n*?\"]", ".");
     }
 
-    /** Registers the bean of a cache where it is wanted, else removes it. */
-    static void set(String type, Cache<?, ?> cache, Object bean, boolean wanted) {
+    /** Registers a bean where it is wanted, else removes it. */
+    synchronized void set(String type, Object bean, boolean wanted) {
         try {
             MBeanServer server = ManagementFactory.getPlatformMBeanServer();
-            ObjectName name = name(type, cache);
+            ObjectName name = name(type);
             if (wanted && !server.isRegistered(name)) {
                 server.registerMBean(bean, name);
-            } else if (!wanted && server.isRegistered(name)) {
+                registered.add(type);
+            } else if (!wanted && registered.remove(type)) {
                 server.unregisterMBean(name);
             }
         } catch (JMException e) {

@@ -20,6 +20,7 @@ public final class CacheContext {
     final CacheStatistics statistics = new CacheStatistics();
     final EventDispatcher events;
     final KeyLocks locks = new KeyLocks();
+    private final CacheBeans beans;
     private final AutoCloseable watching;
 
     /**
@@ -30,6 +31,7 @@ public final class CacheContext {
     public CacheContext(Cache<Long, Long> cache, MutableConfiguration<Long, Long> configuration, Store store,
         Options options) {
         this.cache = cache;
+        beans = new CacheBeans(cache);
         this.store = store;
         this.configuration = configuration;
         isLocal = options.isLocal();
@@ -52,13 +54,13 @@ public final class CacheContext {
     public void enableStatistics(boolean wanted) {
         configuration.setStatisticsEnabled(wanted);
         statistics.enable(wanted);
-        CacheBeans.set("CacheStatistics", cache, statistics, wanted);
+        beans.set("CacheStatistics", statistics, wanted);
     }
 
     /** Registers or removes the bean of the configuration. */
     public void enableManagement(boolean wanted) {
         configuration.setManagementEnabled(wanted);
-        CacheBeans.set("CacheConfiguration", cache, new CacheBeans.Configured(configuration), wanted);
+        beans.set("CacheConfiguration", new CacheBeans.Configured(configuration), wanted);
     }
 
     /** Adds a listener. */

@@ -79,6 +79,27 @@ class KeysTest extends WithRedis {
         assertEquals(numbers(3_000), entries(cache));
     }
 
+    @Test void entriesStayWhereTheManagerIsClosedAndGoWithDestroyCache() {
+        RedisServer server = open(new RedisServer());
+        try (CacheManager first = server.manager("app")) {
+            first.createCache("test", types()).put(1L, 5L);
+        }
+        CacheManager second = manager(server);
+        Cache<Long, Long> again = second.createCache("test", types());
+        assertEquals(5L, again.get(1L));
+        second.destroyCache("test");
+        assertTrue(again.isClosed());
+        assertEquals(0L, server.ask("DBSIZE"));
+    }
+
+    @Test void withoutANameTheKeysBeginWithTheCache() {
+        RedisServer server = open(new RedisServer());
+        Cache<Long, Long> cache = open(RedisServer.manager(java.net.URI.create("jentry+redis://127.0.0.1:" + server.port)))
+            .createCache("test", types());
+        cache.put(-7L, 5L);
+        assertEquals("5", server.text("GET", "test:-7"));
+    }
+
     @Test void othersKeysStay() {
         RedisServer server = open(new RedisServer());
         Cache<Long, Long> cache = cache(server);
