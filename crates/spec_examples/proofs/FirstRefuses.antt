@@ -1,6 +1,6 @@
 -- The first profile refuses the small class with a switch, and each class of more steps than its limit.
-use Rattle.std.proofs.Common.{◌≡◌, ◌<◌, false, List, [], ◌∷◌, Ok, refl, arith, inl, inr}
-use Rattle.std.specs.Prelude.{ℕ, length, pos}
+use Rattle.std.proofs.Common.{◌≡◌, false, List, [], ◌∷◌, Ok, refl, arith, inl, inr}
+use Rattle.std.specs.Prelude.{ℕ, pos}
 use Rattle.jtypes.specs.Profile.{First}
 use Rattle.jtypes.specs.Layout.{first, operand, Stands}
 use Rattle.jtypes.specs.declared.refusal.Refusal.TheVariants.{OutsideProfile}

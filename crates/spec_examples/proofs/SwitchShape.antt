@@ -6,11 +6,10 @@ use Rattle.jtypes.proofs.Laws.{whole_found, first_stands}
 use Rattle.constpool.specs.declared.descriptor.Sig.{Sig}
 use Rattle.constpool.specs.declared.descriptor.FieldType.TheVariants as field
 use Rattle.constpool.specs.Names.{object_name, mutable_entry_name}
-use Rattle.constpool.specs.Lookup.{Slot, utf8_at, class_at, constant_refers, refers, pair_at, member_of, method_at}
+use Rattle.constpool.specs.Lookup.{utf8_at, class_at, constant_refers, refers, pair_at, member_of, method_at}
 use Rattle.constpool.specs.Descriptor.{sig_of, read_params, read_type}
 use Rattle.constpool.specs.Pool.{utf8, integer, long, index_of, indexes_of, method_handle, body, constant, slot, slots, pool}
 use Rattle.classfile.specs.declared.class_file.Member.{Member}
-use Rattle.classfile.specs.declared.class_file.Parts.{Parts}
 use Rattle.classfile.specs.declared.class_file.CodeParts.{CodeParts}
 use Rattle.classfile.specs.Class.{utf8_index, class_index, attribute, attributes, method_attribute, method_attributes, member, interfaces, fields, methods, superclass, header, parts, class_file}
 use Rattle.classfile.specs.Code.{plain_attribute, code_parts, parts_of_code, is_named, contents_named}
