@@ -228,16 +228,17 @@ class Requests(Runs):
         self.assertIn((one, other, after), IN_SOME_ORDER)
 
     def test_jobs_on_one_key_come_one_after_the_other(self):
-        given = define(rows.named("Counter")) + ROUND_END + beside_a_put(5)
+        """The class states so many steps that the round is worth several workers."""
+        given = define(rows.costly_counter()) + ROUND_END + beside_a_put(5)
         for output in side_by_side(lambda count: self.served(given, count), WORKERS):
             # The class and its round come first.
             self.assertEqual(len(output), 17 + 5 + REPLIES_BESIDE)
             self.are_in_some_order(output[22:])
 
     def test_a_thousand_rounds_are_each_in_some_order(self):
-        """Each pair of rounds is on a key of its own."""
+        """Each pair of rounds is on a key of its own, and each first one is worth several workers."""
         keys = [256 * high + low for high in range(4) for low in range(250)]
-        given = define(rows.named("Counter")) + ROUND_END + b"".join(beside_a_put(key) for key in keys)
+        given = define(rows.costly_counter()) + ROUND_END + b"".join(beside_a_put(key) for key in keys)
         output = self.served(given, "4")
         self.assertEqual(len(output), 22 + 1000 * REPLIES_BESIDE)
         for at in range(22, len(output), REPLIES_BESIDE):
