@@ -7,7 +7,7 @@ import org.junit.jupiter.api.Test;
 import org.junit.jupiter.params.ParameterizedTest;
 import org.junit.jupiter.params.provider.CsvSource;
 
-/** What can't be compiled is told by its line, with what to write instead. Nothing is left out in silence. */
+/** What can't be compiled is reported by its line, with what to write instead. Nothing is left out in silence. */
 class RefusalTest {
     private static String refusal(String type, String body, String members) {
         return Checks.refusal(Javac.compile("R", Javac.processor("R", type, body, members), "--release", "17"));

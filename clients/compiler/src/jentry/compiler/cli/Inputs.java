@@ -17,7 +17,7 @@ final class Inputs {
      *
      * @param name what messages call it
      * @param file where it lies, or null where it lies in a jar
-     * @param bytes what stands in it
+     * @param bytes its content
      */
     record Input(String name, Path file, byte[] bytes) { }
 

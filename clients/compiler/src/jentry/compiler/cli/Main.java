@@ -157,11 +157,11 @@ public final class Main {
     private void check(Path file) {
         try {
             Process process = new ProcessBuilder(options.program, "check", file.toString()).redirectErrorStream(true).start();
-            String told = new String(process.getInputStream().readAllBytes()).strip();
+            String printed = new String(process.getInputStream().readAllBytes()).strip();
             if (process.waitFor() == 0) {
-                out.println("  " + told);
+                out.println("  " + printed);
             } else {
-                fail(REFUSED, file + ": jentry says: " + told);
+                fail(REFUSED, file + ": jentry says: " + printed);
             }
         } catch (IOException e) {
             fail(FAILED, "the program " + options.program + " can't be run (name it by --program or JENTRY_PROGRAM): " + e.getMessage());

@@ -83,7 +83,7 @@ public final class Instructions implements Opcodes {
         return number == (short) number ? new IntInsnNode(SIPUSH, number) : new LdcInsnNode(number);
     }
 
-    /** The instruction that discards a value of so many slots. */
+    /** The instruction that discards a value of one slot or two. */
     public static InsnNode pop(int size) {
         return new InsnNode(size == 2 ? POP2 : POP);
     }

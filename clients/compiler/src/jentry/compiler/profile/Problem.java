@@ -6,7 +6,7 @@ package jentry.compiler.profile;
  * @param className the class, with dots
  * @param method the method's name, or an empty text where the class as a whole is meant
  * @param line the line of the source, or -1 where the class file doesn't say
- * @param what what stands there
+ * @param what the construct that isn't accepted
  * @param remedy what to write instead, or an empty text
  */
 public record Problem(String className, String method, int line, String what, String remedy) {

@@ -160,7 +160,7 @@ public final class Profile implements Opcodes {
             "test before you act: of exceptions ArithmeticException alone can be caught"));
     }
 
-    /** A place within the range: its first line stands behind its label. */
+    /** A place within the range: the line of a label comes behind it. */
     private static AbstractInsnNode lineOf(TryCatchBlockNode block) {
         AbstractInsnNode first = Instructions.next(block.start);
         return first == null ? block.start : first;

@@ -14,7 +14,7 @@ final class Remedies implements Opcodes {
 
     private Remedies() { }
 
-    /** What stands there. */
+    /** The construct, in the words of the source. */
     static String what(AbstractInsnNode at) {
         if (at instanceof MethodInsnNode call) {
             String name = Instructions.nameOf(call.owner) + (call.name.equals("<init>") ? "" : "." + call.name);

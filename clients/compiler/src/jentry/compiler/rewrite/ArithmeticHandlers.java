@@ -121,7 +121,7 @@ final class ArithmeticHandlers implements Opcodes {
         }
     }
 
-    /** Where the divisor is zero, all operands are dropped, and null stands for the exception. */
+    /** Where the divisor is zero, all operands are dropped, and null takes the place of the exception. */
     private static InsnList guard(Frame<BasicValue> frame, LabelNode handler, boolean isLong) {
         InsnList code = new InsnList();
         LabelNode divides = new LabelNode();

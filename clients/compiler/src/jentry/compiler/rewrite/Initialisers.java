@@ -33,7 +33,7 @@ final class Initialisers implements Opcodes {
     /** A Long or an Integer of Java. */
     record Box(Number number) { }
 
-    /** A value that isn't known, of so many slots. */
+    /** A value that isn't known, of one slot or two. */
     record Unknown(int size) { }
 
     /** An initialiser does what isn't done at compile time. */

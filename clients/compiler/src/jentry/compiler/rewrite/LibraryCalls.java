@@ -73,7 +73,7 @@ final class LibraryCalls implements Opcodes {
         method.instructions.set(call, new MethodInsnNode(INVOKESTATIC, owner.name, mine.name, template.desc, false));
     }
 
-    /** The method that stands for what a call reaches, its receiver being the first parameter; or null. */
+    /** The template of what a call reaches, its receiver being the first parameter; or null. */
     private static MethodNode template(MethodInsnNode call) {
         String library = LIBRARIES.get(call.owner);
         if (library == null || Members.isLibrary(call) || call.name.startsWith("<")) {

@@ -73,9 +73,9 @@ public final class LoadedProcessors {
 
     /** The name of the method that is the lambda's body. */
     private static String body(Object processor, Class<?> host, byte[] bytes) throws CompileException {
-        String told = toldBody(processor);
-        if (told != null) {
-            return told;
+        String declared = declaredBody(processor);
+        if (declared != null) {
+            return declared;
         }
         List<Lambdas.Lambda> candidates = ProcessorCompiler.lambdas(bytes).stream()
             .filter(it -> Type.getArgumentTypes(it.site().desc).length == 0).toList();
@@ -93,7 +93,7 @@ public final class LoadedProcessors {
     }
 
     /** What a serializable lambda says of itself, or null. */
-    private static String toldBody(Object processor) {
+    private static String declaredBody(Object processor) {
         try {
             Method method = processor.getClass().getDeclaredMethod("writeReplace");
             method.setAccessible(true);

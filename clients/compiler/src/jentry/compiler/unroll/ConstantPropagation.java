@@ -15,7 +15,7 @@ import jentry.compiler.profile.Instructions;
 
 /** What each instruction makes of what is known: numbers, limits of numbers, and lengths of arrays. */
 final class ConstantPropagation extends Interpreter<AbstractValue> implements Opcodes {
-    /** An invocation has at most so many arguments. */
+    /** The most arguments of an invocation. */
     static final int MOST_ARGUMENTS = 8;
 
     /** Whether limits of numbers that grow are given up, so that the propagation ends soon. */

@@ -13,8 +13,8 @@ final class Postorder {
     private Postorder() { }
 
     /**
-     * The nodes that are reached, in reverse postorder: without circles, each stands before those that it leads to. Of a node's successors the first
-     * is searched last, and so stands next where nothing is between.
+     * The nodes that are reached, in reverse postorder: without circles, each comes before those that it leads to. Of a node's successors the first
+     * is searched last, and so comes next where nothing is between.
      *
      * @param size the number of nodes
      * @param successors where a node leads

@@ -23,7 +23,7 @@ import jentry.compiler.profile.Members;
  * locals and operands is what all ways to the state have in common. A test that this decides has one successor.
  */
 final class UnrolledGraph implements Opcodes {
-    /** A method has at most so many states: of more, the code wouldn't fit into a class. */
+    /** The most states of a method: the code of more wouldn't fit into a class. */
     static final int MOST_STATES = 60_000;
 
     private static final int MERGES_BEFORE_WIDENING = 4;
