@@ -18,6 +18,8 @@ TOP = os.path.dirname(os.path.dirname(os.path.abspath(__file__)))
 FENCE = "```"
 LAUNCHER = re.compile(r"(?<![\w/.-])bin/jentry(?![\w-])")
 LIMIT = 7200
+# Commands that need a server of their own: the tests of clients/redis run such.
+SERVED = ("redis-cli", "redis-server")
 
 
 def pages_of_the_repository():
@@ -51,7 +53,7 @@ def commands_of(page):
                 inside[2].append(line)
         if len(lines) == 1 and lines[0].startswith("bin/jentry run ") and number + 1 < len(blocks):
             found.append((first, lines[0], blocks[number + 1][1]))
-    return [it for it in found if "..." not in it[2]]
+    return [it for it in found if "..." not in it[2] and not it[1].startswith(SERVED)]
 
 
 def printed(command, program=None):

@@ -42,7 +42,7 @@ class Lines(unittest.TestCase):
             ("A round ends. Another begins.", "two sentences"),
             ("It ends `x`. `y` begins.", "two sentences"),
             ("There are so many of them.", "so many"),
-            ("x" * 201, "201 characters"),
+            ("x" * 301, "301 characters"),
             ("|" + "x" * 300, "301 characters"),
             ("See [it](NOWHERE.md).", "there is no docs/NOWHERE.md"),
             ("See [it](ASSURANCE.md#nothing).", "no heading for #nothing"),
