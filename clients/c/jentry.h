@@ -62,21 +62,18 @@ enum {
     JENTRY_THREW = 3,          /* `value` is the number of the exception, 1 to 6; the effect is JENTRY_KEEP */
     JENTRY_NO_CLASS = 4,       /* no class has the number, or the handle isn't open */
     JENTRY_MANY_ARGUMENTS = 5, /* more than eight */
-    JENTRY_NO_ARGUMENT = 6,    /* one of them is no argument */
-    JENTRY_NO_MEMORY = 7
+    JENTRY_NO_ARGUMENT = 6     /* one of them is no argument */
 };
 
-/* What is to be done to the entry: nothing, set it to `put`, remove it. It is JENTRY_KEEP just where the entry is to be as before. */
+/* What is to be done to the entry: nothing, set it to `put`, remove it. It is JENTRY_KEEP just where the entry is to be as before, also
+ * where the processor set the value that was there. */
 enum { JENTRY_KEEP = 0, JENTRY_PUT = 1, JENTRY_DELETE = 2 };
-
-/* The last change that the processor made, also where the entry is as before: none, setValue, remove. */
-enum { JENTRY_UNTOUCHED = 0, JENTRY_SET = 1, JENTRY_REMOVED = 2 };
 
 /* The end of a call: what was returned, in `outcome` and `value`; the effect; the instructions and array words that the run took. */
 struct jentry_done {
     uint32_t outcome, effect;
     int64_t value, put;
-    uint32_t steps, words, left, unused;
+    uint32_t steps, words;
 };
 
 /* Makes an engine: 0, or 1 where memory lacks, or 2 where the handle is open already, which changes nothing. */
@@ -115,7 +112,7 @@ JENTRY_ASSERT(sizeof(struct jentry_handle) == 16 && offsetof(struct jentry_handl
 JENTRY_ASSERT(sizeof(struct jentry_verdict) == 48 && offsetof(struct jentry_verdict, id) == 28, "the layout of a verdict");
 JENTRY_ASSERT(sizeof(struct jentry_arg) == 16 && offsetof(struct jentry_arg, value) == 8, "the layout of an argument");
 JENTRY_ASSERT(sizeof(struct jentry_call) == 24 && offsetof(struct jentry_call, key) == 8, "the layout of a call");
-JENTRY_ASSERT(sizeof(struct jentry_done) == 40 && offsetof(struct jentry_done, left) == 32, "the layout of an end");
+JENTRY_ASSERT(sizeof(struct jentry_done) == 32 && offsetof(struct jentry_done, words) == 28, "the layout of an end");
 #undef JENTRY_ASSERT
 
 #ifdef __cplusplus

@@ -178,7 +178,7 @@ static struct jentry_done on_41(struct jentry_handle *engine, uint32_t number, c
 }
 
 static bool is_denied(struct jentry_done done, uint32_t outcome) {
-    return done.outcome == outcome && done.effect == 0 && done.value == 0 && done.put == 0 && done.steps == 0 && done.words == 0 && done.left == 0;
+    return done.outcome == outcome && done.effect == 0 && done.value == 0 && done.put == 0 && done.steps == 0 && done.words == 0;
 }
 
 static void closed_handles(const uint8_t *bytes, size_t length) {
@@ -234,12 +234,12 @@ static void arguments(struct jentry_handle *engine, uint32_t add) {
 static void ends(struct jentry_handle *engine, uint32_t add, uint32_t plus) {
     struct jentry_arg one = { .kind = JENTRY_LONG, .value = 1 }, zero = { .kind = JENTRY_LONG };
     struct jentry_done done = on_41(engine, add, &one, 1);
-    HOLDS(done.outcome == JENTRY_LONG && done.value == 42 && done.effect == JENTRY_PUT && done.put == 42 && done.left == JENTRY_SET);
+    HOLDS(done.outcome == JENTRY_LONG && done.value == 42 && done.effect == JENTRY_PUT && done.put == 42);
     HOLDS(done.steps == 29 && done.words == 0);
     done = on_41(engine, add, &zero, 1);
-    HOLDS(done.outcome == JENTRY_LONG && done.value == 41 && done.effect == JENTRY_KEEP && done.left == JENTRY_SET);
+    HOLDS(done.outcome == JENTRY_LONG && done.value == 41 && done.effect == JENTRY_KEEP);
     done = on_41(engine, add, &zero, 0);
-    HOLDS(done.outcome == JENTRY_THREW && done.left == JENTRY_UNTOUCHED);
+    HOLDS(done.outcome == JENTRY_THREW && done.effect == JENTRY_KEEP);
     done = on_41(engine, plus, &zero, 0);
     HOLDS(done.value == 42 && done.put == 42);
 }

@@ -13,7 +13,7 @@ TOP = os.path.dirname(os.path.dirname(HERE))
 EXAMPLES = os.path.join(TOP, "examples")
 TRIES = int(os.environ.get("JENTRY_TRIES", 10_000))
 PATIENCE = 600
-LEAST, MOST = -2**63, 2**63 - 1
+MOST = 2**63 - 1
 SANITIZED = ["-std=c11", "-g", "-O1", "-Wall", "-Wextra", "-Werror", "-fsanitize=address,undefined", "-fno-sanitize-recover=all"]
 EMBED = os.environ.get("JENTRY_EMBED", os.path.join(TOP, "crates/embed/out/libembed.a"))
 PROGRAM = os.environ.get("JENTRY_PROGRAM")
@@ -152,8 +152,8 @@ class Answers(Built):
 
 
 def random_call(chosen):
-    """A key, an entry, and arguments."""
+    """A key, an entry, and arguments, none of them negative: `jentry run` takes no other."""
     def number():
-        return chosen.choice([0, 1, -1, 5, 41, 2**31, -2**31, MOST, LEAST, chosen.randrange(-10**6, 10**6), chosen.getrandbits(64) - 2**63])
-    args = [chosen.choice([str(number()), str(number()), f"{chosen.randrange(-2**31, 2**31)}i", "null"]) for _ in range(chosen.randrange(5))]
+        return chosen.choice([0, 1, 5, 41, 2**31, MOST, chosen.randrange(10**6), chosen.getrandbits(63)])
+    args = [chosen.choice([str(number()), str(number()), f"{chosen.randrange(2**31)}i", "null"]) for _ in range(chosen.randrange(5))]
     return [str(number()), chosen.choice(["none", str(number()), str(number())]), *args]

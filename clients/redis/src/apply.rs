@@ -1,8 +1,8 @@
 //! JENTRY.APPLY: a run as a JCache provider needs it, with times to live and the entry before and after.
 use crate::api::Text;
-use crate::engine::{Done, KEEP, PUT, SET_LAST};
+use crate::engine::{Done, KEEP, PUT};
 use crate::entry::{self, Entry, Lifetime};
-use crate::run::{number_of, reply_type, reply_value, Plan};
+use crate::run::{number_of, reply_effect, reply_type, reply_value, Plan};
 use crate::server::{Answer, Failure, Server, Words};
 use crate::words::long_of;
 
@@ -42,16 +42,16 @@ fn change_of(done: &Done, before: Option<i64>, times: [Time; 3]) -> Change {
         PUT => Some(done.put),
         _ => None,
     };
-    let time = match (before, done.left == SET_LAST) {
+    let is_set = done.effect == PUT;
+    let time = match (before, is_set) {
         (None, true) => created,
         (Some(_), true) => updated,
         (_, false) => accessed,
     };
     match (before, after, time) {
-        (None, None, _) => Change::None,
+        (None, None, _) | (None, _, Time::Delete) => Change::None,
         (Some(_), None, _) | (Some(_), _, Time::Delete) => Change::Delete,
-        (None, _, Time::Delete) => Change::None,
-        (_, Some(value), Time::Live(lifetime)) if done.left == SET_LAST => Change::Set(value, lifetime),
+        (_, Some(value), Time::Live(lifetime)) if is_set => Change::Set(value, lifetime),
         (_, _, Time::Live(lifetime)) => Change::Touch(lifetime),
     }
 }
@@ -79,16 +79,6 @@ impl Change {
     }
 }
 
-/// The name of what the processor did to the entry: it put a value, also one that was there already; or it removed one; or neither.
-fn effect_name(done: &Done, before: Option<i64>) -> &'static [u8] {
-    match (done.left, done.effect) {
-        (SET_LAST, _) => b"put",
-        (_, KEEP) => b"keep",
-        (_, _) if before.is_some() => b"delete",
-        _ => b"keep",
-    }
-}
-
 fn reply_entry(server: Server, entry: Option<i64>) {
     match entry {
         Some(value) => server.reply_text(value.to_string().as_bytes()),
@@ -96,7 +86,7 @@ fn reply_entry(server: Server, entry: Option<i64>) {
     }
 }
 
-/// JENTRY.APPLY CREATED UPDATED ACCESSED MODE ID KEY [ARG ..]: what the run returned, its type, what the processor did, the entry before
+/// JENTRY.APPLY CREATED UPDATED ACCESSED MODE ID KEY [ARG ..]: what the run returned, its type, the effect, the entry before
 /// and after, the instructions and the array words. The mode `dry` leaves the entry as it is, and replies what `do` would.
 pub fn apply(server: Server, words: Words) -> Answer {
     let times = [Time::of(words.bytes(1)?)?, Time::of(words.bytes(2)?)?, Time::of(words.bytes(3)?)?];
@@ -121,7 +111,7 @@ pub fn apply(server: Server, words: Words) -> Answer {
     server.reply_array(7);
     reply_value(server, &done);
     reply_type(server, &done);
-    server.reply_text(effect_name(&done, before));
+    reply_effect(server, &done);
     reply_entry(server, before);
     reply_entry(server, change.after(before));
     server.reply_long(done.steps.into());

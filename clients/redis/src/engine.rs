@@ -46,8 +46,6 @@ pub struct Done {
     pub put: i64,
     pub steps: u32,
     pub words: u32,
-    pub left: u32,
-    pub unused: u32,
 }
 
 pub const NULL: u32 = 0;
@@ -56,7 +54,6 @@ pub const INTEGER: u32 = 2;
 pub const THREW: u32 = 3;
 pub const KEEP: u32 = 0;
 pub const PUT: u32 = 1;
-pub const SET_LAST: u32 = 1;
 
 /// Where the core keeps its engine.
 #[repr(C)]
@@ -71,7 +68,7 @@ const _: [(); 16] = [(); size_of::<Handle>()];
 const _: [(); 48] = [(); size_of::<Verdict>()];
 const _: [(); 16] = [(); size_of::<Arg>()];
 const _: [(); 24] = [(); size_of::<Call>()];
-const _: [(); 40] = [(); size_of::<Done>()];
+const _: [(); 32] = [(); size_of::<Done>()];
 
 extern "C" {
     fn jentry_open(handle: *mut Handle) -> u32;

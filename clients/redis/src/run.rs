@@ -94,6 +94,15 @@ pub fn reply_type(server: Server, done: &Done) {
     });
 }
 
+/// Replies what a run did to the entry. A put of the value that was there is `keep`: the core tells what is to be done.
+pub fn reply_effect(server: Server, done: &Done) {
+    server.reply_text(match done.effect {
+        KEEP => b"keep",
+        PUT => b"put",
+        _ => b"delete",
+    });
+}
+
 /// Runs a plan on the entry at a key and does what it says.
 fn invoke_on(server: Server, plan: &Plan, key: *mut Text, name: &[u8]) -> Result<Done, Failure> {
     let number = number_of(name)?;
@@ -125,11 +134,7 @@ pub fn detail(server: Server, words: Words) -> Answer {
     server.reply_array(5);
     reply_value(server, &done);
     reply_type(server, &done);
-    server.reply_text(match done.effect {
-        KEEP => b"keep",
-        PUT => b"put",
-        _ => b"delete",
-    });
+    reply_effect(server, &done);
     server.reply_long(done.steps.into());
     server.reply_long(done.words.into());
     Ok(())

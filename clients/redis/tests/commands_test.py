@@ -12,7 +12,8 @@ TRIES = int(os.environ.get("JENTRY_TRIES", 1000))
 NOT_A_LONG = "ERR value is not an integer or out of range"
 NO_KEY = "ERR the key doesn't end in a decimal long"
 LEAST, MOST = -2**63, 2**63 - 1
-NUMBERS = [0, 1, -1, 5, 41, 2**31 - 1, 2**31, -2**31, MOST, LEAST]
+NUMBERS = [0, 1, 5, 41, 2**31 - 1, 2**31, MOST]
+"""`jentry run` takes none that is negative."""
 
 
 class OneServer(ModuleTest):
@@ -145,15 +146,11 @@ class Runs(OneServer):
         for key in ("v", "v:", "", ":", "v:+7", "v: 7", "v:7 ", "v:7x", "v:-", "v:--7", "v:9223372036854775808", "v:0x7", "v:7:", "v:1.0", b"v:\xff", "v:7\n"):
             self.fails(self.ask("JENTRY.INVOKE", plus, key), NO_KEY)
 
-    @NEEDS_PROGRAM
     def test_the_key_is_the_processors(self):
-        lease = path_of("Score")
-        for key in ("0", "7", "-7", str(MOST), str(LEAST)):
-            wanted = program("run", lease, key, "41", "1")
-            score = self.define(self.line, "Score")
-            for spelled in (f"s:{key}", f"s:{'-' if key[0] == '-' else ''}000{key.lstrip('-')}"):
-                self.line.get("SET", spelled, 41)
-                self.assertEqual(lines_of(self.ask("JENTRY.DETAIL", score, spelled, 1), self.ask("GET", spelled)), wanted)
+        get_key = self.line.get("JENTRY.DEFINE", returns_key())[0]
+        for key in (0, 7, MOST, LEAST, -7):
+            for spelled in (f"s:{key}", f"s:{'-' * (key < 0)}000{abs(key)}"):
+                self.assertEqual(self.ask("JENTRY.PEEK", get_key, spelled), key)
 
     def test_values(self):
         for value in ("x", "", "007", "+7", " 7", "7 ", "-0", "9223372036854775808", "-9223372036854775809", "1.0", "1e3"):
@@ -224,13 +221,20 @@ class Runs(OneServer):
         self.assertGreaterEqual(len(calls), TRIES)
 
 
+def returns_key():
+    """A class that returns its key."""
+    rows = row_classes()
+    get_key = [rows.utf8(b"getKey"), rows.name_and_type(rows.FURTHER, 24), rows.interface_methodref(16, rows.FURTHER + 1)]
+    return rows.class_of(rows.process(8, 3, b"\x2b\xb9" + rows.u2(rows.FURTHER + 2) + b"\1\0\xb0"), further=get_key)
+
+
 def random_number():
-    return random.choice([*NUMBERS, random.randrange(-10**6, 10**6), random.getrandbits(64) - 2**63])
+    return random.choice([*NUMBERS, random.randrange(10**6), random.getrandbits(63)])
 
 
 def random_call():
     """A key, an entry, and arguments."""
-    words = [random.choice([str(random_number()), str(random_number()), f"{random.randrange(-2**31, 2**31)}i", "null"]) for _ in range(random.randrange(4))]
+    words = [random.choice([str(random_number()), str(random_number()), f"{random.randrange(2**31)}i", "null"]) for _ in range(random.randrange(4))]
     return random_number(), random.choice([None, random_number(), random_number()]), words
 
 
@@ -284,11 +288,11 @@ class Applied(OneServer):
         self.assertEqual(self.ask("EXISTS", "v:1"), 0)
         self.assertEqual(self.apply(-1, -1, -1, "do", cas, "v:1", 1, 2)[:5], [0, b"Integer", b"keep", None, None])
 
-    def test_a_put_of_the_value_that_is_there(self):
+    def test_a_put_of_the_value_that_is_there_is_an_access(self):
         self.line.get("SET", "v:1", 10, "PX", 100_000)
         self.assertEqual(self.ask("JENTRY.DETAIL", self.add, "v:1", 0)[2], b"keep")
-        self.assertEqual(self.apply(-1, 5_000, -1, "do", self.add, "v:1", 0), [10, b"Long", b"put", b"10", b"10", 29, 0])
-        self.assertTrue(0 < self.ask("PTTL", "v:1") <= 5_000)
+        self.assertEqual(self.apply(-1, 5_000, 50_000, "do", self.add, "v:1", 0), [10, b"Long", b"keep", b"10", b"10", 29, 0])
+        self.assertTrue(5_000 < self.ask("PTTL", "v:1") <= 50_000)
 
     def test_a_removal_of_no_entry(self):
         removes = self.line.get("JENTRY.DEFINE", row_classes().named("SetRemove"))[0]
