@@ -9,6 +9,7 @@ from module_test import ModuleTest
 from servers import ReplyError, Server, class_file, examples, row_classes
 
 COMMANDS = int(os.environ.get("JENTRY_RANDOM", 5_000))
+PIPE = 20
 NAMES = ["DEFINE", "INVOKE", "INVOKE", "INVOKE", "DETAIL", "PEEK", "APPLY", "INVOKEALL", "LIST", "CLASS", "EXPLAIN", "FORGET"]
 LEAST, MOST = -2**63, 2**63 - 1
 
@@ -81,12 +82,15 @@ class RandomCommands(ModuleTest):
             line.get("LPUSH", "list:1", 1)
             line.get("SET", "text:1", "x")
             counted = {"replies": 0, "errors": 0}
-            for _ in range(COMMANDS):
-                command = words.command()
-                told = line.ask(*command)
-                counted["errors" if isinstance(told, ReplyError) else "replies"] += 1
-                if command[0] == "JENTRY.DEFINE" and isinstance(told, list):
-                    words.ids = (words.ids + [told[0]])[-12:]
+            for _ in range(0, COMMANDS, PIPE):
+                commands = [words.command() for _ in range(PIPE)]
+                for command in commands:
+                    line.send(*command)
+                for command in commands:
+                    told = line.take()
+                    counted["errors" if isinstance(told, ReplyError) else "replies"] += 1
+                    if command[0] == "JENTRY.DEFINE" and isinstance(told, list):
+                        words.ids = (words.ids + [told[0]])[-12:]
             print(f"random commands: {counted}", flush=True)
             self.assertGreater(counted["replies"], COMMANDS // 5)
             self.assertGreater(counted["errors"], COMMANDS // 5)
