@@ -1,5 +1,9 @@
 """What Redis does around a run: transactions, scripts, expiry, events, eviction, replicas, limits."""
+import os
+import shutil
+import subprocess
 import threading
+import unittest
 
 from commands_test import OneServer
 from module_test import ModuleTest
@@ -101,6 +105,18 @@ class Around(OneServer):
             for thread in threads:
                 thread.join()
             self.assertEqual(line.ask("GET", "v:1"), b"3200")
+
+
+class Library(ModuleTest):
+    @unittest.skipIf(shutil.which("nm") is None, "there is no nm (apt-get install binutils)")
+    def test_exported_names(self):
+        told = subprocess.run(["nm", "-D", "--defined-only", MODULE], stdout=subprocess.PIPE, text=True, check=True).stdout
+        self.assertEqual([line.split()[-1] for line in told.splitlines()], ["RedisModule_OnLoad"])
+
+    def test_what_it_needs(self):
+        told = subprocess.run(["ldd", MODULE], stdout=subprocess.PIPE, text=True, check=True).stdout
+        names = {os.path.basename(line.split()[0]).split(".so")[0] for line in told.splitlines()}
+        self.assertLessEqual(names, {"linux-vdso", "ld-linux-x86-64", "libc", "libgcc_s"})
 
 
 class Limits(ModuleTest):
