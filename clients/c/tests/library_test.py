@@ -11,7 +11,7 @@ from concurrent.futures import ThreadPoolExecutor
 HERE = os.path.dirname(os.path.dirname(os.path.abspath(__file__)))
 TOP = os.path.dirname(os.path.dirname(HERE))
 EXAMPLES = os.path.join(TOP, "examples")
-TRIES = int(os.environ.get("JENTRY_TRIES", 10_000))
+TRIES = int(os.environ.get("JENTRY_TRIES", 300 if os.environ.get("JENTRY_TRIAL") else 10_000))
 PATIENCE = 600
 MOST = 2**63 - 1
 SANITIZED = ["-std=c11", "-g", "-O1", "-Wall", "-Wextra", "-Werror", "-fsanitize=address,undefined", "-fno-sanitize-recover=all"]

@@ -7,8 +7,8 @@ import re
 from module_test import NEEDS_PROGRAM, NO_CLASS, ModuleTest
 from servers import ReplyError, Server, class_file, examples, path_of, program, row_classes
 
-TRIES = int(os.environ.get("JENTRY_TRIES", 1000))
-"""How many runs are held to those of the program, which may be slow."""
+TRIES = int(os.environ.get("JENTRY_TRIES", 100 if os.environ.get("JENTRY_TRIAL") else 1000))
+"""How many runs are held to those of the program: a trial build of it is slow."""
 NOT_A_LONG = "ERR value is not an integer or out of range"
 NO_KEY = "ERR the key doesn't end in a decimal long"
 LEAST, MOST = -2**63, 2**63 - 1
