@@ -3,10 +3,16 @@ package jentry.jcache;
 import static org.junit.jupiter.api.Assertions.assertEquals;
 import static org.junit.jupiter.api.Assertions.assertTrue;
 
+import java.util.ArrayList;
 import java.util.List;
 import java.util.concurrent.ThreadLocalRandom;
 import java.util.stream.Stream;
 import javax.cache.Cache;
+import javax.cache.configuration.MutableConfiguration;
+import javax.cache.expiry.CreatedExpiryPolicy;
+import javax.cache.expiry.Duration;
+import javax.cache.expiry.ExpiryPolicy;
+import javax.cache.expiry.TouchedExpiryPolicy;
 import org.junit.jupiter.api.Test;
 
 /** Many threads on few keys of the real server: what they are told on each key is what a ConcurrentHashMap could have told them. */
@@ -20,9 +26,13 @@ class MapTest extends OnServer {
 
     /** So many threads make so many calls each, of these methods, on as many new keys as there are histories. Half of them by another connection. */
     private void run(int threads, int calls, long first, List<History> histories, List<History.Method> methods) throws InterruptedException {
-        Cache<Long, Long> other = server.other();
+        run(cache, server.other(), threads, calls, first, histories, methods);
+    }
+
+    private void run(Cache<Long, Long> one, Cache<Long, Long> other, int threads, int calls, long first, List<History> histories,
+        List<History.Method> methods) throws InterruptedException {
         Team.of(threads, t -> {
-            Cache<Long, Long> mine = t % 2 == 0 ? cache : other;
+            Cache<Long, Long> mine = t % 2 == 0 ? one : other;
             for (int i = 0; i < calls; i++) {
                 int at = ThreadLocalRandom.current().nextInt(histories.size());
                 History.Method method = any(methods);
@@ -41,6 +51,40 @@ class MapTest extends OnServer {
     @Test void allMethodsOnTwoKeys() throws InterruptedException {
         for (int n = 0; n < 100; n++) {
             run(6, 5, 100 + 2 * n, histories(2), List.of(METHODS));
+        }
+    }
+
+    /** As the policies of JCache, but one that the provider doesn't know. */
+    private static final class Own implements ExpiryPolicy {
+        @Override public Duration getExpiryForCreation() {
+            return Duration.ONE_HOUR;
+        }
+
+        @Override public Duration getExpiryForUpdate() {
+            return Duration.ONE_DAY;
+        }
+
+        @Override public Duration getExpiryForAccess() {
+            return Duration.ONE_HOUR;
+        }
+    }
+
+    @Test void allMethodsWithStatisticsListenersAndExpiry() throws InterruptedException {
+        List<MutableConfiguration<Long, Long>> configurations = new ArrayList<>();
+        configurations.add(Server.types().setStatisticsEnabled(true));
+        configurations.add(Server.types().addCacheEntryListenerConfiguration(new Heard(0).by(true, true)));
+        if (Server.isRedis()) {
+            configurations.add(Server.types().setExpiryPolicyFactory(TouchedExpiryPolicy.factoryOf(Duration.ONE_HOUR)));
+            configurations.add(Server.types().setExpiryPolicyFactory(CreatedExpiryPolicy.factoryOf(Duration.ONE_HOUR)));
+            configurations.add(Server.types().setExpiryPolicyFactory(Own::new));
+        }
+        for (int c = 0; c < configurations.size(); c++) {
+            Cache<Long, Long> one = create(configurations.get(c));
+            Cache<Long, Long> other = Server.isShared() ? create(configurations.get(c)) : one;
+            for (int n = 0; n < 10; n++) {
+                run(one, other, 6, 5, 10_000 + 1_000 * c + 2 * n, histories(2), List.of(METHODS));
+            }
+            run(one, other, 64, 4, 10_900 + 1_000 * c, histories(16), List.of(METHODS));
         }
     }
 

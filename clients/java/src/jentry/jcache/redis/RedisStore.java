@@ -11,6 +11,7 @@ import java.util.concurrent.ConcurrentHashMap;
 import java.util.concurrent.atomic.AtomicLong;
 import java.util.function.IntConsumer;
 import java.util.function.ObjLongConsumer;
+import java.util.function.Supplier;
 import java.util.stream.LongStream;
 import javax.cache.CacheException;
 import jentry.jcache.CallNotSentException;
@@ -304,14 +305,21 @@ final class RedisStore implements Store {
         Object[] words = applying(file, keys.name(key), arguments, durations, "do");
         CompletableFuture<Invocation> result = new CompletableFuture<>();
         defineOnce(cluster.node(keys.slot(key)), file);
-        cluster.submit(keys.slot(key), new Resp.Commands().add(words), result.defaultExecutor(), call -> {
-            try {
-                result.complete(answered(call, file, key, words));
-            } catch (RuntimeException e) {
-                result.completeExceptionally(e);
-            }
-        });
+        try {
+            cluster.submit(keys.slot(key), new Resp.Commands().add(words), result.defaultExecutor(),
+                call -> complete(result, () -> answered(call, file, key, words)));
+        } catch (CallNotSentException e) {
+            result.defaultExecutor().execute(() -> complete(result, () -> apply(file, key, words)));
+        }
         return result;
+    }
+
+    private static void complete(CompletableFuture<Invocation> result, Supplier<Invocation> work) {
+        try {
+            result.complete(work.get());
+        } catch (RuntimeException e) {
+            result.completeExceptionally(e);
+        }
     }
 
     /** The end of a call that no thread waited for; what a node did nothing of is made again. */
