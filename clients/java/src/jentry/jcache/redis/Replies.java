@@ -34,11 +34,11 @@ final class Replies {
 
     /** The value of a string that has a decimal long, or null where there is none. */
     static Long value(Object reply) {
-        Object told = checked(reply);
-        if (told == null || told instanceof Long) {
-            return (Long) told;
+        Object answer = checked(reply);
+        if (answer == null || answer instanceof Long) {
+            return (Long) answer;
         }
-        String text = text(told);
+        String text = text(answer);
         try {
             return Long.valueOf(text);
         } catch (NumberFormatException e) {

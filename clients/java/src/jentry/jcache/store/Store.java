@@ -60,13 +60,13 @@ public interface Store {
         ObjLongConsumer<Invocation> taker);
 
     /**
-     * Runs a processor; no thread waits for it, but for the definition of a class that is new to the server.
+     * Runs a processor; no thread waits for it, except for the definition of a class that is new to the server.
      *
      * @throws java.util.concurrent.RejectedExecutionException where too many calls wait
      */
     CompletableFuture<Invocation> runAsync(ProcessorFile file, long key, Object[] arguments, Durations durations);
 
-    /** Whether {@link #dryRun} is there, and {@link Invocation} tells the effect and both values. */
+    /** Whether {@link #dryRun} is there, and {@link Invocation} has the effect and both values. */
     boolean hasDetail();
 
     /** Runs a processor and changes nothing; the answer says what the run would have done. */

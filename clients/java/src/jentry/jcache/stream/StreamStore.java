@@ -153,7 +153,7 @@ public final class StreamStore implements Store {
             for (int i = 0; i < count; i++) {
                 text.onKey(kind, keys[from + i]);
             }
-            many(new Calls.Many(text, count, expected, what, (i, told) -> taker.take(first + i, told)));
+            many(new Calls.Many(text, count, expected, what, (i, answer) -> taker.take(first + i, answer)));
         }
     }
 
@@ -175,7 +175,7 @@ public final class StreamStore implements Store {
             for (int i = from; i < from + count; i++) {
                 text.putEntry(keys[i], values[i]);
             }
-            many(new Calls.Many(text, count, Wire.DONE, "putAll", (i, told) -> { }));
+            many(new Calls.Many(text, count, Wire.DONE, "putAll", (i, answer) -> { }));
         }
     }
 
