@@ -299,9 +299,13 @@ class ManyConnections(FrontTest):
                     taken.append(n)
             except (OSError, EOFError) as e:
                 wrong.append(repr(e))
+
+        def send_all(line):
+            for _ in range(0, count, 1_000):
+                line.sendall(1_000 * (put(1, 1) + END))    # its timeout is that of the whole call
         with Running() as front, front.open() as b, front.open() as a:
             taker = threading.Thread(target=take_all, args=(a,))
-            sender = threading.Thread(target=a.sendall, args=(count * (put(1, 1) + END),))
+            sender = threading.Thread(target=send_all, args=(a,))
             taker.start()
             sender.start()
             for n in range(20):

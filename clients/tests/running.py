@@ -1,6 +1,7 @@
 """A front that runs for a test, before the program or before its stand-in.
 
-JENTRY_FRONT names the front, JENTRY_PROGRAM the built program, if it is there, JENTRY_OUT a folder for what tests keep.
+JENTRY_FRONT names the front, JENTRY_PROGRAM the built program, if it is there, JENTRY_OUT a folder for what tests keep,
+JENTRY_PATIENCE the seconds that a test waits for an answer, 60 where it names none.
 """
 import http.client
 import os
@@ -22,7 +23,7 @@ PROGRAM = os.environ.get("JENTRY_PROGRAM")
 FRONT = os.environ.get("JENTRY_FRONT")
 STAND_IN = [sys.executable, os.path.join(HERE, "fake_server.py")]
 SERVER = [PROGRAM, "serve"] if PROGRAM else STAND_IN
-PATIENCE = 60
+PATIENCE = int(os.environ.get("JENTRY_PATIENCE", "60"))
 
 
 class Running:
