@@ -168,21 +168,21 @@ public final class ProcessorCompiler {
             Bounds bounds = Bounds.of(node);
             return new CompiledClass(Instructions.nameOf(node.name), Instructions.nameOf(node.name), classFile, true, bounds, bounds.steps(), List.of());
         }
-        return written(node, Instructions.nameOf(node.name), false);
+        return written(node, Instructions.nameOf(node.name), null);
     }
 
     private CompiledClass compileLambda(Lambdas.Lambda lambda) throws CompileException {
         try {
             String source = Instructions.nameOf(lambda.host().name) + "#" + lambda.body().getName();
-            return written(Lambdas.toClass(lambda), source, true);
+            return written(Lambdas.toClass(lambda), source, lambda.host());
         } catch (ProblemException e) {
             throw new CompileException(List.of(e.problem()));
         }
     }
 
-    private CompiledClass written(ClassNode node, String source, boolean wasLambda) throws CompileException {
+    private CompiledClass written(ClassNode node, String source, ClassNode host) throws CompileException {
         try {
-            List<String> notes = new ArrayList<>(Rewriter.rewrite(node, wasLambda));
+            List<String> notes = new ArrayList<>(Rewriter.rewrite(node, host));
             refuse(Profile.problems(node, Profile.Stage.BEFORE_UNROLLING));
             LoopUnroller unroller = new LoopUnroller(node);
             long steps = unroller.steps();

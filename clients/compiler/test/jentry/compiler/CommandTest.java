@@ -118,7 +118,7 @@ class CommandTest {
     @Test
     void helpAndVersion() {
         assertEquals(0, run("--help"));
-        for (String option : new String[] {"-d", "--explain", "--verbatim", "--check", "--program", "--compare", "--seed", "--classpath", "--version"}) {
+        for (String option : new String[] {"-d", "--explain", "--verbatim", "--check", "--program", "--compare", "--seed", "--classpath", "--help, --version"}) {
             assertTrue(printed.contains("  " + option), option);
         }
         assertEquals(0, run("--version"));

@@ -44,6 +44,9 @@ class RefusalTest {
         "static final int[] SEEN = new int[4]; | SEEN[0]++; return SEEN[0]; | R.process, line 4: an element of the array SEEN is written",
         "static final int[] SEEN = new int[4]; static int[] seen() { return SEEN; } | seen()[1] = 3; return SEEN[1]; | R.process, line 4: an element of the array SEEN",
         "static final int[] SEEN = new int[4]; static void set(int[] to) { to[0] = 1; } | set(SEEN); return SEEN[0]; | R.set, line 6: an element of the array SEEN",
+        "static final int[] SEEN = new int[4]; public static void hit() { SEEN[0]++; } | return SEEN[0]; | R.hit, line 6: an element of the array SEEN is written",
+        "static final int[] SEEN = {1}; static int[] kept = SEEN; void hit() { kept[0]++; } | return SEEN[0]; | R.hit, line 6: an element of the array kept is",
+        "static final int[] SEEN = new int[4]; | Arrays.fill(SEEN, 1); return SEEN[0]; | R.process, line 4: an element of the array SEEN may be written by",
         "long hits = 0; | hits++; return hits; | R.process, line 4: the field hits",
         "long hits = 5; | return hits; | R.process, line 4: the field hits isn't final",
         "static { System.out.println(); } | return 1; | R.<clinit>, line 6: this static initialiser can't be run at compile time",
@@ -56,6 +59,14 @@ class RefusalTest {
     void membersToo(String members, String body, String told) {
         String refusal = refusal("Object", body, members);
         assertTrue(refusal.startsWith(told), refusal);
+    }
+
+    @Test
+    void aTableThatTheHostOfALambdaWrites() {
+        String host = "import javax.cache.processor.*;\npublic class H {\nstatic final long[] SEEN = {1, 2};\nstatic void hit() {\nSEEN[0]++;\n}\n"
+            + "static EntryProcessor<Long, Long, Long> made() {\nreturn (entry, args) -> SEEN[0];\n}\n}\n";
+        String refusal = Checks.refusal(Javac.compile("H", host, "--release", "17"));
+        assertTrue(refusal.startsWith("H.hit, line 5: an element of the array SEEN is written"), refusal);
     }
 
     @Test

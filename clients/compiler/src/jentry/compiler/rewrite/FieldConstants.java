@@ -19,6 +19,7 @@ import org.objectweb.asm.tree.MethodInsnNode;
 import org.objectweb.asm.tree.MethodNode;
 import org.objectweb.asm.tree.VarInsnNode;
 import jentry.compiler.profile.Instructions;
+import jentry.compiler.profile.Problem;
 import jentry.compiler.profile.ProblemException;
 
 /**
@@ -33,21 +34,24 @@ final class FieldConstants implements Opcodes {
     private final ClassNode owner;
     private final Initialisers initialisers;
     private final Map<String, FieldNode> fields = new HashMap<>();
+    private final Map<String, Problem> written;
     private final Set<String> inlined = new java.util.TreeSet<>();
 
-    private FieldConstants(ClassNode owner, boolean isLenient) {
+    private FieldConstants(ClassNode owner, ClassNode host) {
         this.owner = owner;
-        initialisers = new Initialisers(owner, isLenient);
+        initialisers = new Initialisers(owner, host != null);
         owner.fields.forEach(it -> fields.put(it.name, it));
+        boolean hasArrays = owner.fields.stream().anyMatch(it -> it.desc.startsWith("["));
+        written = hasArrays ? ArrayWrites.of(host != null ? host : owner) : Map.of();
     }
 
     /**
      * Runs the initialisers, before any method is dropped.
      *
-     * @param isLenient whether the class initialiser has more to do than the processor needs, as where the processor was a lambda of a larger class
+     * @param host the class that a lambda was taken from, whose class initialiser may have more to do than the processor needs; or null
      */
-    static FieldConstants of(ClassNode owner, boolean isLenient) throws ProblemException {
-        FieldConstants constants = new FieldConstants(owner, isLenient);
+    static FieldConstants of(ClassNode owner, ClassNode host) throws ProblemException {
+        FieldConstants constants = new FieldConstants(owner, host);
         MethodNode initialiser = Instructions.method(owner, "<clinit>", "()V");
         if (initialiser != null) {
             constants.run(initialiser, "static initialisers may hold numbers, arrays of numbers, and what is computed of them");
@@ -83,7 +87,6 @@ final class FieldConstants implements Opcodes {
     /** Puts the values in, and drops the class initialiser. Gives the names of the fields. */
     Set<String> inline() throws ProblemException {
         owner.methods.removeIf(it -> it.name.equals("<clinit>"));
-        refuseWrittenArrays();
         for (MethodNode method : owner.methods) {
             if (!method.name.equals("<init>")) {
                 inline(method);
@@ -138,6 +141,8 @@ final class FieldConstants implements Opcodes {
             throw problem(method, at, what + " has a value that isn't known at compile time", "use numbers, and arrays of int or long");
         } else if (!isStatic && !readsSelf(method, at)) {
             throw problem(method, at, what + " of another object is read", "read the fields of the processor itself, or make them static final");
+        } else if (value instanceof int[] || value instanceof long[]) {
+            refuseWritten(value);
         }
         return value;
     }
@@ -186,22 +191,13 @@ final class FieldConstants implements Opcodes {
         return code;
     }
 
-    /** Each method that reads an array has one of its own, so that a write into one isn't seen in another. */
-    private void refuseWrittenArrays() throws ProblemException {
-        ValueSources sources = new ValueSources(owner);
-        for (MethodNode method : owner.methods) {
-            for (AbstractInsnNode at : method.instructions) {
-                boolean isLong = at.getOpcode() == LASTORE;
-                if (!isLong && at.getOpcode() != IASTORE) {
-                    continue;
-                }
-                for (AbstractInsnNode source : sources.of(method, at, 2)) {
-                    boolean isField = source.getOpcode() == GETSTATIC || source.getOpcode() == GETFIELD;
-                    if (isField && source instanceof FieldInsnNode field && Type.getType(field.desc).getSort() == Type.ARRAY) {
-                        throw problem(method, at, "an element of the array " + field.name + " is written, which is made at compile time",
-                            "write into an array that process makes");
-                    }
-                }
+    /** Each method that reads an array has one of its own, so that a write into one isn't seen in another. Two fields may have one array. */
+    private void refuseWritten(Object array) throws ProblemException {
+        for (Map.Entry<String, Problem> write : written.entrySet()) {
+            FieldNode field = fields.get(write.getKey());
+            Object other = field == null ? null : initialisers.value(field);
+            if (other == null || other == array) {
+                throw new ProblemException(write.getValue());
             }
         }
     }

@@ -14,17 +14,17 @@ public final class Rewriter {
     /**
      * Rewrites a class in place.
      *
-     * @param wasLambda whether the class was made of a lambda, so that its class initialiser is that of the host
+     * @param host the class that a lambda was taken from, or null where the class wasn't made of one
      * @return what was done, a line each
      * @throws ProblemException where a pass can't keep the class's meaning
      */
-    public static List<String> rewrite(ClassNode owner, boolean wasLambda) throws ProblemException {
+    public static List<String> rewrite(ClassNode owner, ClassNode host) throws ProblemException {
         List<String> notes = new ArrayList<>();
         owner.methods.forEach(it -> it.localVariables = null);
         ClassVersion.lower(owner);
         VoidResults.replace(owner);
         SmallTypes.widen(owner);
-        FieldConstants constants = FieldConstants.of(owner, wasLambda);
+        FieldConstants constants = FieldConstants.of(owner, host);
         int before = owner.methods.size();
         CallGraph.dropUnused(owner);
         add(notes, constants.inline(), "fields that became constants");
