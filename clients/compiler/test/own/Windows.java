@@ -194,7 +194,6 @@ public class Windows {
             for (int i = 0; i < 32; i++) {
                 state = NEXT[state * 4 + ((int) (entry.getKey() >>> 2 * i) & 3)];
             }
-            assert state >= 0;
             return state;
         }
     }

@@ -62,9 +62,9 @@ public final class LoopUnroller implements Opcodes {
     }
 
     private jentry.compiler.profile.Problem problem(MethodNode method, UnboundedLoopException why) {
-        String what = why.isTooLong() ? "this loop has too many passes: written out, they take more than " + UnrolledGraph.MOST_STATES + " instructions"
-            : "no counter ends this loop";
-        String remedy = why.isTooLong() ? "make fewer passes, or write an inner loop as a method of its own"
+        String what = why.isTooLong() ? "this loop has too many passes, or counts up to a number that isn't known: written out, it takes more than "
+            + UnrolledGraph.MOST_STATES + " instructions" : "no counter ends this loop";
+        String remedy = why.isTooLong() ? "count to a constant, as in i < 64 && i < n, make fewer passes, or write an inner loop as a method of its own"
             : "count the passes from a constant to a constant, as in for (int i = 0; i < 20 && left > 0; i++)";
         return new jentry.compiler.profile.Problem(Instructions.nameOf(owner.name), method.name, why.line(), what, remedy);
     }
