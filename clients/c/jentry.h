@@ -1,6 +1,6 @@
 /* jentry.h: verified entry processors inside a program, without a server.
  *
- * An engine holds the classes that it accepted and the room that one run takes. It lies behind a handle, which is the caller's.
+ * An engine holds the classes that it accepted and the room that one run takes. The caller keeps it by a handle.
  *
  *   struct jentry_handle handle = {0};
  *   jentry_open(&handle);                                   an engine without classes
@@ -8,7 +8,7 @@
  *   jentry_invoke(&handle, &call, args, count, &done);      runs it on an entry; done says what has to be done to the entry
  *   jentry_close(&handle);
  *
- * The caller keeps the entries: the engine is told the entry before, and answers what the processor leaves.
+ * The caller keeps the entries: the engine is given the entry before, and answers what the processor leaves.
  *
  * What a caller has to uphold:
  *   - one call at a time on a handle; different handles are independent, on any threads;

@@ -1,6 +1,6 @@
 //! The part of Redis's module interface that the module uses, by the names and C types of Redis 7.0.
 //!
-//! No header is read: a module finds each function by its name, through a pointer that stands first in the context of its load.
+//! No header is read: a module finds each function by its name, through the pointer at the head of the context of its load.
 use std::ffi::c_void;
 use std::mem::{size_of, transmute_copy};
 use std::os::raw::{c_char, c_int, c_long, c_longlong, c_ulonglong};
@@ -67,7 +67,7 @@ pub struct TypeMethods {
 
 /// How the search for a command's keys begins: at the word with this place.
 pub const BEGIN_INDEX: c_int = 2;
-/// The keys stand in a range from there, or behind a word that is their count.
+/// The keys are a range from there, or behind a word that is their count.
 pub const FIND_RANGE: c_int = 2;
 pub const FIND_COUNT: c_int = 3;
 /// Read alone; or read, then written.

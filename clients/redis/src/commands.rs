@@ -1,4 +1,4 @@
-//! The table of commands: their names, what Redis knows of them, and where their keys stand.
+//! The table of commands: their names, what Redis knows of them, and the places of their keys.
 use crate::api::{
     Command, CommandInfo, Context, InfoVersion, KeySpec, Text, BEGIN_INDEX, FIND_COUNT, FIND_RANGE, KEY_READ, KEY_WRITTEN, OK,
 };
@@ -11,7 +11,7 @@ use std::mem::size_of;
 use std::os::raw::c_int;
 use std::ptr::null;
 
-/// Where a command's keys stand.
+/// The places of a command's keys.
 enum Keys {
     None,
     /// One, at this place.
@@ -76,7 +76,7 @@ fn rows() -> [Row; 10] {
         row(b"jentry.class\0", exported!(class), reads, 2, b"Gets the class file of a class\0"),
         row(b"jentry.explain\0", exported!(explain), reads, 2, b"Explains the verdict on a class file\0"),
         on(Keys::At(2), KEY_WRITTEN, row(b"jentry.invoke\0", exported!(invoke), writes, -3, b"Runs a class on an entry\0")),
-        on(Keys::At(2), KEY_WRITTEN, row(b"jentry.detail\0", exported!(detail), writes, -3, b"Runs a class on an entry and tells all of its end\0")),
+        on(Keys::At(2), KEY_WRITTEN, row(b"jentry.detail\0", exported!(detail), writes, -3, b"Runs a class on an entry, with its type, effect and steps\0")),
         on(Keys::At(2), KEY_READ, row(b"jentry.peek\0", exported!(peek), reads, -3, b"Runs a class that leaves the entry as it is\0")),
         on(Keys::At(6), KEY_WRITTEN, row(b"jentry.apply\0", exported!(apply), writes, -7, b"Runs a class on an entry with times to live\0")),
         on(Keys::Counted(2), KEY_WRITTEN, row(b"jentry.invokeall\0", exported!(invoke_all), writes_several, -4, b"Runs a class on several entries\0")),

@@ -26,7 +26,7 @@ pub fn define(server: Server, words: Words) -> Answer {
         return Err(Failure::Arity);
     }
     let bytes = words.bytes(1)?;
-    // What a master took its replicas take too, and what stands in the AOF was taken once.
+    // What a master took its replicas take too, and what the AOF holds was taken once.
     let is_settled = server.is(IS_REPLICATED) || server.is(IS_LOADING);
     let most = if is_settled { u32::MAX } else { most_steps() };
     // SAFETY: commands run on the main thread, behind the load.

@@ -11,7 +11,7 @@ use std::sync::atomic::{AtomicU32, Ordering};
 const READ: i32 = 1;
 /// What `GetExpire` answers where an entry has no time to live.
 const NO_EXPIRE: i64 = -1;
-/// The release whose layout this is, as `GetServerVersion` tells it without the last byte.
+/// The release whose layout this is, as `GetServerVersion` gives it, without the last byte.
 const RELEASE: i32 = 0x0007_00;
 /// How many looks are held to GET.
 const CHECKS: u32 = 64;

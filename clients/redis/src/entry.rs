@@ -55,7 +55,7 @@ pub enum Lifetime {
     Keep,
     /// There is none from now on.
     Endless,
-    /// So many milliseconds from now on.
+    /// It ends in this number of milliseconds.
     Milliseconds(i64),
 }
 

@@ -94,7 +94,7 @@ pub fn reply_type(server: Server, done: &Done) {
     });
 }
 
-/// Replies what a run did to the entry. A put of the value that was there is `keep`: the core tells what is to be done.
+/// Replies what a run did to the entry. A put of the value that was there is `keep`: the core says what has to be done.
 pub fn reply_effect(server: Server, done: &Done) {
     server.reply_text(match done.effect {
         KEEP => b"keep",

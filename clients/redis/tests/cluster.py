@@ -12,13 +12,13 @@ SLOTS = 16_384
 
 
 def slot_of(key):
-    """The slot of a key, or of what stands in its braces."""
+    """The slot of a key, or of the tag in its braces."""
     found = re.search(r"\{([^}]+)\}", key)
     return binascii.crc_hqx((found[1] if found else key).encode(), 0) % SLOTS
 
 
 class Cluster:
-    """So many masters with so many replicas each. Behind the `with` all of them are gone."""
+    """Masters, each with the same number of replicas. Behind the `with` all of them are gone."""
 
     def __init__(self, masters=3, replicas=1):
         self.nodes = []
@@ -73,7 +73,7 @@ class Cluster:
 
 
 def cli(*words):
-    done = subprocess.run([CLI, *map(str, words)], stdout=subprocess.PIPE, stderr=subprocess.STDOUT, text=True, timeout=PATIENCE, check=False)
+    done = subprocess.run([CLI, *map(str, words)], stdout=subprocess.PIPE, stderr=subprocess.STDOUT, text=True, timeout=5 * PATIENCE, check=False)
     if done.returncode != 0:
         raise RuntimeError(done.stdout)
     return done.stdout

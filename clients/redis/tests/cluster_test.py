@@ -114,9 +114,13 @@ class Resharding(OneCluster):
         def move():
             with node.open() as line, other.open() as to:
                 source, target = line.get("CLUSTER", "MYID").decode(), to.get("CLUSTER", "MYID").decode()
-            cli("--cluster", "reshard", f"127.0.0.1:{node.port}", "--cluster-from", source, "--cluster-to", target, "--cluster-slots", 2500,
+            cli("--cluster", "reshard", f"127.0.0.1:{node.port}", "--cluster-from", source, "--cluster-to", target, "--cluster-slots", 1000,
                 "--cluster-yes")
+        owners = {key: self.cluster.owner(slot_of(key)) for key in KEYS}
         done, unknown, kept = self.count(CALLS, move)
+        moved = [key for key in KEYS if self.cluster.owner(slot_of(key)) != owners[key]]
+        print(f"resharding: {len(moved)} of {len(KEYS)} keys moved", flush=True)
+        self.assertGreater(len(moved), 0)
         self.assertEqual(sum(unknown.values()), 0)
         self.assertEqual(kept, done)
         self.assertEqual(sum(kept.values()), CLIENTS * CALLS)

@@ -33,7 +33,7 @@ class Call:
 
 
 def has_order(calls, start=None):
-    """Whether the calls on one key, of which each client had one at a time, stand in an order that real time allows and that explains each reply."""
+    """Whether the calls on one key, of which each client had one at a time, have an order that real time allows and that explains each reply."""
     by_client = list(calls.values())
     seen = set()
     stack = [((0,) * len(by_client), start)]

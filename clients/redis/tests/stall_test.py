@@ -8,7 +8,7 @@ from module_test import ModuleTest
 from servers import HERE, Server
 
 sys.path.append(os.path.join(HERE, "../../tests"))
-import class_files  # noqa: E402  (it stands with the clients' other tests)
+import class_files  # noqa: E402  (it is one of the clients' other tests)
 
 RUNS = int(os.environ.get("JENTRY_RUNS", 50))
 PATIENCE_OF_A_RUN = 10
