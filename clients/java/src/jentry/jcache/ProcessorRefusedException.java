@@ -29,6 +29,19 @@ public final class ProcessorRefusedException extends CacheException {
         this.places = places.toArray(new String[0]);
     }
 
+    /**
+     * The same refusal, of a class that was sent as it is since it couldn't be compiled.
+     *
+     * @param refusal what the server answered, which becomes the cause
+     * @param problem the compiler's reason
+     */
+    public ProcessorRefusedException(ProcessorRefusedException refusal, String problem) {
+        super(refusal.getMessage() + "; it can't be compiled: " + problem, refusal);
+        number = refusal.number;
+        detail = refusal.detail;
+        places = refusal.places;
+    }
+
     private static String text(String processor, int number, int detail, List<String> places) {
         String text = processor + " is refused: " + number + " " + Refusal.title(number);
         if (number == OUTSIDE_PROFILE) {

@@ -46,6 +46,7 @@ class UriTest extends OnServer {
         assertTrue(cannot("jentry:/a", "jentry.events", "server").contains("jentry.events"));
         assertTrue(cannot("jentry+redis://a", "jentry.events", "all").contains("is one of local, expired, server, not all"));
         assertTrue(cannot("jentry+redis://a", "jentry.local", "yes").contains("is one of false, true, not yes"));
+        assertTrue(cannot("jentry:/a", "jentry.compile", "maybe").contains("jentry.compile is one of true, false, not maybe"));
     }
 
     @Test void propertiesOfAChild() {

@@ -14,6 +14,7 @@ public final class CacheContext {
     final Store store;
     final MutableConfiguration<Long, Long> configuration;
     final boolean isLocal;
+    final boolean isCompiling;
     final ExpiryDurations expiry;
     final ReadThrough loader;
     final WriteThrough writer;
@@ -35,6 +36,7 @@ public final class CacheContext {
         this.store = store;
         this.configuration = configuration;
         isLocal = options.isLocal();
+        isCompiling = options.isCompiling();
         expiry = new ExpiryDurations(configuration.getExpiryPolicyFactory().create());
         if (!store.hasExpiry() && !expiry.isEternal()) {
             throw new UnsupportedOperationException("expiry: the protocol of jentry serve has none; "

@@ -20,7 +20,8 @@ public final class Options {
     private static final String PREFIX = "jentry.";
     private static final Set<String> OF_A_CHILD = Set.of("jentry.program", "jentry.workers", "jentry.stripes");
     private static final Set<String> OF_REDIS = Set.of("jentry.events", "jentry.user", "jentry.password");
-    private static final Set<String> OF_ALL = Set.of("jentry.timeout", "jentry.queue", "jentry.local");
+    private static final Set<String> OF_ALL = Set.of("jentry.timeout", "jentry.queue", "jentry.local",
+        "jentry.compile");
     private static final int STREAM_TIMEOUT_MILLIS = 120_000, REDIS_TIMEOUT_MILLIS = 10_000;
     private static final int QUEUE = 65_536;
     private static final int REDIS_PORT = 6_379;
@@ -40,6 +41,7 @@ public final class Options {
     private final int timeoutMillis;
     private final int queue;
     private final boolean isLocal;
+    private final boolean isCompiling;
     private final Events events;
 
     /**
@@ -65,6 +67,7 @@ public final class Options {
         number("jentry.workers", 1, 0, 16);
         number("jentry.stripes", 1, 1, 64);
         isLocal = one("jentry.local", "false", "true") == 1;
+        isCompiling = one("jentry.compile", "true", "false") == 0;
         events = isRedis() ? Events.values()[one("jentry.events", "local", "expired", "server")] : Events.LOCAL;
     }
 
@@ -166,6 +169,11 @@ public final class Options {
     /** Whether a processor that the server doesn't take runs in this JVM. */
     public boolean isLocal() {
         return isLocal;
+    }
+
+    /** Whether processors are compiled before they are sent, where the compiler is there. */
+    public boolean isCompiling() {
+        return isCompiling;
     }
 
     /** Which events listeners get. */

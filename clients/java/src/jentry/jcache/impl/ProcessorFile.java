@@ -13,8 +13,8 @@ import javax.cache.CacheException;
 import javax.cache.processor.EntryProcessor;
 
 /**
- * The class file of a processor. Two are equal where their bytes are. {@link #of(EntryProcessor)} is the one place
- * where the file of a processor object is found.
+ * The class file of a processor. Two are equal where their bytes are. {@link #of(EntryProcessor, boolean)} is the
+ * one place where the file of a processor object is found.
  */
 public final class ProcessorFile {
     private static final String AS_A_CLASS = "write it as a class of its own, compiled with javac --release 8";
@@ -23,9 +23,42 @@ public final class ProcessorFile {
             return new ProcessorFile(type.getName(), bytesOf(type));
         }
     };
+    private static final ClassValue<Compiled> COMPILED = new ClassValue<>() {
+        @Override protected Compiled computeValue(Class<?> type) {
+            return new Compiled();
+        }
+    };
+
+    /** What is sent of a class once it was compiled, which is tried once. */
+    private static final class Compiled {
+        private volatile ProcessorFile file;
+        private volatile String problem;
+
+        private ProcessorFile of(EntryProcessor<?, ?, ?> processor) {
+            if (file == null && problem == null) {
+                compile(processor);
+            }
+            if (file == null) {
+                file = uncompiled(processor.getClass(), problem);
+            }
+            return file;
+        }
+
+        private synchronized void compile(EntryProcessor<?, ?, ?> processor) {
+            if (file == null && problem == null) {
+                OptionalCompiler.Result result = OptionalCompiler.compile(processor);
+                if (result.bytes() == null) {
+                    problem = result.problem();
+                } else {
+                    file = new ProcessorFile(processor.getClass().getName(), result.bytes());
+                }
+            }
+        }
+    }
 
     private final String type;
     private final byte[] bytes;
+    private final String problem;
     private final int hash;
     private volatile String id;
 
@@ -36,24 +69,50 @@ public final class ProcessorFile {
      * @param bytes the class file
      */
     public ProcessorFile(String type, byte[] bytes) {
+        this(type, bytes, null);
+    }
+
+    private ProcessorFile(String type, byte[] bytes, String problem) {
         this.type = type;
         this.bytes = bytes;
+        this.problem = problem;
         hash = Arrays.hashCode(bytes);
     }
 
     /**
-     * The class file that is sent for a processor: the file of its class, which is looked for where the class's loader
-     * found the class. It is read once for each class.
+     * The class file that is sent for a processor: what the compiler makes of it, where it is to be compiled and the
+     * compiler is there, else the file of its class, which is looked for where the class's loader found the class. It
+     * is made once for each class.
      *
+     * @param isToCompile whether it is compiled if it can be
      * @throws CacheException where there is no file, or where the class needs more than its file
      */
-    public static ProcessorFile of(EntryProcessor<?, ?, ?> processor) {
-        return FILES.get(processor.getClass());
+    public static ProcessorFile of(EntryProcessor<?, ?, ?> processor, boolean isToCompile) {
+        Class<?> type = processor.getClass();
+        return isToCompile && OptionalCompiler.isThere() ? COMPILED.get(type).of(processor) : FILES.get(type);
+    }
+
+    /** The file of a class that can't be compiled. */
+    private static ProcessorFile uncompiled(Class<?> type, String problem) {
+        if (isLambda(type)) {
+            throw new CacheException(
+                type.getName() + " is a lambda or a method reference, which can't be compiled: " + problem);
+        }
+        return new ProcessorFile(type.getName(), bytesOf(type), problem);
+    }
+
+    private static boolean isLambda(Class<?> type) {
+        return type.isHidden() || type.isSynthetic();
     }
 
     /** The name of the class. */
     public String type() {
         return type;
+    }
+
+    /** Why the class couldn't be compiled, or null where it was, or wasn't to be. */
+    public String problem() {
+        return problem;
     }
 
     /** The bytes of the file, which the caller must not change. */
@@ -101,7 +160,7 @@ public final class ProcessorFile {
     }
 
     private static String withoutFile(Class<?> type) {
-        if (type.isHidden() || type.isSynthetic()) {
+        if (isLambda(type)) {
             return "is a lambda or a method reference, which has no class file; " + AS_A_CLASS;
         }
         if (Proxy.isProxyClass(type)) {

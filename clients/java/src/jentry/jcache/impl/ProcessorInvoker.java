@@ -67,7 +67,7 @@ public final class ProcessorInvoker {
         ProcessorFile file = null;
         if (reason == null) {
             try {
-                file = ProcessorFile.of(processor);
+                file = ProcessorFile.of(processor, at.isCompiling);
                 reason = refused.get(file);
             } catch (CacheException e) {
                 reason = e;
@@ -94,11 +94,16 @@ public final class ProcessorInvoker {
         return null;
     }
 
-    /** A class that the server refused: what is to be thrown, or null where the processor may run here. */
+    /**
+     * Keeps the refusal of a class, with the compiler's reason where the class was sent as it is because of one. It is
+     * thrown where the processor may not run here.
+     */
     private void refuse(Way way, ProcessorRefusedException e) {
-        refused.put(way.file(), e);
+        String problem = way.file().problem();
+        ProcessorRefusedException reason = problem == null ? e : new ProcessorRefusedException(e, problem);
+        refused.put(way.file(), reason);
         if (!at.isLocal) {
-            throw e;
+            throw reason;
         }
     }
 

@@ -1,0 +1,57 @@
+package jentry.jcache.impl;
+
+import java.lang.invoke.MethodHandle;
+import java.lang.invoke.MethodHandles;
+import java.lang.invoke.MethodType;
+import javax.cache.processor.EntryProcessor;
+
+/**
+ * The compiler of processors, where the jar of jentry-compile is on the class path. It is looked up by reflection, so
+ * that the provider needs neither that jar nor ASM.
+ */
+final class OptionalCompiler {
+    private static final String NAME = "jentry.compiler.runtime.LoadedProcessors";
+    private static final MethodHandle COMPILE = find();
+
+    /**
+     * What the compiler makes of a processor.
+     *
+     * @param bytes the class file, or null
+     * @param problem why there is none, or null
+     */
+    record Result(byte[] bytes, String problem) { }
+
+    private OptionalCompiler() { }
+
+    private static MethodHandle find() {
+        ClassLoader own = OptionalCompiler.class.getClassLoader();
+        for (ClassLoader loader : new ClassLoader[] {own, Thread.currentThread().getContextClassLoader()}) {
+            try {
+                return MethodHandles.publicLookup().findStatic(Class.forName(NAME, true, loader), "compile",
+                    MethodType.methodType(byte[].class, Object.class));
+            } catch (ReflectiveOperationException | LinkageError e) {
+                // This loader has no compiler that runs on this JVM.
+            }
+        }
+        return null;
+    }
+
+    /** Whether the compiler was found. */
+    static boolean isThere() {
+        return COMPILE != null;
+    }
+
+    /**
+     * Compiles a processor in the thread that hands it over: the compiler finds a lambda by the calls that are under
+     * way.
+     */
+    static Result compile(EntryProcessor<?, ?, ?> processor) {
+        try {
+            return new Result((byte[]) COMPILE.invokeExact((Object) processor), null);
+        } catch (VirtualMachineError e) {
+            throw e;
+        } catch (Throwable e) {
+            return new Result(null, e.getMessage() == null ? e.toString() : e.getMessage());
+        }
+    }
+}
