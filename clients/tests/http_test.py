@@ -302,9 +302,10 @@ class Hostile(FrontTest):
                 for n in range(200):
                     line = socket.socket()
                     line.setsockopt(socket.SOL_SOCKET, socket.SO_RCVBUF, 4_096)
-                    line.settimeout(1)
-                    line.connect(front.http_address())
                     lines.append(line)
+                    line.settimeout(60)
+                    line.connect(front.http_address())
+                    line.settimeout(1)
                     try:
                         line.sendall(100 * GOOD[n % 2 and 3])
                     except OSError:
