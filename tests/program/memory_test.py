@@ -17,10 +17,6 @@ LACKING = [Told(2, b"refused 30 NoMemory\n", b""), Told(3, b"", b"error: no memo
 """What a command may tell of want of memory."""
 
 
-ROOT = os.path.join(os.path.dirname(os.path.abspath(__file__)), "../..")
-STARVED_TESTS = os.path.join(ROOT, "crates/test_hostile/out/test_hostile_tests")
-"""The tests of the library as the gate builds them."""
-
 ENDED = bytes([0, 0, 0, 1, 9])
 LACKED = bytes([0, 0, 0, 2, 8, 3])
 LONG_ON_7 = bytes.fromhex("0000000000000007")
@@ -128,10 +124,3 @@ class Lacking(Runs):
                     self.assertEqual(asked < number, number > growths)
             self.assertTrue(any(was.status == 3 for was, _asked in all_told))
             self.assertTrue(any(was.status == 0 and was != whole for was, _asked in all_told))
-
-    @unittest.skipUnless(os.access(STARVED_TESTS, os.X_OK), f"there is no {os.path.normpath(STARVED_TESTS)}: rt test in crates/test_hostile builds it")
-    def test_rounds_of_several_workers_lack_memory(self):
-        """The same script in the library's own test, where the rounds of four workers are shared among threads."""
-        ran = subprocess.run([os.path.join(ROOT, "bin/starve"), "test_hostile"], capture_output=True, text=True, timeout=600)
-        self.assertEqual(ran.returncode, 0, ran.stdout[-2000:] + ran.stderr[-2000:])
-        self.assertRegex(ran.stdout, r"calls_on_one_key_are_served_or_lack_memory: [1-9]\d* growths, each refused once, 0 failed")
