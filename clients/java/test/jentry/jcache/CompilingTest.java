@@ -30,7 +30,7 @@ class CompilingTest extends OnServer {
     }
 
     @Test void aLambdaWithALoop() {
-        Long sum = cache.invoke(k, (e, a) -> { long s = 0; for (Object x : a) s += (Long) x; e.setValue(s); return s; }, 1L, 2L, 3L);
+        Long sum = cache.invoke(k, (e, a) -> { long s = 0; for (Object x : a) { s += (Long) x; } e.setValue(s); return s; }, 1L, 2L, 3L);
         assertEquals(6L, sum);
         assertEquals(6L, cache.get(k));
         Long bits = cache.invoke(k, (e, a) -> {
