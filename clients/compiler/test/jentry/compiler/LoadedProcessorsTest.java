@@ -6,21 +6,25 @@ import static org.junit.jupiter.api.Assertions.assertTrue;
 
 import java.io.Serializable;
 import javax.cache.processor.EntryProcessor;
-import jentry.compiler.compare.Call;
-import jentry.compiler.compare.Runner;
-import jentry.compiler.runtime.LoadedProcessors;
+import jentry.compiler.runtime.Client;
 import org.junit.jupiter.api.Test;
+import org.junit.jupiter.api.function.Executable;
 
 /** Processors of the running program: lambdas are found by the calls that hand them over. */
 class LoadedProcessorsTest {
     private static final EntryProcessor<Long, Long, Long> FIRST = (entry, arguments) -> entry.getKey() + 1;
     private static final EntryProcessor<Long, Long, Long> SECOND = (entry, arguments) -> entry.getKey() + 2;
 
-    /** What a lambda's class answers on key 100: this method's calls are what a client's are. */
-    private static Object answer(EntryProcessor<Long, Long, ?> processor, Object... arguments) throws Exception {
-        byte[] compiled = LoadedProcessors.compile(processor);
-        String name = new org.objectweb.asm.ClassReader(compiled).getClassName().replace('/', '.');
-        return new Runner(Checks.PATH, compiled, name).run(new Call(100, null, arguments)).result();
+    /** A type of its own that is a processor, too. */
+    private interface Own extends EntryProcessor<Long, Long, Long> { }
+
+    private static final Own OWN = (entry, arguments) -> entry.getKey() + 6;
+
+    /** A class that hands over what another one holds. */
+    private static final class Helper {
+        static Object answer(EntryProcessor<Long, Long, Long> ignored) throws Exception {
+            return Client.answer(Checks.PATH, FIRST);
+        }
     }
 
     private static EntryProcessor<Long, Long, Long> made() {
@@ -28,29 +32,27 @@ class LoadedProcessorsTest {
     }
 
     private static Object handedOn(EntryProcessor<Long, Long, ?> processor) throws Exception {
-        return answer(processor);
+        return Client.answer(Checks.PATH, processor);
     }
 
     @Test
     void aLambdaWhereItIsWritten() throws Exception {
-        assertEquals(106L, answer((entry, arguments) -> {
+        assertEquals(106L, Client.answer(Checks.PATH, (entry, arguments) -> {
             long s = entry.getKey();
             for (Object x : arguments) {
                 s += (Long) x;
             }
             return s;
         }, 1L, 2L, 3L));
-        assertEquals(99L, answer((entry, arguments) -> entry.getKey() - 1));
+        assertEquals(99L, Client.answer(Checks.PATH, (entry, arguments) -> entry.getKey() - 1));
     }
 
     @Test
-    void aLambdaOfALocalAFieldOrAMethod() throws Exception {
+    void aLambdaOfALocalOrAField() throws Exception {
         EntryProcessor<Long, Long, Long> local = (entry, arguments) -> entry.getKey() + 4;
-        assertEquals(104L, answer(local));
-        assertEquals(101L, answer(FIRST));
-        assertEquals(102L, answer(SECOND));
-        assertEquals(103L, answer(made()));
-        assertEquals(103L, handedOn(made()));
+        assertEquals(104L, Client.answer(Checks.PATH, local));
+        assertEquals(101L, Client.answer(Checks.PATH, FIRST));
+        assertEquals(102L, Client.answer(Checks.PATH, SECOND));
     }
 
     private static Long doubled(javax.cache.processor.MutableEntry<Long, Long> entry, Object[] arguments) {
@@ -59,7 +61,7 @@ class LoadedProcessorsTest {
 
     @Test
     void aReferenceToAStaticMethod() throws Exception {
-        assertEquals(200L, answer(LoadedProcessorsTest::doubled));
+        assertEquals(200L, Client.answer(Checks.PATH, LoadedProcessorsTest::doubled));
     }
 
     @Test
@@ -67,7 +69,7 @@ class LoadedProcessorsTest {
         Object[] held = {(EntryProcessor<Long, Long, Long> & Serializable) (entry, arguments) -> entry.getKey() + 5};
         @SuppressWarnings("unchecked")
         EntryProcessor<Long, Long, Long> unknown = (EntryProcessor<Long, Long, Long>) held[0];
-        assertEquals(105L, answer(unknown));
+        assertEquals(105L, Client.answer(Checks.PATH, unknown));
     }
 
     @Test
@@ -75,14 +77,27 @@ class LoadedProcessorsTest {
         Object[] held = {made()};
         @SuppressWarnings("unchecked")
         EntryProcessor<Long, Long, Long> unknown = (EntryProcessor<Long, Long, Long>) held[0];
-        CompileException e = assertThrows(CompileException.class, () -> answer(unknown));
+        assertUnknown(() -> Client.answer(Checks.PATH, unknown));
+        assertUnknown(() -> Client.answer(Checks.PATH, made()));
+        assertUnknown(() -> handedOn(FIRST));
+        assertUnknown(() -> Helper.answer((entry, arguments) -> entry.getKey()));
+    }
+
+    private static void assertUnknown(Executable call) {
+        CompileException e = assertThrows(CompileException.class, call);
         assertTrue(e.getMessage().contains("it can't be seen which of its lambdas this one is"), e.getMessage());
+    }
+
+    @Test
+    void oneOfAnotherType() {
+        CompileException e = assertThrows(CompileException.class, () -> Client.answer(Checks.PATH, OWN));
+        assertTrue(e.getMessage().contains("a lambda of another type than EntryProcessor"), e.getMessage());
     }
 
     @Test
     void oneThatTakesAValueFromOutside() {
         long by = System.nanoTime();
-        CompileException e = assertThrows(CompileException.class, () -> answer((entry, arguments) -> entry.getKey() + by));
+        CompileException e = assertThrows(CompileException.class, () -> Client.answer(Checks.PATH, (entry, arguments) -> entry.getKey() + by));
         assertTrue(e.getMessage().contains("takes a value from outside; hand it over as an argument"), e.getMessage());
     }
 
@@ -100,6 +115,6 @@ class LoadedProcessorsTest {
 
     @Test
     void aClass() throws Exception {
-        assertEquals(400L, answer(new Loops()));
+        assertEquals(400L, Client.answer(Checks.PATH, new Loops()));
     }
 }

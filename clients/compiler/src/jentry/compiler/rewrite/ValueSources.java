@@ -36,6 +36,22 @@ public final class ValueSources implements Opcodes {
         return frames.computeIfAbsent(method, it -> Origin.of(owner, it, new Origin.Reader()));
     }
 
+    /**
+     * The instructions of a method that made an operand of it; null where it may also come from elsewhere: from a parameter, or to an
+     * instruction that isn't reached.
+     */
+    public Set<AbstractInsnNode> within(MethodNode method, AbstractInsnNode at, int below) {
+        Origin origin = origin(method, at, below);
+        Set<AbstractInsnNode> made = new HashSet<>();
+        for (Object source : origin == null ? Set.of(new Object()) : origin.sources()) {
+            if (!(source instanceof AbstractInsnNode instruction)) {
+                return null;
+            }
+            made.add(instruction);
+        }
+        return made;
+    }
+
     /** The instructions that may have made an operand: calls of own methods and parameters are followed. What nobody in the class hands over is left out. */
     public Set<AbstractInsnNode> of(MethodNode method, AbstractInsnNode at, int below) {
         Set<AbstractInsnNode> found = new HashSet<>();

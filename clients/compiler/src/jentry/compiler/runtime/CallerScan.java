@@ -6,6 +6,7 @@ import java.util.List;
 import java.util.Set;
 import org.objectweb.asm.ClassReader;
 import org.objectweb.asm.Handle;
+import org.objectweb.asm.Opcodes;
 import org.objectweb.asm.Type;
 import org.objectweb.asm.tree.AbstractInsnNode;
 import org.objectweb.asm.tree.ClassNode;
@@ -18,10 +19,11 @@ import jentry.compiler.profile.Members;
 import jentry.compiler.rewrite.ValueSources;
 
 /**
- * Finds which lambda a program hands over, by the calls that are under way.
+ * Finds which lambda a program hands over, by the call that is under way.
  *
- * <p>The innermost call that takes an EntryProcessor is looked up in the class file of its caller, by its line, and what it hands over is
- * followed back: through locals, parameters, results and final fields of the class, to the instruction that makes the lambda.
+ * <p>The method that calls the client has to be one of the class that makes the lambda. The call is looked up in its class file by the line,
+ * and what it hands over has to be made in that very method or be a final field of the class. Whatever else it may be, a parameter or
+ * what another method returns, could be another lambda of the class: then nothing is found.
  */
 final class CallerScan {
     private static final String PROCESSOR = "L" + Members.PROCESSOR + ";";
@@ -41,62 +43,69 @@ final class CallerScan {
         new ClassReader(classFile).accept(node, ClassReader.SKIP_FRAMES);
     }
 
-    /** The names of the bodies that may have been handed over; empty where the calls don't say. */
+    /** The names of the bodies that may have been handed over; empty where the call doesn't say. */
     Set<String> bodies() {
-        List<Caller> callers = StackWalker.getInstance(StackWalker.Option.RETAIN_CLASS_REFERENCE).walk(frames -> frames
+        return StackWalker.getInstance(StackWalker.Option.RETAIN_CLASS_REFERENCE).walk(frames -> frames
+            .filter(it -> it.getDeclaringClass() == host || !isOfTheClient(it.getDeclaringClass().getName())).findFirst()
             .filter(it -> it.getDeclaringClass() == host)
-            .map(it -> new Caller(it.getMethodName(), it.getDescriptor(), it.getLineNumber())).toList());
-        for (Caller caller : callers) {
-            Set<String> bodies = bodies(caller);
-            if (!bodies.isEmpty()) {
-                return bodies;
-            }
-        }
-        return Set.of();
+            .map(it -> bodies(new Caller(it.getMethodName(), it.getDescriptor(), it.getLineNumber()))).orElse(Set.of()));
+    }
+
+    private static boolean isOfTheClient(String name) {
+        return name.startsWith("jentry.jcache.") || name.startsWith(CallerScan.class.getPackageName() + ".") || name.startsWith("java.lang.");
     }
 
     private Set<String> bodies(Caller caller) {
         MethodNode method = Instructions.method(node, caller.method, caller.descriptor);
-        Set<String> bodies = new HashSet<>();
-        if (method == null) {
-            return bodies;
-        }
-        ValueSources sources = new ValueSources(node);
-        for (AbstractInsnNode at : method.instructions) {
-            if (at instanceof MethodInsnNode call && Instructions.line(at) == caller.line) {
-                Type[] types = Type.getArgumentTypes(call.desc);
-                for (int i = 0; i < types.length; i++) {
-                    if (types[i].getDescriptor().equals(PROCESSOR)) {
-                        follow(node, sources.of(method, at, types.length - 1 - i), bodies, new HashSet<>());
+        List<Set<AbstractInsnNode>> handedOver = new ArrayList<>();
+        if (method != null) {
+            ValueSources sources = new ValueSources(node);
+            for (AbstractInsnNode at : method.instructions) {
+                if (at instanceof MethodInsnNode call && Instructions.line(at) == caller.line) {
+                    Type[] types = Type.getArgumentTypes(call.desc);
+                    for (int i = 0; i < types.length; i++) {
+                        if (types[i].getDescriptor().equals(PROCESSOR)) {
+                            handedOver.add(sources.within(method, at, types.length - 1 - i));
+                        }
                     }
                 }
             }
         }
-        return bodies;
+        Set<String> bodies = new HashSet<>();
+        return handedOver.size() == 1 && areLambdas(handedOver.get(0), bodies, true) ? bodies : Set.of();
     }
 
-    private static void follow(ClassNode owner, Set<AbstractInsnNode> sources, Set<String> bodies, Set<AbstractInsnNode> seen) {
-        for (AbstractInsnNode source : sources) {
-            if (!seen.add(source)) {
-                continue;
-            } else if (source instanceof InvokeDynamicInsnNode it && it.bsmArgs.length > 1 && it.bsmArgs[1] instanceof Handle body) {
+    /** Whether values are lambdas, whose bodies are added, or final fields that hold such. */
+    private boolean areLambdas(Set<AbstractInsnNode> made, Set<String> bodies, boolean mayBeFields) {
+        if (made == null) {
+            return false;
+        }
+        for (AbstractInsnNode source : made) {
+            if (source instanceof InvokeDynamicInsnNode it && it.bsmArgs.length > 1 && it.bsmArgs[1] instanceof Handle body) {
                 bodies.add(body.getName());
-            } else if (source instanceof FieldInsnNode field && field.owner.equals(owner.name)) {
-                for (Set<AbstractInsnNode> written : writes(owner, field)) {
-                    follow(owner, written, bodies, seen);
-                }
+            } else if (!(mayBeFields && source instanceof FieldInsnNode field && isFinal(field)
+                && writes(field).stream().allMatch(it -> areLambdas(it, bodies, false)))) {
+                return false;
             }
         }
+        return true;
     }
 
-    private static List<Set<AbstractInsnNode>> writes(ClassNode owner, FieldInsnNode field) {
+    private boolean isFinal(FieldInsnNode field) {
+        return field.owner.equals(node.name)
+            && node.fields.stream().anyMatch(it -> it.name.equals(field.name) && (it.access & Opcodes.ACC_FINAL) != 0);
+    }
+
+    /** What the class writes to a field. A null among them isn't known. */
+    private List<Set<AbstractInsnNode>> writes(FieldInsnNode field) {
         List<Set<AbstractInsnNode>> all = new ArrayList<>();
-        for (MethodNode method : owner.methods) {
+        ValueSources sources = new ValueSources(node);
+        for (MethodNode method : node.methods) {
             for (AbstractInsnNode at : method.instructions) {
-                boolean writes = at instanceof FieldInsnNode it && it.name.equals(field.name) && it.owner.equals(owner.name)
-                    && (at.getOpcode() == org.objectweb.asm.Opcodes.PUTSTATIC || at.getOpcode() == org.objectweb.asm.Opcodes.PUTFIELD);
+                boolean writes = (at.getOpcode() == Opcodes.PUTSTATIC || at.getOpcode() == Opcodes.PUTFIELD)
+                    && at instanceof FieldInsnNode it && it.name.equals(field.name) && it.owner.equals(node.name);
                 if (writes) {
-                    all.add(new ValueSources(owner).of(method, at, 0));
+                    all.add(sources.within(method, at, 0));
                 }
             }
         }

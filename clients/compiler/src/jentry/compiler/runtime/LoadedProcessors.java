@@ -21,6 +21,7 @@ import jentry.compiler.rewrite.Lambdas;
  */
 public final class LoadedProcessors {
     private static final String LAMBDA = "$$Lambda";
+    private static final String PROCESSOR = "javax.cache.processor.EntryProcessor";
 
     private LoadedProcessors() { }
 
@@ -76,6 +77,10 @@ public final class LoadedProcessors {
         String declared = declaredBody(processor);
         if (declared != null) {
             return declared;
+        }
+        if (List.of(processor.getClass().getInterfaces()).stream().anyMatch(it -> !it.getName().equals(PROCESSOR))) {
+            throw problem(host.getName(), "a lambda of another type than EntryProcessor can't be told from the class's other lambdas",
+                "declare it as an EntryProcessor, or write it as a class of its own");
         }
         List<Lambdas.Lambda> candidates = ProcessorCompiler.lambdas(bytes).stream()
             .filter(it -> Type.getArgumentTypes(it.site().desc).length == 0).toList();
