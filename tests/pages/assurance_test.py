@@ -98,6 +98,15 @@ class Assurance(unittest.TestCase):
             f"{len(edits)} in {len(folders)} crates" in text_of(PAGE), f"{len(edits)} edits in {len(folders)} crates"
         )
 
+    def test_worked_examples_are_counted(self):
+        """As many verdicts and ends are computed as the page says."""
+        verdicts, calls = (text_of(f"crates/spec_examples/specs/{it}.antt") for it in ("Verdicts", "Rows"))
+        first = len(re.findall(r"^pub \w+ : judge_by First", verdicts, re.M))
+        second = len(re.findall(r"^pub \w+ : judge ", verdicts, re.M))
+        ends = len(re.findall(r"^pub \w+ : outcome_", calls, re.M))
+        found = re.search(r"computes (\d+) verdicts by the second profile, (\d+) by the first, and the ends of (\d+) calls", text_of(PAGE))
+        self.assertEqual(tuple(map(int, found.groups())), (second, first, ends))
+
     def test_tests_are_there(self):
         sources = "".join(
             text_of(os.path.relpath(it, TOP))
