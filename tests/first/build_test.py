@@ -8,6 +8,11 @@ import tiny
 from shared import sum_of
 
 
+def without_kept(output):
+    """An output without the lines in which rt says what it begins with, where another checkout of this machine kept a crate of the same name."""
+    return "".join(line for line in output.splitlines(True) if not re.match(r"rt: \w+: begins with ", line))
+
+
 @unittest.skipIf(os.environ.get("JENTRY_TRIAL"), "it proves a crate")
 class Builds(unittest.TestCase):
     def test_a_fresh_clone_is_built_whatever_crates_txt_counts(self):
@@ -18,7 +23,7 @@ class Builds(unittest.TestCase):
             tiny.make(folder)
             tiny.write(f"{folder}/CHANGELOG.md", f"# Changelog\n\n## 1.2.3\n\n- program sha256 {64 * '0'}\n")
             output, errors, status = tiny.run(folder, "bin/build")
-            self.assertEqual((output, status), ("", 0), errors)
+            self.assertEqual((without_kept(output), status), ("", 0), errors)
             first, *crates, last = errors.splitlines()
             self.assertRegex(first, r"^jentry: proving and building 2 crates, (about|less than) .* left$")
             self.assertRegex(crates[0], r"^jentry: 1 of 2 crates, low after \d+ s, (about|less than) .* left$")
@@ -35,7 +40,7 @@ class Builds(unittest.TestCase):
             tiny.make(folder)
             tiny.write(f"{folder}/crates/low/src/lib.rt", tiny.LIBRARY.replace("    x\n", "    x + 1\n"))
             output, errors, status = tiny.run(folder, "bin/build")
-            self.assertEqual((output, status), ("", 3))
+            self.assertEqual((without_kept(output), status), ("", 3))
             self.assertIn("jentry: low failed; its last words:", errors)
             self.assertFalse(os.path.exists(f"{folder}/crates/jentry/out/jentry"))
 
