@@ -121,6 +121,13 @@ impl EntryState {
         self.asked = Some(LoadAnswer::Failed);
     }
 
+    /// Whether neither `setValue` nor `remove` was called.
+    pub fn is_untouched(&self) -> bool
+        ensures { result ≡ self.now.now.untouched }
+    {
+        self.untouched
+    }
+
     /// What the loader answered, if it was asked.
     pub fn asked(&self) -> Option<LoadAnswer>
         ensures { result ≡ self.now.now.asked }
