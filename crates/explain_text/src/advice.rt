@@ -21,7 +21,7 @@ fn of_layout(refusal: Refusal) -> &'static str {
 fn of_shape(refusal: Refusal) -> &'static str {
     match refusal {
         Refusal::BadDescriptor => {
-            "A method has a parameter or a result of a type that isn't accepted: use int, long, boolean, Object, Number, Long, Integer, the entry, int[], long[] or Object[]."
+            "A method has a parameter or a result of a type that isn't accepted: use int, long, boolean, Object, Number, Long, Integer, the entry, int[], long[] or Object[]. jentry-compile takes Void, byte, short and char, and leaves unused methods out."
         }
         Refusal::BadHeader => {
             "Write a plain class with `implements EntryProcessor<Long, Long, ..>` that extends no other, and copy what an abstract base class would hold."
@@ -30,7 +30,7 @@ fn of_shape(refusal: Refusal) -> &'static str {
             "A class has the constructor that javac writes, and no other: `static final` for constants, arguments for what changes, and no constructor in the source."
         }
         Refusal::ClassInitialiser => {
-            "No code runs when a class is loaded: write `static final` of int or long with a constant, a local array, or a method that gives the value."
+            "No code runs when a class is loaded: write `static final` of int or long with a constant, a local array, or a method that gives the value. jentry-compile computes static final tables and boxed constants at compile time."
         }
         Refusal::NoProcess => "Write a public `process` of the instance in the class itself.",
         Refusal::DuplicateMethod => "Two methods have one name and one descriptor: drop one.",
@@ -49,13 +49,18 @@ fn of_opcode(opcode: u8) -> &'static str {
             "Texts, classes and floats aren't accepted as constants: use numbers as codes, or fixed point in `long`.",
         165 | 166 =>
             "References can't be compared: compare numbers, as `a.longValue() == b.longValue()`.",
-        178 | 179 =>
-            "Static fields and enums can't be used: use arguments, locals, the entry's value, or numbers as codes.",
-        180 | 181 => "Fields can't be read or written: use arguments, locals or the entry's value.",
+        178 | 179 => {
+            "Static fields and enums can't be used: use arguments, locals, the entry's value, or numbers as codes. jentry-compile makes constants of final fields."
+        }
+        180 | 181 => {
+            "Fields can't be read or written: use arguments, locals or the entry's value. jentry-compile makes constants of final fields."
+        }
         186 => "Lambdas and method references aren't accepted: write a method of the class.",
         187 =>
             "Objects can't be made, texts joined or exceptions thrown: use locals, or a `long` that packs several numbers.",
-        51..=53 | 84..=86 | 188 => "Arrays are of int or long: write `int[]` or `long[]`.",
+        51..=53 | 84..=86 | 188 => {
+            "Arrays are of int or long: write `int[]` or `long[]`. jentry-compile makes int arrays of byte, short, char and boolean arrays."
+        }
         83 | 189 =>
             "Arrays of references can't be made or written: use `long[]`, `long...`, or parameters one by one.",
         191 => "An exception can't be thrown by `throw`: let the code divide by zero.",
@@ -72,10 +77,10 @@ fn of_code(refusal: Refusal) -> &'static str {
         Refusal::BadOperand =>
             "This call or operand isn't known here: write what is called as a method of the class.",
         Refusal::BackwardBranch => {
-            "Loops aren't accepted: write the passes out, by a method for one pass, or use a formula."
+            "Loops aren't accepted as they are: compile the class with jentry-compile, which writes the passes of counted loops out, or use a formula."
         }
         Refusal::UnknownMember => {
-            "Only methods of the class itself and a few of the entry, Long, Integer, Number and Math are known: write it as a method of the class, and cast to Long, Integer, Number or Object."
+            "Only methods of the class itself and a few of the entry, Long, Integer, Number and Math are known: write it as a method of the class, and cast to Long, Integer, Number or Object. jentry-compile copies most methods of Long, Integer, Math and Objects into the class."
         }
         Refusal::BadStackMap => {
             "Where ways through the code meet, each local in use has a type that is known here: declare it as Object, Number, Long or Integer."
@@ -105,7 +110,7 @@ fn of_bounds(refusal: Refusal) -> &'static str {
     }
 }
 
-/// One sentence on what to write instead of what is refused.
+/// One line on what to write instead of what is refused, and on what the compiler `jentry-compile` mends of it.
 pub fn advice(refusal: Refusal) -> &'static str {
     match refusal {
         Refusal::OutsideProfile(opcode) => of_opcode(opcode),

@@ -13,5 +13,7 @@ mod page;
 mod spots;
 mod switches;
 mod table;
+mod text;
 
 pub use page::{refusal_of, report};
+pub use text::{explanation, write_explanation};

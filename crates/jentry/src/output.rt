@@ -91,7 +91,7 @@ pub fn accepted(alloc: Global, bounds: Bounds) -> Result<Answer, AllocError> {
     })
 }
 
-/// The line of a class that is refused: the number, the name, and for some the place or the opcode.
+/// The line of a class that is refused: the number, the name, and for some the pc or the opcode.
 pub fn refused(alloc: Global, refusal: Refusal) -> Result<Answer, AllocError> {
     let number = refusal.number();
     Ok(Answer {
