@@ -60,12 +60,11 @@ rows_of ws = map (λ (w : Worker). w.answers) ws
 abbrev pub HasRoom : {A : Type 0} → ℕ → Vec A Global → Type 0
 HasRoom n v = (v.items ≡ []) × (n ≤ vec_capacity v)
 
--- room for a round of so many jobs in so many groups, by so many workers
-pub record IsRoom (jobs groups count : ℕ) (r : RoundBuffers) : Type 0 where
-  pub some_groups : IsCount groups
-  pub groups_are : r.counter.jobs ≡ groups
+-- room for a round of so many jobs by so many workers; what the counter counts are the groups
+pub record IsRoom (jobs count : ℕ) (r : RoundBuffers) : Type 0 where
+  pub some_groups : IsCount r.counter.jobs
   pub workers_are : r.counter.workers ≡ count
-  pub blank : AreBlank jobs groups r.groups
+  pub blank : AreBlank jobs r.counter.jobs r.groups
   pub claimers : AreFresh r.counter r.claimers.items
   pub lists : (length r.lists.items ≡ count) × All (HasRoom jobs) r.lists.items
   pub workers : HasRoom count r.workers

@@ -43,7 +43,7 @@ pub fn room_for<'a>(
     requires jobs { IsJobCount jobs }
     requires stripes { IsCount stripes }
     requires workers { IsWorkerCount count }
-    ensures { IfOk result (λ room. IsRoom jobs room.counter.jobs count room) }
+    ensures { IfOk result (IsRoom jobs count) }
 {
     let many = groups_for(stripes, count);
     let groups = no_groups(alloc, jobs, many)?;

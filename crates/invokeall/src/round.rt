@@ -62,7 +62,7 @@ pub fn run_in<'a, R: Threads + Wait + Sync, G: Gate + Sync, L: Loader + Sync>(
     requires some_seat { 0 < length seats.old.items }
     requires workspaces { length workspaces.old.items ≡ length seats.old.items }
     requires home { All (IsAtHome cache.now) seats.old.items }
-    requires room { IsRoom (length (all_seen calls.now)) room.counter.jobs (length seats.old.items) room }
+    requires room { IsRoom (length (all_seen calls.now)) (length seats.old.items) room }
     ensures round { IsRound cache.now (all_seen calls.now) seats.old.items seats.new.items result.items }
     ensures workspaces { length workspaces.new.items ≡ length workspaces.old.items }
 {

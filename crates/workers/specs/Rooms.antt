@@ -7,7 +7,7 @@ use Rattle.workers.specs.declared.room.PoolBuffers.{PoolBuffers}
 
 -- room for a round of so many jobs by so many workers, with a workspace for each worker
 pub record IsRoom (jobs workers : ℕ) (r : PoolBuffers) : Type 0 where
-  pub round : rooms.IsRoom jobs r.round.counter.jobs workers r.round
+  pub round : rooms.IsRoom jobs workers r.round
   pub workspaces : length r.workspaces.items ≡ workers
 
 -- the job wasn't refused for a full history
