@@ -22,19 +22,19 @@ use workers::{CALL_COST, cost_of};
 /// The most jobs of a round.
 pub const MOST_JOBS: usize = 4096;
 
-/// What is told of a request.
+/// How a request is answered: at once, or by its jobs.
 #[derive(Clone, Copy)]
 pub enum Work<'r> {
     Defined { class: u32, steps: u32, words: u32 },
     Refused(Refusal),
     Denied(Denial),
-    /// The answer to the job at this place.
+    /// The answer to the job of this number.
     Job(u32),
-    /// The answers to the jobs from this place on, one for each of the keys.
+    /// The answers to the jobs from this number on, one for each of the keys.
     JobForEach(u32, Keys<'r>),
 }
 
-/// What is told of each request of a round, and the calls of its jobs. Their arguments stand in the round's arena.
+/// The work of each request of a round, and the calls of its jobs. Their arguments stand in the round's arena.
 #[derive(Drop)]
 pub struct Batch<'r> {
     pub works: Vec<Work<'r>>,

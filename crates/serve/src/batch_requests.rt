@@ -8,7 +8,7 @@ ghost use Rattle.serve.specs.Kept.{AreOf, HasFew, classes_of, work_of, Adding};
 use crate::batch::{
     Batch, Work, contains, get, many_jobs, one_invocation, push_call, put, remove, tell,
 };
-use bumpalo::Bump;
+use crate::context::RoundSource;
 use jtypes::{Arg, Refusal};
 use registry::{ClassId, Registry};
 use std::alloc::{AllocError, Global};
@@ -68,8 +68,7 @@ fn class_at<'r>(registry: &'r Registry, ids: &[ClassId], class: usize) -> Option
 /// Adds an invocation of a class by its number, on this key with these arguments, to its round.
 #[inline(always)]
 pub fn add_invoke<'r>(
-    arena: &'r Bump,
-    registry: &'r Registry,
+    source: &RoundSource<'r>,
     ids: &[ClassId],
     plan: &mut Batch<'r>,
     class: usize,
@@ -77,19 +76,17 @@ pub fn add_invoke<'r>(
     args: &[Arg],
 ) -> Result<(), AllocError>
     requires few { length args.now ≤ 8 }
-    requires known { AreOf registry.now ids.now }
+    requires known { AreOf source.now.registry.now ids.now }
     ensures { OnOk result (Adding (classes_of ids.now) plan.old (Invoke class key.now args.now) plan.new (classes_of ids.now)) }
 {
-    match class_at(registry, ids, class) {
-        Some(class) => one_invocation(arena, plan, class, key, args),
+    match class_at(source.registry, ids, class) {
+        Some(class) => one_invocation(source.arena, plan, class, key, args),
         None => tell(plan, Work::Denied(Denial::UnknownClass)),
     }
 }
 
 fn add_invoke_all<'r>(
-    alloc: Global,
-    arena: &'r Bump,
-    registry: &'r Registry,
+    source: &RoundSource<'r>,
     ids: &[ClassId],
     plan: &mut Batch<'r>,
     class: usize,
@@ -97,11 +94,11 @@ fn add_invoke_all<'r>(
     args: &[Arg],
 ) -> Result<(), AllocError>
     requires few { length args.now ≤ 8 }
-    requires known { AreOf registry.now ids.now }
+    requires known { AreOf source.now.registry.now ids.now }
     ensures { OnOk result (Adding (classes_of ids.now) plan.old (InvokeAll class keys.now args.now) plan.new (classes_of ids.now)) }
 {
-    match class_at(registry, ids, class) {
-        Some(class) => many_jobs(alloc, arena, plan, class, keys, args),
+    match class_at(source.registry, ids, class) {
+        Some(class) => many_jobs(source.alloc, source.arena, plan, class, keys, args),
         None => tell(plan, Work::Denied(Denial::UnknownClass)),
     }
 }
@@ -109,42 +106,38 @@ fn add_invoke_all<'r>(
 /// Adds a request with these arguments to its round.
 pub fn add<'r, T: Wait>(
     rt: &T,
-    alloc: Global,
-    arena: &'r Bump,
-    registry: &'r Registry,
+    source: &RoundSource<'r>,
     ids: &mut Vec<ClassId>,
     plan: &mut Batch<'r>,
     request: Request,
     args: &[Arg],
 ) -> Result<(), AllocError>
-    requires known { AreOf registry.now ids.old.items }
+    requires known { AreOf source.now.registry.now ids.old.items }
     requires inside { with_args args.now request ≢ RoundEnd }
     requires few { HasFew (with_args args.now request) }
     ensures ok { OnOk result (Adding (classes_of ids.old.items) plan.old (with_args args.now request) plan.new (classes_of ids.new.items)) }
-    ensures known { AreOf registry.now ids.new.items }
+    ensures known { AreOf source.now.registry.now ids.new.items }
 {
-    add_behind(rt, alloc, arena, registry, ids, plan, &request, args)
+    add_behind(rt, source, ids, plan, &request, args)
 }
 
 fn add_behind<'r, T: Wait>(
     rt: &T,
-    alloc: Global,
-    arena: &'r Bump,
-    registry: &'r Registry,
+    source: &RoundSource<'r>,
     ids: &mut Vec<ClassId>,
     plan: &mut Batch<'r>,
     request: &Request,
     args: &[Arg],
 ) -> Result<(), AllocError>
-    requires known { AreOf registry.now ids.old.items }
+    requires known { AreOf source.now.registry.now ids.old.items }
     requires inside { with_args args.now request.now ≢ RoundEnd }
     requires few { HasFew (with_args args.now request.now) }
     ensures ok { OnOk result (Adding (classes_of ids.old.items) plan.old (with_args args.now request.now) plan.new (classes_of ids.new.items)) }
-    ensures known { AreOf registry.now ids.new.items }
+    ensures known { AreOf source.now.registry.now ids.new.items }
 {
     match request {
         Request::Define(bytes) => {
-            let work = define(rt, alloc, registry, ids, bytes.as_slice());
+            let work = define(rt, source.alloc, source.registry, ids, bytes.as_slice());
             tell(plan, work)
         }
         Request::Put { key, value } => push_call(plan, put(key, value)),
@@ -152,26 +145,18 @@ fn add_behind<'r, T: Wait>(
         Request::Remove { key } => push_call(plan, remove(key)),
         Request::Contains { key } => push_call(plan, contains(key)),
         Request::Invoke { class, key } => {
-            add_invoke(
-                arena,
-                registry,
+            add_invoke(source, ids.as_slice(), plan, *class as usize, key, args)
+        }
+        Request::InvokeAll { class, keys } => {
+            add_invoke_all(
+                source,
                 ids.as_slice(),
                 plan,
                 *class as usize,
-                key,
+                keys.as_slice(),
                 args,
             )
         }
-        Request::InvokeAll { class, keys } => add_invoke_all(
-            alloc,
-            arena,
-            registry,
-            ids.as_slice(),
-            plan,
-            *class as usize,
-            keys.as_slice(),
-            args,
-        ),
         Request::RoundEnd => Ok(()),
     }
 }

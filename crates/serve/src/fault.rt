@@ -6,7 +6,7 @@ ghost use Rattle.serve.specs.Settings.{fault_number, fault_name};
 use std::alloc::AllocError;
 use wire::{WireFault, WriteFailed};
 
-/// Why a stream ends early.
+/// Why a stream ends early. It is no Java exception: those are answers.
 #[derive(Clone, Copy, Debug, PartialEq, Eq)]
 pub enum ServeFault {
     /// A frame is longer than a frame may be.

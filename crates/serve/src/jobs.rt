@@ -9,11 +9,10 @@ ghost use Rattle.invokeall.specs.Rounds.{reply_of};
 ghost use Rattle.invokeall.specs.Rooms.{HasRoom};
 ghost use Rattle.workers.specs.Rooms.{HasPlace};
 
-use crate::settings::Settings;
+use crate::context::Server;
 use cache::{Gate, InvokeRefusal};
 use invokeall::JobReply;
 use jtypes::Loader;
-use registry::Registry;
 use round_robin::run_in_turns;
 use std::alloc::Global;
 use std::sync::Wait;
@@ -21,7 +20,7 @@ use std::thread::Threads;
 use stripe::{Call, Reply, Tables};
 use workers::{WorkspacePool, run_by_workers, workers_for};
 
-/// What a round leaves: the entries, and the answer to each job. A job that was refused found no memory.
+/// What a round leaves: the tables of entries, and the answer to each job. A job that was refused found no memory.
 #[derive(Drop)]
 pub struct RoundLeft {
     pub tables: Tables,
@@ -75,33 +74,37 @@ fn run_alone<L: Loader>(
     }
 }
 
-/// Makes the calls on these entries, by as many of the workers as they are worth that take so many instructions, or in turn where there
-/// are none. Where there is no memory for it, the entries are as before.
+/// Makes the calls on these tables: in turn where the settings have no workers, else by as many workers as calls of `steps`
+/// instructions are worth. Where there is no memory for it, the tables come back as they were.
 pub fn run_jobs<'a, T: Threads + Wait + Sync, G: Gate + Sync, L: Loader + Sync>(
-    rt: &T,
-    alloc: Global,
-    registry: &'a Registry,
+    server: &Server<'a, T, G, L>,
     tables: Tables,
-    settings: Settings,
     steps: u64,
     calls: &[Call<'a>],
-    kept: &mut WorkspacePool,
-    gate: &G,
-    loader: &L,
+    workspaces: &mut WorkspacePool,
 ) -> Result<RoundLeft, Tables>
     requires jobs { length calls.now ≤ 4096 }
-    requires workers { settings.workers ≤ 16 }
-    ensures done { IfOk result (λ left. IsDone L.ASKS (L.gives loader.now) (entry_among tables) (all_seen calls.now) (map reply_of left.answers.items) (entry_among left.tables)) }
+    requires workers { server.now.settings.workers ≤ 16 }
+    ensures done { IfOk result (λ left. IsDone L.ASKS (L.gives server.now.loader.now) (entry_among tables) (all_seen calls.now) (map reply_of left.answers.items) (entry_among left.tables)) }
     ensures placed { IfOk result (λ left. All HasPlace left.answers.items) }
     ensures stripes { IfOk result (λ left. length left.tables ≡ length tables) }
     ensures kept { IfErr result (λ e. e ≡ tables) }
 {
+    let settings = server.settings;
     if settings.workers == 0 {
-        return run_alone(alloc, tables, calls, loader);
+        return run_alone(server.alloc, tables, calls, server.loader);
     }
     let workers = workers_for(steps, settings.workers, settings.share);
     match run_by_workers(
-        rt, alloc, registry, tables, workers, calls, kept, gate, loader,
+        server.rt,
+        server.alloc,
+        server.registry,
+        tables,
+        workers,
+        calls,
+        workspaces,
+        server.gate,
+        server.loader,
     ) {
         Ok(workers::CrewLeft { tables, answers }) => Ok(RoundLeft { tables, answers }),
         Err(tables) => Err(tables),

@@ -3,6 +3,7 @@
 
 mod batch;
 mod batch_requests;
+mod context;
 mod fault;
 mod jobs;
 mod keys;

@@ -7,12 +7,11 @@ ghost use Rattle.wire.specs.Requests.{with_args, RoundEnd};
 ghost use Rattle.serve.specs.Devices.{ReadsAreCounted};
 ghost use Rattle.serve.specs.Kept.{AreOf, classes_of, RoundRead, IsBroken};
 
-use crate::batch::{Batch, Room, no_requests, room_of};
+use crate::batch::{Batch, no_requests, room_of};
 use crate::batch_requests::{add, add_invoke};
+use crate::context::{RoundSource, Server, StreamState};
 use crate::fault::ServeFault;
 use bumpalo::Bump;
-use registry::{ClassId, Registry};
-use std::alloc::Global;
 use std::sync::Wait;
 use wire::{Ahead, Counted, Request, invocation_at_hand, read_request};
 
@@ -23,57 +22,44 @@ fn is_end(request: &Request) -> bool
     matches!(request, Request::RoundEnd)
 }
 
-/// Reads the requests of a round, up to its end; at the end of the input there is none. Classes are defined as they are read. The
-/// room is what the round before took, and then what this one takes.
-pub fn read_round<'r, T: Wait, R: Ahead>(
-    rt: &T,
-    alloc: Global,
+/// Reads the requests of a round, up to its end; at the end of the input there is none. Classes are defined as they are read.
+pub fn read_round<'r, T: Wait, R: Ahead, G, L>(
+    server: &Server<'r, T, G, L>,
     arena: &'r Bump,
-    registry: &'r Registry,
-    ids: &mut Vec<ClassId>,
-    room: &mut Room,
+    state: &mut StreamState,
     reader: &mut Counted<R>,
 ) -> Result<Option<Batch<'r>>, ServeFault>
-    requires { AreOf registry.now ids.old.items }
-    ensures ok { IfOk result (λ round. RoundRead (R.remaining reader.old.inner) (R.remaining reader.new.inner) (classes_of ids.old.items) (classes_of ids.new.items) round) }
+    requires { AreOf server.now.registry.now state.old.ids.items }
+    ensures ok { IfOk result (λ round. RoundRead (R.remaining reader.old.inner) (R.remaining reader.new.inner) (classes_of state.old.ids.items) (classes_of state.new.ids.items) round) }
     ensures err { IfErr result (λ e. IsBroken (R.remaining reader.old.inner) (R.remaining reader.new.inner) e) }
     ensures end { result ≡ Err ServeFault.Truncated → IsAtEnd (R.remaining reader.new.inner) }
     ensures counted { ReadsAreCounted result reader.old reader.new }
-    ensures known { AreOf registry.now ids.new.items }
+    ensures known { AreOf server.now.registry.now state.new.ids.items }
 {
-    let mut plan = no_requests(alloc, *room);
+    let alloc = server.alloc;
+    let source = RoundSource {
+        alloc,
+        arena,
+        registry: server.registry,
+    };
+    let mut plan = no_requests(alloc, state.room);
     let mut args = Vec::new(alloc);
-    for _ in rt.forever() {
+    for _ in server.rt.forever() {
         if let Some(invocation) = invocation_at_hand(reader, &mut args)? {
             let class = invocation.class as usize;
             let key = &invocation.key;
-            add_invoke(
-                arena,
-                registry,
-                ids.as_slice(),
-                &mut plan,
-                class,
-                key,
-                args.as_slice(),
-            )?;
+            let ids = state.ids.as_slice();
+            add_invoke(&source, ids, &mut plan, class, key, args.as_slice())?;
             continue;
         }
         match read_request(alloc, reader, &mut args)? {
             Some(request) => {
                 if is_end(&request) {
-                    *room = room_of(&plan);
+                    state.room = room_of(&plan);
                     return Ok(Some(plan));
                 }
-                add(
-                    rt,
-                    alloc,
-                    arena,
-                    registry,
-                    ids,
-                    &mut plan,
-                    request,
-                    args.as_slice(),
-                )?;
+                let ids = &mut state.ids;
+                add(server.rt, &source, ids, &mut plan, request, args.as_slice())?;
             }
             None => {
                 if plan.works.is_empty() {

@@ -134,7 +134,7 @@ fn answer_at(answers: &[JobReply], at: usize) -> Option<Answer>
     }
 }
 
-/// The answers from this place on.
+/// The answers to the jobs from this number on.
 fn answers_from(answers: &[JobReply], at: usize) -> &[JobReply]
     requires { All HasPlace answers.now }
     ensures answers { map reply_of result.now ≡ drop at (map reply_of answers.now) }

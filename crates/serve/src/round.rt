@@ -8,17 +8,16 @@ ghost use Rattle.serve.specs.Served.{stand};
 ghost use Rattle.serve.specs.Devices.{ReadsAreCounted, WritesAreCounted};
 ghost use Rattle.serve.specs.Kept.{AreOf, IsRun, calls_of, classes_of, works_of, RoundServed, RoundFailed};
 
-use crate::batch::{Batch, Room};
+use crate::batch::Batch;
+use crate::context::{Server, StreamState};
 use crate::fault::ServeFault;
 use crate::jobs::{RoundLeft, run_jobs};
 use crate::reading::read_round;
 use crate::replies::text_of;
-use crate::settings::Settings;
 use bumpalo::Bump;
 use cache::Gate;
 use jtypes::Loader;
-use registry::{ClassId, Registry};
-use std::alloc::{AllocError, Global};
+use std::alloc::AllocError;
 use std::io::Write;
 use std::sync::Wait;
 use std::thread::Threads;
@@ -38,78 +37,53 @@ fn write_all<W: Write>(writer: &mut Counted<W>, bytes: &[u8]) -> Result<(), Writ
     }
 }
 
-/// Runs a round, and gives the entries that it leaves with the text of its replies.
+/// Runs a round, and gives the tables that it leaves with the text of its replies: their frames.
 fn run_round<T: Threads + Wait + Sync, G: Gate + Sync, L: Loader + Sync>(
-    rt: &T,
-    alloc: Global,
-    registry: &Registry,
+    server: &Server<'_, T, G, L>,
     tables: Tables,
-    settings: Settings,
     plan: Batch<'_>,
-    kept: &mut WorkspacePool,
-    gate: &G,
-    loader: &L,
+    workspaces: &mut WorkspacePool,
 ) -> Result<(Tables, Vec<u8>), AllocError>
     requires few { length plan.calls.items ≤ 4096 }
-    requires workers { settings.workers ≤ 16 }
-    ensures { IfOk result (λ run. IsRun L.ASKS (L.gives loader.now) (entry_among tables) (calls_of plan.entry) (works_of plan.entry) (entry_among run.0) run.1.items) }
+    requires workers { server.now.settings.workers ≤ 16 }
+    ensures { IfOk result (λ run. IsRun L.ASKS (L.gives server.now.loader.now) (entry_among tables) (calls_of plan.entry) (works_of plan.entry) (entry_among run.0) run.1.items) }
 {
     let Batch {
         works,
         calls,
         steps,
     } = plan;
-    let Ok(left) = run_jobs(
-        rt,
-        alloc,
-        registry,
-        tables,
-        settings,
-        steps,
-        calls.as_slice(),
-        kept,
-        gate,
-        loader,
-    ) else {
+    let Ok(left) = run_jobs(server, tables, steps, calls.as_slice(), workspaces) else {
         return Err(AllocError);
     };
     let RoundLeft { tables, answers } = left;
-    let text = text_of(alloc, works.as_slice(), answers.as_slice())?;
+    let text = text_of(server.alloc, works.as_slice(), answers.as_slice())?;
     Ok((tables, text))
 }
 
-/// Reads a round, runs it and writes its replies. It gives the entries that the round left; at the end of the input there is none.
-/// The room is what the round before took, and what is kept what it left. The arena is empty.
+/// Reads a round, runs it and writes its replies. It gives the tables that the round left; at the end of the input there are none.
+/// `arena` is empty.
 pub fn one_round<T: Threads + Wait + Sync, R: Ahead, W: Write, G: Gate + Sync, L: Loader + Sync>(
-    rt: &T,
-    alloc: Global,
+    server: &Server<'_, T, G, L>,
     arena: &Bump,
-    registry: &Registry,
-    ids: &mut Vec<ClassId>,
-    room: &mut Room,
-    kept: &mut WorkspacePool,
+    state: &mut StreamState,
     tables: Tables,
-    settings: Settings,
     reader: &mut Counted<R>,
     writer: &mut Counted<W>,
-    gate: &G,
-    loader: &L,
 ) -> Result<Option<Tables>, ServeFault>
-    requires known { AreOf registry.now ids.old.items }
-    requires workers { settings.workers ≤ 16 }
-    ensures ok { IfOk result (λ left. RoundServed L.ASKS (L.gives loader.now) (R.remaining reader.old.inner) (R.remaining reader.new.inner) (W.contents writer.old.inner) (W.contents writer.new.inner) (stand (classes_of ids.old.items) (entry_among tables)) (classes_of ids.new.items) left) }
-    ensures err { IfErr result (λ e. RoundFailed L.ASKS (L.gives loader.now) (R.remaining reader.old.inner) (R.remaining reader.new.inner) (W.contents writer.old.inner) (W.contents writer.new.inner) (stand (classes_of ids.old.items) (entry_among tables)) e) }
+    requires known { AreOf server.now.registry.now state.old.ids.items }
+    requires workers { server.now.settings.workers ≤ 16 }
+    ensures ok { IfOk result (λ left. RoundServed L.ASKS (L.gives server.now.loader.now) (R.remaining reader.old.inner) (R.remaining reader.new.inner) (W.contents writer.old.inner) (W.contents writer.new.inner) (stand (classes_of state.old.ids.items) (entry_among tables)) (classes_of state.new.ids.items) left) }
+    ensures err { IfErr result (λ e. RoundFailed L.ASKS (L.gives server.now.loader.now) (R.remaining reader.old.inner) (R.remaining reader.new.inner) (W.contents writer.old.inner) (W.contents writer.new.inner) (stand (classes_of state.old.ids.items) (entry_among tables)) e) }
     ensures end { result ≡ Err ServeFault.Truncated → IsAtEnd (R.remaining reader.new.inner) }
     ensures reads { ReadsAreCounted result reader.old reader.new }
     ensures writes { WritesAreCounted result writer.old writer.new }
-    ensures known { AreOf registry.now ids.new.items }
+    ensures known { AreOf server.now.registry.now state.new.ids.items }
 {
-    let Some(plan) = read_round(rt, alloc, arena, registry, ids, room, reader)? else {
+    let Some(plan) = read_round(server, arena, state, reader)? else {
         return Ok(None);
     };
-    let (left, text) = run_round(
-        rt, alloc, registry, tables, settings, plan, kept, gate, loader,
-    )?;
+    let (left, text) = run_round(server, tables, plan, &mut state.workspaces)?;
     write_all(writer, text.as_slice())?;
     Ok(Some(left))
 }

@@ -8,6 +8,7 @@ ghost use Rattle.serve.specs.Settings.{CanServe};
 ghost use Rattle.serve.specs.Devices.{TookAndGave, ReadsAreCounted, WritesAreCounted};
 
 use crate::batch::Room;
+use crate::context::{Server, StreamState};
 use crate::fault::ServeFault;
 use crate::round::one_round;
 use crate::settings::Settings;
@@ -56,42 +57,43 @@ pub fn serve<T: Threads + Wait + Sync, R: Ahead, W: Write, G: Gate + Sync, L: Lo
         Err(OpenRefusal::NoMemory) => return Err(ServeFault::NoMemory),
     };
     let registry = Registry::new(alloc)?;
-    stream(
-        rt, alloc, &registry, tables, settings, reader, writer, gate, loader,
-    )
+    let server = Server {
+        rt,
+        alloc,
+        registry: &registry,
+        settings,
+        gate,
+        loader,
+    };
+    stream(&server, tables, reader, writer)
 }
 
-/// Serves the requests, on a cache that has no entries.
+/// Serves the requests, from tables that have no entries. Each round starts from those that the one before left.
 fn stream<T: Threads + Wait + Sync, R: Ahead, W: Write, G: Gate + Sync, L: Loader + Sync>(
-    rt: &T,
-    alloc: Global,
-    registry: &Registry,
+    server: &Server<'_, T, G, L>,
     tables: Tables,
-    settings: Settings,
     reader: &mut Counted<R>,
     writer: &mut Counted<W>,
-    gate: &G,
-    loader: &L,
 ) -> Result<(), ServeFault>
     requires empty { (k : ℤ) → entry_among tables k ≡ None }
-    requires workers { settings.workers ≤ 16 }
-    ensures served { OnOk result (TookAndGave (R.remaining reader.old.inner) (R.remaining reader.new.inner) (W.contents writer.old.inner) (W.contents writer.new.inner) (IsServed L.ASKS (L.gives loader.now))) }
+    requires workers { server.now.settings.workers ≤ 16 }
+    ensures served { OnOk result (TookAndGave (R.remaining reader.old.inner) (R.remaining reader.new.inner) (W.contents writer.old.inner) (W.contents writer.new.inner) (IsServed L.ASKS (L.gives server.now.loader.now))) }
     ensures whole { OnOk result (IsAtEnd (R.remaining reader.new.inner)) }
-    ensures cut { IfErr result (λ fault. TookAndGave (R.remaining reader.old.inner) (R.remaining reader.new.inner) (W.contents writer.old.inner) (W.contents writer.new.inner) (λ taken given. IsCutShort L.ASKS (L.gives loader.now) taken given fault)) }
+    ensures cut { IfErr result (λ fault. TookAndGave (R.remaining reader.old.inner) (R.remaining reader.new.inner) (W.contents writer.old.inner) (W.contents writer.new.inner) (λ taken given. IsCutShort L.ASKS (L.gives server.now.loader.now) taken given fault)) }
     ensures truncated { result ≡ Err ServeFault.Truncated → IsAtEnd (R.remaining reader.new.inner) }
     ensures reads { ReadsAreCounted result reader.old reader.new }
     ensures writes { WritesAreCounted result writer.old writer.new }
 {
-    let mut ids = Vec::new(alloc);
-    let mut arena = Bump::new(alloc);
-    let mut room = Room { works: 0, calls: 0 };
-    let mut kept = WorkspacePool::with_workspaces(alloc, settings.workers);
+    let ids = Vec::new(server.alloc);
+    let mut state = StreamState {
+        ids,
+        room: Room { works: 0, calls: 0 },
+        workspaces: WorkspacePool::with_workspaces(server.alloc, server.settings.workers),
+    };
+    let mut arena = Bump::new(server.alloc);
     let mut tables = tables;
-    for _ in rt.forever() {
-        match one_round(
-            rt, alloc, &arena, registry, &mut ids, &mut room, &mut kept, tables, settings, reader,
-            writer, gate, loader,
-        )? {
+    for _ in server.rt.forever() {
+        match one_round(server, &arena, &mut state, tables, reader, writer)? {
             Some(left) => tables = left,
             None => return Ok(()),
         }

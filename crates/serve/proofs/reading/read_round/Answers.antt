@@ -41,7 +41,7 @@ loop-init g c = record {
   requests = [];
   are = tt;
   took = Consumes-nil (g.R.Read.remaining c.args.reader.now.inner);
-  gathered = begun (classes_of c.args.ids.now.items) c.no_requests-plan.result.works.items c.no_requests-plan.result.calls.items c.no_requests-plan.ensures.works c.no_requests-plan.ensures.calls;
+  gathered = begun (classes_of c.args.state.now.ids.items) c.no_requests-plan.result.works.items c.no_requests-plan.result.calls.items c.no_requests-plan.ensures.works c.no_requests-plan.ensures.calls;
 }
 
 pub loop-preserved : goal.loop-preserved
@@ -53,15 +53,15 @@ loop-preserved g c =
     let r : Request = with_args args c.in-Some-3.request in
     let f = frame_read (g.R.Read.remaining c.read_request.new.reader.inner) b.0 args c.in_ok-request.field-0 c.in-Some-3.request c.in-Some-3.is b.2 in
     let apart : r ≢ RoundEnd = c.is_end.ensures.no args c.if-is_end.false in
-    let added : Adding (classes_of c.loop.ids.items) c.loop.plan (with_args args c.in-Some-3.request) c.add.new.plan (classes_of c.add.new.ids.items) =
-    subst (λ l. Adding (classes_of c.loop.ids.items) c.loop.plan (with_args l c.in-Some-3.request) c.add.new.plan (classes_of c.add.new.ids.items)) c.as_slice-in-Some-3.ensures.value c.in_ok-add-in-Some-3.ensures.ok in
+    let added : Adding (classes_of c.loop.state.ids.items) c.loop.plan (with_args args c.in-Some-3.request) c.add.new.plan (classes_of c.add.new.ids.items) =
+    subst (λ l. Adding (classes_of c.loop.state.ids.items) c.loop.plan (with_args l c.in-Some-3.request) c.add.new.plan (classes_of c.add.new.ids.items)) c.as_slice-in-Some-3.ensures.value c.in_ok-add-in-Some-3.ensures.ok in
     record {
       known = c.add.ensures.known;
       kept = stays_on c.args.reader.now c.invocation_at_hand.new.reader c.read_request.new.reader (stays_on c.args.reader.now c.loop.reader c.invocation_at_hand.new.reader i.kept c.invocation_at_hand.ensures.counted) c.in_ok-request.ensures.counted;
       requests = i.requests ++ r ∷ [];
       are = each_more (λ x. IsRequest x × (x ≢ RoundEnd)) i.requests r i.are (f.request, apart);
       took = took_more _ _ _ i.requests r b.0 took b.1 f;
-      gathered = gathered_more (classes_of c.args.ids.now.items) (classes_of c.loop.ids.items) (classes_of c.add.new.ids.items) i.requests r c.loop.plan c.add.new.plan i.gathered added;
+      gathered = gathered_more (classes_of c.args.state.now.ids.items) (classes_of c.loop.state.ids.items) (classes_of c.add.new.ids.items) i.requests r c.loop.plan c.add.new.plan i.gathered added;
     }
 
 pub loop-preserved-in-Some-2 : goal.loop-preserved-in-Some-2
@@ -70,14 +70,14 @@ loop-preserved-in-Some-2 g c =
     let args : List Arg = c.invocation_at_hand.new.args.items in
     let r : Request = Invoke c.in-Some-2.invocation.class c.in-Some-2.invocation.key args in
     let (bytes, took, f) = taken_at_hand g.R.Read.remaining c.loop.reader c.invocation_at_hand.new.reader args c.in_ok-invocation.field-0 c.in-Some-2.invocation c.in-Some-2.is c.in_ok-invocation.ensures.some in
-    let added : Adding (classes_of c.loop.ids.items) c.loop.plan r c.add_invoke.new.plan (classes_of c.loop.ids.items) = rw (c.as_slice.ensures.value, c.as_slice-in-Some-2.ensures.value) at c.in_ok-add_invoke.ensures in
+    let added : Adding (classes_of c.loop.state.ids.items) c.loop.plan r c.add_invoke.new.plan (classes_of c.loop.state.ids.items) = rw (c.as_slice-ids.ensures.value, c.as_slice.ensures.value) at c.in_ok-add_invoke.ensures in
     record {
       known = i.known;
       kept = stays_on c.args.reader.now c.loop.reader c.invocation_at_hand.new.reader i.kept c.invocation_at_hand.ensures.counted;
       requests = i.requests ++ r ∷ [];
       are = each_more (λ x. IsRequest x × (x ≢ RoundEnd)) i.requests r i.are (f.request, λ e. cc);
       took = took_more _ _ _ i.requests r bytes i.took took f;
-      gathered = gathered_more (classes_of c.args.ids.now.items) (classes_of c.loop.ids.items) (classes_of c.loop.ids.items) i.requests r c.loop.plan c.add_invoke.new.plan i.gathered added;
+      gathered = gathered_more (classes_of c.args.state.now.ids.items) (classes_of c.loop.state.ids.items) (classes_of c.loop.state.ids.items) i.requests r c.loop.plan c.add_invoke.new.plan i.gathered added;
     }
 
 pub returns-in_err-add_invoke-clause-err : goal.returns-in_err-add_invoke-clause-err

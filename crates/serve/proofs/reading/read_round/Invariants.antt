@@ -10,10 +10,10 @@ use Rattle.serve.proofs.reading.read_round.Given as goal
 
 abbrev pub invariant-loop : goal.invariant-loop
 invariant-loop g l = record {
-  known : AreOf l.registry l.ids.items;
+  known : AreOf l.server.registry.now l.state.ids.items;
   kept : StaysCounted l.initial.reader l.reader;
   requests : List Request;
   are : AreOpen requests;
   took : Consumes (g.R.Read.remaining l.initial.reader.inner) (g.R.Read.remaining l.reader.inner) (requests_text requests);
-  gathered : Gathers (classes_of l.initial.ids.items) requests (works_of l.plan) (calls_of l.plan) (classes_of l.ids.items);
+  gathered : Gathers (classes_of l.initial.state.ids.items) requests (works_of l.plan) (calls_of l.plan) (classes_of l.state.ids.items);
 }

@@ -30,25 +30,25 @@ returns-in_err-plan-clause-err g c = err_as c.from_residual.result c.from_residu
 
 pub run_round-requires-clause-few : goal.run_round-requires-clause-few
 run_round-requires-clause-few g c = λ lifetimes lives.
-    let w = whole (g.R.Read.remaining c.args.reader.now.inner) (g.R.Read.remaining c.read_round.new.reader.inner) (classes_of c.args.ids.now.items) (classes_of c.read_round.new.ids.items) c.in_ok-plan.field-0 c.in-Some.plan c.in-Some.is c.in_ok-plan.ensures.ok in
+    let w = whole (g.R.Read.remaining c.args.reader.now.inner) (g.R.Read.remaining c.read_round.new.reader.inner) (classes_of c.args.state.now.ids.items) (classes_of c.read_round.new.state.ids.items) c.in_ok-plan.field-0 c.in-Some.plan c.in-Some.is c.in_ok-plan.ensures.ok in
     let few = few_jobs w.gathered in
     omega (arith, few, as_many_calls c.in-Some.plan)
 
 pub returns-in_err-left-clause-err : goal.returns-in_err-left-clause-err
 returns-in_err-left-clause-err g c = err_as c.from_residual-in_err-left.result c.from_residual-in_err-left.ensures.1 (λ e h.
-    let w = whole (g.R.Read.remaining c.args.reader.now.inner) (g.R.Read.remaining c.read_round.new.reader.inner) (classes_of c.args.ids.now.items) (classes_of c.read_round.new.ids.items) c.in_ok-plan.field-0 c.in-Some.plan c.in-Some.is c.in_ok-plan.ensures.ok in
-    let s = stand (classes_of c.args.ids.now.items) (entry_among c.args.tables) in
+    let w = whole (g.R.Read.remaining c.args.reader.now.inner) (g.R.Read.remaining c.read_round.new.reader.inner) (classes_of c.args.state.now.ids.items) (classes_of c.read_round.new.state.ids.items) c.in_ok-plan.field-0 c.in-Some.plan c.in-Some.is c.in_ok-plan.ensures.ok in
+    let s = stand (classes_of c.args.state.now.ids.items) (entry_among c.args.tables) in
     record {
       taken = requests_text (ended w.requests);
       given = [];
       took = w.took;
       gave = Appends-nil _;
-      fails = subst (λ (f : ServeFault). Fails g.L.Loader.ASKS (g.L.Loader.gives c.args.loader.now) s (requests_text (ended w.requests)) [] f) (sym h) (no_memory w.requests w.are refl refl);
+      fails = subst (λ (f : ServeFault). Fails g.L.Loader.ASKS (g.L.Loader.gives c.args.server.now.loader.now) s (requests_text (ended w.requests)) [] f) (sym h) (no_memory w.requests w.are refl refl);
     })
 
 pub returns-clause-ok : goal.returns-clause-ok
 returns-clause-ok g c =
-    let w = whole (g.R.Read.remaining c.args.reader.now.inner) (g.R.Read.remaining c.read_round.new.reader.inner) (classes_of c.args.ids.now.items) (classes_of c.read_round.new.ids.items) c.in_ok-plan.field-0 c.in-Some.plan c.in-Some.is c.in_ok-plan.ensures.ok in
+    let w = whole (g.R.Read.remaining c.args.reader.now.inner) (g.R.Read.remaining c.read_round.new.reader.inner) (classes_of c.args.state.now.ids.items) (classes_of c.read_round.new.state.ids.items) c.in_ok-plan.field-0 c.in-Some.plan c.in-Some.is c.in_ok-plan.ensures.ok in
     let run = c.in_ok-left.ensures in
     let replies : List Reply = map (work_reply run.answers) (works_of c.in-Some.plan) in
     let text = c.as_slice.ensures.value ∙ run.text_is in
@@ -63,9 +63,9 @@ returns-clause-ok g c =
 
 pub returns-in_err-write_all-clause-err : goal.returns-in_err-write_all-clause-err
 returns-in_err-write_all-clause-err g c = err_as c.from_residual-in_err-write_all.result c.from_residual-in_err-write_all.ensures.1 (λ e h.
-    let w = whole (g.R.Read.remaining c.args.reader.now.inner) (g.R.Read.remaining c.read_round.new.reader.inner) (classes_of c.args.ids.now.items) (classes_of c.read_round.new.ids.items) c.in_ok-plan.field-0 c.in-Some.plan c.in-Some.is c.in_ok-plan.ensures.ok in
-    let s = stand (classes_of c.args.ids.now.items) (entry_among c.args.tables) in
-    let t = stand (classes_of c.read_round.new.ids.items) (entry_among c.in_ok-left.left) in
+    let w = whole (g.R.Read.remaining c.args.reader.now.inner) (g.R.Read.remaining c.read_round.new.reader.inner) (classes_of c.args.state.now.ids.items) (classes_of c.read_round.new.state.ids.items) c.in_ok-plan.field-0 c.in-Some.plan c.in-Some.is c.in_ok-plan.ensures.ok in
+    let s = stand (classes_of c.args.state.now.ids.items) (entry_among c.args.tables) in
+    let t = stand (classes_of c.read_round.new.state.ids.items) (entry_among c.in_ok-left.left) in
     let run = c.in_ok-left.ensures in
     let replies : List Reply = map (work_reply run.answers) (works_of c.in-Some.plan) in
     let text = c.as_slice.ensures.value ∙ run.text_is in
@@ -75,6 +75,6 @@ returns-in_err-write_all-clause-err g c = err_as c.from_residual-in_err-write_al
       given = front;
       took = w.took;
       gave = appended;
-      fails = subst (λ (f : ServeFault). Fails g.L.Loader.ASKS (g.L.Loader.gives c.args.loader.now) s (requests_text (ended w.requests)) front f) (sym h)
+      fails = subst (λ (f : ServeFault). Fails g.L.Loader.ASKS (g.L.Loader.gives c.args.server.now.loader.now) s (requests_text (ended w.requests)) front f) (sym h)
           (writer w.requests replies t back w.are refl (round_of w (entry_among c.args.tables) (entry_among c.in_ok-left.left) c.in_ok-left.text.items run) (sym text ∙ parts));
     })

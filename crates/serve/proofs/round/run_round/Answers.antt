@@ -21,6 +21,6 @@ returns g c =
     let same : all_seen c.as_slice.result.now ≡ calls_of c.args.plan = ap all_seen c.as_slice.ensures.value in
     record {
       answers = map reply_of c.in-Ok.left.answers.items;
-      done = subst (λ (l : List Call). IsDone g.L.Loader.ASKS (g.L.Loader.gives c.args.loader.now) (entry_among c.args.tables) l (map reply_of c.in-Ok.left.answers.items) (entry_among c.in-Ok.left.tables)) same c.in-Ok.ensures.done;
+      done = subst (λ (l : List Call). IsDone g.L.Loader.ASKS (g.L.Loader.gives c.args.server.now.loader.now) (entry_among c.args.tables) l (map reply_of c.in-Ok.left.answers.items) (entry_among c.in-Ok.left.tables)) same c.in-Ok.ensures.done;
       text_is = c.in_ok-text.ensures ∙ ap (λ (l : List Work). replies_text (all_told (map (work_reply (map reply_of c.as_slice-3.result.now)) (map work_of l)))) c.as_slice-2.ensures.value ∙ ap (λ (l : List Answer). replies_text (all_told (map (work_reply (map reply_of l)) (works_of c.args.plan)))) c.as_slice-3.ensures.value;
     }

@@ -20,22 +20,22 @@ one_more loads gives old new before after s classes o tables e h = subst (λ (x 
 
 pub loop-init : goal.loop-init
 loop-init g c = record {
-  known = subst (λ (l : List (Where Class)). AreOf c.args.registry.now l) (sym c.new-ids.ensures.items) (All-nil (IsOf c.args.registry.now));
+  known = subst (λ (l : List (Where Class)). AreOf c.args.server.now.registry.now l) (sym c.new-ids.ensures.items) (All-nil (IsOf c.args.server.now.registry.now));
   read = (refl, refl);
   wrote = (refl, refl);
   taken = [];
   given = [];
   took = Consumes-nil _;
   gave = Appends-nil _;
-  serves = nothing_yet g.L.Loader.ASKS (g.L.Loader.gives c.args.loader.now) (classes_of c.new-ids.result.items) (entry_among c.args.tables) (ap classes_of c.new-ids.ensures.items) c.requires.empty;
+  serves = nothing_yet g.L.Loader.ASKS (g.L.Loader.gives c.args.server.now.loader.now) (classes_of c.new-ids.result.items) (entry_among c.args.tables) (ap classes_of c.new-ids.ensures.items) c.requires.empty;
 }
 
 pub loop-preserved : goal.loop-preserved
 loop-preserved g c =
     let i = c.loop.invariant in
-    let s : Stand = stand (classes_of c.loop.ids.items) (entry_among c.loop.tables) in
-    let t : Stand = stand (classes_of c.one_round.new.ids.items) (entry_among c.in-Some-2.left) in
-    let o = one_more g.L.Loader.ASKS (g.L.Loader.gives c.args.loader.now) _ _ _ _ s (classes_of c.one_round.new.ids.items) c.in_ok-left.field-0 c.in-Some-2.left c.in-Some-2.is c.in_ok-left.ensures.ok in
+    let s : Stand = stand (classes_of c.loop.state.ids.items) (entry_among c.loop.tables) in
+    let t : Stand = stand (classes_of c.one_round.new.state.ids.items) (entry_among c.in-Some-2.left) in
+    let o = one_more g.L.Loader.ASKS (g.L.Loader.gives c.args.server.now.loader.now) _ _ _ _ s (classes_of c.one_round.new.state.ids.items) c.in_ok-left.field-0 c.in-Some-2.left c.in-Some-2.is c.in_ok-left.ensures.ok in
     record {
       known = c.one_round.ensures.known;
       read = stays_on c.args.reader.now c.loop.reader c.one_round.new.reader i.read c.in_ok-left.ensures.reads;
@@ -44,14 +44,14 @@ loop-preserved g c =
       given = i.given ++ replies_text (all_told o.replies);
       took = Consumes-trans _ _ _ i.taken (requests_text (ended o.requests)) i.took o.took;
       gave = Appends-trans _ _ _ i.given (replies_text (all_told o.replies)) i.gave o.gave;
-      serves = serves_more g.L.Loader.ASKS (g.L.Loader.gives c.args.loader.now) i.taken i.given s t o.requests o.replies i.serves o.are o.round;
+      serves = serves_more g.L.Loader.ASKS (g.L.Loader.gives c.args.server.now.loader.now) i.taken i.given s t o.requests o.replies i.serves o.are o.round;
     }
 
 pub returns-in_err-left-clause-cut : goal.returns-in_err-left-clause-cut
 returns-in_err-left-clause-cut g c = err_as c.from_residual.result c.from_residual.ensures.1 (λ e h.
     let i = c.loop.invariant in
     let f = c.in_err-left.ensures.err in
-    let s = stand (classes_of c.loop.ids.items) (entry_among c.loop.tables) in (
+    let s = stand (classes_of c.loop.state.ids.items) (entry_among c.loop.tables) in (
       i.taken ++ f.taken,
       i.given ++ f.given,
       Consumes-trans _ _ _ i.taken f.taken i.took f.took,
@@ -65,6 +65,6 @@ returns-in_err-left-clause-cut g c = err_as c.from_residual.result c.from_residu
         output_is = refl;
         left = s;
         serves = i.serves;
-        fails = subst (λ (x : ServeFault). Fails g.L.Loader.ASKS (g.L.Loader.gives c.args.loader.now) s f.taken f.given x) (sym h) f.fails;
+        fails = subst (λ (x : ServeFault). Fails g.L.Loader.ASKS (g.L.Loader.gives c.args.server.now.loader.now) s f.taken f.given x) (sym h) f.fails;
       },
     ))

@@ -9,12 +9,12 @@ use Rattle.serve.proofs.stream.stream.Given as goal
 
 abbrev pub invariant-loop : goal.invariant-loop
 invariant-loop g l = record {
-  known : AreOf l.registry l.ids.items;
+  known : AreOf l.server.registry.now l.state.ids.items;
   read : StaysCounted l.initial.reader l.reader;
   wrote : StaysCounted l.initial.writer l.writer;
   taken : List ℕ;
   given : List ℕ;
   took : Consumes (g.R.Read.remaining l.initial.reader.inner) (g.R.Read.remaining l.reader.inner) taken;
   gave : Appends (g.W.Write.contents l.initial.writer.inner) (g.W.Write.contents l.writer.inner) given;
-  serves : Serves g.L.Loader.ASKS (g.L.Loader.gives l.loader) taken given (stand (classes_of l.ids.items) (entry_among l.tables));
+  serves : Serves g.L.Loader.ASKS (g.L.Loader.gives l.server.loader.now) taken given (stand (classes_of l.state.ids.items) (entry_among l.tables));
 }
