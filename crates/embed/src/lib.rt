@@ -1,0 +1,124 @@
+//! The core for programs in C: an engine behind a handle, with the exports of clients/c/jentry.h.
+#![tactic(auto)]
+
+ghost use Rattle.std.specs.Prelude.{◌≡◌, [], None, IfOk};
+ghost use Rattle.sha1.specs.Sha1.{sha1};
+ghost use Rattle.explain_text.specs.Texts.{IsWritten};
+ghost use Rattle.embed.specs.Exports.{engine_of, IsOpened, IsJudged, IsForgotten, IsRun};
+
+mod handle;
+
+use embedded::{
+    ArgNumbers, CallNumbers, DoneNumbers, Engine, NO_CLASS, VerdictNumbers, define, invoke,
+    not_run, refused,
+};
+use explain_text::write_explanation;
+pub use handle::Handle;
+use jtypes::Refusal;
+use std::alloc::{AllocError, Global};
+
+/// The handle has an engine now.
+const OPENED: u32 = 0;
+/// Memory lacks for an engine.
+const NO_MEMORY: u32 = 1;
+/// The handle had an engine already.
+const IS_OPEN: u32 = 2;
+
+/// An engine on the heap.
+fn empty_engine(alloc: Global) -> Result<Box<Engine>, AllocError>
+    ensures { IfOk result (λ b. b.value ≡ []) }
+{
+    match Box::new(alloc, Engine::new(alloc)?) {
+        Ok(engine) => Ok(engine),
+        Err(_) => Err(AllocError),
+    }
+}
+
+/// Makes an engine: 0, or 1 where memory lacks, or 2 where the handle is open already, which changes nothing.
+#[unsafe(no_mangle)]
+pub extern "C" fn jentry_open(alloc: Global, handle: &mut Handle) -> u32
+    ensures { IsOpened (engine_of handle.old) result (engine_of handle.new) }
+{
+    if handle.is_open() {
+        return IS_OPEN;
+    }
+    match empty_engine(alloc) {
+        Ok(engine) => {
+            handle.put(engine);
+            OPENED
+        }
+        Err(_) => NO_MEMORY,
+    }
+}
+
+/// Ends an engine, if there is one.
+#[unsafe(no_mangle)]
+pub extern "C" fn jentry_close(alloc: Global, handle: &mut Handle)
+    ensures { engine_of handle.new ≡ None }
+{
+    let _engine = handle.out(alloc);
+}
+
+/// Judges the bytes of a class file, and keeps the class where it is accepted. A handle that isn't open refuses it for want of memory.
+#[unsafe(no_mangle)]
+pub extern "C" fn jentry_define(
+    alloc: Global,
+    handle: &mut Handle,
+    bytes: &[u8],
+    verdict: &mut VerdictNumbers,
+)
+    ensures judged { IsJudged (engine_of handle.old) bytes.now verdict.new (engine_of handle.new) }
+    ensures id { verdict.new.id ≡ sha1 bytes.now }
+{
+    match handle.out(alloc) {
+        Some(mut engine) => {
+            *verdict = define(alloc, &mut engine, bytes);
+            handle.put(engine);
+        }
+        None => *verdict = refused(bytes, Refusal::NoMemory),
+    }
+}
+
+/// Forgets the class with a number: 1, or 0 where there is none.
+#[unsafe(no_mangle)]
+pub extern "C" fn jentry_forget(alloc: Global, handle: &mut Handle, number: u32) -> u32
+    ensures { IsForgotten (engine_of handle.old) number result (engine_of handle.new) }
+{
+    match handle.out(alloc) {
+        Some(mut engine) => {
+            let found = engine.forget(number);
+            handle.put(engine);
+            u32::from(found)
+        }
+        None => 0,
+    }
+}
+
+/// Runs a class on an entry.
+#[unsafe(no_mangle)]
+pub extern "C" fn jentry_invoke(
+    alloc: Global,
+    handle: &mut Handle,
+    call: &CallNumbers,
+    args: &[ArgNumbers],
+    done: &mut DoneNumbers,
+)
+    ensures { IsRun (engine_of handle.old) call.now args.now done.new (engine_of handle.new) }
+{
+    match handle.out(alloc) {
+        Some(mut engine) => {
+            *done = invoke(&mut engine, call, args);
+            handle.put(engine);
+        }
+        None => *done = not_run(NO_CLASS),
+    }
+}
+
+/// Writes what `jentry explain` prints of a class file, as much of it as there is room for, and answers the length of the whole; 0 where
+/// memory lacks.
+#[unsafe(no_mangle)]
+pub extern "C" fn jentry_explain(alloc: Global, bytes: &[u8], text: &mut [u8]) -> usize
+    ensures { IsWritten bytes.now text.old result text.new }
+{
+    write_explanation(alloc, bytes, text)
+}

@@ -1,0 +1,35 @@
+-- The classes of an engine, by their numbers.
+use Rattle.std.specs.Prelude.{◌≡◌, ℕ, List, [], ◌∷◌, ◌++◌, length, Option, Some, slice_get}
+use Rattle.jtypes.specs.Lists.{◌>>=◌}
+use Rattle.jtypes.specs.Profile.{Second}
+use Rattle.typecheck.specs.Typing.{Class, IsProcessOf}
+use Rattle.bounds.specs.declared.limits.Bounds.{Bounds}
+use Rattle.bounds.specs.Limits.{IsWithinLimits}
+use Rattle.bounds.specs.Paths.{AreBounds}
+use Rattle.bounds.specs.Rows.{bounds_in}
+use Rattle.verdict.specs.Sound.{IsSafe}
+use Rattle.verdict.specs.Verdict.{IsAccepted, IsClassOf}
+use Rattle.embedded.specs.declared.engine.Defined.{Defined}
+
+-- a class that was forgotten leaves its number empty
+abbrev pub Classes : Type 0
+Classes = List (Option Class)
+
+-- the class with a number
+abbrev pub class_at : Classes → ℕ → Option Class
+class_at classes number = slice_get classes number >>= (λ class. class)
+
+-- each run of the class ends within these bounds, which are within the limits
+pub record HasBounds (c : Class) (b : Bounds) : Type 0 where
+  pub limits : IsWithinLimits Second b
+  pub bounds : (j : ℕ) → IsProcessOf c j → AreBounds c j (bounds_in b)
+  pub safe : IsSafe c (bounds_in b)
+
+-- the bytes are accepted, and their class, with its bounds, got the next number
+pub record IsDefined (bytes : List ℕ) (before : Classes) (d : Defined) (after : Classes) : Type 0 where
+  pub accepted : IsAccepted Second bytes
+  pub class : Class
+  pub of_bytes : IsClassOf Second bytes class
+  pub bounds : HasBounds class d.bounds
+  pub number : d.number ≡ length before
+  pub kept : after ≡ before ++ (Some class ∷ [])

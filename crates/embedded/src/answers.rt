@@ -1,0 +1,54 @@
+//! What an engine answers to C.
+
+ghost use Rattle.std.specs.Prelude.{◌≡◌, nat_le};
+ghost use Rattle.sha1.specs.Sha1.{sha1};
+ghost use Rattle.embedded.specs.Classes.{class_at};
+ghost use Rattle.embedded.specs.Answers.{IsVerdict, IsAnswer, reason_of};
+
+use crate::args::args_of;
+use crate::engine::Engine;
+use crate::numbers::{
+    ArgNumbers, CallNumbers, DoneNumbers, MANY_ARGUMENTS, NO_ARGUMENT, NO_CLASS, VerdictNumbers,
+    accepted, before_of, done_numbers, not_run, refused,
+};
+use jtypes::Args;
+use std::alloc::Global;
+
+/// Judges the bytes of a class, and keeps it under the next number where it is accepted.
+pub fn define(alloc: Global, engine: &mut Engine, bytes: &[u8]) -> VerdictNumbers
+    ensures verdict { IsVerdict bytes.now engine.old result engine.new }
+    ensures id { result.id ≡ sha1 bytes.now }
+{
+    match engine.define(alloc, bytes) {
+        Ok(defined) => accepted(bytes, defined),
+        Err(refusal) => refused(bytes, refusal),
+    }
+}
+
+/// Why a call with this number of arguments isn't run, where its arguments aren't arguments.
+fn reason(engine: &Engine, number: u32, count: usize) -> u32
+    ensures { result ≡ reason_of (class_at engine.now number) (nat_le count 8) }
+{
+    if !engine.has(number) {
+        NO_CLASS
+    } else if count > Args::MOST {
+        MANY_ARGUMENTS
+    } else {
+        NO_ARGUMENT
+    }
+}
+
+/// Runs the class with the call's number on its entry, with these arguments.
+pub fn invoke(engine: &mut Engine, call: &CallNumbers, args: &[ArgNumbers]) -> DoneNumbers
+    ensures answer { IsAnswer engine.old call.now args.now result }
+    ensures kept { engine.new ≡ engine.old }
+{
+    let before = before_of(call);
+    match args_of(args) {
+        Some(list) => match engine.invoke(call.number, call.key, before, &list) {
+            Some(done) => done_numbers(done, before),
+            None => not_run(NO_CLASS),
+        },
+        None => not_run(reason(engine, call.number, args.len())),
+    }
+}

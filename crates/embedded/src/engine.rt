@@ -1,0 +1,110 @@
+//! The engine.
+
+use bounds::Bounds;
+use jtypes::{Args, NoLoader, Refusal};
+use machine::{Done, Workspace, run};
+use std::alloc::{AllocError, Global};
+use std::marker::Model;
+use verify::{Verified, verify};
+
+/// A class that was accepted: its number, and the bounds of its runs.
+#[derive(Clone, Copy, Debug, PartialEq, Eq)]
+pub struct Defined {
+    pub number: u32,
+    pub bounds: Bounds,
+}
+
+/// Classes that were accepted, and the room that they run in. It is seen as the classes by their numbers: a class that was forgotten
+/// leaves its number empty, so no number is given twice.
+#[derive(Drop)]
+pub struct Engine {
+    classes: Vec<Option<Verified>>,
+    workspace: Workspace,
+}
+
+impl Model for Engine {
+    ghost use Rattle.std.specs.Prelude.{List, Option};
+    ghost use Rattle.typecheck.specs.Typing.{Class};
+
+    ghost Value = { List (Option Class) };
+
+    ghost view = { λ e. e.classes.items };
+}
+
+impl Engine {
+    ghost use Rattle.std.specs.Prelude.{◌≡◌, ◌≢◌, ◌⊎◌, ℕ, [], length, Some, None, is_some, IfOk, IfErr, OnErr, IfSome, IfNone, false};
+    ghost use Rattle.jtypes.specs.Profile.{Second};
+    ghost use Rattle.jtypes.specs.declared.refusal.Refusal.{Refusal};
+    ghost use Rattle.typecheck.specs.Typing.{Class};
+    ghost use Rattle.verdict.specs.Verdict.{IsRefused};
+    ghost use Rattle.ended.specs.Ended.{IsMeant};
+    ghost use Rattle.embedded.specs.Classes.{class_at, IsDefined};
+
+    /// No classes yet.
+    pub fn new(alloc: Global) -> Result<Engine, AllocError>
+        ensures { IfOk result (λ engine. engine ≡ []) }
+    {
+        let workspace = Workspace::new(alloc)?;
+        Ok(Engine {
+            classes: Vec::new(alloc),
+            workspace,
+        })
+    }
+
+    /// Judges the bytes of a class (JVMS §4, §4.10.1), and keeps it under the next number, of which there are 2^32.
+    pub fn define(&mut self, alloc: Global, bytes: &[u8]) -> Result<Defined, Refusal>
+        ensures defined { IfOk result (λ d. IsDefined bytes.now self.old d self.new) }
+        ensures refused { IfErr result (λ r. (r ≡ Refusal.NoMemory) ⊎ IsRefused Second bytes.now r) }
+        ensures unchanged { OnErr result (self.new ≡ self.old) }
+    {
+        let Ok(number) = u32::try_from(self.classes.len()) else {
+            return Err(Refusal::NoMemory);
+        };
+        let class = verify(alloc, bytes)?;
+        let bounds = class.bounds();
+        match self.classes.push(Some(class)) {
+            Ok(()) => Ok(Defined { number, bounds }),
+            Err(_) => Err(Refusal::NoMemory),
+        }
+    }
+
+    /// Forgets the class with a number, and says whether there was one.
+    pub fn forget(&mut self, number: u32) -> bool
+        ensures found { result ≡ is_some (class_at self.old number) }
+        ensures forgotten { class_at self.new number ≡ None }
+        ensures others { (n : ℕ) → n ≢ number → class_at self.new n ≡ class_at self.old n }
+        ensures count { length self.new ≡ length self.old }
+    {
+        if !self.has(number) {
+            return false;
+        }
+        self.classes[number as usize] = None;
+        true
+    }
+
+    /// Whether there is a class with a number.
+    pub fn has(&self, number: u32) -> bool
+        ensures { result ≡ is_some (class_at self.now number) }
+    {
+        match self.classes.get(number as usize) {
+            Some(class) => class.is_some(),
+            None => false,
+        }
+    }
+
+    /// Runs the class with a number on an entry: what is answered is what the call means. None where there is no such class.
+    pub fn invoke(
+        &mut self,
+        number: u32,
+        key: i64,
+        before: Option<i64>,
+        args: &Args,
+    ) -> Option<Done>
+        ensures meant { IfSome result (λ d. (c : Class) × (class_at self.old number ≡ Some c) × IsMeant c (record { key = key; args = args.now; before = before; loads = false }) d) }
+        ensures none { IfNone result (class_at self.old number ≡ None) }
+        ensures kept { self.new ≡ self.old }
+    {
+        let class = self.classes.get(number as usize)?.as_ref()?;
+        Some(run(class, key, before, args, &mut self.workspace, &NoLoader))
+    }
+}

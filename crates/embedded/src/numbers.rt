@@ -1,0 +1,182 @@
+//! What crosses to C, in numbers: the structs of clients/c/jentry.h.
+
+ghost use Rattle.std.specs.Prelude.{◌≡◌};
+ghost use Rattle.sha1.specs.Sha1.{sha1};
+ghost use Rattle.jtypes.specs.Entry.{after_effect};
+ghost use Rattle.embedded.specs.Numbers.{accepted_in, refused_in, outcome_in, effect_in, left_in, done_in, before_in, not_run};
+
+use crate::engine::Defined;
+use jtypes::{Arg, Effect, Outcome, Refusal};
+use machine::Done;
+use sha1::Sha1;
+
+/// No class has the number.
+pub const NO_CLASS: u32 = 4;
+/// There are more than eight arguments.
+pub const MANY_ARGUMENTS: u32 = 5;
+/// One of the arguments is none.
+pub const NO_ARGUMENT: u32 = 6;
+
+/// A verdict. Where `refusal` is 0 the class is accepted: `number` is its number, and the bounds of its runs follow. Else `refusal` is
+/// the refusal's number, and `detail` its detail. `id` is the SHA-1 of the bytes.
+#[repr(C)]
+#[derive(Clone, Copy, Debug, PartialEq, Eq)]
+pub struct VerdictNumbers {
+    pub refusal: u32,
+    pub detail: u32,
+    pub number: u32,
+    pub steps: u32,
+    pub words: u32,
+    pub slots: u32,
+    pub depth: u32,
+    pub id: [u8; 20],
+}
+
+/// An argument: null (0), a Long (1) or an Integer (2), which has 32 bits.
+#[repr(C)]
+#[derive(Clone, Copy, Debug, PartialEq, Eq)]
+pub struct ArgNumbers {
+    pub kind: u32,
+    pub unused: u32,
+    pub value: i64,
+}
+
+/// A call of the class with a number. There is an entry, with the value `before`, where `present` is 1.
+#[repr(C)]
+#[derive(Clone, Copy, Debug, PartialEq, Eq)]
+pub struct CallNumbers {
+    pub number: u32,
+    pub present: u32,
+    pub key: i64,
+    pub before: i64,
+}
+
+/// The end of a call. Its outcome is null (0), a Long (1), an Integer (2), an exception (3, with its number as the value), or why
+/// nothing was run (4 to 6). Its effect is to keep (0), to put (1) or to delete (2). The entry is left untouched (0), set (1) or removed
+/// (2); a set of the value that was there has the effect to keep.
+#[repr(C)]
+#[derive(Clone, Copy, Debug, PartialEq, Eq)]
+pub struct DoneNumbers {
+    pub outcome: u32,
+    pub effect: u32,
+    pub value: i64,
+    pub put: i64,
+    pub steps: u32,
+    pub words: u32,
+    pub left: u32,
+    pub unused: u32,
+}
+
+/// The verdict on a class that is accepted.
+pub(crate) fn accepted(bytes: &[u8], defined: Defined) -> VerdictNumbers
+    ensures { result ≡ accepted_in defined (sha1 bytes.now) }
+{
+    let bounds = defined.bounds;
+    VerdictNumbers {
+        refusal: 0,
+        detail: 0,
+        number: defined.number,
+        steps: bounds.steps,
+        words: bounds.words,
+        slots: bounds.slots,
+        depth: bounds.depth,
+        id: Sha1::digest(bytes),
+    }
+}
+
+/// The verdict on a class that is refused.
+pub fn refused(bytes: &[u8], refusal: Refusal) -> VerdictNumbers
+    ensures { result ≡ refused_in refusal (sha1 bytes.now) }
+{
+    VerdictNumbers {
+        refusal: u32::from(refusal.number()),
+        detail: refusal.detail(),
+        number: 0,
+        steps: 0,
+        words: 0,
+        slots: 0,
+        depth: 0,
+        id: Sha1::digest(bytes),
+    }
+}
+
+/// The entry before a call.
+pub(crate) fn before_of(call: &CallNumbers) -> Option<i64>
+    ensures { result ≡ before_in call.now }
+{
+    if call.present == 1 {
+        Some(call.before)
+    } else {
+        None
+    }
+}
+
+/// An outcome, and its value.
+fn outcome_numbers(outcome: Outcome) -> (u32, i64)
+    ensures { result ≡ outcome_in outcome }
+{
+    match outcome {
+        Outcome::Returned(Arg::Null) => (0, 0),
+        Outcome::Returned(Arg::Long(value)) => (1, value),
+        Outcome::Returned(Arg::Integer(value)) => (2, i64::from(value)),
+        Outcome::Threw(fault) => (3, i64::from(fault.number())),
+    }
+}
+
+/// An effect, and what is put.
+fn effect_numbers(effect: Effect) -> (u32, i64)
+    ensures { result ≡ effect_in effect }
+{
+    match effect {
+        Effect::Keep => (0, 0),
+        Effect::Put(value) => (1, value),
+        Effect::Delete => (2, 0),
+    }
+}
+
+/// How the entry is left that was this one before.
+fn left_numbers(done: &Done, before: Option<i64>) -> u32
+    ensures { result ≡ left_in done.now.untouched (after_effect done.now.effect before) }
+{
+    if done.untouched {
+        return 0;
+    }
+    match (done.effect, before) {
+        (Effect::Put(_), _) | (Effect::Keep, Some(_)) => 1,
+        (Effect::Delete, _) | (Effect::Keep, None) => 2,
+    }
+}
+
+/// The end of a run on this entry.
+pub(crate) fn done_numbers(done: Done, before: Option<i64>) -> DoneNumbers
+    ensures { result ≡ done_in before done }
+{
+    let (outcome, value) = outcome_numbers(done.outcome);
+    let (effect, put) = effect_numbers(done.effect);
+    DoneNumbers {
+        outcome,
+        effect,
+        value,
+        put,
+        steps: done.steps,
+        words: done.words,
+        left: left_numbers(&done, before),
+        unused: 0,
+    }
+}
+
+/// The end of a call that was not run, by the reason.
+pub fn not_run(reason: u32) -> DoneNumbers
+    ensures { result ≡ not_run reason }
+{
+    DoneNumbers {
+        outcome: reason,
+        effect: 0,
+        value: 0,
+        put: 0,
+        steps: 0,
+        words: 0,
+        left: 0,
+        unused: 0,
+    }
+}
