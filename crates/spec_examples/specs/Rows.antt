@@ -1,5 +1,5 @@
 -- Small classes, from their bytes to the ends of their calls.
-use Rattle.std.specs.Prelude.{◌≡◌, ℕ, [], ◌∷◌, Some, None, pos, negsuc, refl}
+use Rattle.std.specs.Prelude.{◌≡◌, ℕ, true, false, [], ◌∷◌, Some, None, pos, negsuc, refl}
 use Rattle.jtypes.specs.declared.types.Arg.TheVariants as arg
 use Rattle.jtypes.specs.declared.types.JavaFault.TheVariants as fault
 use Rattle.jtypes.specs.declared.types.Outcome.{Outcome}
@@ -13,14 +13,19 @@ use Rattle.spec_examples.specs.Opened.{opened}
 use Rattle.spec_examples.specs.SwitchBytes.{table_bytes, look_bytes, far_bytes, inc_bytes, jump_bytes}
 use Rattle.spec_examples.specs.Bytes.{arr_zero_bytes, bridge_bytes, counter_bytes, div_least_bytes, give_entry_bytes, loose_bytes, nest_fault_bytes, plus_bytes, ratio_bytes, rem_least_bytes, set_remove_bytes, shift64_bytes, shift_neg_bytes, unbox_bytes}
 
+-- where neither setValue nor remove was called, or an exception took back what they did
 abbrev pub final : Outcome → Entry → ℕ → ℕ → Final
-final o e steps words = record { outcome = o; entry = e; asked = None; steps = steps; words = words }
+final o e steps words = record { outcome = o; entry = e; untouched = true; asked = None; steps = steps; words = words }
 
 -- the same, where the loader was asked and answered this
 abbrev pub final_by : LoadAnswer → Outcome → Entry → ℕ → Final
-final_by a o e steps = record { outcome = o; entry = e; asked = Some a; steps = steps; words = 0 }
+final_by a o e steps = record { outcome = o; entry = e; untouched = true; asked = Some a; steps = steps; words = 0 }
 
-pub plus_1 : outcome_of 30 (class_of plus_bytes) (the_call (pos 7) (Some (pos 41)) []) ≡ Some (final (Returned (arg.Long (pos 42))) (Some (pos 42)) 14 0)
+-- the same, where one of them was called
+abbrev pub changed : Final → Final
+changed f = record { outcome = f.outcome; entry = f.entry; untouched = false; asked = f.asked; steps = f.steps; words = f.words }
+
+pub plus_1 : outcome_of 30 (class_of plus_bytes) (the_call (pos 7) (Some (pos 41)) []) ≡ Some (changed (final (Returned (arg.Long (pos 42))) (Some (pos 42)) 14 0))
 unfolding opened plus_bytes
 plus_1 = refl
 
@@ -28,15 +33,15 @@ pub plus_2 : outcome_of 30 (class_of plus_bytes) (the_call (pos 7) None []) ≡ 
 unfolding opened plus_bytes
 plus_2 = refl
 
-pub plus_3 : outcome_of 30 (class_of plus_bytes) (the_call (pos 7) (Some (pos 9223372036854775807)) []) ≡ Some (final (Returned (arg.Long (negsuc 9223372036854775807))) (Some (negsuc 9223372036854775807)) 14 0)
+pub plus_3 : outcome_of 30 (class_of plus_bytes) (the_call (pos 7) (Some (pos 9223372036854775807)) []) ≡ Some (changed (final (Returned (arg.Long (negsuc 9223372036854775807))) (Some (negsuc 9223372036854775807)) 14 0))
 unfolding opened plus_bytes
 plus_3 = refl
 
-pub counter_1 : outcome_of 30 (class_of counter_bytes) (the_call (pos 7) (Some (pos 41)) (arg.Long (pos 1) ∷ [])) ≡ Some (final (Returned (arg.Long (pos 42))) (Some (pos 42)) 24 0)
+pub counter_1 : outcome_of 30 (class_of counter_bytes) (the_call (pos 7) (Some (pos 41)) (arg.Long (pos 1) ∷ [])) ≡ Some (changed (final (Returned (arg.Long (pos 42))) (Some (pos 42)) 24 0))
 unfolding opened counter_bytes
 counter_1 = refl
 
-pub counter_2 : outcome_of 30 (class_of counter_bytes) (the_call (pos 7) None (arg.Long (pos 1) ∷ [])) ≡ Some (final (Returned (arg.Long (pos 1))) (Some (pos 1)) 20 0)
+pub counter_2 : outcome_of 30 (class_of counter_bytes) (the_call (pos 7) None (arg.Long (pos 1) ∷ [])) ≡ Some (changed (final (Returned (arg.Long (pos 1))) (Some (pos 1)) 20 0))
 unfolding opened counter_bytes
 counter_2 = refl
 
@@ -48,7 +53,7 @@ pub counter_4 : outcome_of 30 (class_of counter_bytes) (the_call (pos 7) (Some (
 unfolding opened counter_bytes
 counter_4 = refl
 
-pub counter_5 : outcome_of 30 (class_of counter_bytes) (the_call (pos 7) (Some (pos 9223372036854775807)) (arg.Long (pos 1) ∷ [])) ≡ Some (final (Returned (arg.Long (negsuc 9223372036854775807))) (Some (negsuc 9223372036854775807)) 24 0)
+pub counter_5 : outcome_of 30 (class_of counter_bytes) (the_call (pos 7) (Some (pos 9223372036854775807)) (arg.Long (pos 1) ∷ [])) ≡ Some (changed (final (Returned (arg.Long (negsuc 9223372036854775807))) (Some (negsuc 9223372036854775807)) 24 0))
 unfolding opened counter_bytes
 counter_5 = refl
 
@@ -64,11 +69,11 @@ pub unbox_2 : outcome_of 30 (class_of unbox_bytes) (the_call (pos 7) (Some (pos 
 unfolding opened unbox_bytes
 unbox_2 = refl
 
-pub set_remove_1 : outcome_of 30 (class_of set_remove_bytes) (the_call (pos 7) None []) ≡ Some (final (Returned (arg.Long (pos 2))) None 21 0)
+pub set_remove_1 : outcome_of 30 (class_of set_remove_bytes) (the_call (pos 7) None []) ≡ Some (changed (final (Returned (arg.Long (pos 2))) None 21 0))
 unfolding opened set_remove_bytes
 set_remove_1 = refl
 
-pub set_remove_2 : outcome_of 30 (class_of set_remove_bytes) (the_call (pos 7) (Some (pos 5)) []) ≡ Some (final (Returned (arg.Long (pos 3))) None 21 0)
+pub set_remove_2 : outcome_of 30 (class_of set_remove_bytes) (the_call (pos 7) (Some (pos 5)) []) ≡ Some (changed (final (Returned (arg.Long (pos 3))) None 21 0))
 unfolding opened set_remove_bytes
 set_remove_2 = refl
 
@@ -168,7 +173,7 @@ jump_1 = refl
 
 -- ---- where there is a loader, on absent keys
 
-pub plus_loaded : outcome_by 30 (class_of plus_bytes) (load.Value (pos 41)) (the_asking_call (pos 7) ([])) ≡ Some (final_by (load.Value (pos 41)) (Returned (arg.Long (pos 42))) (Some (pos 42)) 14)
+pub plus_loaded : outcome_by 30 (class_of plus_bytes) (load.Value (pos 41)) (the_asking_call (pos 7) ([])) ≡ Some (changed (final_by (load.Value (pos 41)) (Returned (arg.Long (pos 42))) (Some (pos 42)) 14))
 unfolding opened plus_bytes
 plus_loaded = refl
 
@@ -184,11 +189,11 @@ pub unbox_loaded : outcome_by 30 (class_of unbox_bytes) (load.Value (pos 41)) (t
 unfolding opened unbox_bytes
 unbox_loaded = refl
 
-pub counter_unasked : outcome_by 30 (class_of counter_bytes) (load.Value (pos 41)) (the_asking_call (pos 7) (arg.Long (pos 1) ∷ [])) ≡ Some (final (Returned (arg.Long (pos 1))) (Some (pos 1)) 20 0)
+pub counter_unasked : outcome_by 30 (class_of counter_bytes) (load.Value (pos 41)) (the_asking_call (pos 7) (arg.Long (pos 1) ∷ [])) ≡ Some (changed (final (Returned (arg.Long (pos 1))) (Some (pos 1)) 20 0))
 unfolding opened counter_bytes
 counter_unasked = refl
 
-pub set_remove_unasked : outcome_by 30 (class_of set_remove_bytes) (load.Value (pos 41)) (the_asking_call (pos 7) ([])) ≡ Some (final (Returned (arg.Long (pos 2))) None 21 0)
+pub set_remove_unasked : outcome_by 30 (class_of set_remove_bytes) (load.Value (pos 41)) (the_asking_call (pos 7) ([])) ≡ Some (changed (final (Returned (arg.Long (pos 2))) None 21 0))
 unfolding opened set_remove_bytes
 set_remove_unasked = refl
 

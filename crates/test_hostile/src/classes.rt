@@ -1,4 +1,4 @@
-//! Classes that are cut, or changed in one bit or one count.
+//! Classes that are cut, or changed in one byte or one count.
 
 use jtypes::{Arg, Args, Effect, NoLoader, Outcome, Refusal};
 use machine::{Done, Workspace, run};
@@ -131,8 +131,8 @@ fn great_counts_are_refused(rt: HostRuntime) -> Result<(), Fail> {
     Ok(())
 }
 
-/// The bits of a byte, and all of them.
-static FLIPS: [u8; 9] = [1, 2, 4, 8, 16, 32, 64, 128, 255];
+/// In how many ways a byte is changed: to each value that it hasn't.
+const OTHERS: usize = 255;
 
 /// How many classes were answered how.
 #[derive(Clone, Copy, Default)]
@@ -192,10 +192,10 @@ impl Counts {
         is_bounded(class, done)
     }
 
-    /// Counts a class with each of its bytes changed in each bit. It is false where a run is not within its bounds.
+    /// Counts a class with each of its bytes changed to each other value. It is false where a run is not within its bounds.
     fn add_changed(&mut self, alloc: Global, class: &mut [u8], space: &mut Workspace) -> bool {
         for place in 0..class.len() {
-            for bits in FLIPS {
+            for bits in 1..=255 {
                 flip(class, place, bits);
                 let is_bounded = self.add(alloc, class, space);
                 flip(class, place, bits);
@@ -221,7 +221,7 @@ fn is_judged_and_run(rt: &impl Abort, alloc: Global, mut class: Vec<u8>) -> Resu
     let mut counts = Counts::default();
     assert!(rt; counts.add_changed(alloc, &mut class, &mut space));
     let judged = counts.refused.saturating_add(counts.accepted);
-    assert_eq!(rt; judged, class.len().saturating_mul(FLIPS.len()));
+    assert_eq!(rt; judged, class.len().saturating_mul(OTHERS));
     let ran = counts.returned.saturating_add(counts.threw);
     assert_eq!(rt; ran, counts.accepted.saturating_mul(4));
     assert!(rt; 0 < counts.returned && 0 < counts.threw && 0 < counts.refused);

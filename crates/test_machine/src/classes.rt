@@ -33,6 +33,7 @@ fn class_named(alloc: Global, name: &str) -> Option<Verified> {
 const MADE_42: Done = Done {
     outcome: Outcome::Returned(Arg::Long(42)),
     effect: Effect::Put(42),
+    untouched: false,
     asked: None,
     steps: 14,
     words: 0,
@@ -42,6 +43,7 @@ const MADE_42: Done = Done {
 const THREW: Done = Done {
     outcome: Outcome::Threw(JavaFault::Arithmetic),
     effect: Effect::Keep,
+    untouched: true,
     asked: None,
     steps: 10,
     words: 0,

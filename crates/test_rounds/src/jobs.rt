@@ -9,6 +9,8 @@ ghost use Rattle.cache.specs.Opened.{AreSeats};
 ghost use Rattle.invokeall.specs.Jobs.{IsCallable};
 ghost use Rattle.invokeall.specs.Rounds.{IsAtHome};
 
+mod holding;
+
 use cache::{Cache, Gate, NoGate, Seat};
 use invokeall::{Job, JobReply, invoke_all, run_round};
 use jtypes::{Arg, Args, JavaFault, NoLoader, Outcome};
@@ -17,11 +19,8 @@ use registry::{ClassId, Registry};
 use rowclasses as rows;
 use std::alloc::{AllocError, Global};
 use std::sync::Wait;
-use std::sync::atomic::{AtomicBool, AtomicUsize, Ordering};
 use std::test::Fail;
-use std::thread;
 use std::thread::Threads;
-use std::time::{Clock, Duration};
 use stripe::{ArgSlice, Reply, Tables};
 
 /// What a job asks.
@@ -409,131 +408,5 @@ fn a_thousand_rounds_are_each_in_some_order(rt: HostRuntime) -> Result<(), Fail>
         are_possible = are_possible && is_possible(beside_a_put(&rt, alloc, &counter));
     }
     assert!(rt; are_possible);
-    Ok(())
-}
-
-/// Holds job 0 in its begun call until job 1 was answered, for ten seconds at most.
-#[derive(Drop)]
-struct Holding<'s, R> {
-    rt: &'s R,
-    answered: AtomicBool,
-    seen: AtomicBool,
-}
-
-impl<'s, R: Clock> Gate for Holding<'s, R> {
-    fn started(&self, job: usize) {
-        if job != 0 {
-            return;
-        }
-        for _ in 0..100_000 {
-            if self.answered.load(Ordering::Acquire) {
-                self.seen.store(true, Ordering::Release);
-                return;
-            }
-            thread::sleep(self.rt, Duration::from_micros(100));
-        }
-    }
-
-    fn answered(&self, job: usize) {
-        if job == 1 {
-            self.answered.store(true, Ordering::Release);
-        }
-    }
-}
-
-/// Whether a call on one stripe is answered while one on another is held.
-fn meet<R: Threads + Wait + Clock + Sync>(
-    rt: &R,
-    alloc: Global,
-    counter: &[u8],
-    count: usize,
-) -> bool {
-    let gate = Holding {
-        rt,
-        answered: AtomicBool::new(false),
-        seen: AtomicBool::new(false),
-    };
-    let asks = [Ask::Run(0), Ask::Run(1)];
-    let Some(left) = asked(rt, alloc, counter, count, &[], count, &asks, &gate) else {
-        return false;
-    };
-    let both = [returned(1), returned(1)];
-    gate.seen.load(Ordering::Acquire) && left.answers.as_slice() == both.as_slice()
-}
-
-#[test]
-fn stripes_do_not_wait_for_one_another(rt: HostRuntime) -> Result<(), Fail> {
-    let alloc = rt.alloc();
-    let counter = rows::counter(alloc)?;
-    let meet_by = [
-        meet(&rt, alloc, &counter, 2),
-        meet(&rt, alloc, &counter, 16),
-    ];
-    assert_eq!(rt; meet_by, [true; 2]);
-    Ok(())
-}
-
-/// Of the jobs on the keys 0 to 63 holds job 0 in its begun call until all those on other stripes of sixteen were answered, for ten
-/// seconds at most.
-#[derive(Drop)]
-struct HoldingStripe<'s, R> {
-    rt: &'s R,
-    answered: AtomicUsize,
-    seen: AtomicBool,
-}
-
-impl<'s, R: Clock> Gate for HoldingStripe<'s, R> {
-    fn started(&self, job: usize) {
-        if job != 0 {
-            return;
-        }
-        for _ in 0..100_000 {
-            if self.answered.load(Ordering::Acquire) == 60 {
-                self.seen.store(true, Ordering::Release);
-                return;
-            }
-            thread::sleep(self.rt, Duration::from_micros(100));
-        }
-    }
-
-    fn answered(&self, job: usize) {
-        if job % 16 != 0 {
-            self.answered.fetch_add(1, Ordering::AcqRel);
-        }
-    }
-}
-
-/// Whether so many workers make all calls on other stripes while one is held, and each call in the end.
-fn all_meet<R: Threads + Wait + Clock + Sync>(
-    rt: &R,
-    alloc: Global,
-    counter: &[u8],
-    workers: usize,
-) -> bool {
-    let gate = HoldingStripe {
-        rt,
-        answered: AtomicUsize::new(0),
-        seen: AtomicBool::new(false),
-    };
-    let mut asks = [Ask::Run(0); 64];
-    for key in 0..64 {
-        asks[key] = Ask::Run(key as i64);
-    }
-    let Some(left) = asked(rt, alloc, counter, 16, &[], workers, &asks, &gate) else {
-        return false;
-    };
-    let all = [returned(1); 64];
-    gate.seen.load(Ordering::Acquire) && left.answers.as_slice() == all.as_slice()
-}
-
-#[test]
-fn a_held_stripe_holds_up_no_call_of_another(rt: HostRuntime) -> Result<(), Fail> {
-    let alloc = rt.alloc();
-    let counter = rows::counter(alloc)?;
-    let meet_by = [
-        all_meet(&rt, alloc, &counter, 2),
-        all_meet(&rt, alloc, &counter, 16),
-    ];
-    assert_eq!(rt; meet_by, [true; 2]);
     Ok(())
 }

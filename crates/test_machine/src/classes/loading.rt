@@ -46,6 +46,7 @@ static ROWS: [Row; 7] = [
         done: Done {
             outcome: Outcome::Returned(Arg::Long(42)),
             effect: Effect::Put(42),
+            untouched: false,
             asked: Some(LoadAnswer::Value(41)),
             steps: 14,
             words: 0,
@@ -58,6 +59,7 @@ static ROWS: [Row; 7] = [
         done: Done {
             outcome: Outcome::Threw(JavaFault::NullPointer),
             effect: Effect::Keep,
+            untouched: true,
             asked: Some(LoadAnswer::None),
             steps: 4,
             words: 0,
@@ -70,6 +72,7 @@ static ROWS: [Row; 7] = [
         done: Done {
             outcome: Outcome::Threw(JavaFault::CacheLoader),
             effect: Effect::Keep,
+            untouched: true,
             asked: Some(LoadAnswer::Failed),
             steps: 2,
             words: 0,
@@ -82,6 +85,7 @@ static ROWS: [Row; 7] = [
         done: Done {
             outcome: Outcome::Returned(Arg::Long(41)),
             effect: Effect::Put(41),
+            untouched: true,
             asked: Some(LoadAnswer::Value(41)),
             steps: 6,
             words: 0,
@@ -94,6 +98,7 @@ static ROWS: [Row; 7] = [
         done: Done {
             outcome: Outcome::Returned(Arg::Long(1)),
             effect: Effect::Put(1),
+            untouched: false,
             asked: None,
             steps: 20,
             words: 0,
@@ -106,6 +111,7 @@ static ROWS: [Row; 7] = [
         done: Done {
             outcome: Outcome::Returned(Arg::Long(2)),
             effect: Effect::Keep,
+            untouched: false,
             asked: None,
             steps: 21,
             words: 0,
@@ -118,6 +124,7 @@ static ROWS: [Row; 7] = [
         done: Done {
             outcome: Outcome::Threw(JavaFault::Arithmetic),
             effect: Effect::Keep,
+            untouched: true,
             asked: Some(LoadAnswer::Value(0)),
             steps: 12,
             words: 0,

@@ -66,6 +66,7 @@ fn an_entry_is_removed(rt: HostRuntime) {
 const MADE_65535: Done = Done {
     outcome: Outcome::Returned(Arg::Long(65_535)),
     effect: Effect::Keep,
+    untouched: true,
     asked: None,
     steps: 9,
     words: 65_536,

@@ -10,10 +10,10 @@ use std::test::Fail;
 use std::thread::Threads;
 use std::time::Clock;
 
-/// Adds an invocation of class 0 on a key, with the argument 1.
-fn invoke(input: &mut Vec<u8>, high: u8, low: u8) -> Result<(), AllocError> {
+/// Adds an invocation of class 0 on a key, with this argument.
+fn invoke(input: &mut Vec<u8>, key: u8, by: u8) -> Result<(), AllocError> {
     input.extend_from_slice(&[
-        0, 0, 0, 0x17, 6, 0, 0, 0, 0, 0, 0, 0, 0, 0, 0, high, low, 1, 1, 0, 0, 0, 0, 0, 0, 0, 1,
+        0, 0, 0, 0x17, 6, 0, 0, 0, 0, 0, 0, 0, 0, 0, 0, 0, key, 1, 1, 0, 0, 0, 0, 0, 0, 0, by,
     ])
 }
 
@@ -26,16 +26,16 @@ fn counter_defined(alloc: Global) -> Result<Vec<u8>, AllocError> {
 /// The stream of Counter, a round's end, two invocations on two stripes, and a round's end.
 fn two_calls(alloc: Global) -> Result<Vec<u8>, AllocError> {
     let mut input = counter_defined(alloc)?;
-    invoke(&mut input, 0, 0)?;
     invoke(&mut input, 0, 1)?;
+    invoke(&mut input, 1, 2)?;
     input.extend_from_slice(&ROUND_END)?;
     Ok(input)
 }
 
-/// Whether both invocations returned 1.
+/// Whether the invocations returned 1 and 2, in their order.
 fn both_returned(output: &[u8]) -> bool {
     // The class and its round come first.
-    output.len() == 57 && &output[22..37] == &returned(1)[..] && &output[37..52] == &returned(1)[..]
+    output.len() == 57 && &output[22..37] == &returned(1)[..] && &output[37..52] == &returned(2)[..]
 }
 
 /// How a stream of two calls ends where a worker's share is so many instructions, whether the held one saw the other's answer, and whether both returned 1.

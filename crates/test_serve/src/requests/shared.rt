@@ -414,6 +414,6 @@ fn loaded_replies(alloc: Global) -> Result<Vec<u8>, AllocError> {
 fn calls_on_absent_keys_are_loaded(rt: HostRuntime) -> Result<(), Fail> {
     let input = loaded_calls(rt.alloc())?;
     let output = loaded_replies(rt.alloc())?;
-    assert!(rt; each_comes_to(&rt, rt.alloc(), &input, (2, 7), &Hundreds, None, &output));
+    assert!(rt; each_comes_to(&rt, rt.alloc(), &input, (4, 7), &Hundreds, None, &output));
     Ok(())
 }

@@ -1,0 +1,4 @@
+pub mod Read
+pub mod Gathered
+pub mod Rounds
+pub mod OneStream
