@@ -47,7 +47,13 @@ class Estimate:
 
 
 def in_words(seconds):
-    return f"about {seconds / 60:.0f} min left" if seconds >= 90 else "about a minute left" if seconds >= 30 else "less than a minute left"
+    return (
+        f"about {seconds / 60:.0f} min left"
+        if seconds >= 90
+        else "about a minute left"
+        if seconds >= 30
+        else "less than a minute left"
+    )
 
 
 class Progress:
@@ -56,7 +62,11 @@ class Progress:
     def __init__(self, name, estimate):
         self.name, self.estimate, self.done, self.running = name, estimate, set(), {}
         self.began, self.lock, self.ended = time.monotonic(), threading.Lock(), threading.Event()
-        print(f"{name}: proving and building {len(estimate.weights)} crates, {in_words(estimate.whole)}", file=sys.stderr, flush=True)
+        print(
+            f"{name}: proving and building {len(estimate.weights)} crates, {in_words(estimate.whole)}",
+            file=sys.stderr,
+            flush=True,
+        )
         if sys.stderr.isatty():
             threading.Thread(target=self.tick, daemon=True).start()
 
@@ -73,7 +83,9 @@ class Progress:
 
     def line(self, last=""):
         now = time.monotonic()
-        left = self.estimate.left(now - self.began, self.done, {name: now - since for name, since in self.running.items()})
+        left = self.estimate.left(
+            now - self.began, self.done, {name: now - since for name, since in self.running.items()}
+        )
         ending = "" if len(self.done) == len(self.estimate.weights) else f", {in_words(left)}"
         return f"{self.name}: {len(self.done)} of {len(self.estimate.weights)} crates{last} after {now - self.began:.0f} s{ending}"
 

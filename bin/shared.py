@@ -69,4 +69,8 @@ def compare_with_release(program, changelog):
         return "CHANGELOG.md lists no built release to compare it with"
     version, wanted = newest
     found = sum_of(program)
-    return f"it is the program of release {version}" if found == wanted else f"it is not the program of release {version} (sha256 {found} here, {wanted} there)"
+    return (
+        f"it is the program of release {version}"
+        if found == wanted
+        else f"it is not the program of release {version} (sha256 {found} here, {wanted} there)"
+    )

@@ -29,7 +29,10 @@ class Builds(unittest.TestCase):
             self.assertRegex(crates[0], r"^jentry: 1 of 2 crates, low after \d+ s, (about|less than) .* left$")
             self.assertRegex(crates[1], r"^jentry: 2 of 2 crates, jentry after \d+ s$")
             program = f"{folder}/crates/jentry/out/jentry"
-            self.assertEqual(last, f"jentry: crates/jentry/out/jentry is proved; it is not the program of release 1.2.3 (sha256 {sum_of(program)} here, {64 * '0'} there)")
+            self.assertEqual(
+                last,
+                f"jentry: crates/jentry/out/jentry is proved; it is not the program of release 1.2.3 (sha256 {sum_of(program)} here, {64 * '0'} there)",
+            )
             # The proved program answers now, without a word on standard error.
             self.assertEqual(tiny.run(folder, "bin/jentry", "check", "examples/Plus.class"), ("accepted 727\n", "", 0))
 
@@ -47,7 +50,11 @@ class Builds(unittest.TestCase):
 
 class Lines(unittest.TestCase):
     def test_lines_of_another_form_are_answered(self):
-        for words, status, wanted in [(["--help"], 0, "usage: bin/build"), (["--nothing"], 2, "usage: bin/build"), (["absent"], 2, "crates/absent is no program")]:
+        for words, status, wanted in [
+            (["--help"], 0, "usage: bin/build"),
+            (["--nothing"], 2, "usage: bin/build"),
+            (["absent"], 2, "crates/absent is no program"),
+        ]:
             output, errors, found = tiny.run(tiny.TOP, "bin/build", *words)
             self.assertEqual(found, status)
             self.assertIn(wanted, output if status == 0 else errors)

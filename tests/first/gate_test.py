@@ -47,7 +47,10 @@ class Gate(unittest.TestCase):
             self.assertEqual(counted.report(), 1)
 
     def test_what_an_unproved_crate_said_is_shown_again(self):
-        self.assertEqual(self.test.unproved(LOG), "rt: crates/a/src/odd.rt is read by no check\n== middle\na long report\nerror: no proof\nrt: middle NOT PROVED")
+        self.assertEqual(
+            self.test.unproved(LOG),
+            "rt: crates/a/src/odd.rt is read by no check\n== middle\na long report\nerror: no proof\nrt: middle NOT PROVED",
+        )
 
     def test_each_package_has_what_shows_it_and_what_needs_it(self):
         rows = self.test.packages()
@@ -64,15 +67,22 @@ class Gate(unittest.TestCase):
     def test_what_may_not_be_installed_is_told_with_the_command(self):
         """As another user than root. Nothing is installed, and nothing fails."""
         rows = [["no-such-package", "/no/such/file", "clients/java"], ["there", "sh", "all"]]
-        with mock.patch.object(self.test, "packages", lambda: rows), mock.patch.object(os, "geteuid", lambda: 1000), \
-                mock.patch.object(self.test, "apt_get") as called, contextlib.redirect_stdout(io.StringIO()) as printed:
+        with mock.patch.object(self.test, "packages", lambda: rows), mock.patch.object(
+            os, "geteuid", lambda: 1000
+        ), mock.patch.object(self.test, "apt_get") as called, contextlib.redirect_stdout(io.StringIO()) as printed:
             self.test.install_missing()
         called.assert_not_called()
-        self.assertEqual(printed.getvalue(), "bin/test: no-such-package is missing, and this user may not install it: of clients/java what needs it is skipped (apt-get install no-such-package)\n")
+        self.assertEqual(
+            printed.getvalue(),
+            "bin/test: no-such-package is missing, and this user may not install it: of clients/java what needs it is skipped "
+            "(apt-get install no-such-package)\n",
+        )
 
     @unittest.skipUnless(os.geteuid() == 0 and os.path.exists("/usr/bin/apt-get"), "it needs root and apt-get")
     def test_a_package_that_cannot_be_installed_fails_nothing(self):
         """By a real apt-get, of a package that Debian hasn't."""
-        with mock.patch.object(self.test, "packages", lambda: [["no-such-package-of-debian", "/no/such/file", "clients/java"]]), contextlib.redirect_stdout(io.StringIO()) as printed:
+        with mock.patch.object(
+            self.test, "packages", lambda: [["no-such-package-of-debian", "/no/such/file", "clients/java"]]
+        ), contextlib.redirect_stdout(io.StringIO()) as printed:
             self.test.install_missing()
         self.assertIn("no-such-package-of-debian is missing, and apt-get could not install it", printed.getvalue())

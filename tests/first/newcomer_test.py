@@ -8,7 +8,9 @@ import unittest
 
 import tiny
 
-README = "# tiny\n\n```\ngit clone it\nbin/jentry check examples/Plus.class\n```\n\nThis prints\n\n```\naccepted {}\n```\n"
+README = (
+    "# tiny\n\n```\ngit clone it\nbin/jentry check examples/Plus.class\n```\n\nThis prints\n\n```\naccepted {}\n```\n"
+)
 GATE_LIMIT = 300
 """The most seconds in which the gate has to fail."""
 
@@ -35,8 +37,11 @@ class Newcomers(unittest.TestCase):
     def test_the_first_command_of_the_readme_answers(self):
         output, errors, status = self.newcomer(README.format(727))
         self.assertEqual((errors, status), ("", 0), output)
-        self.assertRegex(output, r"^newcomer: a clone of [0-9a-f]{9}\nnewcomer: bin/jentry check examples/Plus.class\n"
-                         r"newcomer: the first command answered after .* s\nnewcomer: the next command answered after .* s\n1 passed, 0 failed\n$")
+        self.assertRegex(
+            output,
+            r"^newcomer: a clone of [0-9a-f]{9}\nnewcomer: bin/jentry check examples/Plus.class\n"
+            r"newcomer: the first command answered after .* s\nnewcomer: the next command answered after .* s\n1 passed, 0 failed\n$",
+        )
         # Nothing was built in this folder.
         self.assertFalse(os.path.exists(f"{self.folder}/crates/jentry/out"))
 

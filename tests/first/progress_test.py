@@ -32,7 +32,10 @@ class Estimates(unittest.TestCase):
         self.assertEqual(estimate.left(400, set(WEIGHTS), {}), 0)
 
     def test_times_are_in_words(self):
-        self.assertEqual([in_words(it) for it in (1500, 90, 60, 10)], ["about 25 min left", "about 2 min left", "about a minute left", "less than a minute left"])
+        self.assertEqual(
+            [in_words(it) for it in (1500, 90, 60, 10)],
+            ["about 25 min left", "about 2 min left", "about a minute left", "less than a minute left"],
+        )
 
 
 class Weights(unittest.TestCase):
@@ -45,7 +48,9 @@ class Weights(unittest.TestCase):
         weights = self.build.weights_of(self.rt, self.crates.values())
         self.assertEqual(set(weights), set(self.crates))
         self.assertGreater(min(weights.values()), 0)
-        rows = [line.split()[0] for line in text_of(f"{TOP}/bin/proof-seconds").splitlines() if not line.startswith("#")]
+        rows = [
+            line.split()[0] for line in text_of(f"{TOP}/bin/proof-seconds").splitlines() if not line.startswith("#")
+        ]
         self.assertGreater(len(rows), 20)
         self.assertEqual(set(rows) - set(self.crates), set())
 

@@ -13,7 +13,10 @@ from shared import sum_of
 VERSION = "0.1.0"
 NAMES = [f"jentry-{VERSION}+not.proved.tar.xz", f"jentry_{VERSION}+not.proved_amd64.deb"]
 PLUS = "result 42\nvalue 42\nsteps 14 words 0\n"
-NOTE = "import sys; sys.path.insert(0, 'bin'); from shared import load_script; test = load_script('test'); test.note_passed(test.clean_commit(), '7 passed, 0 failed\\n')"
+NOTE = (
+    "import sys; sys.path.insert(0, 'bin'); from shared import load_script; test = load_script('test'); "
+    "test.note_passed(test.clean_commit(), '7 passed, 0 failed\\n')"
+)
 
 
 def program():
@@ -46,7 +49,11 @@ class Refusals(unittest.TestCase):
         subprocess.run(["python3", "-B", "-c", NOTE], cwd=self.folder, check=True)
         # What bin/test noted is enough, except the versions of the parts.
         self.refused("clients/front/Cargo.toml has version None, and not 0.1.0")
-        for file, text in (("front/Cargo.toml", f'version = "{VERSION}"\n'), ("python/pyproject.toml", f'version = "{VERSION}"\n'), ("java/pom.xml", "<version>0.1.0-SNAPSHOT</version>")):
+        for file, text in (
+            ("front/Cargo.toml", f'version = "{VERSION}"\n'),
+            ("python/pyproject.toml", f'version = "{VERSION}"\n'),
+            ("java/pom.xml", "<version>0.1.0-SNAPSHOT</version>"),
+        ):
             tiny.write(f"{self.folder}/clients/{file}", text)
         self.refused("the files of this checkout differ from its commit")
         commit(self.folder)
@@ -64,7 +71,10 @@ class Refusals(unittest.TestCase):
 
 
 @unittest.skipUnless(program(), "there is no proved program to pack")
-@unittest.skipUnless(shutil.which("javac") and shutil.which("cargo") and shutil.which("dpkg-deb"), "it needs javac, cargo and dpkg-deb (apt-get install default-jdk-headless cargo dpkg)")
+@unittest.skipUnless(
+    shutil.which("javac") and shutil.which("cargo") and shutil.which("dpkg-deb"),
+    "it needs javac, cargo and dpkg-deb (apt-get install default-jdk-headless cargo dpkg)",
+)
 class Releases(unittest.TestCase):
     @classmethod
     def setUpClass(cls):
@@ -92,13 +102,28 @@ class Releases(unittest.TestCase):
             members = {member.name.partition("/")[2]: member for member in it.getmembers()}
             printed = it.extractfile(f"jentry-{VERSION}+not.proved/share/doc/jentry/RELEASE").read().decode()
             jar = it.extractfile(f"jentry-{VERSION}+not.proved/share/java/jentry-jcache.jar").read()
-        for name in ("bin/jentry", "bin/jentry-front", "lib/jentry/jentry", "share/man/man1/jentry.1.gz", "lib/systemd/system/jentry-front.socket",
-                     "lib/systemd/system/jentry-front.service", "lib/python3/dist-packages/jentry.py", "lib/python3/dist-packages/jentry_processors/GetAndPut.class"):
+        for name in (
+            "bin/jentry",
+            "bin/jentry-front",
+            "lib/jentry/jentry",
+            "share/man/man1/jentry.1.gz",
+            "lib/systemd/system/jentry-front.socket",
+            "lib/systemd/system/jentry-front.service",
+            "lib/python3/dist-packages/jentry.py",
+            "lib/python3/dist-packages/jentry_processors/GetAndPut.class",
+        ):
             self.assertIn(name, members)
-        self.assertEqual({(member.uid, member.gid, member.uname, member.gname) for member in members.values()}, {(0, 0, "", "")})
+        self.assertEqual(
+            {(member.uid, member.gid, member.uname, member.gname) for member in members.values()}, {(0, 0, "", "")}
+        )
         self.assertEqual(len({member.mtime for member in members.values()}), 1)
         self.assertEqual({oct(member.mode) for member in members.values()}, {"0o755", "0o644"})
-        head = subprocess.run(["git", "-C", os.path.dirname(self.folders[0]), "rev-parse", "HEAD"], capture_output=True, text=True, check=True).stdout.strip()
+        head = subprocess.run(
+            ["git", "-C", os.path.dirname(self.folders[0]), "rev-parse", "HEAD"],
+            capture_output=True,
+            text=True,
+            check=True,
+        ).stdout.strip()
         self.assertIn(f"commit {head}, of ", printed)
         self.assertIn("verdict NOT PROVED", printed)
         self.assertIn(f"lib/jentry/jentry sha256 {sum_of(program())}\n", printed)
@@ -107,18 +132,30 @@ class Releases(unittest.TestCase):
     def test_the_tarball_runs_where_it_is_unpacked(self):
         with tempfile.TemporaryDirectory() as room:
             subprocess.run(["tar", "-C", room, "-xf", f"{self.folders[0]}/{NAMES[0]}"], check=True)
-            top, = glob.glob(f"{room}/*")
+            (top,) = glob.glob(f"{room}/*")
             # Also by a link from elsewhere, as from /usr/local/bin.
             os.symlink(f"{top}/bin/jentry", f"{room}/link")
             for command in (f"{top}/bin/jentry", f"{room}/link"):
-                self.assertEqual(tiny.run(room, command, "run", f"{top}/share/doc/jentry/examples/Plus.class", "7", "41"), (PLUS, "", 0))
+                self.assertEqual(
+                    tiny.run(room, command, "run", f"{top}/share/doc/jentry/examples/Plus.class", "7", "41"),
+                    (PLUS, "", 0),
+                )
 
-    @unittest.skipUnless(os.geteuid() == 0 and shutil.which("apt-get"), "it needs root and apt-get, to fill an empty root with Debian's libc6 and dash")
+    @unittest.skipUnless(
+        os.geteuid() == 0 and shutil.which("apt-get"),
+        "it needs root and apt-get, to fill an empty root with Debian's libc6 and dash",
+    )
     def test_the_package_runs_in_an_empty_root(self):
         """A root with Debian's libc6, libgcc-s1 and dash alone, and the package."""
         with tempfile.TemporaryDirectory() as room:
             os.chmod(room, 0o755)
-            got = subprocess.run(["apt-get", "download", "libc6", "libgcc-s1", "dash"], cwd=room, capture_output=True, text=True, check=False)
+            got = subprocess.run(
+                ["apt-get", "download", "libc6", "libgcc-s1", "dash"],
+                cwd=room,
+                capture_output=True,
+                text=True,
+                check=False,
+            )
             if got.returncode:
                 self.skipTest(f"apt-get download libc6 libgcc-s1 dash failed: {got.stderr[-200:]}")
             packages = [*glob.glob(f"{room}/*.deb"), f"{self.folders[0]}/{NAMES[1]}"]
@@ -127,7 +164,15 @@ class Releases(unittest.TestCase):
                 subprocess.run(["dpkg-deb", "-x", package, f"{room}/root"], check=True)
             if not os.path.lexists(f"{room}/root/bin/sh"):
                 os.symlink("dash", f"{room}/root/bin/sh")
-            words = ["chroot", f"{room}/root", "/usr/bin/jentry", "run", "/usr/share/doc/jentry/examples/Plus.class", "7", "41"]
+            words = [
+                "chroot",
+                f"{room}/root",
+                "/usr/bin/jentry",
+                "run",
+                "/usr/share/doc/jentry/examples/Plus.class",
+                "7",
+                "41",
+            ]
             self.assertEqual(tiny.run(room, *words), (PLUS, "", 0))
             output, errors, status = tiny.run(room, "chroot", f"{room}/root", "/usr/bin/jentry-front")
             self.assertNotIn(status, (126, 127))

@@ -29,9 +29,15 @@ class Releases(unittest.TestCase):
         newest, oldest = (hashlib.sha256(it).hexdigest() for it in (b"newest", b"oldest"))
         changelog = CHANGELOG.format(newest=newest, oldest=oldest)
         self.assertEqual(newest_release(changelog), ("0.2.0", newest))
-        self.assertEqual(newest_release(CHANGELOG.replace("- program sha256 {newest}\n", "").format(oldest=oldest)), ("0.1.0", oldest))
+        self.assertEqual(
+            newest_release(CHANGELOG.replace("- program sha256 {newest}\n", "").format(oldest=oldest)),
+            ("0.1.0", oldest),
+        )
         with tempfile.TemporaryDirectory() as folder:
-            for text, wanted in ((b"newest", "it is the program of release 0.2.0"), (b"oldest", f"it is not the program of release 0.2.0 (sha256 {oldest} here, {newest} there)")):
+            for text, wanted in (
+                (b"newest", "it is the program of release 0.2.0"),
+                (b"oldest", f"it is not the program of release 0.2.0 (sha256 {oldest} here, {newest} there)"),
+            ):
                 with open(f"{folder}/jentry", "wb") as it:
                     it.write(text)
                 self.assertEqual(compare_with_release(f"{folder}/jentry", changelog), wanted)
@@ -47,9 +53,12 @@ class Releases(unittest.TestCase):
 class Parts(unittest.TestCase):
     def test_all_parts_have_one_version(self):
         """The front, the Python package and the Java jar, whose version has -SNAPSHOT behind it until it is released."""
-        found = [re.search(pattern, text_of(os.path.join(TOP, "clients", file)), re.MULTILINE)[1] for file, pattern in (
-            ("front/Cargo.toml", r'^version = "(.*)"'),
-            ("python/pyproject.toml", r'^version = "(.*)"'),
-            ("java/pom.xml", r"<version>(.*?)(?:-SNAPSHOT)?</version>"),
-        )]
+        found = [
+            re.search(pattern, text_of(os.path.join(TOP, "clients", file)), re.MULTILINE)[1]
+            for file, pattern in (
+                ("front/Cargo.toml", r'^version = "(.*)"'),
+                ("python/pyproject.toml", r'^version = "(.*)"'),
+                ("java/pom.xml", r"<version>(.*?)(?:-SNAPSHOT)?</version>"),
+            )
+        ]
         self.assertEqual(len(set(found)), 1, found)

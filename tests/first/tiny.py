@@ -52,13 +52,23 @@ def make(folder):
         os.makedirs(f"{folder}/{example}")
         shutil.copyfile(f"{TOP}/examples/Plus.class", f"{folder}/{example}/Plus.class")
     write(f"{folder}/.gitignore", "out/\n__pycache__/\n")
-    for words in (["init", "-q"], ["add", "."], ["-c", "user.name=t", "-c", "user.email=t@localhost", "commit", "-qm", "first"]):
+    for words in (
+        ["init", "-q"],
+        ["add", "."],
+        ["-c", "user.name=t", "-c", "user.email=t@localhost", "commit", "-qm", "first"],
+    ):
         subprocess.run(["git", "-C", folder, *words], check=True)
 
 
 def run(folder, *words, limit=900, **variables):
     """What a command prints on standard output and on standard error, and its status. Where it takes more seconds, it and all that it started are ended."""
-    how = {"stdin": subprocess.DEVNULL, "stdout": subprocess.PIPE, "stderr": subprocess.PIPE, "text": True, "start_new_session": True}
+    how = {
+        "stdin": subprocess.DEVNULL,
+        "stdout": subprocess.PIPE,
+        "stderr": subprocess.PIPE,
+        "text": True,
+        "start_new_session": True,
+    }
     with subprocess.Popen(words, cwd=folder, env={**os.environ, **variables}, **how) as ran:
         try:
             output, errors = ran.communicate(timeout=limit)

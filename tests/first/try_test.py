@@ -6,7 +6,10 @@ import unittest
 
 import tiny
 
-MAKING, WAITING = "jentry: making a trial build, a minute or two, once\n", "jentry: another command makes the trial build; waiting for it\n"
+MAKING, WAITING = (
+    "jentry: making a trial build, a minute or two, once\n",
+    "jentry: another command makes the trial build; waiting for it\n",
+)
 NOT_PROVED = "jentry: NOT PROVED HERE: a trial build, many times slower; bin/build makes the proved program\n"
 CHECK = ["bin/jentry", "check", "examples/Plus.class"]
 
@@ -23,10 +26,18 @@ class Trials(unittest.TestCase):
 
     def at_once(self, count):
         """What commands that are started at once write on standard error, in the order of their lengths. Each has to answer."""
-        how = {"cwd": self.folder, "stdin": subprocess.DEVNULL, "stdout": subprocess.PIPE, "stderr": subprocess.PIPE, "text": True}
+        how = {
+            "cwd": self.folder,
+            "stdin": subprocess.DEVNULL,
+            "stdout": subprocess.PIPE,
+            "stderr": subprocess.PIPE,
+            "text": True,
+        }
         ran = [subprocess.Popen(CHECK, **how) for _ in range(count)]
         outputs = [it.communicate(timeout=900) for it in ran]
-        self.assertEqual([(it.returncode, output) for it, (output, _) in zip(ran, outputs)], count * [(0, "accepted 727\n")], outputs)
+        self.assertEqual(
+            [(it.returncode, output) for it, (output, _) in zip(ran, outputs)], count * [(0, "accepted 727\n")], outputs
+        )
         return sorted((errors for _, errors in outputs), key=len)
 
     def test_a_trial_is_made_once_and_anew_for_other_sources(self):
@@ -36,13 +47,17 @@ class Trials(unittest.TestCase):
         # Without a kit the trial that is there answers.
         self.assertEqual(self.run_here(*CHECK, PATH="/usr/bin:/bin"), ("accepted 727\n", NOT_PROVED, 0))
         made = os.stat(f"{self.folder}/crates/jentry/out/trial/jentry").st_ino
-        tiny.write(f"{self.folder}/crates/jentry/src/main.rt", tiny.PROGRAM.replace("accepted {n}", "accepted {n} more"))
+        tiny.write(
+            f"{self.folder}/crates/jentry/src/main.rt", tiny.PROGRAM.replace("accepted {n}", "accepted {n} more")
+        )
         self.assertEqual(self.run_here(*CHECK), ("accepted 727 more\n", MAKING + NOT_PROVED, 0))
         self.assertNotEqual(os.stat(f"{self.folder}/crates/jentry/out/trial/jentry").st_ino, made)
         self.assertEqual(sorted(os.listdir(f"{self.folder}/crates/jentry/out/trial")), ["jentry", "lock", "stamp"])
 
     def test_the_error_of_sources_that_do_not_compile_is_shown(self):
-        tiny.write(f"{self.folder}/crates/low/src/lib.rt", "#![tactic(auto)]\n\npub fn least(x: usize) -> usize { y }\n")
+        tiny.write(
+            f"{self.folder}/crates/low/src/lib.rt", "#![tactic(auto)]\n\npub fn least(x: usize) -> usize { y }\n"
+        )
         output, errors, status = self.run_here(*CHECK)
         self.assertEqual((output, status), ("", 3))
         self.assertTrue(errors.startswith(f"{MAKING}jentry: no trial build: its last words:\n"), errors)
@@ -51,7 +66,9 @@ class Trials(unittest.TestCase):
     def test_without_a_kit_and_a_trial_a_line_says_what_to_install(self):
         output, errors, status = self.run_here(*CHECK, PATH="/usr/bin:/bin")
         self.assertEqual((output, status, errors.count("\n")), ("", 3, 1))
-        self.assertRegex(errors, r"^jentry: no trial build: there is no Rattle kit .*: install rattle-kit-\S+ .*CHANGELOG\.md")
+        self.assertRegex(
+            errors, r"^jentry: no trial build: there is no Rattle kit .*: install rattle-kit-\S+ .*CHANGELOG\.md"
+        )
 
     def test_no_words_are_answered_by_a_usage_of_ten_lines(self):
         output, errors, status = self.run_here("bin/jentry")
@@ -65,5 +82,7 @@ class Trials(unittest.TestCase):
         program = f"{self.folder}/crates/jentry/out/jentry"
         tiny.write(program, "#!/bin/sh\necho \"$@\"\ncat\nexit 4\n")
         os.chmod(program, 0o755)
-        ran = subprocess.run([f"{self.folder}/bin/jentry", "run", "a b"], input="given", capture_output=True, text=True, timeout=60)
+        ran = subprocess.run(
+            [f"{self.folder}/bin/jentry", "run", "a b"], input="given", capture_output=True, text=True, timeout=60
+        )
         self.assertEqual((ran.stdout, ran.stderr, ran.returncode), ("run a b\ngiven", "", 4))
