@@ -69,11 +69,17 @@ enum {
  * where the processor set the value that was there. */
 enum { JENTRY_KEEP = 0, JENTRY_PUT = 1, JENTRY_DELETE = 2 };
 
-/* The end of a call: what was returned, in `outcome` and `value`; the effect; the instructions and array words that the run took. */
+/* How the processor left the entry: it called neither setValue nor remove, or threw; it called them, and left a value; it called them,
+ * and left none. It tells a setValue of the value that was there from no call at all. */
+enum { JENTRY_UNTOUCHED = 0, JENTRY_SET = 1, JENTRY_REMOVED = 2 };
+
+/* The end of a call: what was returned, in `outcome` and `value`; the effect; the instructions and array words that the run took; how
+ * the entry was left. */
 struct jentry_done {
     uint32_t outcome, effect;
     int64_t value, put;
     uint32_t steps, words;
+    uint32_t left, unused;
 };
 
 /* Makes an engine: 0, or 1 where memory lacks, or 2 where the handle is open already, which changes nothing. */
@@ -112,7 +118,7 @@ JENTRY_ASSERT(sizeof(struct jentry_handle) == 16 && offsetof(struct jentry_handl
 JENTRY_ASSERT(sizeof(struct jentry_verdict) == 48 && offsetof(struct jentry_verdict, id) == 28, "the layout of a verdict");
 JENTRY_ASSERT(sizeof(struct jentry_arg) == 16 && offsetof(struct jentry_arg, value) == 8, "the layout of an argument");
 JENTRY_ASSERT(sizeof(struct jentry_call) == 24 && offsetof(struct jentry_call, key) == 8, "the layout of a call");
-JENTRY_ASSERT(sizeof(struct jentry_done) == 32 && offsetof(struct jentry_done, words) == 28, "the layout of an end");
+JENTRY_ASSERT(sizeof(struct jentry_done) == 40 && offsetof(struct jentry_done, left) == 32, "the layout of an end");
 #undef JENTRY_ASSERT
 
 #ifdef __cplusplus

@@ -178,7 +178,8 @@ static struct jentry_done on_41(struct jentry_handle *engine, uint32_t number, c
 }
 
 static bool is_denied(struct jentry_done done, uint32_t outcome) {
-    return done.outcome == outcome && done.effect == 0 && done.value == 0 && done.put == 0 && done.steps == 0 && done.words == 0;
+    return done.outcome == outcome && done.effect == 0 && done.value == 0 && done.put == 0 && done.steps == 0 && done.words == 0 &&
+           done.left == JENTRY_UNTOUCHED && done.unused == 0;
 }
 
 static void closed_handles(const uint8_t *bytes, size_t length) {
@@ -230,16 +231,16 @@ static void arguments(struct jentry_handle *engine, uint32_t add) {
     HOLDS(done.outcome == JENTRY_THREW && done.value == 2);
 }
 
-/* What a run leaves: a put of another value, of the same one, nothing. */
+/* What a run leaves: a put of another value, of the same one, nothing behind an exception. */
 static void ends(struct jentry_handle *engine, uint32_t add, uint32_t plus) {
     struct jentry_arg one = { .kind = JENTRY_LONG, .value = 1 }, zero = { .kind = JENTRY_LONG };
     struct jentry_done done = on_41(engine, add, &one, 1);
     HOLDS(done.outcome == JENTRY_LONG && done.value == 42 && done.effect == JENTRY_PUT && done.put == 42);
-    HOLDS(done.steps == 29 && done.words == 0);
+    HOLDS(done.steps == 29 && done.words == 0 && done.left == JENTRY_SET && done.unused == 0);
     done = on_41(engine, add, &zero, 1);
-    HOLDS(done.outcome == JENTRY_LONG && done.value == 41 && done.effect == JENTRY_KEEP);
+    HOLDS(done.outcome == JENTRY_LONG && done.value == 41 && done.effect == JENTRY_KEEP && done.left == JENTRY_SET);
     done = on_41(engine, add, &zero, 0);
-    HOLDS(done.outcome == JENTRY_THREW && done.effect == JENTRY_KEEP);
+    HOLDS(done.outcome == JENTRY_THREW && done.effect == JENTRY_KEEP && done.left == JENTRY_UNTOUCHED);
     done = on_41(engine, plus, &zero, 0);
     HOLDS(done.value == 42 && done.put == 42);
 }

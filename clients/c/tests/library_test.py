@@ -14,16 +14,34 @@ EXAMPLES = os.path.join(TOP, "examples")
 TRIES = int(os.environ.get("JENTRY_TRIES", 300 if os.environ.get("JENTRY_TRIAL") else 10_000))
 PATIENCE = 600
 MOST = 2**63 - 1
-SANITIZED = ["-std=c11", "-g", "-O1", "-Wall", "-Wextra", "-Werror", "-fsanitize=address,undefined", "-fno-sanitize-recover=all"]
+SANITIZED = [
+    "-std=c11",
+    "-g",
+    "-O1",
+    "-Wall",
+    "-Wextra",
+    "-Werror",
+    "-fsanitize=address,undefined",
+    "-fno-sanitize-recover=all",
+]
 EMBED = os.environ.get("JENTRY_EMBED", os.path.join(TOP, "crates/embed/out/libembed.a"))
 PROGRAM = os.environ.get("JENTRY_PROGRAM")
-sys.path.append(os.path.join(TOP, "tests/program"))
+# Before clients/tests, which has another module `running`.
+sys.path.insert(0, os.path.join(TOP, "tests/program"))
 
 
 def run(*words, given=None, status=None, **how):
     """What a command prints; the status, if one is wanted, has to be this one."""
-    done = subprocess.run([str(word) for word in words], input=given, stdout=subprocess.PIPE, stderr=subprocess.STDOUT, text=True, timeout=PATIENCE,
-                          check=False, **how)
+    done = subprocess.run(
+        [str(word) for word in words],
+        input=given,
+        stdout=subprocess.PIPE,
+        stderr=subprocess.STDOUT,
+        text=True,
+        timeout=PATIENCE,
+        check=False,
+        **how,
+    )
     if status is not None and done.returncode != status:
         raise AssertionError(f"{words} ended with status {done.returncode}:\n{done.stdout[-4000:]}")
     return done.stdout, done.returncode
@@ -62,7 +80,10 @@ class Built(unittest.TestCase):
 
 class Library(Built):
     def test_exported_names(self):
-        wanted = {"jentry_" + name for name in ("open", "close", "define", "forget", "invoke", "explain", "refusal_name", "exception_name")}
+        wanted = {
+            "jentry_" + name
+            for name in ("open", "close", "define", "forget", "invoke", "explain", "refusal_name", "exception_name")
+        }
         told, _ = run("nm", "-D", "--defined-only", os.path.join(self.out, "libjentry.so"), status=0)
         self.assertEqual({line.split()[-1] for line in told.splitlines()}, wanted)
 
@@ -82,17 +103,50 @@ class Library(Built):
 
     def test_installed_and_shared(self):
         place = os.path.join(self.folder, "installed")
-        run("make", "-C", os.path.join(self.folder, "c"), f"EMBED={os.path.abspath(EMBED)}", "install", f"PREFIX={place}", status=0)
+        run(
+            "make",
+            "-C",
+            os.path.join(self.folder, "c"),
+            f"EMBED={os.path.abspath(EMBED)}",
+            "install",
+            f"PREFIX={place}",
+            status=0,
+        )
         program = os.path.join(self.folder, "shared")
-        run("cc", "-std=c11", "-o", program, os.path.join(HERE, "example.c"), f"-I{place}/include", f"-L{place}/lib", "-ljentry", f"-Wl,-rpath,{place}/lib", status=0)
+        run(
+            "cc",
+            "-std=c11",
+            "-o",
+            program,
+            os.path.join(HERE, "example.c"),
+            f"-I{place}/include",
+            f"-L{place}/lib",
+            "-ljentry",
+            f"-Wl,-rpath,{place}/lib",
+            status=0,
+        )
         self.assertIn("set to 42", run(program, os.path.join(EXAMPLES, "Add.class"), 7, 41, 1, status=0)[0])
 
     def test_the_header_from_cpp(self):
-        source = self.write("layout.cpp", b'#include "jentry.h"\nint main() { jentry_handle engine = {}; return jentry_open(&engine) == 0 ? 0 : 1; }\n')
+        source = self.write(
+            "layout.cpp",
+            b'#include "jentry.h"\nint main() { jentry_handle engine = {}; return jentry_open(&engine) == 0 ? 0 : 1; }\n',
+        )
         program = os.path.join(self.folder, "layout")
         if shutil.which("c++") is None:
             self.skipTest("there is no c++ (apt-get install g++)")
-        run("c++", "-std=c++11", "-Wall", "-Werror", f"-I{HERE}", "-o", program, source, os.path.join(self.out, "libjentry.a"), status=0)
+        run(
+            "c++",
+            "-std=c++11",
+            "-Wall",
+            "-Werror",
+            f"-I{HERE}",
+            "-o",
+            program,
+            source,
+            os.path.join(self.out, "libjentry.a"),
+            status=0,
+        )
         run(program, status=0)
 
 
@@ -104,13 +158,17 @@ class Answers(Built):
     def test_verdicts_of_the_rows(self):
         import row_classes
         import rows_test
+
         for name, status, output in rows_test.CHECKED:
             with self.subTest(name=name):
-                self.assertEqual(run(self.answers, "check", self.write(name + ".class", row_classes.named(name))), (output, status))
+                self.assertEqual(
+                    run(self.answers, "check", self.write(name + ".class", row_classes.named(name))), (output, status)
+                )
 
     def test_runs_of_the_rows(self):
         import row_classes
         import rows_test
+
         for name, words, status, output in rows_test.RAN:
             with self.subTest(name=name, words=words):
                 path = self.write(name + ".class", row_classes.named(name))
@@ -133,7 +191,7 @@ class Answers(Built):
                 file = bytearray(it.read())
             for _ in range(chosen.randrange(1, 4)):
                 file[chosen.randrange(len(file))] = chosen.randrange(256)
-            path = self.write("damaged.class", bytes(file[:chosen.choice([len(file), chosen.randrange(len(file))])]))
+            path = self.write("damaged.class", bytes(file[: chosen.choice([len(file), chosen.randrange(len(file))])]))
             with self.subTest(number=number):
                 self.same("check", path)
 
@@ -148,12 +206,17 @@ class Answers(Built):
             said = list(pool.map(lambda line: run(PROGRAM, "run", *line.split())[0].splitlines(), lines))
         self.assertEqual(len(told), 3 * TRIES)
         for place, (line, wanted) in enumerate(zip(lines, said)):
-            self.assertEqual(told[3 * place:3 * place + 3], wanted, line)
+            self.assertEqual(told[3 * place : 3 * place + 3], wanted, line)
 
 
 def random_call(chosen):
     """A key, an entry, and arguments, none of them negative: `jentry run` takes no other."""
+
     def number():
         return chosen.choice([0, 1, 5, 41, 2**31, MOST, chosen.randrange(10**6), chosen.getrandbits(63)])
-    args = [chosen.choice([str(number()), str(number()), f"{chosen.randrange(2**31)}i", "null"]) for _ in range(chosen.randrange(5))]
+
+    args = [
+        chosen.choice([str(number()), str(number()), f"{chosen.randrange(2**31)}i", "null"])
+        for _ in range(chosen.randrange(5))
+    ]
     return [str(number()), chosen.choice(["none", str(number()), str(number())]), *args]
