@@ -6,7 +6,9 @@ const DEFAULT: &str = "../../crates/embed/out/libembed.a";
 
 fn main() {
     println!("cargo:rerun-if-env-changed=JENTRY_EMBED");
-    let home = PathBuf::from(env::var("CARGO_MANIFEST_DIR").expect("cargo names the folder of the manifest"));
+    let home = PathBuf::from(
+        env::var("CARGO_MANIFEST_DIR").expect("cargo names the folder of the manifest"),
+    );
     let library = env::var_os("JENTRY_EMBED").map_or_else(|| home.join(DEFAULT), PathBuf::from);
     if !library.is_file() {
         eprintln!("there is no {}: build it by `bin/rt lib` in crates/embed, or name another in JENTRY_EMBED", library.display());

@@ -118,7 +118,7 @@ impl Board {
         if !wake() {
             return;
         }
-        let _ = self.changed.wait_timeout_while(state, patience, |it| !it.ended_told);
+        drop(self.changed.wait_timeout_while(state, patience, |it| !it.ended_told));
     }
 
     /// Those who watch know that the server has ended.

@@ -75,7 +75,10 @@ pub struct Tried {
 impl Tried {
     fn of(block: *mut u8, alignment: usize) -> Tried {
         // The core wants an aligned pointer that isn't null in either case.
-        Tried { ok: !block.is_null(), block: if block.is_null() { alignment as *mut u8 } else { block } }
+        Tried {
+            ok: !block.is_null(),
+            block: if block.is_null() { alignment as *mut u8 } else { block },
+        }
     }
 }
 
@@ -90,7 +93,12 @@ pub extern "C" fn rattle_alloc(size: usize, alignment: usize) -> Tried {
 /// # Safety
 /// `rattle_alloc` or this function gave the block; it has `kept` bytes, which are no more than `size`.
 #[no_mangle]
-pub unsafe extern "C" fn rattle_realloc(block: *mut u8, kept: usize, size: usize, alignment: usize) -> Tried {
+pub unsafe extern "C" fn rattle_realloc(
+    block: *mut u8,
+    kept: usize,
+    size: usize,
+    alignment: usize,
+) -> Tried {
     let moved = if alignment > ALIGNMENT { null_mut() } else { take(size) };
     if !moved.is_null() {
         copy_nonoverlapping(block, moved, kept.min(size));

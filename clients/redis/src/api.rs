@@ -39,7 +39,6 @@ pub const IS_LOADING: c_int = 1 << 13;
 
 /// Kinds of a reply.
 pub const REPLY_TEXT: c_int = 0;
-pub const REPLY_ERROR: c_int = 1;
 pub const REPLY_NULL: c_int = 4;
 
 pub type Command = unsafe extern "C" fn(*mut Context, *mut *mut Text, c_int) -> c_int;
@@ -48,7 +47,8 @@ pub type AuxSave = unsafe extern "C" fn(*mut Io, c_int);
 pub type Receiver = unsafe extern "C" fn(*mut Context, *const c_char, u8, *const u8, u32);
 pub type Informer = unsafe extern "C" fn(*mut InfoContext, c_int);
 pub type GetNumber = unsafe extern "C" fn(*const c_char, *mut c_void) -> c_longlong;
-pub type SetNumber = unsafe extern "C" fn(*const c_char, c_longlong, *mut c_void, *mut *mut Text) -> c_int;
+pub type SetNumber =
+    unsafe extern "C" fn(*const c_char, c_longlong, *mut c_void, *mut *mut Text) -> c_int;
 
 /// What a data type does; version 2 has these members, and later versions begin with them.
 #[repr(C)]
@@ -89,7 +89,16 @@ pub struct KeySpec {
 }
 
 impl KeySpec {
-    pub const NONE: KeySpec = KeySpec { notes: null_mut(), flags: 0, begin: 0, padding: 0, place: 0, begin_rest: [0; 3], find: 0, find_by: [0; 3] };
+    pub const NONE: KeySpec = KeySpec {
+        notes: null_mut(),
+        flags: 0,
+        begin: 0,
+        padding: 0,
+        place: 0,
+        begin_rest: [0; 3],
+        find: 0,
+        find_by: [0; 3],
+    };
 }
 
 const _: [(); 56] = [(); size_of::<KeySpec>()];
@@ -189,6 +198,8 @@ interface! {
     is_keys_request "IsKeysPositionRequest": unsafe extern "C" fn(*mut Context) -> c_int;
     key_at "KeyAtPosWithFlags": unsafe extern "C" fn(*mut Context, c_int, c_int);
     wrong_arity "WrongArity": unsafe extern "C" fn(*mut Context) -> c_int;
+    create_text "CreateString": unsafe extern "C" fn(*mut Context, *const c_char, usize) -> *mut Text;
+    free_text "FreeString": unsafe extern "C" fn(*mut Context, *mut Text);
     text_bytes "StringPtrLen": unsafe extern "C" fn(*const Text, *mut usize) -> *const u8;
     reply_error "ReplyWithError": unsafe extern "C" fn(*mut Context, *const c_char) -> c_int;
     reply_array "ReplyWithArray": unsafe extern "C" fn(*mut Context, c_long) -> c_int;
@@ -198,9 +209,11 @@ interface! {
     server_version "GetServerVersion": unsafe extern "C" fn() -> c_int;
     open_key "OpenKey": unsafe extern "C" fn(*mut Context, *mut Text, c_int) -> *mut Key;
     close_key "CloseKey": unsafe extern "C" fn(*mut Key);
+    length "ValueLength": unsafe extern "C" fn(*mut Key) -> usize;
     expire "GetExpire": unsafe extern "C" fn(*mut Key) -> c_longlong;
     free_reply "FreeCallReply": unsafe extern "C" fn(*mut Reply);
     reply_kind "CallReplyType": unsafe extern "C" fn(*mut Reply) -> c_int;
+    reply_protocol "CallReplyProto": unsafe extern "C" fn(*mut Reply, *mut usize) -> *const u8;
     reply_bytes "CallReplyStringPtr": unsafe extern "C" fn(*mut Reply, *mut usize) -> *const u8;
     reply_length "CallReplyLength": unsafe extern "C" fn(*mut Reply) -> usize;
     reply_element "CallReplyArrayElement": unsafe extern "C" fn(*mut Reply, usize) -> *mut Reply;

@@ -1,8 +1,8 @@
 //! JENTRY.APPLY: a run as a JCache provider needs it, with times to live and the entry before and after.
 use crate::api::Text;
-use crate::engine::{Done, KEEP, PUT};
+use crate::engine::{Done, KEEP, PUT, SET, UNTOUCHED};
 use crate::entry::{self, Entry, Lifetime};
-use crate::run::{number_of, reply_effect, reply_type, reply_value, Plan};
+use crate::run::{number_of, reply_type, reply_value, Plan};
 use crate::server::{Answer, Failure, Server, Words};
 use crate::words::long_of;
 
@@ -42,7 +42,7 @@ fn change_of(done: &Done, before: Option<i64>, times: [Time; 3]) -> Change {
         PUT => Some(done.put),
         _ => None,
     };
-    let is_set = done.effect == PUT;
+    let is_set = done.left == SET;
     let time = match (before, is_set) {
         (None, true) => created,
         (Some(_), true) => updated,
@@ -86,10 +86,21 @@ fn reply_entry(server: Server, entry: Option<i64>) {
     }
 }
 
-/// JENTRY.APPLY CREATED UPDATED ACCESSED MODE ID KEY [ARG ..]: what the run returned, its type, the effect, the entry before
+/// Replies how the run left the entry: it called neither setValue nor remove, it set a value, also the one that was there, or it
+/// removed the entry.
+fn reply_left(server: Server, done: &Done, before: Option<i64>) {
+    server.reply_text(match (done.left, before) {
+        (SET, _) => b"put",
+        (UNTOUCHED, _) | (_, None) => b"keep",
+        _ => b"delete",
+    });
+}
+
+/// JENTRY.APPLY CREATED UPDATED ACCESSED MODE ID KEY [ARG ..]: what the run returned, its type, how it left the entry, the entry before
 /// and after, the instructions and the array words. The mode `dry` leaves the entry as it is, and replies what `do` would.
 pub fn apply(server: Server, words: Words) -> Answer {
-    let times = [Time::of(words.bytes(1)?)?, Time::of(words.bytes(2)?)?, Time::of(words.bytes(3)?)?];
+    let times =
+        [Time::of(words.bytes(1)?)?, Time::of(words.bytes(2)?)?, Time::of(words.bytes(3)?)?];
     let is_dry = match words.bytes(4)? {
         word if word.eq_ignore_ascii_case(b"do") => false,
         word if word.eq_ignore_ascii_case(b"dry") => true,
@@ -111,7 +122,7 @@ pub fn apply(server: Server, words: Words) -> Answer {
     server.reply_array(7);
     reply_value(server, &done);
     reply_type(server, &done);
-    reply_effect(server, &done);
+    reply_left(server, &done, before);
     reply_entry(server, before);
     reply_entry(server, change.after(before));
     server.reply_long(done.steps.into());

@@ -1,5 +1,5 @@
 //! The classes that this server knows, each by its id.
-use crate::engine::{explain, refusal_name, Call, Arg, Done, Engine, Verdict};
+use crate::engine::{explain, refusal_name, Arg, Call, Done, Engine, Verdict};
 use crate::server::Failure;
 use crate::words::{digits_of, id_of, Id};
 
@@ -19,7 +19,10 @@ pub enum Denial {
     /// The core refuses it.
     Refused(Verdict),
     /// A run of it may take this many instructions, which are more than this server allows.
-    Costly { steps: u32, most: u32 },
+    Costly {
+        steps: u32,
+        most: u32,
+    },
     /// Another class file has the same SHA-1.
     SameId(Id),
     TooMany,
@@ -77,7 +80,8 @@ impl Classes {
             Ok(_) => Denial::SameId(verdict.id),
             Err(_) if verdict.steps > most => Denial::Costly { steps: verdict.steps, most },
             Err(place) => {
-                self.known.insert(place, Class { digits: digits_of(&verdict.id), bytes: kept, verdict });
+                self.known
+                    .insert(place, Class { digits: digits_of(&verdict.id), bytes: kept, verdict });
                 return Ok(verdict);
             }
         };
@@ -122,11 +126,12 @@ fn reason_of(bytes: &[u8]) -> String {
     let mut method = String::new();
     let mut line = String::new();
     let mut remedy = String::new();
-    // The first line is the verdict. Behind a method's parameters its bounds may follow.
+    // The first line is the verdict. A method with its bounds behind it is part of a table of all methods, and isn't where the fault is.
     for told in text.lines().skip(1) {
         if let Some(name) = told.strip_prefix("method ") {
-            let end = name.rfind(')').map_or(name.len(), |place| place + 1);
-            method = format!(" in {}", name.get(..end).unwrap_or(name));
+            if !name.contains(" steps=") {
+                method = format!(" in {name}");
+            }
         } else if let Some(number) = told.strip_prefix("line ") {
             line = format!(" line {number}");
         } else if !told.starts_with("instruction ") {
@@ -151,8 +156,12 @@ impl Denial {
     pub fn text(&self) -> String {
         match self {
             Denial::Refused(verdict) => verdict_text(verdict),
-            Denial::Costly { steps, most } => format!("COSTLY steps {steps}, and this server takes {most}"),
-            Denial::SameId(id) => format!("ERR another class has the id {}", String::from_utf8_lossy(&digits_of(id))),
+            Denial::Costly { steps, most } => {
+                format!("COSTLY steps {steps}, and this server takes {most}")
+            }
+            Denial::SameId(id) => {
+                format!("ERR another class has the id {}", String::from_utf8_lossy(&digits_of(id)))
+            }
             Denial::TooMany => "ERR too many classes".into(),
             Denial::NoMemory => "ERR no memory for the class".into(),
         }

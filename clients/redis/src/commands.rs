@@ -1,6 +1,7 @@
 //! The table of commands: their names, what Redis knows of them, and the places of their keys.
 use crate::api::{
-    Command, CommandInfo, Context, InfoVersion, KeySpec, Text, BEGIN_INDEX, FIND_COUNT, FIND_RANGE, KEY_READ, KEY_WRITTEN, OK,
+    Command, CommandInfo, Context, InfoVersion, KeySpec, Text, BEGIN_INDEX, FIND_COUNT, FIND_RANGE,
+    KEY_READ, KEY_WRITTEN, OK,
 };
 use crate::apply::apply;
 use crate::define::{class, define, explain, forget, list, receive};
@@ -34,7 +35,11 @@ struct Row {
 /// A command's function as Redis calls it.
 macro_rules! exported {
     ($function:ident) => {{
-        unsafe extern "C" fn call(context: *mut Context, argv: *mut *mut Text, argc: c_int) -> c_int {
+        unsafe extern "C" fn call(
+            context: *mut Context,
+            argv: *mut *mut Text,
+            argc: c_int,
+        ) -> c_int {
             run($function, context, argv, argc)
         }
         call
@@ -44,7 +49,12 @@ macro_rules! exported {
 /// Tells the server the places of the keys behind a count, where it asks: 7.0 sends a command of a cluster's to its node by this, and
 /// reads the key specs for rights alone.
 unsafe fn tell_keys(context: *mut Context, words: Words) {
-    let count = words.bytes(2).ok().and_then(long_of).and_then(|count| c_int::try_from(count).ok()).unwrap_or(0);
+    let count = words
+        .bytes(2)
+        .ok()
+        .and_then(long_of)
+        .and_then(|count| c_int::try_from(count).ok())
+        .unwrap_or(0);
     let most = c_int::try_from(words.from(3).count()).unwrap_or(0);
     for place in 3..3 + count.clamp(0, most) {
         (api().key_at)(context, place, KEY_WRITTEN as c_int);
@@ -52,7 +62,12 @@ unsafe fn tell_keys(context: *mut Context, words: Words) {
 }
 
 /// Runs a command, and replies its error where it has one.
-unsafe fn run(command: fn(Server, Words) -> Answer, context: *mut Context, argv: *mut *mut Text, argc: c_int) -> c_int {
+unsafe fn run(
+    command: fn(Server, Words) -> Answer,
+    context: *mut Context,
+    argv: *mut *mut Text,
+    argc: c_int,
+) -> c_int {
     let (server, words) = (Server::of(context), Words::of(argv, argc));
     if (api().is_keys_request)(context) != 0 {
         tell_keys(context, words);
@@ -65,21 +80,85 @@ unsafe fn run(command: fn(Server, Words) -> Answer, context: *mut Context, argv:
 }
 
 fn rows() -> [Row; 10] {
-    let row = |name, command, flags, arity, summary| Row { name, command, flags, arity, keys: Keys::None, access: 0, summary };
+    let row = |name, command, flags, arity, summary| Row {
+        name,
+        command,
+        flags,
+        arity,
+        keys: Keys::None,
+        access: 0,
+        summary,
+    };
     let on = |keys, access, row| Row { keys, access, ..row };
     let (reads, writes): (&[u8], &[u8]) = (b"readonly\0", b"write deny-oom\0");
     let writes_several = b"write deny-oom getkeys-api\0";
     [
-        row(b"jentry.define\0", exported!(define), writes, 2, b"Judges a processor's class file and keeps the class\0"),
+        row(
+            b"jentry.define\0",
+            exported!(define),
+            writes,
+            2,
+            b"Judges a processor's class file and keeps the class\0",
+        ),
         row(b"jentry.forget\0", exported!(forget), b"write\0", 2, b"Forgets a class\0"),
         row(b"jentry.list\0", exported!(list), reads, 1, b"Lists the classes with their bounds\0"),
         row(b"jentry.class\0", exported!(class), reads, 2, b"Gets the class file of a class\0"),
-        row(b"jentry.explain\0", exported!(explain), reads, 2, b"Explains the verdict on a class file\0"),
-        on(Keys::At(2), KEY_WRITTEN, row(b"jentry.invoke\0", exported!(invoke), writes, -3, b"Runs a class on an entry\0")),
-        on(Keys::At(2), KEY_WRITTEN, row(b"jentry.detail\0", exported!(detail), writes, -3, b"Runs a class on an entry, with its type, effect and steps\0")),
-        on(Keys::At(2), KEY_READ, row(b"jentry.peek\0", exported!(peek), reads, -3, b"Runs a class that leaves the entry as it is\0")),
-        on(Keys::At(6), KEY_WRITTEN, row(b"jentry.apply\0", exported!(apply), writes, -7, b"Runs a class on an entry with times to live\0")),
-        on(Keys::Counted(2), KEY_WRITTEN, row(b"jentry.invokeall\0", exported!(invoke_all), writes_several, -4, b"Runs a class on several entries\0")),
+        row(
+            b"jentry.explain\0",
+            exported!(explain),
+            reads,
+            2,
+            b"Explains the verdict on a class file\0",
+        ),
+        on(
+            Keys::At(2),
+            KEY_WRITTEN,
+            row(b"jentry.invoke\0", exported!(invoke), writes, -3, b"Runs a class on an entry\0"),
+        ),
+        on(
+            Keys::At(2),
+            KEY_WRITTEN,
+            row(
+                b"jentry.detail\0",
+                exported!(detail),
+                writes,
+                -3,
+                b"Runs a class on an entry, with its type, effect and steps\0",
+            ),
+        ),
+        on(
+            Keys::At(2),
+            KEY_READ,
+            row(
+                b"jentry.peek\0",
+                exported!(peek),
+                reads,
+                -3,
+                b"Runs a class that leaves the entry as it is\0",
+            ),
+        ),
+        on(
+            Keys::At(6),
+            KEY_WRITTEN,
+            row(
+                b"jentry.apply\0",
+                exported!(apply),
+                writes,
+                -7,
+                b"Runs a class on an entry with times to live\0",
+            ),
+        ),
+        on(
+            Keys::Counted(2),
+            KEY_WRITTEN,
+            row(
+                b"jentry.invokeall\0",
+                exported!(invoke_all),
+                writes_several,
+                -4,
+                b"Runs a class on several entries\0",
+            ),
+        ),
     ]
 }
 
@@ -100,13 +179,23 @@ unsafe fn register_row(context: *mut Context, row: &Row) -> bool {
         _ => (0, 0),
     };
     let name = row.name.as_ptr().cast();
-    if (api().create_command)(context, name, row.command, row.flags.as_ptr().cast(), first, first, step) != OK {
+    if (api().create_command)(
+        context,
+        name,
+        row.command,
+        row.flags.as_ptr().cast(),
+        first,
+        first,
+        step,
+    ) != OK
+    {
         return false;
     }
     let object = (api().get_command)(context, name);
     let specs = key_specs(row);
     // The history's and the arguments' sizes are those of Redis 7.0, and there are none of them.
-    let version = InfoVersion { version: 1, history: 16, key_spec: size_of::<KeySpec>(), argument: 64 };
+    let version =
+        InfoVersion { version: 1, history: 16, key_spec: size_of::<KeySpec>(), argument: 64 };
     let info = CommandInfo {
         version: &version,
         summary: row.summary.as_ptr().cast(),
@@ -129,4 +218,3 @@ pub unsafe fn register(context: *mut Context) -> bool {
     (api().register_receiver)(context, 1, receive);
     rows().iter().all(|row| register_row(context, row))
 }
-

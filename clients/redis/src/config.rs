@@ -24,7 +24,12 @@ unsafe extern "C" fn get(_name: *const c_char, _data: *mut c_void) -> c_longlong
 }
 
 /// Redis has held the number to its bounds.
-unsafe extern "C" fn set(_name: *const c_char, number: c_longlong, _data: *mut c_void, _error: *mut *mut Text) -> c_int {
+unsafe extern "C" fn set(
+    _name: *const c_char,
+    number: c_longlong,
+    _data: *mut c_void,
+    _error: *mut *mut Text,
+) -> c_int {
     MAX_STEPS.store(u32::try_from(number).unwrap_or(MOST_STEPS), Ordering::Relaxed);
     OK
 }
@@ -35,8 +40,11 @@ fn read(words: Words) -> Result<u32, &'static str> {
     match words.count() {
         0 => Ok(DEFAULT_STEPS),
         2 => {
-            let (name, number) = (words.bytes(0).map_err(|_| wrong)?, words.bytes(1).map_err(|_| wrong)?);
-            let number = long_of(number).and_then(|number| u32::try_from(number).ok()).filter(|number| (1..=MOST_STEPS).contains(number));
+            let (name, number) =
+                (words.bytes(0).map_err(|_| wrong)?, words.bytes(1).map_err(|_| wrong)?);
+            let number = long_of(number)
+                .and_then(|number| u32::try_from(number).ok())
+                .filter(|number| (1..=MOST_STEPS).contains(number));
             number.filter(|_| name.eq_ignore_ascii_case(b"max-steps")).ok_or(wrong)
         }
         _ => Err(wrong),
@@ -59,7 +67,18 @@ pub unsafe fn register(context: *mut Context, words: Words) -> bool {
     MAX_STEPS.store(steps, Ordering::Relaxed);
     let name = b"max-steps\0".as_ptr().cast();
     let register = server.api().register_number;
-    register(context, name, steps.into(), CONFIG_DEFAULT, 1, MOST_STEPS.into(), get, set, null_mut(), null_mut()) == OK
+    register(
+        context,
+        name,
+        steps.into(),
+        CONFIG_DEFAULT,
+        1,
+        MOST_STEPS.into(),
+        get,
+        set,
+        null_mut(),
+        null_mut(),
+    ) == OK
         && (server.api().load_configs)(context) == OK
 }
 
@@ -69,7 +88,13 @@ pub unsafe fn register(context: *mut Context, words: Words) -> bool {
 /// `context` is that of the module's load.
 pub unsafe fn warn_of_rewrites(context: *mut Context) {
     let server = Server::of(context);
-    let reply = (server.api().call)(context, b"CONFIG\0".as_ptr().cast(), b"cc\0".as_ptr().cast(), b"GET\0".as_ptr(), b"aof-use-rdb-preamble\0".as_ptr());
+    let reply = (server.api().call)(
+        context,
+        b"CONFIG\0".as_ptr().cast(),
+        b"cc\0".as_ptr().cast(),
+        b"GET\0".as_ptr(),
+        b"aof-use-rdb-preamble\0".as_ptr(),
+    );
     if let Ok(called) = Called::of(server, reply) {
         if called.holds(b"no") {
             server.warn("aof-use-rdb-preamble is no: a rewrite of the AOF loses the classes, and clients have to define them again");

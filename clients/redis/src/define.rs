@@ -30,7 +30,8 @@ pub fn define(server: Server, words: Words) -> Answer {
     let is_settled = server.is(IS_REPLICATED) || server.is(IS_LOADING);
     let most = if is_settled { u32::MAX } else { most_steps() };
     // SAFETY: commands run on the main thread, behind the load.
-    let known = unsafe { with_state(|state| state.classes.of_file(bytes).map(|class| class.verdict)) };
+    let known =
+        unsafe { with_state(|state| state.classes.of_file(bytes).map(|class| class.verdict)) };
     let verdict = match known {
         Some(verdict) => verdict,
         None => take(server, bytes, most).map_err(|denial| denial.failure(bytes))?,
@@ -48,7 +49,9 @@ fn take(server: Server, bytes: &[u8], most: u32) -> Result<Verdict, Denial> {
             let answer = state.classes.define(bytes, most);
             match &answer {
                 Err(Denial::Refused(verdict)) => state.counters.refused(verdict.refusal),
-                Err(Denial::Costly { .. }) => state.counters.costly = state.counters.costly.wrapping_add(1),
+                Err(Denial::Costly { .. }) => {
+                    state.counters.costly = state.counters.costly.wrapping_add(1)
+                }
                 _ => {}
             }
             answer
@@ -65,7 +68,13 @@ fn take(server: Server, bytes: &[u8], most: u32) -> Result<Verdict, Denial> {
 ///
 /// # Safety
 /// Redis calls it on its main thread, and `bytes` has as many bytes as it says.
-pub unsafe extern "C" fn receive(context: *mut Context, _sender: *const c_char, kind: u8, bytes: *const u8, length: u32) {
+pub unsafe extern "C" fn receive(
+    context: *mut Context,
+    _sender: *const c_char,
+    kind: u8,
+    bytes: *const u8,
+    length: u32,
+) {
     let server = Server::of(context);
     if kind != BRINGS_CLASS || bytes.is_null() || !server.is(IS_MASTER) {
         return;
@@ -74,7 +83,13 @@ pub unsafe extern "C" fn receive(context: *mut Context, _sender: *const c_char, 
     if with_state(|state| state.classes.of_file(file).is_some()) {
         return;
     }
-    let reply = (server.api().call)(context, b"JENTRY.DEFINE\0".as_ptr().cast(), b"!b\0".as_ptr().cast(), bytes, file.len());
+    let reply = (server.api().call)(
+        context,
+        b"JENTRY.DEFINE\0".as_ptr().cast(),
+        b"!b\0".as_ptr().cast(),
+        bytes,
+        file.len(),
+    );
     if let Err(Failure::Told(text)) = Called::of(server, reply) {
         server.warn(&format!("a class of another node is left out: {text}"));
     }

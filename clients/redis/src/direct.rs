@@ -2,7 +2,8 @@
 //!
 //! A string that is a long lies in its object as an integer. The module interface reads a value by GET, whose call costs more than a run, or by
 //! `StringDMA`, which turns the integer into a raw string in the keyspace. So the module looks at the object behind a key's handle, in the layout
-//! that it has in Redis 7.0. On another release it asks by GET. The first looks are held to GET, and one that differs ends them for good.
+//! that it has in Redis 7.0. On another release, or where a string of the module's own shows another layout at the load, it asks by GET.
+//! Each look is held to what the interface says of the key, the first ones to GET, too, and one that differs ends them for good.
 use crate::api::{Key, Text};
 use crate::server::Server;
 use std::sync::atomic::{AtomicU32, Ordering};
@@ -12,7 +13,7 @@ const READ: i32 = 1;
 /// What `GetExpire` answers where an entry has no time to live.
 const NO_EXPIRE: i64 = -1;
 /// The release whose layout this is, as `GetServerVersion` gives it, without the last byte.
-const RELEASE: i32 = 0x0007_00;
+const RELEASE: i32 = 0x0700;
 /// How many looks are held to GET.
 const CHECKS: u32 = 64;
 /// `checks_left` where no look is trusted.
@@ -38,8 +39,10 @@ struct Object {
     payload: i64,
 }
 
-/// A string (0) that is encoded as an integer (1).
-const INTEGER_STRING: u8 = 0x10;
+/// The bits of an object's type, that of a string, and the encoding as an integer.
+const KIND: u8 = 0x0f;
+const STRING: u8 = 0;
+const INTEGER: u8 = 0x10;
 
 /// What a look at a key finds.
 pub enum Found {
@@ -50,29 +53,80 @@ pub enum Found {
     Value(i64, bool),
 }
 
+/// How many characters a long has as a decimal.
+fn length_of(value: i64) -> usize {
+    let mut rest = value.unsigned_abs();
+    let mut length = 1 + usize::from(value < 0);
+    while rest >= 10 {
+        rest /= 10;
+        length += 1;
+    }
+    length
+}
+
+/// Whether a string of the module's own lies in an object of this layout: one reference, and a pointer to the bytes where the interface
+/// says that they are.
+unsafe fn has_layout(server: Server) -> bool {
+    let api = server.api();
+    let text = (api.create_text)(server.context(), b"0".as_ptr().cast(), 1);
+    let object = text.cast::<Object>();
+    let mut length = 0;
+    let bytes = (api.text_bytes)(text, &mut length);
+    let is_same = (*object).kind & KIND == STRING
+        && (*object).references == 1
+        && (*object).payload == bytes as i64
+        && length == 1;
+    (api.free_text)(server.context(), text);
+    is_same
+}
+
 /// Whether the next looks have to be held to GET.
 pub fn is_checked() -> bool {
     CHECKS_LEFT.load(Ordering::Relaxed) > 0
+}
+
+/// Looks no more.
+fn end(server: Server) {
+    CHECKS_LEFT.store(NEVER, Ordering::Relaxed);
+    server.warn("this server keeps integers otherwise than Redis 7.0: each value is read by GET from now on");
 }
 
 /// Counts a look that GET has confirmed or denied.
 pub fn count(server: Server, is_same: bool) {
     let left = CHECKS_LEFT.load(Ordering::Relaxed);
     if !is_same {
-        CHECKS_LEFT.store(NEVER, Ordering::Relaxed);
-        server.warn("this server keeps integers otherwise than Redis 7.0: each value is read by GET from now on");
+        end(server);
     } else if left != NEVER {
         CHECKS_LEFT.store(left.saturating_sub(1), Ordering::Relaxed);
     }
 }
 
 /// Looks from now on, where the server is of the release that has the layout.
-pub fn begin(server: Server) {
-    let has_layout = cfg!(all(target_endian = "little", target_pointer_width = "64"));
-    // SAFETY: a function of the server's without arguments.
-    if has_layout && unsafe { (server.api().server_version)() } >> 8 == RELEASE {
+///
+/// # Safety
+/// The server loads the module.
+pub unsafe fn begin(server: Server) {
+    let is_machine = cfg!(all(target_endian = "little", target_pointer_width = "64"));
+    if is_machine && (server.api().server_version)() >> 8 == RELEASE && has_layout(server) {
         CHECKS_LEFT.store(CHECKS, Ordering::Relaxed);
     }
+}
+
+/// Looks at the value behind an open handle; none where the interface says otherwise of the key.
+unsafe fn value_at(server: Server, key: *mut Text, handle: *mut Key) -> Option<Found> {
+    // SAFETY: `begin` has found the release that has this layout.
+    let inside = &*handle.cast::<Handle>();
+    if inside.context != server.context().cast() || inside.key != key.cast() {
+        return None;
+    }
+    // SAFETY: the handle is open, so it has a value.
+    let object = &*inside.value;
+    if object.kind != INTEGER | STRING {
+        return Some(Found::Unknown);
+    }
+    let may_expire = (server.api().expire)(handle) != NO_EXPIRE;
+    ((server.api().length)(handle) == length_of(object.payload))
+        .then_some(Found::Value(object.payload, may_expire))
 }
 
 /// Looks at a key.
@@ -87,13 +141,10 @@ pub unsafe fn look(server: Server, key: *mut Text) -> Found {
     if handle.is_null() {
         return Found::Absent;
     }
-    // SAFETY: `begin` has found the release that has this layout; the handle is open, so it has a value.
-    let value = (*handle.cast::<Handle>()).value;
-    let found = if (*value).kind == INTEGER_STRING {
-        Found::Value((*value).payload, (server.api().expire)(handle) != NO_EXPIRE)
-    } else {
-        Found::Unknown
-    };
+    let found = value_at(server, key, handle);
     (server.api().close_key)(handle);
-    found
+    found.unwrap_or_else(|| {
+        end(server);
+        Found::Unknown
+    })
 }

@@ -46,6 +46,8 @@ pub struct Done {
     pub put: i64,
     pub steps: u32,
     pub words: u32,
+    pub left: u32,
+    pub unused: u32,
 }
 
 pub const NULL: u32 = 0;
@@ -54,6 +56,8 @@ pub const INTEGER: u32 = 2;
 pub const THREW: u32 = 3;
 pub const KEEP: u32 = 0;
 pub const PUT: u32 = 1;
+pub const UNTOUCHED: u32 = 0;
+pub const SET: u32 = 1;
 
 /// Where the core keeps its engine.
 #[repr(C)]
@@ -68,13 +72,19 @@ const _: [(); 16] = [(); size_of::<Handle>()];
 const _: [(); 48] = [(); size_of::<Verdict>()];
 const _: [(); 16] = [(); size_of::<Arg>()];
 const _: [(); 24] = [(); size_of::<Call>()];
-const _: [(); 32] = [(); size_of::<Done>()];
+const _: [(); 40] = [(); size_of::<Done>()];
 
 extern "C" {
     fn jentry_open(handle: *mut Handle) -> u32;
     fn jentry_define(handle: *mut Handle, bytes: *const u8, length: usize, verdict: *mut Verdict);
     fn jentry_forget(handle: *mut Handle, number: u32) -> u32;
-    fn jentry_invoke(handle: *mut Handle, call: *const Call, args: *const Arg, count: usize, done: *mut Done);
+    fn jentry_invoke(
+        handle: *mut Handle,
+        call: *const Call,
+        args: *const Arg,
+        count: usize,
+        done: *mut Done,
+    );
     fn jentry_explain(bytes: *const u8, length: usize, text: *mut u8, room: usize) -> usize;
 }
 
@@ -89,7 +99,7 @@ impl Engine {
         let mut handle = Handle { at: null_mut(), open: false, unused: [0; 7] };
         // SAFETY: the handle is zeroes.
         let answer = unsafe { jentry_open(&mut handle) };
-        (answer == 0).then(|| Engine { handle })
+        (answer == 0).then_some(Engine { handle })
     }
 
     /// Judges a class and keeps it where it is accepted.
@@ -115,8 +125,8 @@ impl Engine {
     }
 }
 
-/// How much room a text of an explanation gets at first.
-const ROOM: usize = 4096;
+/// How much room a text of an explanation gets at first: a text that needs more has its class judged twice.
+const ROOM: usize = 1 << 17;
 
 /// What `jentry explain` prints of a class file; empty where memory lacks.
 pub fn explain(bytes: &[u8]) -> Vec<u8> {
@@ -129,7 +139,8 @@ pub fn explain(bytes: &[u8]) -> Vec<u8> {
         }
         text.resize(room, 0);
         // SAFETY: the text has `room` bytes.
-        let length = unsafe { jentry_explain(bytes.as_ptr(), bytes.len(), text.as_mut_ptr(), room) };
+        let length =
+            unsafe { jentry_explain(bytes.as_ptr(), bytes.len(), text.as_mut_ptr(), room) };
         if length <= room {
             text.truncate(length);
             return text;
@@ -141,21 +152,55 @@ pub fn explain(bytes: &[u8]) -> Vec<u8> {
 
 /// Names of the refusals 1 to 30.
 const REFUSALS: [&str; 30] = [
-    "TooLarge", "Truncated", "BadMagic", "BadVersion", "BadPool", "TrailingBytes", "BadDescriptor", "BadHeader", "ConstructorForm",
-    "ClassInitialiser", "NoProcess", "DuplicateMethod", "NoBody", "BadCode", "ExceptionTable", "UnknownOpcode", "OutsideProfile",
-    "BadOperand", "BadTarget", "BackwardBranch", "BadStackMap", "TypeMismatch", "FallsOff", "UnknownMember", "Recursive",
-    "LengthNotConstant", "StepLimit", "WordLimit", "FrameLimit", "NoMemory",
+    "TooLarge",
+    "Truncated",
+    "BadMagic",
+    "BadVersion",
+    "BadPool",
+    "TrailingBytes",
+    "BadDescriptor",
+    "BadHeader",
+    "ConstructorForm",
+    "ClassInitialiser",
+    "NoProcess",
+    "DuplicateMethod",
+    "NoBody",
+    "BadCode",
+    "ExceptionTable",
+    "UnknownOpcode",
+    "OutsideProfile",
+    "BadOperand",
+    "BadTarget",
+    "BackwardBranch",
+    "BadStackMap",
+    "TypeMismatch",
+    "FallsOff",
+    "UnknownMember",
+    "Recursive",
+    "LengthNotConstant",
+    "StepLimit",
+    "WordLimit",
+    "FrameLimit",
+    "NoMemory",
 ];
 
 /// Names of the exceptions 1 to 6.
 const EXCEPTIONS: [&str; 6] = [
-    "ArithmeticException", "ArrayIndexOutOfBoundsException", "NullPointerException", "ClassCastException", "IncompatibleClassChangeError",
+    "ArithmeticException",
+    "ArrayIndexOutOfBoundsException",
+    "NullPointerException",
+    "ClassCastException",
+    "IncompatibleClassChangeError",
     "CacheLoaderException",
 ];
 
 /// The name behind a number that begins at 1.
 fn named(names: &[&'static str], number: i64) -> &'static str {
-    usize::try_from(number).ok().and_then(|number| names.get(number.checked_sub(1)?)).copied().unwrap_or("Unknown")
+    usize::try_from(number)
+        .ok()
+        .and_then(|number| names.get(number.checked_sub(1)?))
+        .copied()
+        .unwrap_or("Unknown")
 }
 
 /// The name of a refusal.

@@ -19,11 +19,18 @@ pub struct Entry {
 /// # Safety
 /// `key` is a string of the server's.
 unsafe fn get(server: Server, key: *mut Text) -> Result<Entry, Failure> {
-    let reply = (server.api().call)(server.context(), b"GET\0".as_ptr().cast(), b"s\0".as_ptr().cast(), key);
+    let reply = (server.api().call)(
+        server.context(),
+        b"GET\0".as_ptr().cast(),
+        b"s\0".as_ptr().cast(),
+        key,
+    );
     let called = Called::of(server, reply)?;
     let value = match called.kind() {
         REPLY_NULL => None,
-        REPLY_TEXT => Some(long_of(called.bytes()).ok_or("ERR value is not an integer or out of range")?),
+        REPLY_TEXT => {
+            Some(long_of(called.bytes()).ok_or("ERR value is not an integer or out of range")?)
+        }
         _ => return Err("ERR the entry can't be read".into()),
     };
     Ok(Entry { value, may_expire: true })
@@ -63,12 +70,24 @@ pub enum Lifetime {
 ///
 /// # Safety
 /// `key` is a string of the server's.
-pub unsafe fn set(server: Server, key: *mut Text, entry: Entry, value: i64, lifetime: Lifetime) -> Result<(), Failure> {
+pub unsafe fn set(
+    server: Server,
+    key: *mut Text,
+    entry: Entry,
+    value: i64,
+    lifetime: Lifetime,
+) -> Result<(), Failure> {
     let (call, context, name) = (server.api().call, server.context(), b"SET\0".as_ptr().cast());
     let reply = match lifetime {
-        Lifetime::Keep if entry.may_expire => call(context, name, b"!slc\0".as_ptr().cast(), key, value, b"KEEPTTL\0".as_ptr()),
-        Lifetime::Keep | Lifetime::Endless => call(context, name, b"!sl\0".as_ptr().cast(), key, value),
-        Lifetime::Milliseconds(time) => call(context, name, b"!slcl\0".as_ptr().cast(), key, value, b"PX\0".as_ptr(), time),
+        Lifetime::Keep if entry.may_expire => {
+            call(context, name, b"!slc\0".as_ptr().cast(), key, value, b"KEEPTTL\0".as_ptr())
+        }
+        Lifetime::Keep | Lifetime::Endless => {
+            call(context, name, b"!sl\0".as_ptr().cast(), key, value)
+        }
+        Lifetime::Milliseconds(time) => {
+            call(context, name, b"!slcl\0".as_ptr().cast(), key, value, b"PX\0".as_ptr(), time)
+        }
     };
     Called::of(server, reply).map(drop)
 }
@@ -78,7 +97,12 @@ pub unsafe fn set(server: Server, key: *mut Text, entry: Entry, value: i64, life
 /// # Safety
 /// `key` is a string of the server's.
 pub unsafe fn delete(server: Server, key: *mut Text) -> Result<(), Failure> {
-    let reply = (server.api().call)(server.context(), b"DEL\0".as_ptr().cast(), b"!s\0".as_ptr().cast(), key);
+    let reply = (server.api().call)(
+        server.context(),
+        b"DEL\0".as_ptr().cast(),
+        b"!s\0".as_ptr().cast(),
+        key,
+    );
     Called::of(server, reply).map(drop)
 }
 
@@ -90,8 +114,12 @@ pub unsafe fn touch(server: Server, key: *mut Text, lifetime: Lifetime) -> Resul
     let (call, context) = (server.api().call, server.context());
     let reply = match lifetime {
         Lifetime::Keep => return Ok(()),
-        Lifetime::Endless => call(context, b"PERSIST\0".as_ptr().cast(), b"!s\0".as_ptr().cast(), key),
-        Lifetime::Milliseconds(time) => call(context, b"PEXPIRE\0".as_ptr().cast(), b"!sl\0".as_ptr().cast(), key, time),
+        Lifetime::Endless => {
+            call(context, b"PERSIST\0".as_ptr().cast(), b"!s\0".as_ptr().cast(), key)
+        }
+        Lifetime::Milliseconds(time) => {
+            call(context, b"PEXPIRE\0".as_ptr().cast(), b"!sl\0".as_ptr().cast(), key, time)
+        }
     };
     Called::of(server, reply).map(drop)
 }

@@ -28,7 +28,11 @@ use std::os::raw::c_int;
 /// # Safety
 /// Redis alone calls it.
 #[no_mangle]
-pub unsafe extern "C" fn RedisModule_OnLoad(context: *mut Context, argv: *mut *mut Text, argc: c_int) -> c_int {
+pub unsafe extern "C" fn RedisModule_OnLoad(
+    context: *mut Context,
+    argv: *mut *mut Text,
+    argc: c_int,
+) -> c_int {
     let api = match Api::of(context) {
         Ok(api) => api,
         Err(name) => {

@@ -34,7 +34,7 @@ unsafe fn load_file(api: &Api, io: *mut Io) -> Option<Vec<u8>> {
         file.extend_from_slice(slice::from_raw_parts(bytes, length));
     }
     (api.free)(bytes.cast());
-    (has_room && (api.is_io_error)(io) == 0).then(|| file)
+    (has_room && (api.is_io_error)(io) == 0).then_some(file)
 }
 
 /// The classes of a file or of a master take the place of those that were here, once all of them have been read. Each is judged anew, and one that
@@ -57,7 +57,8 @@ unsafe extern "C" fn load(io: *mut Io, version: c_int, _when: c_int) -> c_int {
     }
     with_state(|state| {
         state.classes.replace(&files, |denial| {
-            let text = CString::new(format!("a class of the file is left out: {}", denial.text())).unwrap_or_default();
+            let text = CString::new(format!("a class of the file is left out: {}", denial.text()))
+                .unwrap_or_default();
             (api.log_io)(io, b"warning\0".as_ptr().cast(), b"%s\0".as_ptr().cast(), text.as_ptr());
         });
     });

@@ -1,10 +1,10 @@
 //! The commands that run a class on an entry.
+use crate::api::Text;
 use crate::engine::{exception_name, Arg, Call, Done, INTEGER, KEEP, LONG, NULL, PUT, THREW};
 use crate::entry::{self, Entry, Lifetime};
 use crate::server::{Answer, Failure, Server, Words};
 use crate::state::with_state;
 use crate::words::{arg_of, key_of, long_of};
-use crate::api::Text;
 
 const MOST_ARGS: usize = 8;
 
@@ -20,7 +20,9 @@ impl Plan {
     pub fn of_class(words: Words, id: usize) -> Result<Plan, Failure> {
         let digits = words.bytes(id)?;
         // SAFETY: commands run on the main thread, behind the load.
-        let number = unsafe { with_state(|state| state.classes.find(digits).map(|class| class.verdict.number)) };
+        let number = unsafe {
+            with_state(|state| state.classes.find(digits).map(|class| class.verdict.number))
+        };
         let number = number.ok_or("NOCLASS no class of this id here: JENTRY.DEFINE it")?;
         Ok(Plan { number, args: [Arg::default(); MOST_ARGS], count: 0 })
     }
@@ -32,14 +34,20 @@ impl Plan {
             return Err("ERR more than eight arguments".into());
         }
         for (place, arg) in self.args.iter_mut().enumerate().take(self.count) {
-            *arg = arg_of(words.bytes(place)?).ok_or_else(|| format!("ERR argument {} is no long, Integer or null", place + 1))?;
+            *arg = arg_of(words.bytes(place)?)
+                .ok_or_else(|| format!("ERR argument {} is no long, Integer or null", place + 1))?;
         }
         Ok(self)
     }
 
     /// Runs the class on the entry before: what it returned and what is to be done to the entry. It changes nothing.
     pub fn run(&self, key: i64, before: Option<i64>) -> Result<Done, Failure> {
-        let call = Call { number: self.number, present: before.is_some().into(), key, before: before.unwrap_or(0) };
+        let call = Call {
+            number: self.number,
+            present: before.is_some().into(),
+            key,
+            before: before.unwrap_or(0),
+        };
         let args = self.args.get(..self.count).unwrap_or(&[]);
         // SAFETY: commands run on the main thread, behind the load.
         let done = unsafe {
@@ -103,9 +111,8 @@ pub fn reply_effect(server: Server, done: &Done) {
     });
 }
 
-/// Runs a plan on the entry at a key and does what it says.
-fn invoke_on(server: Server, plan: &Plan, key: *mut Text, name: &[u8]) -> Result<Done, Failure> {
-    let number = number_of(name)?;
+/// Runs a plan on the entry at a key, whose number is the processor's, and does what it says.
+fn invoke_on(server: Server, plan: &Plan, key: *mut Text, number: i64) -> Result<Done, Failure> {
     // SAFETY: the key is a word of the command.
     let before = unsafe { entry::read(server, key)? };
     let done = plan.run(number, before.value)?;
@@ -117,8 +124,8 @@ fn invoke_on(server: Server, plan: &Plan, key: *mut Text, name: &[u8]) -> Result
 fn one(server: Server, words: Words) -> Result<Done, Failure> {
     let (key, name) = (words.text(2)?, words.bytes(2)?);
     let plan = Plan::of_class(words, 1)?;
-    number_of(name)?;
-    invoke_on(server, &plan.with_args(words.from(3))?, key, name)
+    let number = number_of(name)?;
+    invoke_on(server, &plan.with_args(words.from(3))?, key, number)
 }
 
 /// JENTRY.INVOKE ID KEY [ARG ..]: what the run returned.
@@ -158,14 +165,19 @@ pub fn peek(server: Server, words: Words) -> Answer {
 /// JENTRY.INVOKEALL ID N KEY .. [ARG ..]: for each key, in their order, what its run returned, or its error.
 pub fn invoke_all(server: Server, words: Words) -> Answer {
     let count = long_of(words.bytes(2)?).ok_or("ERR value is not an integer or out of range")?;
-    let count = usize::try_from(count).ok().filter(|count| *count > 0).ok_or("ERR numkeys should be greater than 0")?;
+    let count = usize::try_from(count)
+        .ok()
+        .filter(|count| *count > 0)
+        .ok_or("ERR numkeys should be greater than 0")?;
     if count > words.from(3).count() {
         return Err("ERR Number of keys can't be greater than number of args".into());
     }
     let plan = Plan::of_class(words, 1)?.with_args(words.from(3 + count))?;
     server.reply_array(count);
     for place in 3..3 + count {
-        match invoke_on(server, &plan, words.text(place)?, words.bytes(place)?) {
+        let done = number_of(words.bytes(place)?)
+            .and_then(|number| invoke_on(server, &plan, words.text(place)?, number));
+        match done {
             Ok(done) => reply_value(server, &done),
             Err(failure) => server.reply_failure(failure),
         }

@@ -1,5 +1,5 @@
 //! What a command sees of the server: its words, and the ways to reply.
-use crate::api::{Api, Context, Reply, Text, REPLY_ERROR};
+use crate::api::{Api, Context, Reply, Text};
 use std::ffi::CString;
 use std::os::raw::c_int;
 use std::ptr::{null, null_mut, NonNull};
@@ -100,13 +100,22 @@ impl Server {
     /// Writes a line to the server's log.
     pub fn warn(self, text: &str) {
         let text = CString::new(text).unwrap_or_default();
-        unsafe { (self.api.log)(self.context, b"warning\0".as_ptr().cast(), b"%s\0".as_ptr().cast(), text.as_ptr()) };
+        unsafe {
+            (self.api.log)(
+                self.context,
+                b"warning\0".as_ptr().cast(),
+                b"%s\0".as_ptr().cast(),
+                text.as_ptr(),
+            )
+        };
     }
 
     /// Tells the other nodes of the cluster.
     pub fn send_message(self, kind: u8, bytes: &[u8]) {
         if let Ok(count) = u32::try_from(bytes.len()) {
-            unsafe { (self.api.send_message)(self.context, null_mut(), kind, bytes.as_ptr(), count) };
+            unsafe {
+                (self.api.send_message)(self.context, null_mut(), kind, bytes.as_ptr(), count)
+            };
         }
     }
 
@@ -170,10 +179,20 @@ impl Called {
     pub unsafe fn of(server: Server, reply: *mut Reply) -> Result<Called, Failure> {
         let reply = NonNull::new(reply).ok_or("ERR the server denied a command of the module")?;
         let called = Called { api: server.api, reply };
-        if called.kind() == REPLY_ERROR {
+        if called.is_error() {
             return Err(String::from_utf8_lossy(called.bytes()).into_owned().into());
         }
         Ok(called)
+    }
+
+    /// Whether it is an error, by the first byte of the protocol: the server reads no more of a reply for it.
+    fn is_error(&self) -> bool {
+        let mut length = 0;
+        // SAFETY: the reply lasts as long as this.
+        unsafe {
+            let bytes = (self.api.reply_protocol)(self.reply.as_ptr(), &mut length);
+            !bytes.is_null() && length > 0 && *bytes == b'-'
+        }
     }
 
     pub fn kind(&self) -> c_int {
@@ -199,7 +218,11 @@ impl Called {
         (0..length).any(|place| unsafe {
             let mut length = 0;
             let element = (self.api.reply_element)(self.reply.as_ptr(), place);
-            let at = if element.is_null() { null() } else { (self.api.reply_bytes)(element, &mut length) };
+            let at = if element.is_null() {
+                null()
+            } else {
+                (self.api.reply_bytes)(element, &mut length)
+            };
             !at.is_null() && slice::from_raw_parts(at, length) == text
         })
     }

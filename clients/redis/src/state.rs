@@ -51,7 +51,13 @@ static STATE: AtomicPtr<State> = AtomicPtr::new(null_mut());
 
 /// Makes the state, for all of the server's life.
 pub fn begin(engine: Engine) {
-    STATE.store(Box::into_raw(Box::new(State { classes: Classes::new(engine), counters: Counters::default() })), Ordering::Release);
+    STATE.store(
+        Box::into_raw(Box::new(State {
+            classes: Classes::new(engine),
+            counters: Counters::default(),
+        })),
+        Ordering::Release,
+    );
 }
 
 /// Does something with the state. It calls no function of the server that runs commands, since one of these could be the module's.

@@ -59,7 +59,9 @@ pub fn arg_of(word: &[u8]) -> Option<Arg> {
     let of = |kind, value| Arg { kind, unused: 0, value };
     match word {
         b"null" => Some(of(NULL, 0)),
-        [digits @ .., b'i'] => long_of(digits).filter(|number| i32::try_from(*number).is_ok()).map(|value| of(INTEGER, value)),
+        [digits @ .., b'i'] => long_of(digits)
+            .filter(|number| i32::try_from(*number).is_ok())
+            .map(|value| of(INTEGER, value)),
         _ => long_of(word).map(|value| of(LONG, value)),
     }
 }

@@ -44,7 +44,13 @@ class Cluster:
             rows = line.get("CLUSTER", "NODES").decode().splitlines()
             replicas = [row for row in rows if "slave" in row.split()[2]]
             is_linked = line.info("replication").get("master_link_status", "up") == "up"
-        return info["cluster_state"] == "ok" and len(rows) == count and all("connected" in row for row in rows) and is_linked and len(replicas) > 0
+        return (
+            info["cluster_state"] == "ok"
+            and len(rows) == count
+            and all("connected" in row for row in rows)
+            and is_linked
+            and len(replicas) > 0
+        )
 
     def role(self, node):
         with node.open() as line:
@@ -73,7 +79,14 @@ class Cluster:
 
 
 def cli(*words):
-    done = subprocess.run([CLI, *map(str, words)], stdout=subprocess.PIPE, stderr=subprocess.STDOUT, text=True, timeout=5 * PATIENCE, check=False)
+    done = subprocess.run(
+        [CLI, *map(str, words)],
+        stdout=subprocess.PIPE,
+        stderr=subprocess.STDOUT,
+        text=True,
+        timeout=5 * PATIENCE,
+        check=False,
+    )
     if done.returncode != 0:
         raise RuntimeError(done.stdout)
     return done.stdout
@@ -119,7 +132,11 @@ class Client:
                 told = self.ask_at(int(str(told).rsplit(":", 1)[1]), True, *words)
             if isinstance(told, ReplyError) and str(told).startswith("MOVED "):
                 self.slots[slot_of(key)] = int(str(told).rsplit(":", 1)[1])
-            elif isinstance(told, ReplyError) and str(told).split()[0] in ("CLUSTERDOWN", "TRYAGAIN", "LOADING", "READONLY", "MASTERDOWN") or told is NOT_SENT:
+            elif (
+                isinstance(told, ReplyError)
+                and str(told).split()[0] in ("CLUSTERDOWN", "TRYAGAIN", "LOADING", "READONLY", "MASTERDOWN")
+                or told is NOT_SENT
+            ):
                 time.sleep(0.05)
             else:
                 return told

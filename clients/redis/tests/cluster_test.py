@@ -74,7 +74,10 @@ class Definitions(OneCluster):
         away = next(node for node in self.cluster.masters() if node.port != port)
         with away.open() as line:
             self.fails(line.ask("JENTRY.INVOKE", self.add, "v:1", 1), f"MOVED {slot_of('v:1')} 127.0.0.1:{port}")
-            self.fails(line.ask("JENTRY.INVOKEALL", self.add, 2, "v:1", "v:2", 1), "CROSSSLOT Keys in request don't hash to the same slot")
+            self.fails(
+                line.ask("JENTRY.INVOKEALL", self.add, 2, "v:1", "v:2", 1),
+                "CROSSSLOT Keys in request don't hash to the same slot",
+            )
         with self.cluster.client() as client:
             self.assertEqual(client.ask("{v}:1", "JENTRY.INVOKEALL", self.add, 2, "{v}:1", "{v}:2", 1), [1, 1])
             self.assertEqual(client.ask("{v}:1", "JENTRY.APPLY", -1, -1, -1, "do", self.add, "{v}:1", 1)[0], 2)
@@ -84,7 +87,10 @@ class Definitions(OneCluster):
         with first.open() as line, second.open() as other:
             other.get("CONFIG", "SET", "jentry.max-steps", 1)
             plus = self.define(line, "Plus")
-            wait_for(lambda: "a class of another node is left out: COSTLY steps 14, and this server takes 1" in second.log(), "the line of the log")
+            wait_for(
+                lambda: "a class of another node is left out: COSTLY steps 14, and this server takes 1" in second.log(),
+                "the line of the log",
+            )
             self.assertNotIn(plus, ids_at(second))
 
 
@@ -96,12 +102,16 @@ class Failover(OneCluster):
             with victim.open() as line:
                 line.ask("WAIT", 1, 1000)
             victim.end("kill")
+
         done, unknown, kept = self.count(CALLS, kill)
         self.assertEqual(sum(done.values()) + sum(unknown.values()), CLIENTS * CALLS)
         for key in KEYS:
             self.assertLessEqual(kept[key], done[key] + unknown[key], f"{key}: an increment was done twice")
         lost = sum(max(0, done[key] - kept[key]) for key in KEYS)
-        print(f"failover: {sum(done.values())} replied, {sum(unknown.values())} not known, {sum(kept.values())} kept, {lost} lost", flush=True)
+        print(
+            f"failover: {sum(done.values())} replied, {sum(unknown.values())} not known, {sum(kept.values())} kept, {lost} lost",
+            flush=True,
+        )
         self.assertLess(lost, CLIENTS * CALLS // 10)
         self.assertEqual(len(self.cluster.masters()), 3)
         self.assertTrue(all(ids_at(node) == [self.add] for node in self.cluster.masters()))
@@ -114,8 +124,19 @@ class Resharding(OneCluster):
         def move():
             with node.open() as line, other.open() as to:
                 source, target = line.get("CLUSTER", "MYID").decode(), to.get("CLUSTER", "MYID").decode()
-            cli("--cluster", "reshard", f"127.0.0.1:{node.port}", "--cluster-from", source, "--cluster-to", target, "--cluster-slots", 1000,
-                "--cluster-yes")
+            cli(
+                "--cluster",
+                "reshard",
+                f"127.0.0.1:{node.port}",
+                "--cluster-from",
+                source,
+                "--cluster-to",
+                target,
+                "--cluster-slots",
+                1000,
+                "--cluster-yes",
+            )
+
         owners = {key: self.cluster.owner(slot_of(key)) for key in KEYS}
         done, unknown, kept = self.count(CALLS, move)
         moved = [key for key in KEYS if self.cluster.owner(slot_of(key)) != owners[key]]

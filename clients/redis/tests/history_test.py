@@ -43,7 +43,9 @@ def has_order(calls, start=None):
             continue
         seen.add(state)
         places, value = state
-        heads = [(client, calls[place]) for client, (calls, place) in enumerate(zip(by_client, places)) if place < len(calls)]
+        heads = [
+            (client, calls[place]) for client, (calls, place) in enumerate(zip(by_client, places)) if place < len(calls)
+        ]
         if not heads:
             return True
         first_end = min(call.end for _, call in heads)
@@ -51,15 +53,20 @@ def has_order(calls, start=None):
             if call.begin <= first_end:
                 now, told = call.after(value)
                 if told == call.told:
-                    stack.append((places[:client] + (places[client] + 1,) + places[client + 1:], now))
+                    stack.append((places[:client] + (places[client] + 1,) + places[client + 1 :], now))
     return False
 
 
 class History(OneServer):
     def perform(self, call, line, key):
-        words = {"GET": ("GET", key), "SET": ("SET", key, call.argument), "DEL": ("DEL", key), "INCR": ("INCR", key),
-                 "ADD": ("JENTRY.INVOKE", self.add, key, call.argument),
-                 "COMPARE": ("JENTRY.INVOKE", self.cas, key, call.argument, call.argument + 1)}[call.kind]
+        words = {
+            "GET": ("GET", key),
+            "SET": ("SET", key, call.argument),
+            "DEL": ("DEL", key),
+            "INCR": ("INCR", key),
+            "ADD": ("JENTRY.INVOKE", self.add, key, call.argument),
+            "COMPARE": ("JENTRY.INVOKE", self.cas, key, call.argument, call.argument + 1),
+        }[call.kind]
         call.begin = time.monotonic()
         call.told = line.ask(*words)
         call.end = time.monotonic()
@@ -69,7 +76,10 @@ class History(OneServer):
         with self.server.open() as line:
             for _ in range(EACH):
                 key = chosen.randrange(KEYS)
-                call = Call(chosen.choice(["GET", "SET", "DEL", "INCR", "INCR", "ADD", "ADD", "ADD", "COMPARE"]), chosen.randrange(4))
+                call = Call(
+                    chosen.choice(["GET", "SET", "DEL", "INCR", "INCR", "ADD", "ADD", "ADD", "COMPARE"]),
+                    chosen.randrange(4),
+                )
                 self.perform(call, line, f"h:{key}")
                 histories[key][number].append(call)
 
@@ -90,6 +100,7 @@ class History(OneServer):
             made = Call(kind, argument)
             made.begin, made.end, made.told = begin, end, told
             return made
+
         lost = {0: [call("INCR", 0, 0, 3, 1)], 1: [call("ADD", 1, 1, 2, 1)]}
         self.assertFalse(has_order(lost))
         stale = {0: [call("SET", 5, 0, 1, b"OK")], 1: [call("GET", 0, 2, 3, None)]}

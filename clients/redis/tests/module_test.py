@@ -4,8 +4,13 @@ import unittest
 
 from servers import MODULE, PROGRAM, REDIS, ReplyError, class_file
 
-LACKS = ("there is no redis-server (apt-get install redis-server)" if not REDIS else
-         "there is no module: JENTRY_REDIS_MODULE names it" if not MODULE else None)
+LACKS = (
+    "there is no redis-server (apt-get install redis-server)"
+    if not REDIS
+    else "there is no module: JENTRY_REDIS_MODULE names it"
+    if not MODULE
+    else None
+)
 NEEDS_PROGRAM = unittest.skipIf(PROGRAM is None, "there is no built jentry")
 NO_CLASS = "NOCLASS no class of this id here: JENTRY.DEFINE it"
 

@@ -91,7 +91,7 @@ class Restarts(ModuleTest):
             self.assertEqual(saved.count(class_file("Plus")), 1)
             place = saved.index(class_file("Plus"))
             with open(path, "wb") as file:
-                file.write(saved[:place] + b"\xca\xfe\xba\xbf" + saved[place + 4:])
+                file.write(saved[:place] + b"\xca\xfe\xba\xbf" + saved[place + 4 :])
             server.restart("kill")
             with server.open() as line:
                 self.assertEqual(ids_of(line), [add])
@@ -104,7 +104,11 @@ def rewrite(line):
     """Has the AOF rewritten."""
     wait_for(lambda: line.info("persistence")["aof_rewrite_in_progress"] == "0", "an earlier rewrite")
     line.get("BGREWRITEAOF")
-    wait_for(lambda: line.info("persistence")["aof_rewrite_in_progress"] == "0" and line.info("persistence")["aof_rewrite_scheduled"] == "0", "the rewrite")
+    wait_for(
+        lambda: line.info("persistence")["aof_rewrite_in_progress"] == "0"
+        and line.info("persistence")["aof_rewrite_scheduled"] == "0",
+        "the rewrite",
+    )
 
 
 class Pitfalls(ModuleTest):
@@ -212,11 +216,22 @@ class Replicas(ModuleTest):
                 if words[0].upper() not in (b"PING", b"SELECT", b"REPLCONF"):
                     sent.append(words)
             self.assertEqual(re.fullmatch(rb"1\d{12}", sent[6].pop()) is not None, True)
-            self.assertEqual(sent, [
-                [b"SET", b"v:1", b"5"], [b"DEL", b"v:1"],
-                [b"MULTI"], [b"SET", b"v:1", b"3"], [b"SET", b"v:2", b"3"], [b"EXEC"],
-                [b"SET", b"v:3", b"3", b"PXAT"], [b"SET", b"v:3", b"4", b"KEEPTTL"],
-                [b"JENTRY.DEFINE", class_file("Plus")], [b"JENTRY.FORGET", plus], [b"SET", b"end", b"1"]])
+            self.assertEqual(
+                sent,
+                [
+                    [b"SET", b"v:1", b"5"],
+                    [b"DEL", b"v:1"],
+                    [b"MULTI"],
+                    [b"SET", b"v:1", b"3"],
+                    [b"SET", b"v:2", b"3"],
+                    [b"EXEC"],
+                    [b"SET", b"v:3", b"3", b"PXAT"],
+                    [b"SET", b"v:3", b"4", b"KEEPTTL"],
+                    [b"JENTRY.DEFINE", class_file("Plus")],
+                    [b"JENTRY.FORGET", plus],
+                    [b"SET", b"end", b"1"],
+                ],
+            )
 
 
 class Diskless(ModuleTest):

@@ -4,14 +4,32 @@ JENTRY_RANDOM is how many commands are sent.
 """
 import os
 import random
+import subprocess
+import sys
+import tempfile
 
 from module_test import ModuleTest
-from servers import ReplyError, Server, class_file, examples, row_classes
+from servers import EXAMPLES, ReplyError, Server, class_file, examples, row_classes
 
 COMMANDS = int(os.environ.get("JENTRY_RANDOM", 5_000))
 PIPE = 20
-NAMES = ["DEFINE", "INVOKE", "INVOKE", "INVOKE", "DETAIL", "PEEK", "APPLY", "INVOKEALL", "LIST", "CLASS", "EXPLAIN", "FORGET"]
-LEAST, MOST = -2**63, 2**63 - 1
+MOST_SECONDS = 2
+"""What no class may take of a processor to be judged: it holds all other clients up."""
+NAMES = [
+    "DEFINE",
+    "INVOKE",
+    "INVOKE",
+    "INVOKE",
+    "DETAIL",
+    "PEEK",
+    "APPLY",
+    "INVOKEALL",
+    "LIST",
+    "CLASS",
+    "EXPLAIN",
+    "FORGET",
+]
+LEAST, MOST = -(2**63), 2**63 - 1
 
 
 def damaged(file, chosen):
@@ -23,7 +41,7 @@ def damaged(file, chosen):
         if kind == 0 and file:
             file[place] = chosen.randrange(256)
         elif kind == 1:
-            del file[place:place + chosen.randrange(20)]
+            del file[place : place + chosen.randrange(20)]
         elif kind == 2:
             file[place:place] = bytes(chosen.randrange(256) for _ in range(chosen.randrange(8)))
         else:
@@ -43,14 +61,43 @@ class Words:
         return self.chosen.choice([0, 1, -1, 7, LEAST, MOST, 2**31, 2**63, 10**30, self.chosen.getrandbits(63)])
 
     def junk(self):
-        return self.chosen.choice([b"", b"\0", b"\xff" * 40, b"-", b":", b"i", b"null", b"1i", b"\r\n", b"%s%n", b"9" * 40, bytes(self.chosen.randrange(256) for _ in range(self.chosen.randrange(60)))])
+        return self.chosen.choice(
+            [
+                b"",
+                b"\0",
+                b"\xff" * 40,
+                b"-",
+                b":",
+                b"i",
+                b"null",
+                b"1i",
+                b"\r\n",
+                b"%s%n",
+                b"9" * 40,
+                bytes(self.chosen.randrange(256) for _ in range(self.chosen.randrange(60))),
+            ]
+        )
 
     def key(self):
-        return self.chosen.choice([f"k:{self.chosen.randrange(8)}", f"k:{self.number()}", "k:0007", "list:1", "text:1", f"{self.number()}", self.junk()])
+        return self.chosen.choice(
+            [
+                f"k:{self.chosen.randrange(8)}",
+                f"k:{self.number()}",
+                "k:0007",
+                "list:1",
+                "text:1",
+                f"{self.number()}",
+                self.junk(),
+            ]
+        )
 
     def args(self):
-        return [self.chosen.choice([self.number(), f"{self.chosen.randrange(-5, 5)}i", "null", self.junk()]) if self.chosen.random() < 0.2 else self.chosen.randrange(10)
-                for _ in range(self.chosen.choice([0, 1, 1, 2, 3, 8, 9]))]
+        return [
+            self.chosen.choice([self.number(), f"{self.chosen.randrange(-5, 5)}i", "null", self.junk()])
+            if self.chosen.random() < 0.2
+            else self.chosen.randrange(10)
+            for _ in range(self.chosen.choice([0, 1, 1, 2, 3, 8, 9]))
+        ]
 
     def command(self):
         name = self.chosen.choice(NAMES)
@@ -71,7 +118,9 @@ class Words:
         else:
             words = [some_id, self.key(), *self.args()]
         if self.chosen.random() < 0.05:
-            words = words[:self.chosen.randrange(len(words) + 1)] + [self.junk() for _ in range(self.chosen.randrange(3))]
+            words = words[: self.chosen.randrange(len(words) + 1)] + [
+                self.junk() for _ in range(self.chosen.randrange(3))
+            ]
         return ["JENTRY." + name, *words]
 
 
@@ -97,14 +146,45 @@ class RandomCommands(ModuleTest):
             self.assertEqual(line.ask("PING"), b"PONG")
             self.assertNotIn("AddressSanitizer", server.log())
 
+    def judge(self, server, line, name, file):
+        """Has a class explained and defined, and run where it is accepted. The processor's seconds of the longest."""
+        longest, words = 0, [("JENTRY.EXPLAIN", file), ("JENTRY.DEFINE", file)]
+        for command in words:
+            before = server.processor_seconds()
+            told = line.ask(*command)
+            longest = max(longest, server.processor_seconds() - before)
+            with self.subTest(name=name):
+                self.assertIsInstance(told, (list, bytes, int, type(None), ReplyError))
+                self.assertLess(longest, MOST_SECONDS)
+            if isinstance(told, list):
+                words.append(("JENTRY.INVOKE", told[0], "v:1"))
+        return longest
+
     def test_hostile_classes(self):
-        with Server() as server, server.open() as line:
-            for name, file in hostile_classes():
-                with self.subTest(name=name):
-                    for command in ("JENTRY.EXPLAIN", "JENTRY.DEFINE"):
-                        told = line.ask(command, file)
-                        self.assertIsInstance(told, (list, bytes, ReplyError))
+        with Server(arguments=("max-steps", 4_000_000)) as server, server.open() as line:
+            taken = {
+                name: self.judge(server, line, name, file) for name, file in [*hostile_classes(), *costly_classes()]
+            }
+            worst = max(taken, key=taken.get)
+            print(
+                f"{len(taken)} hostile classes: {worst} takes {taken[worst] * 1000:.0f} ms of a processor", flush=True
+            )
+            self.assertGreater(len(taken), 80)
             self.assertEqual(line.ask("PING"), b"PONG")
+            self.assertNotIn("AddressSanitizer", server.log())
+
+
+def costly_classes():
+    """Classes of 64 KB, each of which repeats one part of a class as often as it can."""
+    with tempfile.TemporaryDirectory(prefix="jentry-costly-") as folder:
+        subprocess.run(
+            [sys.executable, "-B", os.path.join(EXAMPLES, "costly.py"), "--only-write", folder],
+            stdout=subprocess.DEVNULL,
+            check=True,
+        )
+        for name in sorted(os.listdir(folder)):
+            with open(os.path.join(folder, name), "rb") as file:
+                yield name, file.read()
 
 
 def hostile_classes():

@@ -7,7 +7,7 @@ import redis
 from redis.cluster import RedisCluster
 from redis.exceptions import ResponseError
 
-logging.disable(logging.CRITICAL)    # a RedisCluster logs each error with a traceback
+logging.disable(logging.CRITICAL)  # a RedisCluster logs each error with a traceback
 
 
 class Jentry:

@@ -54,8 +54,13 @@ class Rights(OneServer):
 
     def test_each_command_with_keys(self):
         other = self.user("+@all", "~visits:*")
-        for words in (("INVOKE", self.add, "others:1", 1), ("DETAIL", self.add, "others:1", 1), ("PEEK", self.add, "others:1", 1),
-                      ("APPLY", -1, -1, -1, "do", self.add, "others:1", 1), ("INVOKEALL", self.add, 2, "visits:1", "others:1", 1)):
+        for words in (
+            ("INVOKE", self.add, "others:1", 1),
+            ("DETAIL", self.add, "others:1", 1),
+            ("PEEK", self.add, "others:1", 1),
+            ("APPLY", -1, -1, -1, "do", self.add, "others:1", 1),
+            ("INVOKEALL", self.add, 2, "visits:1", "others:1", 1),
+        ):
             self.denied_key(other.ask("JENTRY." + words[0], *words[1:]))
         self.assertEqual(other.ask("JENTRY.INVOKEALL", self.add, 1, "visits:1", 1), [1])
         self.assertEqual(self.line.ask("DBSIZE"), 1)
@@ -68,7 +73,10 @@ class Rights(OneServer):
         self.assertEqual(keys("JENTRY.INVOKEALL", "id", 2, "v:1", "v:2", 5), [b"v:1", b"v:2"])
         flags = lambda name: self.line.get("COMMAND", "INFO", name)[0][2]
         for name in ("invoke", "detail", "invokeall", "apply", "define"):
-            self.assertEqual([flag for flag in flags("jentry." + name) if flag in (b"write", b"denyoom", b"readonly")], [b"write", b"denyoom"])
+            self.assertEqual(
+                [flag for flag in flags("jentry." + name) if flag in (b"write", b"denyoom", b"readonly")],
+                [b"write", b"denyoom"],
+            )
         for name in ("peek", "list", "class", "explain"):
             self.assertIn(b"readonly", flags("jentry." + name))
         self.assertNotIn(b"denyoom", flags("jentry.forget"))

@@ -18,7 +18,10 @@ class Around(OneServer):
         self.ask("JENTRY.INVOKE", self.add, "v:1")
         self.ask("GET", "v:1")
         told = self.ask("EXEC")
-        self.assertEqual([told[0], told[1], told[2], str(told[3]), told[4]], [5, 10, 15, "THREW 2 ArrayIndexOutOfBoundsException", b"15"])
+        self.assertEqual(
+            [told[0], told[1], told[2], str(told[3]), told[4]],
+            [5, 10, 15, "THREW 2 ArrayIndexOutOfBoundsException", b"15"],
+        )
 
     def test_watch(self):
         with self.server.open() as other:
@@ -38,7 +41,12 @@ class Around(OneServer):
         script = "return {redis.call('JENTRY.INVOKE', ARGV[1], KEYS[1], 5), redis.call('GET', KEYS[1]), redis.pcall('JENTRY.INVOKE', ARGV[1], KEYS[1])}"
         told = self.ask("EVAL", script, 1, "v:1", self.add)
         self.assertEqual([told[0], told[1], str(told[2])], [5, b"5", "THREW 2 ArrayIndexOutOfBoundsException"])
-        self.line.get("FUNCTION", "LOAD", "REPLACE", "#!lua name=t\nredis.register_function('t', function(k, a) return redis.call('JENTRY.INVOKE', a[1], k[1], 5) end)")
+        self.line.get(
+            "FUNCTION",
+            "LOAD",
+            "REPLACE",
+            "#!lua name=t\nredis.register_function('t', function(k, a) return redis.call('JENTRY.INVOKE', a[1], k[1], 5) end)",
+        )
         self.assertEqual(self.ask("FCALL", "t", 1, "v:1", self.add), 10)
 
     def test_expire(self):
@@ -81,6 +89,7 @@ class Around(OneServer):
             with self.server.open() as line:
                 for _ in range(200):
                     line.get("JENTRY.INVOKE", self.add, "v:1", 1)
+
         threads = [threading.Thread(target=count) for _ in range(8)]
         for thread in threads:
             thread.start()
@@ -99,6 +108,7 @@ class Around(OneServer):
                             line.send("JENTRY.INVOKE", add, "v:1", 1)
                         for _ in range(20):
                             line.take()
+
             threads = [threading.Thread(target=count) for _ in range(8)]
             for thread in threads:
                 thread.start()
@@ -107,10 +117,43 @@ class Around(OneServer):
             self.assertEqual(line.ask("GET", "v:1"), b"3200")
 
 
+class Looks(OneServer):
+    """On Redis 7.0 an integer is read where it lies, once GET has confirmed 64 looks; all else is read by GET."""
+
+    def gets(self):
+        return int(self.line.info("commandstats").get("cmdstat_get", "calls=0").split(",")[0].split("=")[1])
+
+    def add_to(self, values):
+        """What the runs of Add on entries with these values leave, and how often GET was called for them."""
+        for number, value in enumerate(values):
+            self.line.get("SET", f"v:{number}", value)
+        before = self.gets()
+        for number in range(len(values)):
+            self.line.get("JENTRY.INVOKE", self.add, f"v:{number}", 1)
+        gets = self.gets() - before
+        return [int(self.ask("GET", f"v:{number}")) for number in range(len(values))], gets
+
+    def test_integers_and_texts(self):
+        if not self.line.info("server")["redis_version"].startswith("7.0."):
+            self.skipTest("this isn't Redis 7.0")
+        self.add_to([1] * 64)
+        digits = [sign * int("9876543210987654321"[:count]) for count in range(1, 19) for sign in (1, -1)]
+        values = [0, 9, 10, 9_999, 10_000, 2**63 - 2, -(2**63), *digits]
+        self.assertEqual(self.add_to(values), ([value + 1 for value in values], 0))
+        self.line.get("SET", "v:0", 1)
+        self.line.get("APPEND", "v:0", 2)
+        before = self.gets()
+        self.assertEqual(self.line.get("JENTRY.INVOKE", self.add, "v:0", 1), 13)
+        self.assertEqual(self.gets(), before + 1)
+        self.assertNotIn("keeps integers otherwise", self.server.log())
+
+
 class Library(ModuleTest):
     @unittest.skipIf(shutil.which("nm") is None, "there is no nm (apt-get install binutils)")
     def test_exported_names(self):
-        told = subprocess.run(["nm", "-D", "--defined-only", MODULE], stdout=subprocess.PIPE, text=True, check=True).stdout
+        told = subprocess.run(
+            ["nm", "-D", "--defined-only", MODULE], stdout=subprocess.PIPE, text=True, check=True
+        ).stdout
         self.assertEqual([line.split()[-1] for line in told.splitlines()], ["RedisModule_OnLoad"])
 
     def test_what_it_needs(self):
@@ -126,8 +169,13 @@ class Limits(ModuleTest):
             line.get("SET", "v:1", 41)
             line.get("CONFIG", "SET", "maxmemory", 1)
             oom = "OOM command not allowed when used memory > 'maxmemory'."
-            for words in (("JENTRY.INVOKE", add, "v:1", 1), ("JENTRY.DETAIL", add, "v:1", 1), ("JENTRY.INVOKEALL", add, 1, "v:1", 1),
-                          ("JENTRY.APPLY", -1, -1, -1, "do", add, "v:1", 1), ("JENTRY.DEFINE", class_file("Plus"))):
+            for words in (
+                ("JENTRY.INVOKE", add, "v:1", 1),
+                ("JENTRY.DETAIL", add, "v:1", 1),
+                ("JENTRY.INVOKEALL", add, 1, "v:1", 1),
+                ("JENTRY.APPLY", -1, -1, -1, "do", add, "v:1", 1),
+                ("JENTRY.DEFINE", class_file("Plus")),
+            ):
                 self.fails(line.ask(*words), oom)
             cas = "0" * 40
             self.fails(line.ask("JENTRY.PEEK", cas, "v:1", 1), "NOCLASS no class of this id here: JENTRY.DEFINE it")
@@ -146,14 +194,22 @@ class Limits(ModuleTest):
             self.assertEqual(len(line.get("JENTRY.LIST")), 1)
 
     def test_replica_is_read_only(self):
-        with Server() as master, Server("--replicaof", f"127.0.0.1 {master.port}") as replica, master.open() as line, replica.open() as other:
+        with Server() as master, Server(
+            "--replicaof", f"127.0.0.1 {master.port}"
+        ) as replica, master.open() as line, replica.open() as other:
             wait_for(lambda: other.info("replication")["master_link_status"] == "up", "the link")
             add, cas = self.define(line, "Add"), self.define(line, "CompareAndSet")
             line.get("JENTRY.INVOKE", add, "v:1", 5)
             self.assertEqual(line.ask("WAIT", 1, 10_000), 1)
             read_only = "READONLY You can't write against a read only replica."
-            for words in (("JENTRY.INVOKE", add, "v:1", 1), ("JENTRY.DETAIL", add, "v:1", 1), ("JENTRY.DEFINE", class_file("Plus")), ("JENTRY.FORGET", add),
-                          ("JENTRY.INVOKEALL", add, 1, "v:1", 1), ("JENTRY.APPLY", -1, -1, -1, "dry", add, "v:1", 1)):
+            for words in (
+                ("JENTRY.INVOKE", add, "v:1", 1),
+                ("JENTRY.DETAIL", add, "v:1", 1),
+                ("JENTRY.DEFINE", class_file("Plus")),
+                ("JENTRY.FORGET", add),
+                ("JENTRY.INVOKEALL", add, 1, "v:1", 1),
+                ("JENTRY.APPLY", -1, -1, -1, "dry", add, "v:1", 1),
+            ):
                 self.fails(other.ask(*words), read_only)
             self.assertEqual(other.ask("JENTRY.PEEK", cas, "v:1", 1, 2), 0)
             self.assertEqual(other.ask("GET", "v:1"), b"5")

@@ -131,11 +131,25 @@ class Server:
 
     def start(self):
         """Starts it, anew where it has ended, with the files that it left."""
-        words = [REDIS, "--port", str(self.port), "--bind", "127.0.0.1", "--dir", self.folder, "--save", "", "--repl-diskless-sync-delay", "0"]
+        words = [
+            REDIS,
+            "--port",
+            str(self.port),
+            "--bind",
+            "127.0.0.1",
+            "--dir",
+            self.folder,
+            "--save",
+            "",
+            "--repl-diskless-sync-delay",
+            "0",
+        ]
         words += [str(option) for option in self.options]
         words += ["--loadmodule", MODULE, *map(str, self.arguments)] if self.module else []
         with open(self.log_path(), "ab") as log:
-            self.process = subprocess.Popen(words, stdin=subprocess.DEVNULL, stdout=log, stderr=subprocess.STDOUT, env={**os.environ, **PRELOADED})
+            self.process = subprocess.Popen(
+                words, stdin=subprocess.DEVNULL, stdout=log, stderr=subprocess.STDOUT, env={**os.environ, **PRELOADED}
+            )
         wait_for(self.is_up, "the server's start", lambda: self.log()[-2000:])
 
     def is_up(self):
@@ -156,6 +170,11 @@ class Server:
 
     def open(self):
         return Connection(self.port)
+
+    def processor_seconds(self):
+        """What the main thread, which runs all commands, has taken of a processor so far."""
+        with open(f"/proc/{self.process.pid}/task/{self.process.pid}/schedstat", encoding="ascii") as file:
+            return int(file.read().split()[0]) / 1e9
 
     def end(self, by="terminate"):
         """Ends it: by a signal that it handles, or by `kill`."""
@@ -211,5 +230,7 @@ def examples(folder=""):
 
 def program(*words):
     """What `jentry` prints of these words."""
-    done = subprocess.run([PROGRAM, *map(str, words)], stdout=subprocess.PIPE, stderr=subprocess.STDOUT, text=True, timeout=PATIENCE)
+    done = subprocess.run(
+        [PROGRAM, *map(str, words)], stdout=subprocess.PIPE, stderr=subprocess.STDOUT, text=True, timeout=PATIENCE
+    )
     return done.stdout
