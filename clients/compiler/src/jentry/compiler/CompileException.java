@@ -5,7 +5,7 @@ import java.util.stream.Collectors;
 import jentry.compiler.profile.Problem;
 
 /** A class can't be compiled to one that the verifier accepts. It names every problem that was found, by method and line. */
-public final class CompileException extends Exception {
+public class CompileException extends Exception {
     private static final long serialVersionUID = 1L;
 
     private final transient List<Problem> problems;

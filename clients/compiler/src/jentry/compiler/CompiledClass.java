@@ -7,7 +7,7 @@ import jentry.compiler.profile.Bounds;
  * A class that the verifier accepts, as far as the compiler knows.
  *
  * @param name its name, with dots
- * @param source what it was made of: the name of a class, and of a lambda's body behind a `#`
+ * @param source what it was made of: the name of a class, and of a lambda's body with its descriptor behind a `#`
  * @param bytes the class file
  * @param isUnchanged whether these are the bytes that were handed over
  * @param bounds what an invocation takes at most

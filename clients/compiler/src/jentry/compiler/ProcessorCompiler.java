@@ -134,17 +134,16 @@ public final class ProcessorCompiler {
     /**
      * Compiles one lambda of a class file.
      *
-     * @param bodyName the name of the method that is its body, as `lambda$main$0`
-     * @throws CompileException where it can't be compiled, or isn't there
+     * @param lambda one of {@link #lambdas}
+     * @throws CompileException where it can't be compiled
      */
-    public CompiledClass compileLambda(byte[] classFile, String bodyName) throws CompileException {
-        ClassNode node = read(classFile);
-        for (Lambdas.Lambda lambda : Lambdas.of(node)) {
-            if (lambda.body().getName().equals(bodyName)) {
-                return compileLambda(lambda);
-            }
+    public CompiledClass compileLambda(Lambdas.Lambda lambda) throws CompileException {
+        try {
+            String source = Instructions.nameOf(lambda.host().name) + "#" + lambda.body().getName() + lambda.body().getDesc();
+            return written(Lambdas.toClass(lambda), source, lambda.host());
+        } catch (ProblemException e) {
+            throw new CompileException(List.of(e.problem()));
         }
-        throw new CompileException(List.of(Instructions.problem(node, "there is no lambda " + bodyName + " that makes an EntryProcessor", "")));
     }
 
     private static ClassNode read(byte[] classFile) throws CompileException {
@@ -169,15 +168,6 @@ public final class ProcessorCompiler {
             return new CompiledClass(Instructions.nameOf(node.name), Instructions.nameOf(node.name), classFile, true, bounds, bounds.steps(), List.of());
         }
         return written(node, Instructions.nameOf(node.name), null);
-    }
-
-    private CompiledClass compileLambda(Lambdas.Lambda lambda) throws CompileException {
-        try {
-            String source = Instructions.nameOf(lambda.host().name) + "#" + lambda.body().getName();
-            return written(Lambdas.toClass(lambda), source, lambda.host());
-        } catch (ProblemException e) {
-            throw new CompileException(List.of(e.problem()));
-        }
     }
 
     private CompiledClass written(ClassNode node, String source, ClassNode host) throws CompileException {

@@ -82,6 +82,22 @@ class CommandTest {
     }
 
     @Test
+    void whatIsComparedReachesItsPackage() throws Exception {
+        String host = "package a;\nimport javax.cache.processor.*;\npublic class Host extends Base {\nstatic final int COUNT = Other.count();\n"
+            + "static final EntryProcessor<Long, Long, Long> P = (e, args) -> e.getKey() + 1;\nprivate static class Nested { static int two() { return one(); } }\n"
+            + "private static int one() { return Nested.two() > 5 ? 2 : 1; }\n}\nclass Base { }\nclass Other { static int count() { return 3; } }\n";
+        for (String release : new String[] {"8", "17"}) {
+            for (Map.Entry<String, byte[]> one : Javac.compile(Map.of("a.Host", host), "--release", release).entrySet()) {
+                Path file = in.resolve(one.getKey().replace('.', '/') + ".class");
+                Files.createDirectories(file.getParent());
+                Files.write(file, one.getValue());
+            }
+            assertEquals(0, run(in, "-d", out, "--explain", "--compare=500"), errors);
+            assertTrue(printed.contains("a.Host$lambda$static$0: ") && printed.contains("500 calls compared, none differs"), printed);
+        }
+    }
+
+    @Test
     void oneThatCantBeCompiledLeavesTheOthers() throws Exception {
         Files.write(in.resolve("Bad.class"), Javac.compile("Bad", BAD, "--release", "8"));
         assertEquals(2, run(in, "-d", out));

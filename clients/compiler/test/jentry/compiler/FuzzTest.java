@@ -56,8 +56,9 @@ class FuzzTest {
 
     private void check(String name, String source, byte[] original, JentryServer server) throws Exception {
         CompiledClass result;
+        boolean isVerbatim = name.hashCode() % 5 == 0;
         try {
-            result = new ProcessorCompiler(name.hashCode() % 5 == 0).compile(original).get(0);
+            result = new ProcessorCompiler(isVerbatim).compile(original).get(0);
         } catch (CompileException e) {
             refused++;
             return;
@@ -67,6 +68,9 @@ class FuzzTest {
         compiled++;
         unchanged += result.isUnchanged() ? 1 : 0;
         try {
+            if (isVerbatim) {
+                assertTrue(result.bounds().steps() >= result.stepsWithLoops(), name + ": the verbatim class has fewer steps than the loops");
+            }
             if (server == null) {
                 Checks.same(original, result, CALLS);
                 runs += CALLS;

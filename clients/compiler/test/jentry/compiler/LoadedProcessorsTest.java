@@ -1,11 +1,18 @@
 package jentry.compiler;
 
+import static org.junit.jupiter.api.Assertions.assertDoesNotThrow;
 import static org.junit.jupiter.api.Assertions.assertEquals;
+import static org.junit.jupiter.api.Assertions.assertFalse;
+import static org.junit.jupiter.api.Assertions.assertNotNull;
 import static org.junit.jupiter.api.Assertions.assertThrows;
 import static org.junit.jupiter.api.Assertions.assertTrue;
 
 import java.io.Serializable;
+import java.util.List;
+import javax.cache.Cache;
 import javax.cache.processor.EntryProcessor;
+import javax.cache.processor.MutableEntry;
+import jentry.compiler.compare.ClassPath;
 import jentry.compiler.runtime.Client;
 import org.junit.jupiter.api.Test;
 import org.junit.jupiter.api.function.Executable;
@@ -22,9 +29,28 @@ class LoadedProcessorsTest {
 
     /** A class that hands over what another one holds. */
     private static final class Helper {
-        static Object answer(EntryProcessor<Long, Long, Long> ignored) throws Exception {
-            return Client.answer(Checks.PATH, FIRST);
+        static Object answer(EntryProcessor<Long, Long, Long> processor) throws Exception {
+            if (processor != null) {
+                return Client.answer(Checks.PATH, processor);
+            }
+            return Client.answer(Checks.PATH, SECOND);
         }
+    }
+
+    /** Lambdas that other classes hand over, and methods that have the names of those of other classes. */
+    private static final class Constants {
+        static final EntryProcessor<Long, Long, Long> TEN = (entry, arguments) -> entry.getKey() + 10;
+        static final EntryProcessor<Long, Long, Long> TWENTY = (entry, arguments) -> entry.getKey() + 20;
+        static EntryProcessor<Long, Long, Long> thirty = (entry, arguments) -> entry.getKey() + 30;
+
+        static Long doubled(MutableEntry<Long, Long> entry, Object... arguments) {
+            return entry.getKey() * 2 + 1;
+        }
+    }
+
+    /** The client's method by a reference, which is on no frame. */
+    private interface Way<P> {
+        Object answer(ClassPath path, P processor, Object... arguments) throws Exception;
     }
 
     private static EntryProcessor<Long, Long, Long> made() {
@@ -55,8 +81,93 @@ class LoadedProcessorsTest {
         assertEquals(102L, Client.answer(Checks.PATH, SECOND));
     }
 
-    private static Long doubled(javax.cache.processor.MutableEntry<Long, Long> entry, Object[] arguments) {
+    private static Long doubled(MutableEntry<Long, Long> entry, Object[] arguments) {
         return entry.getKey() * 2;
+    }
+
+    private static Long named(MutableEntry<String, Long> entry, Object... arguments) {
+        return 1L;
+    }
+
+    private static Long named(Cache.Entry<Long, Long> entry, Object... arguments) {
+        return entry.getKey() * 3;
+    }
+
+    @Test
+    void referencesToMethodsOfOneName() throws Exception {
+        EntryProcessor<String, Long, Long> other = LoadedProcessorsTest::named;
+        assertEquals(300L, Client.answer(Checks.PATH, LoadedProcessorsTest::named));
+        assertEquals(300L, Client.answer(Checks.PATH, (EntryProcessor<Long, Long, Long> & Serializable) LoadedProcessorsTest::named));
+        assertNotNull(other);
+    }
+
+    @Test
+    void aReferenceToAMethodOfAnotherClassIsNoneOfThisClass() {
+        CompileException e = assertThrows(CompileException.class,
+            () -> Client.answer(Checks.PATH, (EntryProcessor<Long, Long, Long> & Serializable) Constants::doubled));
+        assertTrue(e.getMessage().contains("a method of an object or of another class"), e.getMessage());
+        assertTrue(e.getMessage().startsWith("jentry.compiler.LoadedProcessorsTest.lambda$aReferenceToAMethodOfAnotherClass"), e.getMessage());
+    }
+
+    @Test
+    void constantsOfAnotherClass() throws Exception {
+        assertEquals(110L, Client.answer(Checks.PATH, Constants.TEN));
+        assertEquals(120L, Client.answer(Checks.PATH, Constants.TWENTY));
+        assertEquals(102L, Helper.answer(null));
+        assertUnknown(() -> Client.answer(Checks.PATH, Constants.thirty));
+    }
+
+    private static EntryProcessor<Long, Long, Long> theOther(EntryProcessor<Long, Long, Long> one) {
+        return one == FIRST ? SECOND : FIRST;
+    }
+
+    @Test
+    void whatAnotherCallOnTheLineTakesIsntHandedOver() {
+        Way<EntryProcessor<Long, Long, Long>> way = Client::answer;
+        assertUnknown(() -> way.answer(Checks.PATH, theOther(FIRST)));
+        assertUnknown(() -> Client.answer(Checks.PATH, theOther(FIRST)));
+        assertUnknown(() -> assertEquals(Client.answer(Checks.PATH, FIRST), Client.answer(Checks.PATH, SECOND)));
+        assertUnknown(() -> Client.answer(Checks.PATH, Math.random() < 2 ? FIRST : SECOND));
+    }
+
+    @Test
+    void lambdasInLoopsTernariesAndLists() throws Exception {
+        EntryProcessor<Long, Long, Long> last = FIRST;
+        for (int i = 0; i < 2; i++) {
+            EntryProcessor<Long, Long, Long> now = last;
+            assertEquals(107L, Client.answer(Checks.PATH, (entry, arguments) -> entry.getKey() + 7));
+            assertUnknown(() -> Client.answer(Checks.PATH, now));
+            last = SECOND;
+        }
+        for (EntryProcessor<Long, Long, Long> it : List.of(FIRST, SECOND)) {
+            assertUnknown(() -> Client.answer(Checks.PATH, it));
+        }
+        CompileException e = assertThrows(CompileException.class, () -> answerOneOfTwo(true));
+        assertTrue(e.getMessage().contains("it can't be seen which of its lambdas this one is: lambda$answerOneOfTwo$"), e.getMessage());
+    }
+
+    @Test
+    void aCallThatIsWrittenTwice() throws Exception {
+        for (boolean throwsIt : new boolean[] {false, true}) {
+            Object[] answer = new Object[1];
+            Executable call = () -> {
+                try {
+                    assertFalse(throwsIt);
+                } finally {
+                    answer[0] = Client.answer(Checks.PATH, (entry, arguments) -> entry.getKey() + 50);
+                }
+            };
+            if (throwsIt) {
+                assertThrows(AssertionError.class, call);
+            } else {
+                assertDoesNotThrow(call);
+            }
+            assertEquals(150L, answer[0]);
+        }
+    }
+
+    private static Object answerOneOfTwo(boolean isFirst) throws Exception {
+        return Client.answer(Checks.PATH, isFirst ? (entry, arguments) -> entry.getKey() + 8 : (entry, arguments) -> entry.getKey() + 9);
     }
 
     @Test
@@ -81,6 +192,7 @@ class LoadedProcessorsTest {
         assertUnknown(() -> Client.answer(Checks.PATH, made()));
         assertUnknown(() -> handedOn(FIRST));
         assertUnknown(() -> Helper.answer((entry, arguments) -> entry.getKey()));
+        assertUnknown(() -> Helper.answer(FIRST));
     }
 
     private static void assertUnknown(Executable call) {
@@ -104,7 +216,7 @@ class LoadedProcessorsTest {
     /** A class with a loop. */
     public static final class Loops implements EntryProcessor<Long, Long, Long> {
         @Override
-        public Long process(javax.cache.processor.MutableEntry<Long, Long> entry, Object... arguments) {
+        public Long process(MutableEntry<Long, Long> entry, Object... arguments) {
             long s = 0;
             for (int i = 0; i < 4; i++) {
                 s += entry.getKey();

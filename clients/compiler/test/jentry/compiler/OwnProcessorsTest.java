@@ -77,7 +77,8 @@ class OwnProcessorsTest {
     @Test
     void theOthersAreToldWhyNot() {
         assertTrue(Checks.refusal(OLD.get("Refused$Endless")).contains("line 11: no counter ends this loop"), Checks.refusal(OLD.get("Refused$Endless")));
-        assertTrue(Checks.refusal(OLD.get("Refused$AsTold")).contains("line 24: this loop has too many passes, or counts up to a number that isn't known"), Checks.refusal(OLD.get("Refused$AsTold")));
+        assertTrue(Checks.refusal(OLD.get("Refused$AsTold")).contains("line 24: this loop has too many passes, or counts up to a number that isn't known"),
+            Checks.refusal(OLD.get("Refused$AsTold")));
         assertTrue(Checks.refusal(OLD.get("Refused$Variable")).contains("line 34: the length of a new array isn't a constant"),
             Checks.refusal(OLD.get("Refused$Variable")));
     }

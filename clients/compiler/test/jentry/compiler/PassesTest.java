@@ -90,9 +90,11 @@ class PassesTest {
     void smallTypesStaySmall() {
         same("Object", "byte[] b = new byte[3]; short[] s = new short[3]; char[] c = new char[3]; boolean[] z = new boolean[3];\n"
             + "for (int i = 0; i < 3; i++) { b[i] += entry.getKey(); s[i] -= entry.getKey(); c[i] = (char) (entry.getKey() * i); z[i] = c[i] > b[i]; b[i]++; c[i]--; }\n"
-            + "long sum = 0; for (byte x : b) { sum = sum * 7 + x; } for (short x : s) { sum += x; } for (char x : c) { sum ^= x; } for (boolean x : z) { sum = sum * 2 + (x ? 1 : 0); }\n"
+            + "long sum = 0; for (byte x : b) { sum = sum * 7 + x; } for (short x : s) { sum += x; }\n"
+            + "for (char x : c) { sum ^= x; } for (boolean x : z) { sum = sum * 2 + (x ? 1 : 0); }\n"
             + "return sum + f((byte) sum) + f((short) sum) + f((char) sum) + f((int) sum);",
-            "static int f(byte b) { return b; }\nstatic int f(short s) { return s * 3; }\nstatic char f(char c) { return (char) (c + 1); }\nstatic int f(int i) { return i * 5; }", "8");
+            "static int f(byte b) { return b; }\nstatic int f(short s) { return s * 3; }\n"
+                + "static char f(char c) { return (char) (c + 1); }\nstatic int f(int i) { return i * 5; }", "8");
     }
 
     @Test
@@ -102,6 +104,72 @@ class PassesTest {
                 "private long half(Object one) { return one instanceof Long ? (Long) one / 2 : 0; }\nstatic class Inner { }\n"
                 + "public static void main(String[] words) { System.out.println(words.length); }\n@Override public String toString() { return \"P\"; }", release);
             assertEquals(52, compiled.bytes()[7], "the version of the class file");
+        }
+    }
+
+    @ParameterizedTest
+    @ValueSource(strings = {
+        "long x = Long.MAX_VALUE - 5, y = x + args.length; for (int i = 0; i < 3; i++) { s = s * 3 + (y > 0 ? 1 : 2); }",
+        "long x = Long.MIN_VALUE + 5, y = x - args.length; for (int i = 0; i < 3; i++) { s = s * 3 + (y < 0 ? 1 : 2); }",
+        "long n = args.length - 3, y = n - Long.MIN_VALUE; for (int i = 0; i < 3; i++) { s = s * 3 + (y > 0 ? 1 : 2); }",
+        "long n = args.length - 3, y = n + Long.MIN_VALUE; for (int i = 0; i < 3; i++) { s = s * 3 + (y > 0 ? 1 : 2); }",
+        "int n = Integer.MAX_VALUE - 5 + args.length, m = Integer.MIN_VALUE + 5 - args.length;\n"
+            + "for (int i = 0; i < 3; i++) { s = s * 5 + (n > 0 ? 1 : 2) + (m < 0 ? 3 : 4); }",
+        "for (long i = Long.MAX_VALUE - 3; i > 0; i++) { s++; } for (long i = Long.MIN_VALUE + 2; i < 0; i--) { s += i; }",
+        "for (int i = Integer.MAX_VALUE - 3; i > 0; i++) { s++; } for (byte b = 120; b > 0; b++) { s += b; } for (char c = 65530; c > 5; c++) { s += c; }",
+        "long far = 1L << 40; for (long i = far; i < far + args.length; i++) { s = s * 3 + i; }"})
+    void countersAtTheEndsOfTheirTypes(String body) {
+        same("Object", "long s = 0;\n" + body + "\nreturn s;", "", "17");
+    }
+
+    @ParameterizedTest
+    @ValueSource(strings = {
+        "for (int i = 0; i < args.length / 2; i++) { s = s * 3 + (args[args.length - 1 - i].equals(args[i]) ? 1 : 2); }",
+        "for (int i = 0; i < args.length * 3; i++) { s = s * 5 + (args[i / 3] == null ? i : -i); }",
+        "for (int i = 0; i < args.length << 1; i++) { s += i; } for (int i = args.length >> 1; i >= 0; i--) { s = s * 3 + i; }",
+        "for (int i = 0; i < (args.length + 1 >>> 1); i++) { s = s * 3 + i; } for (int i = -args.length; i < 0; i++) { s = s * 5 + i; }",
+        "byte few = (byte) (long) entry.getKey(); while (few != 0) { s = s * 3 + few; few /= 2; }",
+        "int few = (int) (entry.getKey() & 63); for (int i = 0; i < few / 4; i++) { s = s * 3 + i; } for (int i = few; i > 0; i >>= 1) { s += i; }",
+        "for (int at = (args.length - 1) / 2; at >= 0; at--) { for (int child = 2 * at + 1; child < args.length; child = 2 * child + 1) { s = s * 7 + child; } }"})
+    void loopsUpToWhatIsComputedOfLengths(String body) {
+        same("Object", "long s = 0;\n" + body + "\nreturn s;", "", "17");
+    }
+
+    @Test
+    void eachLambdaIsAClassOfItsOwn() throws CompileException {
+        String host = "import javax.cache.Cache;\nimport javax.cache.processor.*;\npublic class H {\n"
+            + "static Long f(MutableEntry<String, Long> e, Object... a) { return 1L; }\nstatic Long f(Cache.Entry<Long, Long> e, Object... a) { return 2L; }\n"
+            + "static Long f_(MutableEntry<Long, Long> e, Object... a) { return 3L; }\nstatic Long g(MutableEntry<Long, Long> e, Object... a) { return 4L; }\n"
+            + "static final EntryProcessor<String, Long, Long> ONE = H::f;\nstatic final EntryProcessor<Long, Long, Long> TWO = H::f;\n"
+            + "static final EntryProcessor<Long, Long, Long> THREE = H::f_, FOUR = H::g;\nstatic class g { }\n}\n";
+        byte[] classFile = Javac.compile("H", host, "--release", "8");
+        List<CompiledClass> compiled = new ProcessorCompiler().compile(classFile);
+        assertEquals(List.of("H$f", "H$f_", "H$f__", "H$g_"), compiled.stream().map(CompiledClass::name).sorted().toList());
+        compiled.forEach(it -> Checks.same(classFile, it, 100));
+    }
+
+    @Test
+    void aLambdaOfAClassThatStartsMore() throws CompileException {
+        String host = "import java.util.*;\nimport javax.cache.processor.*;\npublic class H extends Base {\n"
+            + "static final long OVER = limit + 1;\nstatic final long[] T = {5, 6, 7};\nstatic final List<Long> LIST = new ArrayList<>();\n"
+            + "static final long START = System.nanoTime() / 1000 ^ 5;\nstatic final double HALF = START * 0.5 + 1.0;\nstatic final Random RANDOM = new Random((long) HALF);\n"
+            + "static final long[] LATE = {LIST.size(), 1};\nstatic final long[] LAST = new long[4];\nstatic { for (int i = 0; i < 4; i++) { LAST[i] = T[i % 3] * i; } }\n"
+            + "static final EntryProcessor<Long, Long, Long> ONE = (e, a) -> { long s = 0; for (long t : T) { s += t; } return s + LAST[3] + LAST.length; };\n"
+            + "static final EntryProcessor<Long, Long, Long> TWO = (e, a) -> LATE[1];\nstatic final EntryProcessor<Long, Long, Long> THREE = (e, a) -> START;\n"
+            + "static final EntryProcessor<Long, Long, Long> FOUR = (e, a) -> OVER;\n}\nclass Base { static long limit = 4; }\n";
+        byte[] classFile = Javac.compile("H", host, "--release", "17");
+        ProcessorCompiler.Result result = new ProcessorCompiler().compileAll(classFile);
+        assertEquals(List.of("H$lambda$static$0"), result.classes().stream().map(CompiledClass::name).toList(), result.problems().toString());
+        assertEquals(3, result.problems().size(), result.problems().toString());
+    }
+
+    @Test
+    void aLambdaOfAnInterface() {
+        String host = "import javax.cache.processor.*;\npublic interface H {\nEntryProcessor<Long, Long, Long> ONE = (e, a) -> twice(e.getKey()) + 1;\n"
+            + "static long twice(long x) { long s = 0; for (int i = 0; i < 2; i++) { s += x; } return s; }\n}\n";
+        for (String release : List.of("8", "17")) {
+            byte[] classFile = Javac.compile("H", host, "--release", release);
+            Checks.same(classFile, Checks.compile(classFile), 1_000);
         }
     }
 

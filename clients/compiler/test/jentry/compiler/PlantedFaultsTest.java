@@ -1,6 +1,7 @@
 package jentry.compiler;
 
 import static org.junit.jupiter.api.Assertions.assertEquals;
+import static org.junit.jupiter.api.Assertions.assertFalse;
 import static org.junit.jupiter.api.Assertions.assertTrue;
 
 import java.io.File;
@@ -65,6 +66,7 @@ class PlantedFaultsTest {
         Path in = Files.write(folder.resolve(processor + ".class"), classes.get(processor));
         int status = run("-d", folder.resolve("out").toString(), "--compare=20000", in.toString());
         assertEquals(4, status, "the status of jentry-compile --compare");
+        assertFalse(Files.exists(folder.resolve("out").resolve(processor + ".class")), "a class that does something else is written");
     }
 
     /** Runs the command by the edited classes, and by the others beside them. */

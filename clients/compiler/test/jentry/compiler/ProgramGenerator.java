@@ -5,7 +5,8 @@ import java.util.List;
 import java.util.Random;
 
 /**
- * Writes random structured processors: loops of all kinds, nested, with break, continue and labels; arrays, tables, helpers, tries, and the library.
+ * Writes random structured processors: loops of all kinds, nested, with break, continue and labels; arrays, tables, helpers, tries, and the library,
+ * with small types, and with numbers at the ends of their types.
  *
  * <p>Most loops are ended by a counter. Some programs aren't bounded, or too large: these the compiler has to refuse.
  */
@@ -36,6 +37,8 @@ final class ProgramGenerator {
         text.append("public Object process(MutableEntry<Long, Long> entry, Object... args) {\n");
         text.append("int a = ").append(literal()).append(";\nlong x = entry.exists() ? entry.getValue() : entry.getKey();\nlong y = 0;\n");
         text.append("long[] data = new long[4];\nint[] cells = new int[3];\n");
+        text.append("byte[] bytes = {3, -7, 127, ").append(random.nextInt(100)).append("};\nchar[] chars = {'a', 65535, 0, 7};\nshort[] shorts = new short[4];\n");
+        text.append("boolean[] flags = new boolean[4];\n");
         ints.add("a");
         longs.addAll(List.of("x", "y"));
         arrays.addAll(List.of("data", "cells"));
@@ -95,14 +98,18 @@ final class ProgramGenerator {
     private String intOf(int depth) {
         if (depth == 0 || random.nextInt(4) == 0) {
             String counter = counters.isEmpty() ? literal() : "(int) " + any(counters, random);
-            return pick(any(ints, random), counter, literal(), isHelper ? "3" : "args.length", "(int) " + any(longs, random));
+            String end = random.nextInt(3) > 0 ? literal() : pick("Integer.MAX_VALUE", "Integer.MIN_VALUE", "(Integer.MAX_VALUE - 4)", "(Integer.MIN_VALUE + 4)");
+            return pick(any(ints, random), counter, end, isHelper ? "3" : "args.length", "(int) " + any(longs, random));
         }
         String left = intOf(depth - 1);
         String right = intOf(depth - 1);
-        return switch (random.nextInt(12)) {
+        return switch (random.nextInt(15)) {
             case 0 -> "(" + left + " * " + right + ")";
             case 1 -> "(" + left + " - " + right + ")";
             case 2 -> "(" + left + " ^ " + right + ")";
+            case 12 -> pick("(byte) ", "(short) ", "(char) ", "-", "~") + "(" + left + ")";
+            case 13 -> "(" + left + pick(" << ", " >>> ", " >> ") + right + ")";
+            case 14 -> isHelper ? left : pick("bytes", "chars", "shorts") + "[(" + left + ") & 3]";
             case 3 -> "(" + left + " & 15)";
             case 4 -> "(" + left + " >> (" + right + " & 7))";
             case 5 -> "(" + condition(depth - 1) + " ? " + left + " : " + right + ")";
@@ -117,14 +124,17 @@ final class ProgramGenerator {
 
     private String longOf(int depth) {
         if (depth == 0 || random.nextInt(4) == 0) {
-            return pick(any(longs, random), any(longs, random), literal() + "L", any(ints, random), isHelper ? "BOX" : "limit");
+            String end = random.nextInt(3) > 0 ? literal() + "L" : pick("Long.MAX_VALUE", "Long.MIN_VALUE", "(Long.MAX_VALUE - 4)", "(Long.MIN_VALUE + 4)", "(1L << 40)");
+            return pick(any(longs, random), any(longs, random), end, any(ints, random), isHelper ? "BOX" : "limit");
         }
         String left = longOf(depth - 1);
         String right = longOf(depth - 1);
-        return switch (random.nextInt(13)) {
+        return switch (random.nextInt(15)) {
             case 0 -> "(" + left + " * " + right + ")";
             case 1 -> "(" + left + " - " + right + ")";
             case 2 -> "(" + left + " ^ " + right + ")";
+            case 13 -> "(" + left + pick(" << ", " >> ") + intOf(depth - 1) + ")";
+            case 14 -> "(" + pick(any(longs, random), "Long.MAX_VALUE - 3", "Long.MIN_VALUE") + pick(" + ", " - ") + (isHelper ? "q" : "args.length") + ")";
             case 3 -> "(" + left + " | " + right + ")";
             case 4 -> "(" + left + " >>> (" + intOf(depth - 1) + " & 31))";
             case 5 -> "(" + condition(depth - 1) + " ? " + left + " : " + right + ")";
@@ -198,7 +208,10 @@ final class ProgramGenerator {
         }
         text.append(pick("entry.setValue(x);\n", "if (entry.exists()) { y += entry.getValue(); }\n", "cells[(" + intOf(1) + ") & 1] += 3;\n",
             "if (x == 77) { entry.remove(); }\n", "if (args.length > 1 && args[1] instanceof Long) { y += (Long) args[1]; }\n",
-            "if (args.length > 0 && args[0] != null) { x ^= ((Number) args[0]).longValue(); }\n", "data[(a) & 3] = cells[1];\n"));
+            "if (args.length > 0 && args[0] != null) { x ^= ((Number) args[0]).longValue(); }\n", "data[(a) & 3] = cells[1];\n",
+            "bytes[(" + intOf(1) + ") & 3]" + pick(" += ", " ^= ", " <<= ", " >>>= ") + intOf(1) + ";\n", "chars[(" + intOf(1) + ") & 3]" + pick("++", "--") + ";\n",
+            "shorts[(a) & 3]" + pick(" -= ", " *= ", " |= ") + intOf(1) + ";\n", "flags[(" + intOf(1) + ") & 3] ^= " + condition(1) + ";\n",
+            "if (flags[(a) & 3]) { y++; }\n"));
     }
 
     private void leave() {
@@ -218,7 +231,7 @@ final class ProgramGenerator {
     }
 
     private void choose(int depth) {
-        text.append("switch (").append(intOf(1)).append(pick(" & 3", " % 5", "")).append(") {\n");
+        text.append("switch ((int) (").append(intOf(1)).append(pick(" & 3", " % 5", "")).append(")) {\n");
         for (int i = 0; i < 3; i++) {
             text.append("case ").append(random.nextInt(2) == 0 ? i : i * 100 + 7).append(":\n").append(any(longs, random)).append(" += ").append(i + 1).append(";\n");
             text.append(random.nextBoolean() ? "" : any(ints, random) + " ^= 1;\n");
@@ -281,7 +294,13 @@ final class ProgramGenerator {
         String limit = random.nextInt(4) == 0 && !isHelper && passes * 8 <= MOST_PASSES ? "args.length" : arrays.contains("data") && random.nextInt(4) == 0
             ? "data.length" : String.valueOf(count);
         int most = limit.equals("args.length") ? 8 : limit.equals("data.length") ? 4 : count;
-        switch (random.nextInt(6)) {
+        switch (random.nextInt(9)) {
+            case 6 -> text.append(label).append(": for (int ").append(i).append(" = Integer.MAX_VALUE - ").append(count - 1).append("; ").append(i).append(" > 0; ").append(i)
+                .append("++) {\n");
+            case 7 -> text.append(label).append(": for (long ").append(i).append(" = Long.MIN_VALUE + ").append(count - 1).append("; ").append(i).append(" < 0; ").append(i)
+                .append("--) {\n");
+            case 8 -> text.append(label).append(": for (").append(pick("byte ", "short ")).append(i).append(" = 1; ").append(i).append(" > 0 && ").append(i)
+                .append(" < ").append(1 << count - 1).append("; ").append(i).append(pick(" *= 2", " <<= 1", " += " + i)).append(") {\n");
             case 0 -> text.append(label).append(": for (int ").append(i).append(" = ").append(count).append("; ").append(i).append(" > 0; ").append(i).append("--) {\n");
             case 1 -> text.append("int ").append(i).append(" = 0;\n").append(label).append(": while (").append(i).append(" < ").append(limit)
                 .append(pick("", " && " + condition(1))).append(") {\n").append(i).append("++;\n");
@@ -293,7 +312,8 @@ final class ProgramGenerator {
         }
         boolean isDo = text.substring(text.lastIndexOf(label)).startsWith(label + ": do");
         List<String> readable = text.substring(text.lastIndexOf(label)).startsWith(label + ": for (long") ? longs : ints;
-        boolean isWritten = random.nextInt(12) == 0;
+        boolean isSmall = text.substring(text.lastIndexOf(label)).matches("(?s)" + label + ": for \\((byte|short) .*");
+        boolean isWritten = !isSmall && random.nextInt(12) == 0;
         if (isWritten) {
             readable.add("(" + i + ")");
         }

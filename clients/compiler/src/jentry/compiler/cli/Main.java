@@ -27,7 +27,7 @@ public final class Main {
 
           -d OUT           where the class files go, by their packages
           --explain        print what was done to each class and to which loop
-          --verbatim       keep each instruction: the bound is then that of the loops, step for step
+          --verbatim       keep each instruction: the bound is then that of the loops, jumps aside that the order needs
           --check          run `jentry check` on each class that was written
           --program FILE   the program for --check: JENTRY_PROGRAM, or jentry on the path, where it isn't named
           --compare[=N]    run each class before and after compilation on N random calls (10,000), and print the first that ends otherwise
@@ -122,6 +122,10 @@ public final class Main {
     }
 
     private void write(Inputs.Input input, CompiledClass compiled, ClassPath path) {
+        boolean isCompared = options.calls > 0 && !compiled.isUnchanged();
+        if (isCompared && !doesTheSame(input, compiled, path)) {
+            return;
+        }
         Path file = options.output.resolve(compiled.name().replace('.', '/') + ".class");
         try {
             if (input.file() != null && Files.exists(file) && Files.isSameFile(input.file(), file)) {
@@ -139,11 +143,11 @@ public final class Main {
         if (options.explains) {
             explain(compiled);
         }
+        if (options.explains && isCompared) {
+            out.println("  " + options.calls + " calls compared, none differs");
+        }
         if (options.checks) {
             check(file);
-        }
-        if (options.calls > 0 && !compiled.isUnchanged()) {
-            compare(input, compiled, path);
         }
     }
 
@@ -171,16 +175,15 @@ public final class Main {
         }
     }
 
-    private void compare(Inputs.Input input, CompiledClass compiled, ClassPath path) {
+    private boolean doesTheSame(Inputs.Input input, CompiledClass compiled, ClassPath path) {
         try {
             Optional<Comparison.Difference> difference = Comparison.compare(path, input.bytes(), compiled, options.calls, options.seed);
-            if (difference.isPresent()) {
-                fail(DIFFERENT, compiled.name() + " does something else than " + compiled.source() + ": " + difference.get());
-            } else if (options.explains) {
-                out.println("  " + options.calls + " calls compared, none differs");
-            }
+            difference.ifPresent(it -> fail(DIFFERENT, compiled.name() + " does something else than " + compiled.source().replaceFirst("\\(.*", "")
+                + ", and isn't written: " + it));
+            return difference.isEmpty();
         } catch (ReflectiveOperationException | LinkageError e) {
-            fail(FAILED, compiled.name() + " can't be compared, since it can't be loaded (name what it needs by --classpath): " + e);
+            fail(FAILED, compiled.name() + " can't be compared, since it can't be loaded (name what it needs by --classpath), and isn't written: " + e);
+            return false;
         }
     }
 }

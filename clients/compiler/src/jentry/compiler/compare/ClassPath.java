@@ -9,7 +9,6 @@ import java.net.URL;
 import java.net.URLClassLoader;
 import java.util.ArrayList;
 import java.util.List;
-import java.util.Map;
 
 /** Where classes are loaded from that processors need: JCache's, and those of the same program. */
 public final class ClassPath {
@@ -40,9 +39,9 @@ public final class ClassPath {
         return Class.forName(name, false, common);
     }
 
-    /** A loader that has these classes, by their names, and else those of the path. */
-    ClassLoader with(Map<String, byte[]> classes) {
-        return new Own(common, classes);
+    /** A loader that has this class and the others of its package, and else asks the path. */
+    ClassLoader with(String name, byte[] classFile) {
+        return new Own(common, name, classFile);
     }
 
     /** Looks in the path first, and for what isn't there of JCache among the stubs. */
@@ -69,24 +68,33 @@ public final class ClassPath {
         }
     }
 
-    /** Has its own classes before those of its parent. */
+    /** Has a class of its own. It loads the rest of its package, too, since classes of two loaders don't see what is theirs alone. */
     private static final class Own extends ClassLoader {
-        private final Map<String, byte[]> classes;
+        private final String own;
+        private final byte[] classFile;
 
-        Own(ClassLoader parent, Map<String, byte[]> classes) {
+        Own(ClassLoader parent, String own, byte[] classFile) {
             super(parent);
-            this.classes = classes;
+            this.own = own;
+            this.classFile = classFile;
         }
 
         @Override
         protected Class<?> loadClass(String name, boolean resolve) throws ClassNotFoundException {
-            byte[] bytes = classes.get(name);
-            if (bytes == null) {
-                return super.loadClass(name, resolve);
-            }
             synchronized (getClassLoadingLock(name)) {
                 Class<?> loaded = findLoadedClass(name);
-                return loaded == null ? defineClass(name, bytes, 0, bytes.length) : loaded;
+                byte[] bytes = loaded != null ? null : name.equals(own) ? classFile : ofPackage(name);
+                return bytes != null ? defineClass(name, bytes, 0, bytes.length) : loaded != null ? loaded : super.loadClass(name, resolve);
+            }
+        }
+
+        /** The class file of another class of the package, or null. */
+        private byte[] ofPackage(String name) {
+            boolean isOfPackage = name.substring(0, name.lastIndexOf('.') + 1).equals(own.substring(0, own.lastIndexOf('.') + 1));
+            try (InputStream in = isOfPackage ? getParent().getResourceAsStream(name.replace('.', '/') + ".class") : null) {
+                return in == null ? null : in.readAllBytes();
+            } catch (IOException e) {
+                throw new UncheckedIOException(e);
             }
         }
     }

@@ -6,7 +6,6 @@ import java.lang.invoke.MethodType;
 import java.lang.reflect.InvocationHandler;
 import java.lang.reflect.Method;
 import java.lang.reflect.Proxy;
-import java.util.Map;
 
 /** Runs a processor on the JVM at hand. */
 public final class Runner {
@@ -17,13 +16,13 @@ public final class Runner {
     /**
      * Of a class file.
      *
-     * @param source the class's name, and the name of a lambda's body behind a `#`
+     * @param source the class's name, and the name and the descriptor of a lambda's body behind a `#`
      * @throws ReflectiveOperationException where the class can't be loaded or made
      */
     public Runner(ClassPath path, byte[] classFile, String source) throws ReflectiveOperationException {
         int hash = source.indexOf('#');
         String name = hash < 0 ? source : source.substring(0, hash);
-        Class<?> type = Class.forName(name, true, path.with(Map.of(name, classFile)));
+        Class<?> type = Class.forName(name, true, path.with(name, classFile));
         Class<?> entries = path.load("javax.cache.processor.MutableEntry");
         proxy = Proxy.newProxyInstance(entries.getClassLoader(), new Class<?>[] {entries}, entry);
         MethodHandle found = hash < 0 ? ofClass(path, type) : ofLambda(type, source.substring(hash + 1));
@@ -40,7 +39,8 @@ public final class Runner {
 
     private static MethodHandle ofLambda(Class<?> type, String body) throws ReflectiveOperationException {
         for (Method method : type.getDeclaredMethods()) {
-            if (method.getName().equals(body)) {
+            String descriptor = MethodType.methodType(method.getReturnType(), method.getParameterTypes()).toMethodDescriptorString();
+            if (body.equals(method.getName() + descriptor)) {
                 method.setAccessible(true);
                 return MethodHandles.lookup().unreflect(method).asFixedArity();
             }

@@ -106,7 +106,7 @@ public final class Profile implements Opcodes {
             }
             int before = problems.size();
             for (AbstractInsnNode at : method.instructions) {
-                if (!isAccepted(at) && !belongsToHandler(method, at)) {
+                if (!isAccepted(at) && !belongsToHandler(method, at) && !belongsToNew(at)) {
                     add(Instructions.problem(owner, method, at, Remedies.what(at), Remedies.remedy(at)));
                 }
             }
@@ -120,6 +120,11 @@ public final class Profile implements Opcodes {
     private static boolean belongsToHandler(MethodNode method, AbstractInsnNode at) {
         boolean ends = at.getOpcode() == ATHROW || at.getOpcode() == MONITORENTER || at.getOpcode() == MONITOREXIT;
         return ends && method.tryCatchBlocks.stream().anyMatch(it -> it.type == null);
+    }
+
+    /** The constructor's call: the instruction NEW before it is reported. */
+    private static boolean belongsToNew(AbstractInsnNode at) {
+        return at instanceof MethodInsnNode call && call.name.equals("<init>");
     }
 
     private void add(Problem problem) {

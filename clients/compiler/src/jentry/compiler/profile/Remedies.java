@@ -17,8 +17,7 @@ final class Remedies implements Opcodes {
     /** The construct, in the words of the source. */
     static String what(AbstractInsnNode at) {
         if (at instanceof MethodInsnNode call) {
-            String name = Instructions.nameOf(call.owner) + (call.name.equals("<init>") ? "" : "." + call.name);
-            return (call.name.equals("<init>") ? "new " : "a call of ") + name + ", which the server doesn't know";
+            return "a call of " + Instructions.nameOf(call.owner) + "." + call.name + ", which the server doesn't know";
         } else if (at instanceof FieldInsnNode field) {
             boolean writes = at.getOpcode() == PUTFIELD || at.getOpcode() == PUTSTATIC;
             return "the field " + Instructions.nameOf(field.owner) + "." + field.name + " is " + (writes ? "written" : "read");
@@ -78,8 +77,10 @@ final class Remedies implements Opcodes {
             return "copy the elements by a loop";
         } else if (owner.equals("java/lang/Boolean")) {
             return "use 1 and 0, since a Boolean can't be a value, an argument or a result";
-        } else if (call.name.equals("<init>")) {
-            return "use locals, or a long that packs several numbers";
+        } else if (owner.startsWith("java/util/stream/") || call.desc.contains("java/util/stream/") || owner.startsWith("java/util/function/")) {
+            return "write a loop over the arguments, or over an array of known length";
+        } else if (owner.startsWith("java/util/Optional") || owner.equals("java/util/Objects")) {
+            return "test for null";
         } else if (owner.startsWith("java/util/") || owner.startsWith("java/lang/Str") || owner.equals("java/io/PrintStream")) {
             return "use long[] and int[], numbers as codes, and the result for what is to be seen";
         } else if (owner.equals("java/lang/System") || owner.startsWith("java/time/")) {

@@ -7,7 +7,6 @@ import java.util.List;
 import java.util.Map;
 import java.util.Set;
 import org.objectweb.asm.Opcodes;
-import org.objectweb.asm.Type;
 import org.objectweb.asm.tree.AbstractInsnNode;
 import org.objectweb.asm.tree.ClassNode;
 import org.objectweb.asm.tree.FieldInsnNode;
@@ -39,10 +38,10 @@ final class FieldConstants implements Opcodes {
 
     private FieldConstants(ClassNode owner, ClassNode host) {
         this.owner = owner;
-        initialisers = new Initialisers(owner, host != null);
         owner.fields.forEach(it -> fields.put(it.name, it));
         boolean hasArrays = owner.fields.stream().anyMatch(it -> it.desc.startsWith("["));
         written = hasArrays ? ArrayWrites.of(host != null ? host : owner) : Map.of();
+        initialisers = new Initialisers(owner, written.keySet(), host != null);
     }
 
     /**
@@ -133,11 +132,15 @@ final class FieldConstants implements Opcodes {
         String what = (isStatic ? "the static field " : "the field ") + at.name;
         if (at.getOpcode() == PUTSTATIC || at.getOpcode() == PUTFIELD) {
             throw problem(method, at, what + " is written", "use locals, arguments or the entry's value: a processor keeps nothing between its runs");
-        } else if (field == null || (field.access & ACC_FINAL) == 0) {
+        } else if (field == null) {
+            throw problem(method, at, what + " is inherited", "declare it in the class itself");
+        } else if ((field.access & ACC_FINAL) == 0) {
             throw problem(method, at, what + " isn't final", "make it final where it never changes; else use an argument or the entry's value");
         }
         Object value = initialisers.value(field);
-        if (value == null) {
+        if (value == null && !isStatic && owner.methods.stream().anyMatch(it -> it.name.equals("<init>") && !it.desc.equals("()V"))) {
+            throw problem(method, at, what + " is set by a constructor that takes values from outside", "hand it over as an argument of the call");
+        } else if (value == null) {
             throw problem(method, at, what + " has a value that isn't known at compile time", "use numbers, and arrays of int or long");
         } else if (!isStatic && !readsSelf(method, at)) {
             throw problem(method, at, what + " of another object is read", "read the fields of the processor itself, or make them static final");

@@ -63,16 +63,20 @@ final class Initialisers implements Opcodes {
     private final boolean isLenient;
     private final Map<String, Object> fields = new HashMap<>();
     private final Set<Object> spoiled = Collections.newSetFromMap(new IdentityHashMap<>());
+    private final Set<String> written;
+    private boolean isConstructing;
     private int steps;
     private int depth;
 
     /**
      * Of a class.
      *
+     * @param written the fields whose arrays the class writes to after its initialisers
      * @param isLenient whether what can't be computed is an unknown value, since the rest of the class isn't the processor's
      */
-    Initialisers(ClassNode owner, boolean isLenient) {
+    Initialisers(ClassNode owner, Set<String> written, boolean isLenient) {
         this.owner = owner;
+        this.written = written;
         this.isLenient = isLenient;
         owner.fields.stream().filter(it -> it.value instanceof Integer || it.value instanceof Long).forEach(it -> fields.put(it.name, it.value));
     }
@@ -86,8 +90,8 @@ final class Initialisers implements Opcodes {
     /** Runs an initialiser: of the class, or a constructor without parameters. */
     void run(MethodNode method) throws UnsupportedException {
         try {
-            List<Object> arguments = Instructions.isStatic(method) ? List.of() : List.of(SELF);
-            call(method, arguments);
+            isConstructing = !Instructions.isStatic(method);
+            call(method, isConstructing ? List.of(SELF) : List.of());
         } catch (UnsupportedException e) {
             if (!isLenient) {
                 throw e;
@@ -200,8 +204,12 @@ final class Initialisers implements Opcodes {
         private void access(FieldInsnNode at) throws UnsupportedException {
             boolean writes = at.getOpcode() == PUTSTATIC || at.getOpcode() == PUTFIELD;
             Object value = writes ? pop() : null;
-            boolean ofSelf = at.getOpcode() == GETSTATIC || at.getOpcode() == PUTSTATIC || pop() == SELF;
-            if (!at.owner.equals(owner.name) || !ofSelf) {
+            boolean isStatic = at.getOpcode() == GETSTATIC || at.getOpcode() == PUTSTATIC;
+            boolean ofSelf = isStatic || pop() == SELF;
+            if (isConstructing && isStatic && mayChange(at.name)) {
+                throw new UnsupportedException(at, "the static field " + at.name + " may be another one for each instance");
+            }
+            if (!at.owner.equals(owner.name) || !ofSelf || owner.fields.stream().noneMatch(it -> it.name.equals(at.name))) {
                 unsupported(at, "the field " + at.name + " of another class or object");
                 value = new Unknown(Type.getType(at.desc).getSize());
             } else if (writes) {
@@ -212,6 +220,14 @@ final class Initialisers implements Opcodes {
             if (!writes) {
                 push(value);
             }
+        }
+
+        /** Whether a static field of the class, or an element of its array, may be written to between the making of two instances. */
+        private boolean mayChange(String name) {
+            boolean isFinal = owner.fields.stream().anyMatch(it -> it.name.equals(name) && (it.access & ACC_FINAL) != 0);
+            Object value = fields.get(name);
+            boolean isArray = value instanceof int[] || value instanceof long[];
+            return !isFinal || isArray && written.stream().map(fields::get).anyMatch(it -> it == value || it == null || it instanceof Unknown);
         }
 
         private Object initial(Type type) {
@@ -352,6 +368,10 @@ final class Initialisers implements Opcodes {
                     push(array instanceof int[] ints ? (Object) ints.length : array instanceof long[] longs ? (Object) longs.length : new Unknown(1));
                 }
                 case LDC -> push(constant((LdcInsnNode) at));
+                case FCONST_0, FCONST_1, FCONST_2, DCONST_0, DCONST_1 -> {
+                    unsupported(at, "float or double");
+                    push(new Unknown(at.getOpcode() >= DCONST_0 ? 2 : 1));
+                }
                 case NEW -> opaque(at, 0, 1);
                 case ANEWARRAY -> opaque(at, 1, 1);
                 case AASTORE -> opaque(at, 3, 0);
@@ -393,10 +413,19 @@ final class Initialisers implements Opcodes {
             boolean isUnary = opcode >= INEG && opcode <= DNEG || opcode >= I2L && opcode <= I2S;
             Object right = stack.isEmpty() ? null : pop();
             Object value = isUnary ? Arithmetic.unary(opcode, right) : Arithmetic.binary(opcode, stack.isEmpty() ? null : pop(), right);
-            if (value == null) {
+            boolean isArithmetic = opcode >= IADD && opcode <= LXOR || isUnary || opcode >= LCMP && opcode <= DCMPG;
+            if (value == null && !(isLenient && isArithmetic)) {
                 throw new UnsupportedException(at, "arithmetic that throws, or isn't of int and long");
             }
-            push(value);
+            push(value == null ? new Unknown(isWide(opcode) ? 2 : 1) : value);
+        }
+
+        private boolean isWide(int opcode) {
+            return switch (opcode) {
+                case LADD, DADD, LSUB, DSUB, LMUL, DMUL, LDIV, DDIV, LREM, DREM, LNEG, DNEG, LSHL, LSHR, LUSHR, LAND, LOR, LXOR -> true;
+                case I2L, I2D, L2D, F2L, F2D, D2L -> true;
+                default -> false;
+            };
         }
 
         private void unsupported(AbstractInsnNode at, String why) throws UnsupportedException {

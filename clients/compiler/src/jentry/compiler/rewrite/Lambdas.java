@@ -43,9 +43,25 @@ public final class Lambdas implements Opcodes {
             return (Handle) site.bsmArgs[1];
         }
 
-        /** The name of the class that is made of it, in the form of the class file. */
+        /** The name of the class that is made of it, in the form of the class file. No other body has it, and no class that is nested in the host. */
         public String className() {
-            return host.name + "$" + body().getName();
+            Set<String> taken = new HashSet<>();
+            host.innerClasses.forEach(it -> taken.add(it.name));
+            for (MethodNode method : host.methods) {
+                String name = host.name + "$" + method.name;
+                while (!taken.add(name)) {
+                    name += "_";
+                }
+                if (isBody(host.name, method.name, method.desc)) {
+                    return name;
+                }
+            }
+            throw new IllegalStateException("the body is a method of another class");
+        }
+
+        /** Whether its body is this method. */
+        public boolean isBody(String owner, String name, String descriptor) {
+            return body().getOwner().equals(owner) && body().getName().equals(name) && body().getDesc().equals(descriptor);
         }
 
         Problem problem(String what, String remedy) {
@@ -57,6 +73,10 @@ public final class Lambdas implements Opcodes {
     public static List<Lambda> of(ClassNode host) {
         Map<String, Lambda> found = new LinkedHashMap<>();
         for (MethodNode method : host.methods) {
+            if (method.name.equals("$deserializeLambda$")) {
+                // javac's own, which makes each serializable lambda once more
+                continue;
+            }
             for (AbstractInsnNode at : method.instructions) {
                 boolean makes = at instanceof InvokeDynamicInsnNode it && Type.getReturnType(it.desc).getInternalName().equals(Members.PROCESSOR);
                 if (makes && ((InvokeDynamicInsnNode) at).bsmArgs.length > 1 && ((InvokeDynamicInsnNode) at).bsmArgs[1] instanceof Handle) {
@@ -147,6 +167,7 @@ public final class Lambdas implements Opcodes {
             MethodNode callee = Instructions.callee(host, at);
             if (callee != null && !callee.name.startsWith("<")) {
                 ((MethodInsnNode) at).owner = made.name;
+                ((MethodInsnNode) at).itf = false;
                 open.add(callee);
             } else if (at instanceof FieldInsnNode field && field.owner.equals(host.name)) {
                 field.owner = made.name;

@@ -102,17 +102,12 @@ final class LibraryCalls implements Opcodes {
             for (AbstractInsnNode at : method.instructions) {
                 boolean isEquals = at instanceof MethodInsnNode call && call.name.equals("equals")
                     && (call.owner.equals("java/util/Objects") || call.owner.equals("java/lang/Object"));
-                if (isEquals && sources.origin(method, at, 1) != null && !isNumber(sources, method, at)) {
+                if (isEquals && sources.origin(method, at, 1) != null && !sources.isMadeBy(method, at, 1, LibraryCalls::makesNumber)) {
                     throw new ProblemException(Instructions.problem(owner, method, at, "equals of an object that may be no number",
                         "compare numbers: cast to Long or Integer first"));
                 }
             }
         }
-    }
-
-    private static boolean isNumber(ValueSources sources, MethodNode method, AbstractInsnNode at) {
-        Set<AbstractInsnNode> made = sources.of(method, at, 1);
-        return !made.isEmpty() && made.stream().allMatch(LibraryCalls::makesNumber);
     }
 
     private static boolean makesNumber(AbstractInsnNode at) {

@@ -6,6 +6,7 @@ import java.util.IdentityHashMap;
 import java.util.List;
 import java.util.Map;
 import java.util.Set;
+import java.util.function.Predicate;
 import org.objectweb.asm.Opcodes;
 import org.objectweb.asm.Type;
 import org.objectweb.asm.tree.AbstractInsnNode;
@@ -54,12 +55,29 @@ public final class ValueSources implements Opcodes {
 
     /** The instructions that may have made an operand: calls of own methods and parameters are followed. What nobody in the class hands over is left out. */
     public Set<AbstractInsnNode> of(MethodNode method, AbstractInsnNode at, int below) {
-        Set<AbstractInsnNode> found = new HashSet<>();
+        Set<AbstractInsnNode> made = new HashSet<>();
+        for (Object source : all(method, at, below)) {
+            if (source instanceof AbstractInsnNode instruction) {
+                made.add(instruction);
+            }
+        }
+        return made;
+    }
+
+    /** Whether an operand is made by such instructions alone: calls of own methods and parameters are followed. */
+    boolean isMadeBy(MethodNode method, AbstractInsnNode at, int below, Predicate<AbstractInsnNode> test) {
+        Set<Object> all = all(method, at, below);
+        return !all.isEmpty() && all.stream().allMatch(it -> it instanceof AbstractInsnNode made && test.test(made));
+    }
+
+    /** The instructions that may have made an operand, and what else it may be: a parameter that nobody in the class hands over, a caught exception. */
+    private Set<Object> all(MethodNode method, AbstractInsnNode at, int below) {
+        Set<Object> found = new HashSet<>();
         follow(method, origin(method, at, below), found, new HashSet<>());
         return found;
     }
 
-    private void follow(MethodNode method, Origin origin, Set<AbstractInsnNode> found, Set<Visit> visited) {
+    private void follow(MethodNode method, Origin origin, Set<Object> found, Set<Visit> visited) {
         if (origin == null) {
             return;
         }
@@ -67,11 +85,11 @@ public final class ValueSources implements Opcodes {
             if (!visited.add(new Visit(method, source))) {
                 continue;
             } else if (source instanceof Origin.Parameter parameter) {
-                followParameter(method, parameter.number(), found, visited);
-            } else if (source instanceof AbstractInsnNode at) {
-                MethodNode callee = Instructions.callee(owner, at);
+                followParameter(method, parameter, found, visited);
+            } else {
+                MethodNode callee = source instanceof AbstractInsnNode at ? Instructions.callee(owner, at) : null;
                 if (callee == null) {
-                    found.add(at);
+                    found.add(source);
                 } else {
                     followResults(callee, found, visited);
                 }
@@ -79,12 +97,17 @@ public final class ValueSources implements Opcodes {
         }
     }
 
-    private void followParameter(MethodNode method, int number, Set<AbstractInsnNode> found, Set<Visit> visited) {
+    private void followParameter(MethodNode method, Origin.Parameter parameter, Set<Object> found, Set<Visit> visited) {
         int count = Type.getArgumentTypes(method.desc).length + (Instructions.isStatic(method) ? 0 : 1);
+        boolean isHandedOver = false;
         for (MethodNode caller : List.copyOf(owner.methods)) {
             for (AbstractInsnNode at : callsOf(caller, method)) {
-                follow(caller, origin(caller, at, count - 1 - number), found, visited);
+                isHandedOver = true;
+                follow(caller, origin(caller, at, count - 1 - parameter.number()), found, visited);
             }
+        }
+        if (!isHandedOver) {
+            found.add(parameter);
         }
     }
 
@@ -98,7 +121,7 @@ public final class ValueSources implements Opcodes {
         return calls;
     }
 
-    private void followResults(MethodNode callee, Set<AbstractInsnNode> found, Set<Visit> visited) {
+    private void followResults(MethodNode callee, Set<Object> found, Set<Visit> visited) {
         for (AbstractInsnNode at : callee.instructions) {
             if (at.getOpcode() == ARETURN) {
                 follow(callee, origin(callee, at, 0), found, visited);

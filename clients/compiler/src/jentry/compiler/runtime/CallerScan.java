@@ -1,9 +1,13 @@
 package jentry.compiler.runtime;
 
+import java.lang.StackWalker.StackFrame;
+import java.security.CodeSource;
 import java.util.ArrayList;
 import java.util.HashSet;
 import java.util.List;
+import java.util.Objects;
 import java.util.Set;
+import java.util.stream.Stream;
 import org.objectweb.asm.ClassReader;
 import org.objectweb.asm.Handle;
 import org.objectweb.asm.Opcodes;
@@ -14,6 +18,7 @@ import org.objectweb.asm.tree.FieldInsnNode;
 import org.objectweb.asm.tree.InvokeDynamicInsnNode;
 import org.objectweb.asm.tree.MethodInsnNode;
 import org.objectweb.asm.tree.MethodNode;
+import jentry.compiler.CompileException;
 import jentry.compiler.profile.Instructions;
 import jentry.compiler.profile.Members;
 import jentry.compiler.rewrite.ValueSources;
@@ -21,17 +26,16 @@ import jentry.compiler.rewrite.ValueSources;
 /**
  * Finds which lambda a program hands over, by the call that is under way.
  *
- * <p>The method that calls the client has to be one of the class that makes the lambda. The call is looked up in its class file by the line,
- * and what it hands over has to be made in that very method or be a final field of the class. Whatever else it may be, a parameter or
- * what another method returns, could be another lambda of the class: then nothing is found.
+ * <p>The call of the client's method is looked up in the class file of its caller by the line and by the method that is called; javac may write it
+ * several times, as in a finally. What it hands over has to be made in the method that calls, or be a final field of the class that makes the lambda.
+ * Whatever else it may be, a parameter or what another method returns, could be another lambda of the class: then nothing is found.
  */
 final class CallerScan {
     private static final String PROCESSOR = "L" + Members.PROCESSOR + ";";
-
-    private record Caller(String method, String descriptor, int line) { }
+    private static final String CLIENT = "jentry.jcache.";
 
     private final Class<?> host;
-    private final ClassNode node = new ClassNode();
+    private final ClassNode hostNode;
 
     /**
      * Of lambdas that a class makes.
@@ -40,51 +44,89 @@ final class CallerScan {
      */
     CallerScan(Class<?> host, byte[] classFile) {
         this.host = host;
+        hostNode = read(classFile);
+    }
+
+    private static ClassNode read(byte[] classFile) {
+        ClassNode node = new ClassNode();
         new ClassReader(classFile).accept(node, ClassReader.SKIP_FRAMES);
+        return node;
     }
 
-    /** The names of the bodies that may have been handed over; empty where the call doesn't say. */
-    Set<String> bodies() {
-        return StackWalker.getInstance(StackWalker.Option.RETAIN_CLASS_REFERENCE).walk(frames -> frames
-            .filter(it -> it.getDeclaringClass() == host || !isOfTheClient(it.getDeclaringClass().getName())).findFirst()
-            .filter(it -> it.getDeclaringClass() == host)
-            .map(it -> bodies(new Caller(it.getMethodName(), it.getDescriptor(), it.getLineNumber()))).orElse(Set.of()));
+    /** The bodies that may have been handed over; empty where the call doesn't say. */
+    Set<Handle> bodies() {
+        return StackWalker.getInstance(StackWalker.Option.RETAIN_CLASS_REFERENCE).walk(this::bodies);
     }
 
-    private static boolean isOfTheClient(String name) {
-        return name.startsWith("jentry.jcache.") || name.startsWith(CallerScan.class.getPackageName() + ".") || name.startsWith("java.lang.");
+    /** The caller is the first frame that isn't the client's, and the frame before is the client's method that it calls. */
+    private Set<Handle> bodies(Stream<StackFrame> frames) {
+        StackFrame called = null;
+        CodeSource client = null;
+        for (StackFrame frame : (Iterable<StackFrame>) frames::iterator) {
+            Class<?> type = frame.getDeclaringClass();
+            client = client == null && type.getName().startsWith(CLIENT) ? type.getProtectionDomain().getCodeSource() : client;
+            if (type == host || !isOfTheClient(type, client)) {
+                return called == null ? Set.of() : bodies(frame, called);
+            }
+            called = frame;
+        }
+        return Set.of();
     }
 
-    private Set<String> bodies(Caller caller) {
-        MethodNode method = Instructions.method(node, caller.method, caller.descriptor);
+    private static boolean isOfTheClient(Class<?> type, CodeSource client) {
+        String name = type.getName();
+        return name.startsWith(CLIENT) && Objects.equals(client, type.getProtectionDomain().getCodeSource())
+            || name.startsWith(CallerScan.class.getPackageName() + ".") || name.startsWith("java.lang.");
+    }
+
+    private Set<Handle> bodies(StackFrame caller, StackFrame called) {
+        ClassNode node = node(caller.getDeclaringClass());
+        MethodNode method = node == null ? null : Instructions.method(node, caller.getMethodName(), caller.getDescriptor());
         List<Set<AbstractInsnNode>> handedOver = new ArrayList<>();
         if (method != null) {
             ValueSources sources = new ValueSources(node);
             for (AbstractInsnNode at : method.instructions) {
-                if (at instanceof MethodInsnNode call && Instructions.line(at) == caller.line) {
-                    Type[] types = Type.getArgumentTypes(call.desc);
-                    for (int i = 0; i < types.length; i++) {
-                        if (types[i].getDescriptor().equals(PROCESSOR)) {
-                            handedOver.add(sources.within(method, at, types.length - 1 - i));
-                        }
-                    }
+                boolean calls = at instanceof MethodInsnNode it && it.name.equals(called.getMethodName()) && it.desc.equals(called.getDescriptor());
+                if (calls && Instructions.line(at) == caller.getLineNumber()) {
+                    handedOver.add(handedOver(sources, method, (MethodInsnNode) at));
                 }
             }
         }
-        Set<String> bodies = new HashSet<>();
-        return handedOver.size() == 1 && areLambdas(handedOver.get(0), bodies, true) ? bodies : Set.of();
+        Set<Handle> bodies = new HashSet<>();
+        boolean isKnown = handedOver.stream().allMatch(it -> areLambdas(it, node == hostNode, bodies, true));
+        return isKnown ? bodies : Set.of();
     }
 
-    /** Whether values are lambdas, whose bodies are added, or final fields that hold such. */
-    private boolean areLambdas(Set<AbstractInsnNode> made, Set<String> bodies, boolean mayBeFields) {
+    private ClassNode node(Class<?> type) {
+        try {
+            return type == host ? hostNode : read(LoadedProcessors.classFile(type));
+        } catch (CompileException e) {
+            // a class that was made at run time doesn't say what it hands over
+            return null;
+        }
+    }
+
+    /** What a call hands over as its processor; null where that isn't known. */
+    private static Set<AbstractInsnNode> handedOver(ValueSources sources, MethodNode method, MethodInsnNode call) {
+        Type[] types = Type.getArgumentTypes(call.desc);
+        for (int i = 0; i < types.length; i++) {
+            if (types[i].getDescriptor().equals(PROCESSOR)) {
+                return sources.within(method, call, types.length - 1 - i);
+            }
+        }
+        return null;
+    }
+
+    /** Whether values are lambdas of the host, whose bodies are added, or final fields of it that hold such. */
+    private boolean areLambdas(Set<AbstractInsnNode> made, boolean isMadeByHost, Set<Handle> bodies, boolean mayBeFields) {
         if (made == null) {
             return false;
         }
         for (AbstractInsnNode source : made) {
-            if (source instanceof InvokeDynamicInsnNode it && it.bsmArgs.length > 1 && it.bsmArgs[1] instanceof Handle body) {
-                bodies.add(body.getName());
+            if (isMadeByHost && source instanceof InvokeDynamicInsnNode it && it.bsmArgs.length > 1 && it.bsmArgs[1] instanceof Handle body) {
+                bodies.add(body);
             } else if (!(mayBeFields && source instanceof FieldInsnNode field && isFinal(field)
-                && writes(field).stream().allMatch(it -> areLambdas(it, bodies, false)))) {
+                && writes(field).stream().allMatch(it -> areLambdas(it, true, bodies, false)))) {
                 return false;
             }
         }
@@ -92,18 +134,18 @@ final class CallerScan {
     }
 
     private boolean isFinal(FieldInsnNode field) {
-        return field.owner.equals(node.name)
-            && node.fields.stream().anyMatch(it -> it.name.equals(field.name) && (it.access & Opcodes.ACC_FINAL) != 0);
+        return field.owner.equals(hostNode.name)
+            && hostNode.fields.stream().anyMatch(it -> it.name.equals(field.name) && (it.access & Opcodes.ACC_FINAL) != 0);
     }
 
-    /** What the class writes to a field. A null among them isn't known. */
+    /** What the host writes to a field. A null among them isn't known. */
     private List<Set<AbstractInsnNode>> writes(FieldInsnNode field) {
         List<Set<AbstractInsnNode>> all = new ArrayList<>();
-        ValueSources sources = new ValueSources(node);
-        for (MethodNode method : node.methods) {
+        ValueSources sources = new ValueSources(hostNode);
+        for (MethodNode method : hostNode.methods) {
             for (AbstractInsnNode at : method.instructions) {
                 boolean writes = (at.getOpcode() == Opcodes.PUTSTATIC || at.getOpcode() == Opcodes.PUTFIELD)
-                    && at instanceof FieldInsnNode it && it.name.equals(field.name) && it.owner.equals(node.name);
+                    && at instanceof FieldInsnNode it && it.name.equals(field.name) && it.owner.equals(hostNode.name);
                 if (writes) {
                     all.add(sources.within(method, at, 0));
                 }

@@ -7,6 +7,7 @@ import java.lang.reflect.Method;
 import java.util.List;
 import java.util.Set;
 import java.util.stream.Collectors;
+import org.objectweb.asm.Handle;
 import org.objectweb.asm.Type;
 import jentry.compiler.CompileException;
 import jentry.compiler.CompiledClass;
@@ -43,7 +44,7 @@ public final class LoadedProcessors {
         return new CompileException(List.of(new Problem(name, "", -1, what, remedy)));
     }
 
-    private static byte[] classFile(Class<?> type) throws CompileException {
+    static byte[] classFile(Class<?> type) throws CompileException {
         String file = type.getName().substring(type.getName().lastIndexOf('.') + 1) + ".class";
         try (InputStream in = type.getResourceAsStream(file)) {
             if (in != null) {
@@ -68,41 +69,45 @@ public final class LoadedProcessors {
             throw problem(hostName, "a lambda takes a value from outside",
                 "hand it over as an argument of the call, and read it from the lambda's second parameter");
         }
-        byte[] bytes = classFile(host);
-        return new ProcessorCompiler().compileLambda(bytes, body(processor, host, bytes));
+        return new ProcessorCompiler().compileLambda(lambda(processor, host));
     }
 
-    /** The name of the method that is the lambda's body. */
-    private static String body(Object processor, Class<?> host, byte[] bytes) throws CompileException {
-        String declared = declaredBody(processor);
+    private static Lambdas.Lambda lambda(Object processor, Class<?> host) throws CompileException {
+        byte[] bytes = classFile(host);
+        List<Lambdas.Lambda> candidates = ProcessorCompiler.lambdas(bytes).stream()
+            .filter(it -> Type.getArgumentTypes(it.site().desc).length == 0).toList();
+        SerializedLambda declared = declared(processor);
         if (declared != null) {
-            return declared;
+            return only(host, candidates.stream()
+                .filter(it -> it.isBody(declared.getImplClass(), declared.getImplMethodName(), declared.getImplMethodSignature())).toList());
         }
         if (List.of(processor.getClass().getInterfaces()).stream().anyMatch(it -> !it.getName().equals(PROCESSOR))) {
             throw problem(host.getName(), "a lambda of another type than EntryProcessor can't be told from the class's other lambdas",
                 "declare it as an EntryProcessor, or write it as a class of its own");
         }
-        List<Lambdas.Lambda> candidates = ProcessorCompiler.lambdas(bytes).stream()
-            .filter(it -> Type.getArgumentTypes(it.site().desc).length == 0).toList();
         if (candidates.size() > 1) {
-            Set<String> handedOver = new CallerScan(host, bytes).bodies();
-            List<Lambdas.Lambda> found = candidates.stream().filter(it -> handedOver.contains(it.body().getName())).toList();
-            candidates = found.isEmpty() ? candidates : found;
+            Set<Handle> handedOver = new CallerScan(host, bytes).bodies();
+            List<Lambdas.Lambda> found = candidates.stream().filter(it -> handedOver.contains(it.body())).toList();
+            return only(host, found.isEmpty() ? candidates : found);
         }
+        return only(host, candidates);
+    }
+
+    private static Lambdas.Lambda only(Class<?> host, List<Lambdas.Lambda> candidates) throws CompileException {
         if (candidates.size() == 1) {
-            return candidates.get(0).body().getName();
+            return candidates.get(0);
         }
         String names = candidates.stream().map(it -> it.body().getName()).collect(Collectors.joining(", "));
-        throw problem(host.getName(), "it can't be seen which of its lambdas this one is: " + names,
-            "hand the lambda over where it is written, or cast it to (EntryProcessor<Long, Long, ..> & java.io.Serializable)");
+        throw new UnknownLambdaException(new Problem(host.getName(), "", -1, "it can't be seen which of its lambdas this one is: " + names,
+            "hand the lambda over where it is written, or cast it to (EntryProcessor<Long, Long, ..> & java.io.Serializable)"));
     }
 
     /** What a serializable lambda says of itself, or null. */
-    private static String declaredBody(Object processor) {
+    private static SerializedLambda declared(Object processor) {
         try {
             Method method = processor.getClass().getDeclaredMethod("writeReplace");
             method.setAccessible(true);
-            return method.invoke(processor) instanceof SerializedLambda it ? it.getImplMethodName() : null;
+            return method.invoke(processor) instanceof SerializedLambda it ? it : null;
         } catch (ReflectiveOperationException | RuntimeException e) {
             return null;
         }

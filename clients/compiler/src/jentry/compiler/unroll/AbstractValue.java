@@ -66,9 +66,14 @@ record AbstractValue(int size, Object fact) implements Value {
     AbstractValue plus(long low, long high) {
         long least = low() + low;
         long greatest = high() + high;
-        boolean fits = isNarrow() && Math.abs(low) <= Integer.MAX_VALUE && Math.abs(high) <= Integer.MAX_VALUE
+        boolean fits = isNarrow() && !overflows(low(), low) && !overflows(high(), high)
             && (size == 2 || least >= Integer.MIN_VALUE && greatest <= Integer.MAX_VALUE);
         return fits ? range(size, least, greatest) : unknown(size);
+    }
+
+    private static boolean overflows(long a, long b) {
+        long sum = a + b;
+        return ((a ^ sum) & (b ^ sum)) < 0;
     }
 
     /** The least number that it can be. */

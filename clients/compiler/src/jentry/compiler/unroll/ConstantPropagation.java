@@ -64,13 +64,6 @@ final class ConstantPropagation extends Interpreter<AbstractValue> implements Op
             case IINC:
                 int by = ((IincInsnNode) at).incr;
                 return value.fact() instanceof Integer number ? AbstractValue.constant(number + by) : value.plus(by, by);
-            case I2L:
-                return value.fact() == null ? AbstractValue.range(2, Integer.MIN_VALUE, Integer.MAX_VALUE)
-                    : AbstractValue.range(2, value.low(), value.high());
-            case L2I:
-                boolean fits = value.low() >= Integer.MIN_VALUE && value.high() <= Integer.MAX_VALUE;
-                return value.isConstant() ? AbstractValue.constant(Arithmetic.unary(L2I, value.fact()))
-                    : fits ? AbstractValue.range(1, value.low(), value.high()) : AbstractValue.unknown(1);
             case GETFIELD:
                 return newValue(Type.getType(((FieldInsnNode) at).desc));
             case INSTANCEOF:
@@ -78,7 +71,7 @@ final class ConstantPropagation extends Interpreter<AbstractValue> implements Op
             default:
         }
         Object known = Arithmetic.unary(opcode, value.fact());
-        return known != null ? AbstractValue.constant(known) : AbstractValue.unknown(opcode == LNEG ? 2 : 1);
+        return known != null ? AbstractValue.constant(known) : RangeArithmetic.unary(opcode, value);
     }
 
     @Override
@@ -88,31 +81,7 @@ final class ConstantPropagation extends Interpreter<AbstractValue> implements Op
         if (known != null) {
             return AbstractValue.constant(known);
         }
-        return switch (opcode) {
-            case LCMP -> AbstractValue.range(1, left.low() > right.high() ? 1 : left.low() >= right.high() ? 0 : -1,
-                left.high() < right.low() ? -1 : left.high() <= right.low() ? 0 : 1);
-            case IAND, LAND -> masked(left.size(), left, right);
-            case IREM, LREM -> remainder(left, right);
-            case IADD, LADD -> right.isNarrow() ? left.plus(right.low(), right.high()) : AbstractValue.unknown(left.size());
-            case ISUB, LSUB -> right.isNarrow() ? left.plus(-right.high(), -right.low()) : AbstractValue.unknown(left.size());
-            case LALOAD, LMUL, LDIV, LSHL, LSHR, LUSHR, LOR, LXOR -> AbstractValue.unknown(2);
-            default -> AbstractValue.unknown(1);
-        };
-    }
-
-    /** A value and a mask that isn't negative is between zero and the mask. */
-    private static AbstractValue masked(int size, AbstractValue left, AbstractValue right) {
-        long most = Math.min(left.low() >= 0 ? left.high() : Long.MAX_VALUE, right.low() >= 0 ? right.high() : Long.MAX_VALUE);
-        return left.low() >= 0 || right.low() >= 0 ? AbstractValue.range(size, 0, most) : AbstractValue.unknown(size);
-    }
-
-    /** A remainder is nearer to zero than the divisor, and has the sign of what was divided. */
-    private static AbstractValue remainder(AbstractValue left, AbstractValue right) {
-        if (!right.isConstant() || right.low() == 0 || right.low() == Long.MIN_VALUE) {
-            return AbstractValue.unknown(left.size());
-        }
-        long most = Math.abs(right.low()) - 1;
-        return AbstractValue.range(left.size(), left.low() >= 0 ? 0 : -most, left.high() <= 0 ? 0 : most);
+        return RangeArithmetic.binary(opcode, left, right);
     }
 
     @Override
