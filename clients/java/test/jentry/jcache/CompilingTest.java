@@ -5,12 +5,14 @@ import static org.junit.jupiter.api.Assertions.assertThrows;
 import static org.junit.jupiter.api.Assertions.assertTrue;
 import static org.junit.jupiter.api.Assumptions.assumeTrue;
 
+import java.util.HashMap;
 import java.util.List;
 import java.util.Map;
 import java.util.Set;
 import javax.cache.Cache;
 import javax.cache.CacheException;
 import javax.cache.processor.EntryProcessor;
+import javax.cache.processor.EntryProcessorResult;
 import javax.cache.processor.MutableEntry;
 import org.junit.jupiter.api.BeforeEach;
 import org.junit.jupiter.api.Test;
@@ -18,6 +20,13 @@ import org.junit.jupiter.api.Test;
 /** Processors that are compiled before they are sent, on the real server; the jar of jentry-compile is on the class path. */
 class CompilingTest extends OnServer {
     private static final EntryProcessor<Long, Long, Long> ADDS_TWO = (entry, arguments) -> entry.getKey() + 2;
+    private static final EntryProcessor<Long, Long, Long> ADDS_THREE = (entry, arguments) -> entry.getKey() + 3;
+
+    /** Lambdas that this class hands over. */
+    private static final class Processors {
+        static final EntryProcessor<Long, Long, Long> FOUR = (entry, arguments) -> 4L;
+        static final EntryProcessor<Long, Long, Long> FIVE = (entry, arguments) -> 5L;
+    }
 
     @BeforeEach void compilerIsThere() {
         boolean isThere = true;
@@ -43,6 +52,26 @@ class CompilingTest extends OnServer {
         assertEquals(4L, bits);
         Long two = cache.invoke(k, ADDS_TWO);
         assertEquals(k + 2, two);
+    }
+
+    @Test void aLambdaIsTheOneThatIsHandedOver() {
+        assertEquals(5L, cache.invoke(k, Processors.FIVE));
+        assertEquals(4L, cache.invoke(k, Processors.FOUR));
+        for (EntryProcessor<Long, Long, Long> held : List.of(ADDS_THREE)) {
+            String message = assertThrows(CacheException.class, () -> cache.invoke(k, held)).getMessage();
+            assertTrue(message.contains("it can't be seen which of its lambdas this one is"), message);
+        }
+        assertEquals(k + 3, cache.invoke(k, ADDS_THREE), "another call says which one it is");
+        for (EntryProcessor<Long, Long, Long> held : List.of(ADDS_THREE)) {
+            assertEquals(k + 3, cache.invoke(k, held), "it is known now");
+        }
+        assertEquals(Map.of(k, 4L), results(cache.invokeAll(Set.of(k), Processors.FOUR)));
+    }
+
+    private static Map<Long, Long> results(Map<Long, EntryProcessorResult<Long>> of) {
+        Map<Long, Long> all = new HashMap<>();
+        of.forEach((key, result) -> all.put(key, result.get()));
+        return all;
     }
 
     /** The digits of the argument; a class of the test's own Java. */

@@ -5,6 +5,7 @@ import static org.junit.jupiter.api.Assertions.assertFalse;
 import static org.junit.jupiter.api.Assertions.assertThrows;
 import static org.junit.jupiter.api.Assertions.assertTrue;
 
+import java.util.Collections;
 import java.util.List;
 import java.util.Map;
 import java.util.Set;
@@ -70,6 +71,24 @@ class ListenerTest extends OnServer {
         cache.invoke(k, new Sample.Removes());
         cache.invoke(k, new Sample.Removes());
         assertEquals(Server.isRedis() ? List.of("CREATED 0 4 null", "UPDATED 0 6 4", "REMOVED 0 6 6") : List.of(), it.all);
+    }
+
+    @Test void aValueThatIsThereIsUpdatedAllTheSame() {
+        cache.put(k, 5L);
+        Heard it = listen(true, true);
+        cache.put(k, 5L);
+        cache.getAndPut(k, 5L);
+        assertTrue(cache.replace(k, 5L, 5L));
+        cache.replace(k, 5L);
+        cache.getAndReplace(k, 5L);
+        cache.putAll(Map.of(k, 5L));
+        assertEquals(Collections.nCopies(6, "UPDATED 0 5 5"), it.all);
+        it.all.clear();
+        cache.invoke(k, new Sample.Sets(), 5L);
+        cache.invokeAll(Set.of(k), new Sample.Add(), 0L);
+        server.own().invokeAsync(k, new Sample.Sets(), 5L).join();
+        cache.invoke(k, new Sample.Value());
+        assertEquals(Server.isRedis() ? Collections.nCopies(3, "UPDATED 0 5 5") : List.of(), it.all);
     }
 
     @Test void runsInThisJvm() {

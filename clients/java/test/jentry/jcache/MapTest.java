@@ -71,6 +71,7 @@ class MapTest extends OnServer {
 
     @Test void allMethodsWithStatisticsListenersAndExpiry() throws InterruptedException {
         List<MutableConfiguration<Long, Long>> configurations = new ArrayList<>();
+        configurations.add(Server.types());
         configurations.add(Server.types().setStatisticsEnabled(true));
         configurations.add(Server.types().addCacheEntryListenerConfiguration(new Heard(0).by(true, true)));
         if (Server.isRedis()) {

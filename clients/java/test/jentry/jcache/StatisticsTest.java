@@ -129,6 +129,22 @@ class StatisticsTest extends OnServer {
         counts(Server.isRedis() ? 3 : 0, Server.isRedis() ? 5 : 0, Server.isRedis() ? 4 : 0, Server.isRedis() ? 1 : 0);
     }
 
+    /** A set of the value that is there is a put all the same. */
+    @Test void aValueThatIsThere() {
+        counted.put(k, 5L);
+        assertTrue(counted.replace(k, 5L, 5L));
+        counts(1, 0, 2, 0);
+        counted.replace(k, 5L);
+        counted.getAndReplace(k, 5L);
+        counted.getAndPut(k, 5L);
+        counts(4, 0, 5, 0);
+        counted.invoke(k, new Sample.Sets(), 5L);
+        counted.invokeAll(Set.of(k), new Sample.Add(), 0L);
+        counts(Server.isRedis() ? 6 : 4, 0, Server.isRedis() ? 7 : 5, 0);
+        counted.invoke(k, new Sample.Value());
+        counts(Server.isRedis() ? 7 : 4, 0, Server.isRedis() ? 7 : 5, 0);
+    }
+
     @Test void runsInThisJvmAreCounted() {
         counted.close();
         Cache<Long, Long> local = create(Server.types().setStatisticsEnabled(true), "jentry.local", "true");

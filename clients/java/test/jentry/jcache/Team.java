@@ -2,10 +2,13 @@ package jentry.jcache;
 
 import static org.junit.jupiter.api.Assertions.assertEquals;
 import static org.junit.jupiter.api.Assertions.assertFalse;
+import static org.junit.jupiter.api.Assertions.assertTrue;
 
 import java.util.ArrayList;
 import java.util.Collections;
 import java.util.List;
+import java.util.concurrent.TimeUnit;
+import java.util.function.LongSupplier;
 
 /** Threads that do the same, and whose failures fail the test. */
 public final class Team {
@@ -45,6 +48,20 @@ public final class Team {
         for (Thread thread : threads) {
             thread.join(PATIENCE_MILLIS);
             assertFalse(thread.isAlive(), "a thread hangs");
+        }
+        assertEquals(List.of(), wrong);
+    }
+
+    /** As {@link #join()}, for many calls: a team whose count of calls grows on a slow machine may go on. */
+    public void join(LongSupplier calls) throws InterruptedException {
+        for (long before = -1; threads.stream().anyMatch(Thread::isAlive);) {
+            long now = calls.getAsLong();
+            assertTrue(now > before, "all threads hang");
+            before = now;
+            long end = System.nanoTime() + TimeUnit.MILLISECONDS.toNanos(PATIENCE_MILLIS);
+            for (Thread thread : threads) {
+                thread.join(Math.max(1, TimeUnit.NANOSECONDS.toMillis(end - System.nanoTime())));
+            }
         }
         assertEquals(List.of(), wrong);
     }

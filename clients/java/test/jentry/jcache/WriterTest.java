@@ -150,6 +150,8 @@ class WriterTest extends OnServer {
         assertEquals(6L, through.invoke(k, new Sample.Add(), 5L));
         assertEquals(6L, through.invoke(k, new Sample.Value()));
         called("write 0 1", "write 0 6");
+        through.invoke(k, new Sample.Sets(), 6L);
+        called("write 0 6");
         assertThrows(CacheWriterException.class, () -> through.invoke(k, new Sample.Add(), 7L));
         assertEquals(6L, through.get(k));
         through.invoke(k, new Sample.Removes());

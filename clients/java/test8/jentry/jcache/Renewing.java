@@ -22,4 +22,12 @@ public final class Renewing {
             return entry.getValue();
         }
     }
+
+    /** Sets its argument, also where it is the value that is there. */
+    public static final class Sets implements EntryProcessor<Long, Long, Object> {
+        @Override public Object process(MutableEntry<Long, Long> entry, Object... arguments) {
+            entry.setValue((Long) arguments[0]);
+            return null;
+        }
+    }
 }

@@ -53,6 +53,14 @@ final class Sample {
         }
     }
 
+    /** Sets its argument, also where it is the value that is there. */
+    static class Sets implements EntryProcessor<Long, Long, Object> {
+        @Override public Object process(MutableEntry<Long, Long> entry, Object... arguments) {
+            entry.setValue((Long) arguments[0]);
+            return null;
+        }
+    }
+
     static class Removes implements EntryProcessor<Long, Long, Object> {
         @Override public Object process(MutableEntry<Long, Long> entry, Object... arguments) {
             entry.remove();

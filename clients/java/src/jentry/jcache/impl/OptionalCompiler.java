@@ -11,6 +11,7 @@ import javax.cache.processor.EntryProcessor;
  */
 final class OptionalCompiler {
     private static final String NAME = "jentry.compiler.runtime.LoadedProcessors";
+    private static final String UNKNOWN = "jentry.compiler.runtime.UnknownLambdaException";
     private static final MethodHandle COMPILE = find();
 
     /**
@@ -18,8 +19,9 @@ final class OptionalCompiler {
      *
      * @param bytes the class file, or null
      * @param problem why there is none, or null
+     * @param isOfCall whether the same processor may be compiled where another call hands it over
      */
-    record Result(byte[] bytes, String problem) { }
+    record Result(byte[] bytes, String problem, boolean isOfCall) { }
 
     private OptionalCompiler() { }
 
@@ -47,11 +49,12 @@ final class OptionalCompiler {
      */
     static Result compile(EntryProcessor<?, ?, ?> processor) {
         try {
-            return new Result((byte[]) COMPILE.invokeExact((Object) processor), null);
+            return new Result((byte[]) COMPILE.invokeExact((Object) processor), null, false);
         } catch (VirtualMachineError e) {
             throw e;
         } catch (Throwable e) {
-            return new Result(null, e.getMessage() == null ? e.toString() : e.getMessage());
+            String problem = e.getMessage() == null ? e.toString() : e.getMessage();
+            return new Result(null, problem, e.getClass().getName().equals(UNKNOWN));
         }
     }
 }

@@ -29,30 +29,33 @@ public final class ProcessorFile {
         }
     };
 
-    /** What is sent of a class once it was compiled, which is tried once. */
+    /**
+     * What is sent of a class once it was compiled. That is tried once, or until a call says which lambda the class is.
+     */
     private static final class Compiled {
         private volatile ProcessorFile file;
         private volatile String problem;
 
         private ProcessorFile of(EntryProcessor<?, ?, ?> processor) {
-            if (file == null && problem == null) {
-                compile(processor);
-            }
+            String why = file == null && problem == null ? compile(processor) : problem;
             if (file == null) {
-                file = uncompiled(processor.getClass(), problem);
+                file = uncompiled(processor.getClass(), why);
             }
             return file;
         }
 
-        private synchronized void compile(EntryProcessor<?, ?, ?> processor) {
-            if (file == null && problem == null) {
-                OptionalCompiler.Result result = OptionalCompiler.compile(processor);
-                if (result.bytes() == null) {
-                    problem = result.problem();
-                } else {
-                    file = new ProcessorFile(processor.getClass().getName(), result.bytes());
-                }
+        /** Gives the problem, or null. */
+        private synchronized String compile(EntryProcessor<?, ?, ?> processor) {
+            if (file != null || problem != null) {
+                return problem;
             }
+            OptionalCompiler.Result result = OptionalCompiler.compile(processor);
+            if (result.bytes() != null) {
+                file = new ProcessorFile(processor.getClass().getName(), result.bytes());
+            } else if (!result.isOfCall()) {
+                problem = result.problem();
+            }
+            return result.problem();
         }
     }
 

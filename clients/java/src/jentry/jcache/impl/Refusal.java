@@ -30,7 +30,7 @@ public enum Refusal {
     OUTSIDE_PROFILE("OutsideProfile", ""),
     BAD_OPERAND("BadOperand", "a method that is called takes or answers a type that isn't known"),
     BAD_TARGET("BadTarget", ""),
-    BACKWARD_BRANCH("BackwardBranch", "write no loop that comes back: write its passes out, by a method for one pass"),
+    BACKWARD_BRANCH("BackwardBranch", "loops aren't taken as they are: put jentry-compile.jar on the class path, or use a formula"),
     BAD_STACK_MAP("BadStackMap", "declare the local as Object, Number, Long or Integer"),
     TYPE_MISMATCH("TypeMismatch", ""),
     FALLS_OFF("FallsOff", ""),

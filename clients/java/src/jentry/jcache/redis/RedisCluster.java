@@ -22,7 +22,14 @@ import jentry.jcache.impl.Options;
 /** One node, or the masters of a cluster: which node has a key, a connection to each, and redirections. */
 final class RedisCluster {
     static final int SLOTS = 16_384;
-    private static final int MOST_REDIRECTIONS = 16;
+    private static final int MOST_TRIES = 16;
+
+    /**
+     * While a slot moves, two nodes may each name the other until the cluster's bus has told both. So a call that was
+     * redirected a few times waits before it follows, for more than a second in all.
+     */
+    private static final int MOST_REDIRECTIONS = 64;
+    private static final int QUICK_REDIRECTIONS = 4;
     private static final int MOST_RESENDS = 2;
     private static final long PAUSE_NANOS = 20_000_000;
 
@@ -259,8 +266,13 @@ final class RedisCluster {
             Resp.Failure undone = undone(replies);
             if (undone == null) {
                 return new Answer(node, asks ? Arrays.copyOfRange(replies, 1, replies.length) : replies);
-            } else if (tries >= MOST_REDIRECTIONS) {
+            }
+            boolean isRedirected = undone.is("MOVED") || undone.is("ASK");
+            if (tries >= (isRedirected ? MOST_REDIRECTIONS : MOST_TRIES)) {
                 throw new CallNotSentException(node + " did nothing: " + undone.text(), null);
+            }
+            if (!isRedirected || tries >= QUICK_REDIRECTIONS) {
+                LockSupport.parkNanos(PAUSE_NANOS);
             }
             asks = undone.is("ASK");
             node = next(slot, node, undone, since);
@@ -284,7 +296,6 @@ final class RedisCluster {
             }
             return at;
         }
-        LockSupport.parkNanos(PAUSE_NANOS);
         return undone.is("TRYAGAIN") ? node : nodeAnew(slot, since);
     }
 

@@ -18,7 +18,6 @@ import jentry.jcache.CallNotSentException;
 import jentry.jcache.impl.BuiltIn;
 import jentry.jcache.impl.ProcessorFile;
 import jentry.jcache.store.Durations;
-import jentry.jcache.store.Effect;
 import jentry.jcache.store.Invocation;
 import jentry.jcache.store.Mutation;
 import jentry.jcache.store.Store;
@@ -211,27 +210,13 @@ final class RedisStore implements Store {
         return count.get();
     }
 
-    /**
-     * Whether it was done is what the processor answers: 1 or 0. A put of the value that is there already may be one
-     * that the module can't tell from none; so its times to live are given in a step of their own.
-     */
+    /** Whether it was done is what the processor answers: 1 or 0. */
     @Override public Mutation compare(long key, long old, Long next, Durations durations, boolean asksBefore) {
         BuiltIn by = next == null ? BuiltIn.REMOVE_IF : BuiltIn.REPLACE_IF;
         Object[] arguments = next == null ? new Object[] {old} : new Object[] {old, next};
-        boolean isSame = next != null && next == old;
-        Durations times = isSame ? new Durations(durations.created(), durations.updated(), Durations.LEAVE) : durations;
-        Invocation done = run(by.file(), key, arguments, times);
+        Invocation done = run(by.file(), key, arguments, durations);
         boolean isDone = Integer.valueOf(1).equals(done.result());
-        if (isSame && done.before() != null && done.effect() == Effect.KEEP) {
-            touch(key, isDone ? durations.updated() : durations.accessed());
-        }
         return new Mutation(isDone, done.before() != null, done.before());
-    }
-
-    private void touch(long key, long time) {
-        if (time != Durations.LEAVE) {
-            get(key, time);
-        }
     }
 
     private Object[] applying(ProcessorFile file, String name, Object[] arguments, Durations times, String mode) {

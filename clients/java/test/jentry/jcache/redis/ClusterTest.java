@@ -16,8 +16,10 @@ import jentry.jcache.CallOutcomeUnknownException;
 import jentry.jcache.Renewing;
 import jentry.jcache.Team;
 import org.junit.jupiter.api.Test;
+import org.junit.jupiter.api.Timeout;
 
 /** Exact counts by a verified processor: on one server, on three masters, while slots move, and over a failover. */
+@Timeout(1_800)
 class ClusterTest extends WithRedis {
     private static final int THREADS = 8;
     private static final int EACH = Integer.getInteger("jentry.test.each", 20_000);
@@ -36,56 +38,83 @@ class ClusterTest extends WithRedis {
         cache.invoke((thread * 7L + i) % KEYS, new Renewing.Add(), 1L);
     }
 
-    private static Team adding(Cache<Long, Long> cache) {
-        return Team.of(THREADS, t -> {
-            for (int i = 0; i < EACH; i++) {
-                add(cache, t, i);
-            }
-        });
+    /** The calls of the threads, and how they ended. */
+    private static final class Ends {
+        final AtomicLong done = new AtomicLong(), unknown = new AtomicLong(), unsent = new AtomicLong();
+        private final Team team;
+
+        Ends(Cache<Long, Long> cache) {
+            team = Team.of(THREADS, t -> {
+                for (int i = 0; i < EACH; i++) {
+                    try {
+                        add(cache, t, i);
+                        done.incrementAndGet();
+                    } catch (CallOutcomeUnknownException e) {
+                        unknown.incrementAndGet();
+                    } catch (CallNotSentException e) {
+                        unsent.incrementAndGet();
+                        Thread.sleep(20);
+                    }
+                }
+            });
+        }
+
+        private long all() {
+            return done.get() + unknown.get() + unsent.get();
+        }
+
+        void await() throws InterruptedException {
+            team.join(this::all);
+            assertEquals((long) THREADS * EACH, all());
+        }
+
+        @Override public String toString() {
+            return done + " done, " + unknown + " not known, " + unsent + " not sent";
+        }
+    }
+
+    /** Every call is done, and each once. */
+    private static void isExact(Cache<Long, Long> cache) throws InterruptedException {
+        Ends ends = new Ends(cache);
+        ends.await();
+        assertEquals((long) THREADS * EACH, ends.done.get(), ends::toString);
+        assertEquals((long) THREADS * EACH, sum(cache));
     }
 
     @Test void onOneServerWithAndWithoutStatistics() throws InterruptedException {
         CacheManager manager = manager(open(new RedisServer()));
         for (boolean counts : new boolean[] {false, true}) {
             Cache<Long, Long> cache = manager.createCache("counts" + counts, types().setStatisticsEnabled(counts));
-            adding(cache).join();
-            assertEquals((long) THREADS * EACH, sum(cache));
+            isExact(cache);
         }
     }
 
+    @Test void onThreeMasters() throws InterruptedException {
+        CacheManager manager = open(RedisServer.manager(open(new RedisNodes(false)).uri("app")));
+        for (boolean counts : new boolean[] {false, true}) {
+            Cache<Long, Long> cache = manager.createCache("counts" + counts, types().setStatisticsEnabled(counts));
+            isExact(cache);
+        }
+    }
+
+    /** Each slot moves once: heartbeats of the bus that are late could give a slot that moves again to a node without its keys. */
     @Test void onThreeMastersWhileSlotsMove() throws Exception {
         RedisNodes nodes = open(new RedisNodes(false));
         Cache<Long, Long> cache = open(RedisServer.manager(nodes.uri("app"))).createCache("test", types());
         AtomicBoolean over = new AtomicBoolean();
         AtomicLong moved = new AtomicLong();
         Team moves = Team.of(1, t -> {
-            while (!over.get()) {
-                for (long key = 0; key < KEYS && !over.get(); key++) {
-                    int slot = RedisCluster.slot("app:test:" + key);
-                    RedisServer from = owner(nodes, slot), to = nodes.master((nodes.all.indexOf(from) + 1) % 3);
-                    nodes.move(slot, from, to);
-                    moved.incrementAndGet();
-                }
+            for (long key = 0; key < KEYS && !over.get(); key++) {
+                int slot = RedisCluster.slot("app:test:" + key);
+                RedisServer from = nodes.owner(slot), to = nodes.master((nodes.all.indexOf(from) + 1) % 3);
+                nodes.move(slot, from, to);
+                moved.incrementAndGet();
             }
         });
-        Team adds = adding(cache);
-        adds.join();
+        isExact(cache);
         over.set(true);
         moves.join();
-        assertEquals((long) THREADS * EACH, sum(cache));
-        assertTrue(moved.get() >= KEYS, moved + " slots were moved");
-    }
-
-    private static RedisServer owner(RedisNodes nodes, int slot) {
-        Object[] ranges = (Object[]) nodes.master(0).ask("CLUSTER", "SLOTS");
-        for (Object it : ranges) {
-            Object[] range = (Object[]) it;
-            if ((Long) range[0] <= slot && slot <= (Long) range[1]) {
-                long port = (Long) ((Object[]) range[2])[1];
-                return nodes.all.stream().filter(node -> node.port == port).findFirst().orElseThrow();
-            }
-        }
-        throw new IllegalStateException("nobody has the slot " + slot);
+        assertTrue(moved.get() >= KEYS / 4, moved + " slots were moved");
     }
 
     /** Keys of one slot, some of which are at the master that is about to get it. */
@@ -98,7 +127,7 @@ class ClusterTest extends WithRedis {
         }
         cache.putAll(all);
         int slot = RedisCluster.slot("{t}");
-        RedisServer from = owner(nodes, slot), to = nodes.master((nodes.all.indexOf(from) + 1) % 3);
+        RedisServer from = nodes.owner(slot), to = nodes.master((nodes.all.indexOf(from) + 1) % 3);
         nodes.beginMove(slot, from, to);
         nodes.moveKeys(slot, from, to, 20);
         assertEquals(all, cache.getAll(all.keySet()));
@@ -121,38 +150,48 @@ class ClusterTest extends WithRedis {
         assertEquals(all, cache.getAll(all.keySet()));
     }
 
-    /** What is known to be done is there, as long as the replica had it; what isn't known is thrown as such. */
-    @Test void aMasterThatIsKilled() throws Exception {
-        RedisNodes nodes = open(new RedisNodes(true));
-        Cache<Long, Long> cache = open(RedisServer.manager(nodes.uri("app"))).createCache("test", types());
-        AtomicLong done = new AtomicLong(), unknown = new AtomicLong(), unsent = new AtomicLong();
-        AtomicBoolean over = new AtomicBoolean();
-        Team team = Team.of(THREADS, t -> {
-            for (int i = 0; !over.get(); i++) {
-                try {
-                    add(cache, t, i);
-                    done.incrementAndGet();
-                } catch (CallOutcomeUnknownException e) {
-                    unknown.incrementAndGet();
-                } catch (CallNotSentException e) {
-                    unsent.incrementAndGet();
-                }
-            }
-        });
-        RedisNodes.await(() -> done.get() > 2_000, "calls that aren't made");
-        nodes.master(0).ask("WAIT", 1, 10_000);
+    /** Kills a master in the middle of the calls, and answers how they ended. */
+    private Ends killed(RedisNodes nodes, Cache<Long, Long> cache, boolean isCaughtUp) throws InterruptedException {
+        Ends ends = new Ends(cache);
+        RedisNodes.await(() -> ends.done.get() > THREADS * EACH / 8, "calls that aren't made");
+        if (isCaughtUp) {
+            nodes.master(0).ask("CLIENT", "PAUSE", 100_000, "WRITE");
+            RedisNodes.await(() -> isCaughtUp(nodes.master(0), nodes.all.get(3)), "a replica that stays behind");
+        }
         nodes.master(0).kill();
         RedisNodes.await(() -> isUp(nodes), "a cluster that stays down");
-        long before = done.get();
-        RedisNodes.await(() -> done.get() > before + 2_000, "calls that aren't made after the failover");
-        over.set(true);
-        team.join();
+        long before = ends.done.get();
+        assertTrue(before < THREADS * EACH, ends::toString);
+        ends.await();
+        assertTrue(ends.done.get() > before, "no call was done after the failover");
+        return ends;
+    }
+
+    /** Whether a call waits at the master, and its replica has all that was done before. */
+    private static boolean isCaughtUp(RedisServer master, RedisServer replica) {
+        return master.number("clients", "blocked_clients") > 0
+            && master.number("replication", "master_repl_offset") == replica.number("replication", "slave_repl_offset");
+    }
+
+    /** Its replica has all that was done, so nothing of that is lost, and the calls that were out are thrown as not known. */
+    @Test void aMasterThatIsKilledWithItsReplicaCaughtUp() throws InterruptedException {
+        RedisNodes nodes = open(new RedisNodes(true));
+        Cache<Long, Long> cache = open(RedisServer.manager(nodes.uri("app"))).createCache("test", types());
+        Ends ends = killed(nodes, cache, true);
+        assertEquals(ends.done.get(), sum(cache), ends::toString);
+        assertTrue(ends.unknown.get() > 0, ends::toString);
+    }
+
+    /** Replication is asynchronous: what the killed master answered and hadn't sent on yet is lost, and nobody is told. */
+    @Test void aMasterThatIsKilled() throws InterruptedException {
+        RedisNodes nodes = open(new RedisNodes(true));
+        Cache<Long, Long> cache = open(RedisServer.manager(nodes.uri("app"))).createCache("test", types());
+        Ends ends = killed(nodes, cache, false);
         long sum = sum(cache);
-        String told = done + " done, " + unknown + " not known, " + unsent + " not sent, the sum is " + sum;
+        String told = ends + ", the sum is " + sum;
         System.out.println("a master that is killed: " + told);
-        assertTrue(sum <= done.get() + unknown.get(), told);
-        // Replication is asynchronous: what the killed master answered and hadn't sent on yet is lost.
-        assertTrue(sum >= done.get() - 1_000, told);
+        assertTrue(sum <= ends.done.get() + ends.unknown.get(), told);
+        assertTrue(sum >= ends.done.get() - 1_000, told);
     }
 
     private static boolean isUp(RedisNodes nodes) {

@@ -1,16 +1,18 @@
 package jentry.jcache.redis;
 
 import static org.junit.jupiter.api.Assertions.assertEquals;
-import static org.junit.jupiter.api.Assertions.assertFalse;
 import static org.junit.jupiter.api.Assertions.assertNull;
 import static org.junit.jupiter.api.Assertions.assertTrue;
 
+import java.util.ArrayList;
 import java.util.HashMap;
 import java.util.List;
 import java.util.Map;
 import java.util.Set;
 import java.util.concurrent.CopyOnWriteArrayList;
 import java.util.concurrent.TimeUnit;
+import java.util.stream.Collectors;
+import java.util.stream.LongStream;
 import javax.cache.Cache;
 import javax.cache.CacheManager;
 import javax.cache.configuration.Factory;
@@ -34,10 +36,11 @@ class ExpiryTest extends WithRedis {
     private static final long HALF = HOUR / 2;
     private static final Duration TIME = Duration.ONE_HOUR;
 
-    private RedisServer server;
-    private CacheManager manager;
+    /** The one that has the key 1. */
+    RedisServer server;
+    CacheManager manager;
 
-    @BeforeEach void start() {
+    @BeforeEach void start() throws Exception {
         server = open(new RedisServer());
         manager = manager(server);
     }
@@ -73,9 +76,10 @@ class ExpiryTest extends WithRedis {
     private static final Map<String, Work> UPDATING = Map.of("put", it -> it.put(1L, 6L), "getAndPut", it -> it.getAndPut(1L, 6L),
         "putAll", it -> it.putAll(Map.of(1L, 6L)), "replace", it -> it.replace(1L, 6L), "getAndReplace", it -> it.getAndReplace(1L, 6L),
         "replaceIf", it -> it.replace(1L, 5L, 6L), "the same value", it -> it.replace(1L, 5L, 5L),
-        "invoke", it -> it.invoke(1L, new Renewing.Add(), 1L));
-    private static final Map<String, Work> ACCESSING = Map.of("replaceIf another by itself", it -> it.replace(1L, 4L, 4L), "get", it -> it.get(1L), "getAll", it -> it.getAll(Set.of(1L)),
-        "replaceIf another", it -> it.replace(1L, 4L, 6L), "removeIf another", it -> it.remove(1L, 4L),
+        "invoke", it -> it.invoke(1L, new Renewing.Add(), 1L), "invoke that sets the same value", it -> it.invoke(1L, new Renewing.Sets(), 5L),
+        "invokeAll that sets the same value", it -> it.invokeAll(Set.of(1L), new Renewing.Sets(), 5L));
+    private static final Map<String, Work> ACCESSING = Map.of("replaceIf another by itself", it -> it.replace(1L, 4L, 4L), "get", it -> it.get(1L),
+        "getAll", it -> it.getAll(Set.of(1L)), "replaceIf another", it -> it.replace(1L, 4L, 6L), "removeIf another", it -> it.remove(1L, 4L),
         "invoke", it -> it.invoke(1L, new Renewing.Read()), "iterator", it -> it.iterator().next());
     private static final Map<String, Work> LEAVING = Map.of("containsKey", it -> it.containsKey(1L), "putIfAbsent", it -> it.putIfAbsent(1L, 6L));
 
@@ -122,15 +126,20 @@ class ExpiryTest extends WithRedis {
     /** A policy of the test's own, which notes which of its methods is asked. */
     private static final class Own implements ExpiryPolicy {
         final List<String> asked = new CopyOnWriteArrayList<>();
+        final Duration time;
+
+        Own(Duration time) {
+            this.time = time;
+        }
 
         @Override public Duration getExpiryForCreation() {
             asked.add("creation");
-            return TIME;
+            return time;
         }
 
         @Override public Duration getExpiryForUpdate() {
             asked.add("update");
-            return TIME;
+            return time;
         }
 
         @Override public Duration getExpiryForAccess() {
@@ -140,11 +149,11 @@ class ExpiryTest extends WithRedis {
     }
 
     @Test void aPolicyOfOnesOwn() {
-        times(Own::new, "hour", "hour", "eternal");
+        times(() -> new Own(TIME), "hour", "hour", "eternal");
     }
 
     @Test void ofAPolicyOfOnesOwnTheMethodThatCountsIsAskedAlone() {
-        Own own = new Own();
+        Own own = new Own(TIME);
         Cache<Long, Long> cache = create(() -> own);
         Map.of("creation", CREATING, "update", UPDATING, "access", ACCESSING).forEach((method, works) -> works.forEach((name, work) -> {
             own.asked.clear();
@@ -167,16 +176,58 @@ class ExpiryTest extends WithRedis {
         assertNull(onAccess.get(1L));
     }
 
+    /** Time enough for what is done in between on a busy machine; where it wasn't, all is done anew. */
+    private static final long SHORT_MILLIS = 1_200;
+    private static final int TRIES = 10;
+    private static final Duration SHORT = new Duration(TimeUnit.MILLISECONDS, SHORT_MILLIS);
+
+    /** The policies, and which of six keys are there when the time has passed since they were made, but not since the calls on them. */
+    private static Map<Factory<? extends ExpiryPolicy>, String> clockRows() {
+        return Map.of(CreatedExpiryPolicy.factoryOf(SHORT), "------", ModifiedExpiryPolicy.factoryOf(SHORT), "-2-4-6",
+            AccessedExpiryPolicy.factoryOf(SHORT), "1---5-", TouchedExpiryPolicy.factoryOf(SHORT), "12-456",
+            EternalExpiryPolicy.factoryOf(), "123456", () -> new Own(SHORT), "12-456");
+    }
+
     @Test void entriesExpireByTheServersClock() throws InterruptedException {
-        Cache<Long, Long> cache = create(TouchedExpiryPolicy.factoryOf(new Duration(TimeUnit.MILLISECONDS, 1_000)));
-        cache.put(1L, 1L);
-        cache.put(2L, 1L);
-        for (int i = 0; i < 8; i++) {
-            Thread.sleep(250);
-            cache.get(1L);
+        List<Cache<Long, Long>> caches = new ArrayList<>();
+        List<String> wanted = new ArrayList<>();
+        clockRows().forEach((policy, live) -> {
+            caches.add(manager.createCache("clock" + caches.size(), types().setExpiryPolicyFactory(policy)));
+            wanted.add(live);
+        });
+        List<String> seen = null;
+        for (int tries = 0; seen == null; tries++) {
+            assertTrue(tries < TRIES, "the machine is too busy");
+            seen = seenOf(caches);
         }
-        assertTrue(cache.containsKey(1L), "touched all the while");
-        assertFalse(cache.containsKey(2L), "not touched for two seconds");
-        RedisNodes.await(() -> !cache.containsKey(1L), "an entry that stays");
+        assertEquals(wanted, seen);
+    }
+
+    /** Makes the keys, calls, and answers which are there in the end; null where this took too long. */
+    private static List<String> seenOf(List<Cache<Long, Long>> caches) throws InterruptedException {
+        long from = System.nanoTime();
+        for (Cache<Long, Long> it : caches) {
+            it.clear();
+            LongStream.of(1, 2, 3).forEach(key -> it.put(key, 1L));
+            it.invoke(4L, new Renewing.Add(), 1L);
+            it.putAll(Map.of(5L, 1L, 6L, 1L));
+        }
+        Thread.sleep(SHORT_MILLIS * 5 / 8);
+        long called = System.nanoTime();
+        for (Cache<Long, Long> it : caches) {
+            it.get(1L);
+            it.put(2L, 2L);
+            it.invoke(4L, new Renewing.Add(), 1L);
+            it.getAll(Set.of(5L));
+            it.replace(6L, 1L, 2L);
+        }
+        boolean isEarly = System.nanoTime() - from < TimeUnit.MILLISECONDS.toNanos(SHORT_MILLIS);
+        Thread.sleep(SHORT_MILLIS * 5 / 8);
+        List<String> seen = caches.stream().map(ExpiryTest::live).toList();
+        return isEarly && System.nanoTime() - called < TimeUnit.MILLISECONDS.toNanos(SHORT_MILLIS) ? seen : null;
+    }
+
+    private static String live(Cache<Long, Long> cache) {
+        return LongStream.rangeClosed(1, 6).mapToObj(key -> cache.containsKey(key) ? "" + key : "-").collect(Collectors.joining());
     }
 }

@@ -12,7 +12,10 @@ final class RedisNodes implements AutoCloseable {
     private static final int MASTERS = 3;
     private static final int SLOTS = 16_384;
     private static final long PATIENCE_MILLIS = Long.getLong("jentry.test.patience", 60_000);
-    private static final String NODE_TIMEOUT = System.getProperty("jentry.test.node", "2000");
+
+    /** Milliseconds until a silent node is taken as failed: few where a replica is to follow, but more than a busy machine halts one. */
+    private static final String SOON = System.getProperty("jentry.test.node", "5000");
+    private static final String NEVER = "60000";
 
     final List<RedisServer> all = new ArrayList<>();
 
@@ -20,7 +23,7 @@ final class RedisNodes implements AutoCloseable {
         int count = hasReplicas ? 2 * MASTERS : MASTERS;
         for (int i = 0; i < count; i++) {
             all.add(new RedisServer("--cluster-enabled", "yes", "--cluster-config-file", "nodes", "--cluster-node-timeout",
-                NODE_TIMEOUT, "--notify-keyspace-events", "K$gxn"));
+                hasReplicas ? SOON : NEVER, "--notify-keyspace-events", "K$gxn"));
         }
         for (int i = 0; i < MASTERS; i++) {
             master(i).ask("CLUSTER", "ADDSLOTSRANGE", first(i), first(i + 1) - 1);
@@ -73,10 +76,33 @@ final class RedisNodes implements AutoCloseable {
         return URI.create("jentry+redis://" + nodes + "/" + name);
     }
 
+    /** The master that has a slot, once all nodes say so: the bus tells them of a move one after the other. */
+    RedisServer owner(int slot) throws InterruptedException {
+        await(() -> all.stream().map(it -> ownerBy(it, slot)).distinct().count() == 1, "nodes that don't agree who has the slot " + slot);
+        return ownerBy(master(0), slot);
+    }
+
+    private RedisServer ownerBy(RedisServer asked, int slot) {
+        Object[] ranges = (Object[]) asked.ask("CLUSTER", "SLOTS");
+        for (Object it : ranges) {
+            Object[] range = (Object[]) it;
+            if ((Long) range[0] <= slot && slot <= (Long) range[1]) {
+                long port = (Long) ((Object[]) range[2])[1];
+                return all.stream().filter(node -> node.port == port).findFirst().orElseThrow();
+            }
+        }
+        throw new IllegalStateException("nobody has the slot " + slot);
+    }
+
     /** Begins to move a slot: its keys may be at either master. */
     void beginMove(int slot, RedisServer from, RedisServer to) {
-        to.ask("CLUSTER", "SETSLOT", slot, "IMPORTING", id(from));
-        from.ask("CLUSTER", "SETSLOT", slot, "MIGRATING", id(to));
+        isDone(to.ask("CLUSTER", "SETSLOT", slot, "IMPORTING", id(from)));
+        isDone(from.ask("CLUSTER", "SETSLOT", slot, "MIGRATING", id(to)));
+    }
+
+    /** A step of a move that a node refuses would leave keys behind. */
+    private static void isDone(Object reply) {
+        assertTrue(String.valueOf(reply).contains("OK"), () -> String.valueOf(reply));
     }
 
     /** Moves some keys of a slot that is moving, at most so many. */
@@ -85,15 +111,15 @@ final class RedisNodes implements AutoCloseable {
         if (names.length > 0) {
             List<Object> words = new ArrayList<>(List.of("MIGRATE", "127.0.0.1", to.port, "", 0, 10_000, "KEYS"));
             words.addAll(List.of(names));
-            assertTrue(String.valueOf(from.ask(words.toArray())).contains("OK"));
+            isDone(from.ask(words.toArray()));
         }
         return names.length;
     }
 
     void endMove(int slot, RedisServer to) {
         String owner = id(to);
-        to.ask("CLUSTER", "SETSLOT", slot, "NODE", owner);
-        all.forEach(it -> it.ask("CLUSTER", "SETSLOT", slot, "NODE", owner));
+        isDone(to.ask("CLUSTER", "SETSLOT", slot, "NODE", owner));
+        all.forEach(it -> isDone(it.ask("CLUSTER", "SETSLOT", slot, "NODE", owner)));
     }
 
     /** Moves a slot with all its keys. */

@@ -140,6 +140,12 @@ public final class RedisServer implements AutoCloseable {
         return reply instanceof byte[] ? Replies.text(reply) : String.valueOf(reply);
     }
 
+    /** A number that INFO tells. */
+    long number(String section, String field) {
+        return text("INFO", section).lines().filter(it -> it.startsWith(field + ":"))
+            .mapToLong(it -> Long.parseLong(it.substring(field.length() + 1).trim())).findFirst().orElseThrow();
+    }
+
     @Override public void close() {
         kill();
         Temporary.delete(folder);
