@@ -31,12 +31,48 @@ LONGEST = 131_072
 PROGRAM = ("jentry", "serve")
 # What a round of the server frees stays for its next one, where its C library is glibc: memory that is new each time costs as much as the calls.
 KEEPS_MEMORY = {"MALLOC_MMAP_THRESHOLD_": "33554432", "MALLOC_TRIM_THRESHOLD_": "67108864"}
-REFUSALS = (None, "TooLarge", "Truncated", "BadMagic", "BadVersion", "BadPool", "TrailingBytes", "BadDescriptor", "BadHeader", "ConstructorForm",
-            "ClassInitialiser", "NoProcess", "DuplicateMethod", "NoBody", "BadCode", "ExceptionTable", "UnknownOpcode", "OutsideProfile",
-            "BadOperand", "BadTarget", "BackwardBranch", "BadStackMap", "TypeMismatch", "FallsOff", "UnknownMember", "Recursive",
-            "LengthNotConstant", "StepLimit", "WordLimit", "FrameLimit", "NoMemory")
-EXCEPTIONS = (None, "ArithmeticException", "ArrayIndexOutOfBoundsException", "NullPointerException", "ClassCastException",
-              "IncompatibleClassChangeError", "CacheLoaderException")
+REFUSALS = (
+    None,
+    "TooLarge",
+    "Truncated",
+    "BadMagic",
+    "BadVersion",
+    "BadPool",
+    "TrailingBytes",
+    "BadDescriptor",
+    "BadHeader",
+    "ConstructorForm",
+    "ClassInitialiser",
+    "NoProcess",
+    "DuplicateMethod",
+    "NoBody",
+    "BadCode",
+    "ExceptionTable",
+    "UnknownOpcode",
+    "OutsideProfile",
+    "BadOperand",
+    "BadTarget",
+    "BackwardBranch",
+    "BadStackMap",
+    "TypeMismatch",
+    "FallsOff",
+    "UnknownMember",
+    "Recursive",
+    "LengthNotConstant",
+    "StepLimit",
+    "WordLimit",
+    "FrameLimit",
+    "NoMemory",
+)
+EXCEPTIONS = (
+    None,
+    "ArithmeticException",
+    "ArrayIndexOutOfBoundsException",
+    "NullPointerException",
+    "ClassCastException",
+    "IncompatibleClassChangeError",
+    "CacheLoaderException",
+)
 DENIALS = (None, "UnknownClass", "JournalFull", "NoMemory", "TooManyClasses", "TooManyJobs")
 END = b"\0\0\0\1\x08"
 ENDED = b"\x09"
@@ -134,13 +170,21 @@ def _results(text):
     """What is told of each key."""
     told, at = {}, 3
     for _ in range(*struct.unpack_from(">H", text, 1)):
-        key, = struct.unpack_from(">q", text, at)
+        (key,) = struct.unpack_from(">q", text, at)
         told[key], at = _outcome(text, at + 8)
     return told, at
 
 
 # The kinds of reply to each kind of request, beside Denied.
-_REPLIES = {DEFINE: (DEFINED, REFUSED), PUT: (DONE,), GET: (VALUE, RESULT), REMOVE: (FLAG,), CONTAINS: (FLAG,), INVOKE: (RESULT,), INVOKE_ALL: (RESULTS,)}
+_REPLIES = {
+    DEFINE: (DEFINED, REFUSED),
+    PUT: (DONE,),
+    GET: (VALUE, RESULT),
+    REMOVE: (FLAG,),
+    CONTAINS: (FLAG,),
+    INVOKE: (RESULT,),
+    INVOKE_ALL: (RESULTS,),
+}
 _READERS = {
     DEFINED: lambda text: (Class(*struct.unpack_from(">III", text, 1)), 13),
     REFUSED: lambda text: (Refused(*struct.unpack_from(">BI", text, 1)), 6),
@@ -149,7 +193,8 @@ _READERS = {
     FLAG: lambda text: (text[1] == 1, 2),
     RESULT: lambda text: _outcome(text, 1),
     RESULTS: _results,
-    DENIED: lambda text: (Denied(text[1]), 2)}
+    DENIED: lambda text: (Denied(text[1]), 2),
+}
 
 
 def read_answer(request, text):
@@ -170,6 +215,7 @@ def read_answer(request, text):
 
 class Answer:
     """The answer to a request of a round."""
+
     __slots__ = ("_kind", "_convert", "_told", "_is_told")
 
     def __init__(self, kind, convert):
@@ -293,6 +339,7 @@ class Round(Requests, Processors):
 
 class _Call:
     """A round that waits: what wakes its thread, and whether that thread is to lead or has gone away."""
+
     __slots__ = ("asked", "bell", "leads", "is_left")
 
     def __init__(self, asked):
@@ -313,7 +360,9 @@ class Cache(Requests, Processors):
     def start(cls, *command):
         """A server of one's own, by its command (`jentry serve` where none is given). Its entries are gone when this is
         closed."""
-        child = subprocess.Popen(command or PROGRAM, stdin=subprocess.PIPE, stdout=subprocess.PIPE, env={**KEEPS_MEMORY, **os.environ})
+        child = subprocess.Popen(
+            command or PROGRAM, stdin=subprocess.PIPE, stdout=subprocess.PIPE, env={**KEEPS_MEMORY, **os.environ}
+        )
 
         def close():
             try:
@@ -326,6 +375,7 @@ class Cache(Requests, Processors):
                 child.kill()
                 child.wait()
             child.stdout.close()
+
         return cls(child.stdout, child.stdin, close)
 
     @classmethod
@@ -350,6 +400,7 @@ class Cache(Requests, Processors):
                 pass
             for it in (reader, writer, line):
                 it.close()
+
         return cls(reader, _Whole(writer), close)
 
     def close(self):
@@ -488,7 +539,7 @@ class _Whole:
     def write(self, text):
         rest = memoryview(text)
         while rest:
-            rest = rest[self._file.write(rest):]
+            rest = rest[self._file.write(rest) :]
 
     def flush(self):
         """Nothing is kept back."""

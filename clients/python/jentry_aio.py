@@ -162,5 +162,7 @@ async def connect(address):
 async def start(*command):
     """A server of one's own, by its command (`jentry serve` where none is given)."""
     pipe = asyncio.subprocess.PIPE
-    child = await asyncio.create_subprocess_exec(*(command or jentry.PROGRAM), stdin=pipe, stdout=pipe, env={**jentry.KEEPS_MEMORY, **os.environ})
+    child = await asyncio.create_subprocess_exec(
+        *(command or jentry.PROGRAM), stdin=pipe, stdout=pipe, env={**jentry.KEEPS_MEMORY, **os.environ}
+    )
     return Cache(child.stdout, child.stdin, child)

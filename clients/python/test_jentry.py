@@ -23,7 +23,7 @@ from running import FRONT, PATIENCE, PROGRAM, SERVER, STAND_IN, Running
 
 EXAMPLES = os.path.join(HERE, "../../examples")
 HAS_PROCESSORS = os.path.exists(os.path.join(HERE, "../processors/GetAndPut.class"))
-LEAST, MOST = -2**63, 2**63 - 1
+LEAST, MOST = -(2**63), 2**63 - 1
 INTERRUPTED = """
 import signal, sys, threading
 sys.path.insert(0, sys.argv[1])
@@ -52,7 +52,9 @@ with jentry.Cache.start(*sys.argv[2:]) as cache:
     cache.put(7, 41)
     print(cache.get(7), *(jentry_processors.file(name)[:4].hex() for name in jentry_processors.NAMES))
 """
-BUILDS = "import setuptools, pip; tuple(map(int, setuptools.__version__.split('.')[:2])) >= (70, 1) or __import__('wheel')"
+BUILDS = (
+    "import setuptools, pip; tuple(map(int, setuptools.__version__.split('.')[:2])) >= (70, 1) or __import__('wheel')"
+)
 
 
 class Interrupted:
@@ -163,6 +165,7 @@ class Threaded(unittest.TestCase):
                 work(n)
             except BaseException as e:
                 wrong.append(repr(e))
+
         team = [threading.Thread(target=guarded, args=(n,)) for n in range(count)]
         for it in team:
             it.start()
@@ -205,6 +208,7 @@ class Threads(Threaded, Endings):
             def work(me):
                 for _ in range(50):
                     told[me].append(cache.invoke(1, processor))
+
             self.run_threads(64, work)
             self.assertEqual(cache.get(1), 3_200)
         self.assertEqual(sorted(sum(told, [])), list(range(1, 3_201)))
@@ -213,6 +217,7 @@ class Threads(Threaded, Endings):
 
     def test_each_thread_sees_its_own_puts(self):
         with jentry.Cache.start(*SERVER) as cache:
+
             def work(me):
                 for n in range(30):
                     cache.put(me, n)
@@ -220,6 +225,7 @@ class Threads(Threaded, Endings):
                         answers = [r.get(me), r.get(-1 - me)]
                     if [it.result() for it in answers] != [n, None]:
                         raise AssertionError("another's reply")
+
             self.run_threads(32, work)
 
     def test_rounds_of_many_beside_single_calls(self):
@@ -240,6 +246,7 @@ class Threads(Threaded, Endings):
                         gets = [r.get(key) for key in keys]
                     if [it.result() for it in puts + gets] != 700 * [None] + [key + n for key in keys]:
                         raise AssertionError("another's reply")
+
             self.run_threads(16, work)
             self.assertEqual(cache.get(-1), 8 * 5 * 50)
 
@@ -263,6 +270,7 @@ class Threads(Threaded, Endings):
                     self.assertEqual(told, [])
                     with open(number) as file:
                         os.kill(int(file.read()), signal.SIGKILL)
+
                 leader = threading.Thread(target=work, args=(0,))
                 leader.start()
                 while not cache._is_led or cache._waiting:
@@ -283,6 +291,7 @@ class Threads(Threaded, Endings):
                     cache.put(me, n)
             except jentry.StreamEnded:
                 ended.append(me)
+
         self.run_threads(16, work)
         self.assertEqual(sorted(ended), list(range(16)))
         with self.assertRaises(jentry.StreamEnded):
@@ -298,6 +307,7 @@ class Threads(Threaded, Endings):
                 told.append(cache.get(1))
             except jentry.StreamEnded:
                 told.append("ended")
+
         thread = threading.Thread(target=work, args=(0,))
         thread.start()
         while not cache._is_led:
@@ -315,6 +325,7 @@ class Threads(Threaded, Endings):
                 told.append(str(cache.get(1)))
             except (jentry.StreamEnded, KeyboardInterrupt) as e:
                 told.append(type(e).__name__)
+
         threads = [threading.Thread(target=work) for _ in range(3)]
         threads[0].start()
         while not cache._is_led:
@@ -440,6 +451,7 @@ class Loop(unittest.TestCase, Endings):
         async def limited():
             async with await jentry_aio.start(*server) as cache:
                 await asyncio.wait_for(work(cache), PATIENCE)
+
         asyncio.run(limited())
 
     def test_the_plain_requests(self):
@@ -451,6 +463,7 @@ class Loop(unittest.TestCase, Endings):
             self.assertIs(await cache.contains(7), False)
             with self.assertRaises(jentry.Denied):
                 await cache.invoke(7, jentry.Class(5, 0, 0))
+
         self.run_in_loop(work)
 
     def test_many_tasks(self):
@@ -461,7 +474,10 @@ class Loop(unittest.TestCase, Endings):
             self.assertEqual(sorted(told), list(range(1, 10_001)))
             keys = await asyncio.gather(*(cache.put(key, -key) for key in range(10_000)))
             self.assertEqual(set(keys), {None})
-            self.assertEqual(await asyncio.gather(*(cache.get(key) for key in range(10_000))), [-key for key in range(10_000)])
+            self.assertEqual(
+                await asyncio.gather(*(cache.get(key) for key in range(10_000))), [-key for key in range(10_000)]
+            )
+
         self.run_in_loop(work)
 
     def test_a_cancelled_task_leaves_others_their_replies(self):
@@ -478,6 +494,7 @@ class Loop(unittest.TestCase, Endings):
                 self.assertEqual(told[1::2], [7 * key for key in range(1, 100, 2)])
                 self.assertTrue(all(isinstance(it, asyncio.CancelledError) for it in told[::2]))
             self.assertEqual(await cache.get(3), 21)
+
         self.run_in_loop(work, STAND_IN + ["--slow", "0.002"])
 
     async def get(self, cache, key):
@@ -490,6 +507,7 @@ class Loop(unittest.TestCase, Endings):
             self.assertTrue(all(isinstance(it, jentry.StreamEnded) for it in told))
             with self.assertRaises(jentry.StreamEnded):
                 await cache.get(1)
+
         self.run_in_loop(work, STAND_IN + [option, "2"])
 
     @unittest.skipUnless(PROGRAM, "the program isn't built")
@@ -506,6 +524,7 @@ class Loop(unittest.TestCase, Endings):
             self.assertEqual([type(it) for it in told], 9 * [jentry.StreamEnded])
             with self.assertRaises(jentry.StreamEnded):
                 await cache.get(1)
+
         self.run_in_loop(work)
 
     async def invoke_all(self, cache, processor):
@@ -514,12 +533,18 @@ class Loop(unittest.TestCase, Endings):
     def test_what_can_not_be_sent_is_not_sent(self):
         async def work(cache):
             processor = await cache.define(plus())
-            for wrong in (lambda: cache.put(2**63, 1), lambda: cache.get("7"), lambda: cache.invoke(1, processor, *range(9)),
-                          lambda: cache.invoke_all(range(4_097), processor), lambda: cache.define(bytes(jentry.LONGEST))):
+            for wrong in (
+                lambda: cache.put(2**63, 1),
+                lambda: cache.get("7"),
+                lambda: cache.invoke(1, processor, *range(9)),
+                lambda: cache.invoke_all(range(4_097), processor),
+                lambda: cache.define(bytes(jentry.LONGEST)),
+            ):
                 with self.assertRaises(Exception) as told:
                     await wrong()
                 self.assertNotIsInstance(told.exception, jentry.Error)
             self.assertIsNone(await cache.get(1))
+
         self.run_in_loop(work)
 
     def test_processors(self):
@@ -535,6 +560,7 @@ class Loop(unittest.TestCase, Endings):
             self.assertEqual(list(told), [7, 8])
             self.assertEqual(told[7], 43)
             self.assertIsInstance(told[8], jentry.ProcessorThrew)
+
         self.run_in_loop(work)
 
     def test_tasks_of_many_keys_beside_single_calls(self):
@@ -550,10 +576,13 @@ class Loop(unittest.TestCase, Endings):
         async def work(cache):
             processor = await cache.define(plus())
             await cache.put(-1, 0)
-            told = await asyncio.gather(*(many(cache, processor, me) for me in range(8)), *(single(cache, processor) for _ in range(8)))
+            told = await asyncio.gather(
+                *(many(cache, processor, me) for me in range(8)), *(single(cache, processor) for _ in range(8))
+            )
             self.assertEqual(told[:8], 8 * [705 * [1]])
             self.assertEqual(sorted(sum(told[8:], [])), list(range(1, 401)))
             self.assertTrue(all(it == sorted(it) for it in told[8:]))
+
         self.run_in_loop(work)
 
     def test_closed(self):
@@ -562,6 +591,7 @@ class Loop(unittest.TestCase, Endings):
             await cache.close()
             with self.assertRaises(jentry.StreamEnded):
                 await cache.get(1)
+
         self.run_in_loop(work)
 
     @unittest.skipUnless(PROGRAM, "the program isn't built")
@@ -570,6 +600,7 @@ class Loop(unittest.TestCase, Endings):
             with self.assertRaises(jentry.Refused) as told:
                 await cache.define(b"none")
             self.assertEqual((told.exception.number, told.exception.name), (3, "BadMagic"))
+
         self.run_in_loop(work)
 
     @unittest.skipUnless(PROGRAM and HAS_PROCESSORS, "the program or the class files of the processors aren't there")
@@ -580,6 +611,7 @@ class Loop(unittest.TestCase, Endings):
             self.assertIs(await cache.replace(1, 5), True)
             self.assertEqual(await cache.get_and_remove(1), 5)
             self.assertEqual((await cache.define(plus())).number, 3)
+
         self.run_in_loop(work)
 
 
@@ -591,7 +623,9 @@ class Shared(Threaded):
         with Running() as front, jentry.Cache.connect(front.place) as cache:
             processor = cache.define(plus())
             cache.put(1, 0)
-            self.run_threads(8, lambda _: self.add(cache, processor), meanwhile=lambda: asyncio.run(self.add_in_loop(front.place)))
+            self.run_threads(
+                8, lambda _: self.add(cache, processor), meanwhile=lambda: asyncio.run(self.add_in_loop(front.place))
+            )
             self.assertEqual(cache.get(1), 8 * 50 + 400)
             self.assertEqual(self.lines(front, b"get 1\nput 2 5\nend\n"), b"value 800\ndone\nend\n")
             self.assertEqual(cache.get(2), 5)
@@ -613,7 +647,9 @@ class Shared(Threaded):
             line.sendall(sent)
             line.shutdown(1)
             replies = b"".join(iter(lambda: line.recv(65_536), b""))
-        return subprocess.run(frames + ["--replies"], input=replies, stdout=subprocess.PIPE, timeout=PATIENCE, check=True).stdout
+        return subprocess.run(
+            frames + ["--replies"], input=replies, stdout=subprocess.PIPE, timeout=PATIENCE, check=True
+        ).stdout
 
     def test_the_front_ends(self):
         with Running(server=STAND_IN + ["--die", "3"]) as front, jentry.Cache.connect(front.place) as cache:
@@ -642,10 +678,16 @@ class Package(unittest.TestCase):
     def test_pip_installs_it_from_its_folder_and_from_a_source_distribution(self):
         python = python_that_builds()
         if python is None:
-            self.skipTest("pip, setuptools or wheel isn't there (apt-get install python3-pip python3-setuptools python3-wheel)")
+            self.skipTest(
+                "pip, setuptools or wheel isn't there (apt-get install python3-pip python3-setuptools python3-wheel)"
+            )
         with tempfile.TemporaryDirectory() as folder:
             for name in ("python", "processors"):
-                shutil.copytree(os.path.join(HERE, "..", name), os.path.join(folder, name), ignore=shutil.ignore_patterns("__pycache__", "build", "*.egg-info"))
+                shutil.copytree(
+                    os.path.join(HERE, "..", name),
+                    os.path.join(folder, name),
+                    ignore=shutil.ignore_patterns("__pycache__", "build", "*.egg-info"),
+                )
             sources, sent = os.path.join(folder, "python"), os.path.join(folder, "sent")
             self.installs(python, sources, os.path.join(folder, "one"))
             self.run_quietly(python, "setup.py", "-q", "sdist", "-d", sent, cwd=sources)
@@ -654,12 +696,25 @@ class Package(unittest.TestCase):
 
     def installs(self, python, sources, target):
         """Installs these sources without a net, and uses what was installed, away from the repository."""
-        self.run_quietly(python, "-m", "pip", "install", "-q", "--no-index", "--no-build-isolation", "--target", target, sources)
-        told = self.run_quietly(python, "-B", "-c", INSTALLED, target, *STAND_IN, env={"PYTHONPATH": target, "PATH": os.environ["PATH"]}, cwd=target)
+        self.run_quietly(
+            python, "-m", "pip", "install", "-q", "--no-index", "--no-build-isolation", "--target", target, sources
+        )
+        told = self.run_quietly(
+            python,
+            "-B",
+            "-c",
+            INSTALLED,
+            target,
+            *STAND_IN,
+            env={"PYTHONPATH": target, "PATH": os.environ["PATH"]},
+            cwd=target,
+        )
         self.assertEqual(told, " ".join(["41"] + 7 * ["cafebabe"]) + "\n")
 
     def run_quietly(self, *words, **options):
-        done = subprocess.run(words, stdout=subprocess.PIPE, stderr=subprocess.PIPE, text=True, timeout=PATIENCE, **options)
+        done = subprocess.run(
+            words, stdout=subprocess.PIPE, stderr=subprocess.PIPE, text=True, timeout=PATIENCE, **options
+        )
         self.assertEqual(done.returncode, 0, done.stdout + done.stderr)
         return done.stdout
 

@@ -32,12 +32,28 @@ class Browser:
         with socket.socket() as it:
             it.bind(("127.0.0.1", 0))
             self.port = it.getsockname()[1]
-        self.driver = subprocess.Popen(["chromedriver", f"--port={self.port}"], stdin=subprocess.DEVNULL, stdout=subprocess.DEVNULL,
-                                       stderr=subprocess.DEVNULL)
+        self.driver = subprocess.Popen(
+            ["chromedriver", f"--port={self.port}"],
+            stdin=subprocess.DEVNULL,
+            stdout=subprocess.DEVNULL,
+            stderr=subprocess.DEVNULL,
+        )
         self.session = ""
-        options = {"args": ["--headless=new", "--no-sandbox", "--disable-gpu", "--disable-dev-shm-usage", "--window-size=1280,1600"]}
+        options = {
+            "args": [
+                "--headless=new",
+                "--no-sandbox",
+                "--disable-gpu",
+                "--disable-dev-shm-usage",
+                "--window-size=1280,1600",
+            ]
+        }
         logs = {"browser": "ALL", "performance": "ALL"}
-        wanted = {"capabilities": {"alwaysMatch": {"browserName": "chrome", "goog:chromeOptions": options, "goog:loggingPrefs": logs}}}
+        wanted = {
+            "capabilities": {
+                "alwaysMatch": {"browserName": "chrome", "goog:chromeOptions": options, "goog:loggingPrefs": logs}
+            }
+        }
         end = time.monotonic() + PATIENCE
         while True:
             try:
@@ -59,8 +75,12 @@ class Browser:
             self.driver.wait(PATIENCE)
 
     def ask(self, path, words=None, method="POST"):
-        request = urllib.request.Request(f"http://127.0.0.1:{self.port}{self.session}{path}", method=method,
-                                         data=None if words is None else json.dumps(words).encode(), headers={"Content-Type": "application/json"})
+        request = urllib.request.Request(
+            f"http://127.0.0.1:{self.port}{self.session}{path}",
+            method=method,
+            data=None if words is None else json.dumps(words).encode(),
+            headers={"Content-Type": "application/json"},
+        )
         with urllib.request.urlopen(request, timeout=2 * PATIENCE) as answer:
             return json.load(answer)["value"]
 
@@ -131,16 +151,23 @@ class OperatorsPage(FrontTest):
         """The page's numbers are those of /metrics, once nobody calls."""
         moving = ("memory", "_cpu_", "counts_age")
         wanted = {name: value for name, value in self.sums(front).items() if not any(word in name for word in moving)}
-        browser.wait_for(f"return document.querySelector('[data-metric=jentry_rounds_total]').dataset.value === '{wanted['jentry_rounds_total']:.0f}'")
+        browser.wait_for(
+            f"return document.querySelector('[data-metric=jentry_rounds_total]').dataset.value === '{wanted['jentry_rounds_total']:.0f}'"
+        )
         shown = browser.run(self.TOTALS)
         compared = [name for name in shown if name in wanted]
         self.assertGreaterEqual(len(compared), 18)
         self.assertEqual({name: shown[name] for name in compared}, {name: wanted[name] for name in compared})
         metrics = front.metrics()
         no = {(row[0], row[1]): (row[2], int(row[3].replace(",", ""))) for row in browser.run(self.ROWS, "no")}
-        self.assertEqual(no, {("exception", "3"): ("NullPointerException", metrics['jentry_exceptions_total{number="3"}']),
-                              ("denial", "1"): ("UnknownClass", metrics['jentry_denials_total{number="1"}'])})
-        row, = browser.run(self.ROWS, "classes")
+        self.assertEqual(
+            no,
+            {
+                ("exception", "3"): ("NullPointerException", metrics['jentry_exceptions_total{number="3"}']),
+                ("denial", "1"): ("UnknownClass", metrics['jentry_denials_total{number="1"}']),
+            },
+        )
+        (row,) = browser.run(self.ROWS, "classes")
         runs, threw = metrics["jentry_runs_total"], metrics['jentry_exceptions_total{number="3"}']
         numbers = [int(row[n].replace(",", "")) for n in (0, 2, 3, 5, 6)]
         self.assertEqual(numbers, [0, len(plus()), 14, runs, threw])
@@ -151,7 +178,11 @@ class OperatorsPage(FrontTest):
         reached = set()
         for _ in range(12):
             browser.press(TAB)
-            reached.add(browser.run("return (document.activeElement.getAttribute('aria-labelledby') || document.activeElement.tagName)"))
+            reached.add(
+                browser.run(
+                    "return (document.activeElement.getAttribute('aria-labelledby') || document.activeElement.tagName)"
+                )
+            )
         self.assertLessEqual({"A", "h-classes", "h-no", "h-connections"}, reached)
 
     def looks(self, browser):
@@ -170,13 +201,19 @@ class OperatorsPage(FrontTest):
 
     def steady(self, browser):
         """Values change while nothing moves, and rows stay the same nodes."""
-        browser.devtools("Emulation.setDeviceMetricsOverride", width=1280, height=500, deviceScaleFactor=1, mobile=False)
+        browser.devtools(
+            "Emulation.setDeviceMetricsOverride", width=1280, height=500, deviceScaleFactor=1, mobile=False
+        )
         browser.run("document.querySelector('#classes tr').dataset.seen = 'yes'; scrollTo(0, 300)")
         before, calls = browser.run(self.TOPS), browser.run(self.TOTALS)["jentry_requests_total"]
-        browser.wait_for(f"return Number(document.querySelector('[data-metric=jentry_requests_total]').dataset.value) > {calls}")
+        browser.wait_for(
+            f"return Number(document.querySelector('[data-metric=jentry_requests_total]').dataset.value) > {calls}"
+        )
         time.sleep(2)
         self.assertEqual(browser.run(self.TOPS), before)
-        self.assertEqual(browser.run("return [document.querySelector('#classes tr').dataset.seen, scrollY]"), ["yes", 300])
+        self.assertEqual(
+            browser.run("return [document.querySelector('#classes tr').dataset.seen, scrollY]"), ["yes", 300]
+        )
         browser.devtools("Emulation.clearDeviceMetricsOverride")
 
     def only_this_front(self, browser, origin):
@@ -197,9 +234,16 @@ class OperatorsPage(FrontTest):
                     it.start()
                 browser.go(origin + "/")
                 browser.wait_for("return document.getElementById('says').textContent === 'The server runs.'")
-                browser.wait_for("return document.querySelectorAll('#connections tr').length === 3 && document.querySelectorAll('#no tr').length === 2")
-                browser.wait_for("return document.querySelector('#p-calls polyline').getAttribute('points').split(' ').length > 5")
-                self.assertRegex(browser.run("return document.getElementById('p-time').getAttribute('aria-label')"), r"now .*s, .*s, most")
+                browser.wait_for(
+                    "return document.querySelectorAll('#connections tr').length === 3 && document.querySelectorAll('#no tr').length === 2"
+                )
+                browser.wait_for(
+                    "return document.querySelector('#p-calls polyline').getAttribute('points').split(' ').length > 5"
+                )
+                self.assertRegex(
+                    browser.run("return document.getElementById('p-time').getAttribute('aria-label')"),
+                    r"now .*s, .*s, most",
+                )
                 self.steady(browser)
                 self.looks(browser)
             finally:

@@ -56,7 +56,12 @@ def method(pool, code_name, flags, name, descriptor, slots, code):
 def heavy():
     """A class that takes some 240,000 instructions and returns the same number each time: methods that call the next one eight times."""
     pool = Pool()
-    this, above, processor, code = pool.type("Heavy"), pool.type("java/lang/Object"), pool.type("javax/cache/processor/EntryProcessor"), pool.text("Code")
+    this, above, processor, code = (
+        pool.type("Heavy"),
+        pool.type("java/lang/Object"),
+        pool.type("javax/cache/processor/EntryProcessor"),
+        pool.text("Code"),
+    )
 
     def static(of, name, descriptor):
         return b"\xb8" + struct.pack(">H", pool.method(of, name, descriptor))
@@ -64,9 +69,16 @@ def heavy():
     boxed = static(pool.type("java/lang/Long"), "valueOf", "(J)Ljava/lang/Long;")
     constructor = b"\x2a\xb7" + struct.pack(">H", pool.method(above, "<init>", "()V")) + b"\xb1"
     process = "(Ljavax/cache/processor/MutableEntry;[Ljava/lang/Object;)Ljava/lang/Object;"
-    methods = [method(pool, code, 1, "<init>", "()V", (1, 1), constructor),
-               method(pool, code, 0x81, "process", process, (4, 3), b"\x0a" + static(this, "m5", "(J)J") + boxed + b"\xb0"),
-               method(pool, code, 8, "m0", "(J)J", (4, 2), b"\x1e\x1e\x61\x1e\x83\xad")]
-    methods += [method(pool, code, 8, f"m{n}", "(J)J", (4, 2), b"\x1e" + 8 * static(this, f"m{n - 1}", "(J)J") + b"\xad") for n in range(1, 6)]
+    methods = [
+        method(pool, code, 1, "<init>", "()V", (1, 1), constructor),
+        method(pool, code, 0x81, "process", process, (4, 3), b"\x0a" + static(this, "m5", "(J)J") + boxed + b"\xb0"),
+        method(pool, code, 8, "m0", "(J)J", (4, 2), b"\x1e\x1e\x61\x1e\x83\xad"),
+    ]
+    methods += [
+        method(pool, code, 8, f"m{n}", "(J)J", (4, 2), b"\x1e" + 8 * static(this, f"m{n - 1}", "(J)J") + b"\xad")
+        for n in range(1, 6)
+    ]
     head = b"\xca\xfe\xba\xbe" + struct.pack(">HHH", 0, 52, len(pool.constants) + 1) + b"".join(pool.constants)
-    return head + struct.pack(">HHHHHHH", 0x21, this, above, 1, processor, 0, len(methods)) + b"".join(methods) + b"\0\0"
+    return (
+        head + struct.pack(">HHHHHHH", 0x21, this, above, 1, processor, 0, len(methods)) + b"".join(methods) + b"\0\0"
+    )

@@ -53,9 +53,9 @@ class Server:
         return self.plain(kind, text)
 
     def plain(self, kind, text):
-        key, = struct.unpack_from(">q", text, 1)
+        (key,) = struct.unpack_from(">q", text, 1)
         if kind == 2:
-            self.entries[key], = struct.unpack_from(">q", text, 9)
+            (self.entries[key],) = struct.unpack_from(">q", text, 9)
             return b"\3"
         if kind == 3:
             return b"\4" + long(self.entries.get(key))
@@ -64,7 +64,7 @@ class Server:
         return b"\5" + bytes([key in self.entries]) if kind == 5 else None
 
     def invoke_all(self, text):
-        count, = struct.unpack_from(">H", text, 5)
+        (count,) = struct.unpack_from(">H", text, 5)
         keys = dict.fromkeys(struct.unpack_from(f">{count}q", text, 7))
         if self.jobs + len(keys) > MOST_JOBS:
             return b"\x08\5"

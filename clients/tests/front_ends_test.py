@@ -63,7 +63,9 @@ class Heavy(FrontTest):
     def light_calls(self, line, heavy_lines):
         for n in range(5):
             self.ask(line, put(-1, n) + get(-2) + END, DONE + value(None) + ENDED)
-        self.assertEqual([n for n, it in enumerate(heavy_lines) if has_more(it)], [], "heavy rounds were answered before light calls")
+        self.assertEqual(
+            [n for n, it in enumerate(heavy_lines) if has_more(it)], [], "heavy rounds were answered before light calls"
+        )
 
     def test_beside_one_connection(self):
         with Running() as front, front.open() as a, front.open() as b:
@@ -98,8 +100,12 @@ class Heavy(FrontTest):
             told = [[take_frame(line) for _ in range(7)] for line in lines]
             self.assertEqual(len({repr(it) for it in told}), 1)
             self.assertEqual(told[0][0][:3], b"\6\0\1")
-            number, = struct.unpack(">q", told[0][0][3:])
-            self.assertEqual(told[0], 4 * [result(number)[4:]] + [results([(key, number) for key in (5, 3, 9, 1)])[4:], value(None)[4:], ENDED[4:]])
+            (number,) = struct.unpack(">q", told[0][0][3:])
+            self.assertEqual(
+                told[0],
+                4 * [result(number)[4:]]
+                + [results([(key, number) for key in (5, 3, 9, 1)])[4:], value(None)[4:], ENDED[4:]],
+            )
 
 
 class Ends(FrontTest):
@@ -184,7 +190,9 @@ class Begins(FrontTest):
                 self.assertIn("listening", again.stderr.readline())
                 with front.open() as a:
                     self.ask(a, put(1, 1) + END, DONE + ENDED)
-                taken = subprocess.run([FRONT, "--unix", front.place, *SERVER], stderr=subprocess.PIPE, text=True, timeout=PATIENCE)
+                taken = subprocess.run(
+                    [FRONT, "--unix", front.place, *SERVER], stderr=subprocess.PIPE, text=True, timeout=PATIENCE
+                )
                 self.assertEqual(taken.returncode, 3)
                 self.assertIn("can't listen", taken.stderr)
             finally:
@@ -208,13 +216,19 @@ class Begins(FrontTest):
                     front.wait(PATIENCE)
 
     def tried(self, *words):
-        return subprocess.run([FRONT, *words], capture_output=True, stdin=subprocess.DEVNULL, text=True, timeout=PATIENCE)
+        return subprocess.run(
+            [FRONT, *words], capture_output=True, stdin=subprocess.DEVNULL, text=True, timeout=PATIENCE
+        )
 
     def test_words_that_make_no_sense(self):
         for words, wanted in (
-                ([], "PROGRAM"), (["jentry"], "--unix <PATH>|--tcp <[HOST:]PORT>|--stdin"), (["--unix", "x"], "PROGRAM"),
-                (["--steps", "0", "--unix", "x", "y"], "--steps <N>"), (["--unix", "x", "--what", "1", "y"], "--what"),
-                (["--tcp", "x", "y"], "[HOST:]PORT")):
+            ([], "PROGRAM"),
+            (["jentry"], "--unix <PATH>|--tcp <[HOST:]PORT>|--stdin"),
+            (["--unix", "x"], "PROGRAM"),
+            (["--steps", "0", "--unix", "x", "y"], "--steps <N>"),
+            (["--unix", "x", "--what", "1", "y"], "--what"),
+            (["--tcp", "x", "y"], "[HOST:]PORT"),
+        ):
             with self.subTest(words=words):
                 told = self.tried(*words)
                 self.assertEqual((told.returncode, told.stdout), (1, ""))

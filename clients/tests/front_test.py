@@ -14,10 +14,25 @@ from frames import DONE, END, ENDED, define, denied, frame, get, invoke, invoke_
 from running import PATIENCE, PROGRAM, STAND_IN, FrontTest, Running, is_ended, take, take_frame
 
 MALFORMED = [
-    b"\0\0\0\0", b"\0\2\0\1", frame(b"\0"), frame(b"\x09"), frame(b"\x0a"), frame(b"\xff"), frame(b"\2" + bytes(15)), frame(b"\2" + bytes(17)),
-    frame(b"\3"), frame(b"\x08\0"), frame(b"\6" + bytes(12)), frame(b"\6" + bytes(12) + b"\x09"), frame(b"\6" + bytes(12) + b"\1\3"),
-    frame(b"\6" + bytes(12) + b"\1\1" + bytes(7)), frame(b"\6" + bytes(13) + b"\0"), frame(b"\7" + bytes(6)),
-    frame(b"\7" + bytes(4) + b"\0\2" + bytes(8) + b"\0"), frame(b"\7" + bytes(4) + b"\xff\xff\0")]
+    b"\0\0\0\0",
+    b"\0\2\0\1",
+    frame(b"\0"),
+    frame(b"\x09"),
+    frame(b"\x0a"),
+    frame(b"\xff"),
+    frame(b"\2" + bytes(15)),
+    frame(b"\2" + bytes(17)),
+    frame(b"\3"),
+    frame(b"\x08\0"),
+    frame(b"\6" + bytes(12)),
+    frame(b"\6" + bytes(12) + b"\x09"),
+    frame(b"\6" + bytes(12) + b"\1\3"),
+    frame(b"\6" + bytes(12) + b"\1\1" + bytes(7)),
+    frame(b"\6" + bytes(13) + b"\0"),
+    frame(b"\7" + bytes(6)),
+    frame(b"\7" + bytes(4) + b"\0\2" + bytes(8) + b"\0"),
+    frame(b"\7" + bytes(4) + b"\xff\xff\0"),
+]
 
 
 class OneConnection(FrontTest):
@@ -58,7 +73,12 @@ class OneConnection(FrontTest):
             self.define(a, plus(), 0)
             text = b"".join(put(n, n) for n in range(4_000))
             wanted = 4_000 * DONE
-            text += invoke_all(0, range(-97, 0)) + b"".join(put(n, n) for n in range(4_000, 4_903)) + invoke_all(7, [1]) + END
+            text += (
+                invoke_all(0, range(-97, 0))
+                + b"".join(put(n, n) for n in range(4_000, 4_903))
+                + invoke_all(7, [1])
+                + END
+            )
             wanted += denied(5) + 96 * DONE + 807 * denied(5) + denied(1) + ENDED
             self.ask(a, text, wanted)
             self.ask(a, get(4_095) + get(4_096) + END, value(4_095) + value(None) + ENDED)
@@ -112,7 +132,9 @@ class InvokeAll(FrontTest):
 
     @unittest.skipUnless(PROGRAM, "the stand-in runs no classes")
     def test_results_that_are_null_are_left_out(self):
-        request = bytes.fromhex("00000028 07 00000000 0004 0000000000000001 0000000000000002 0000000000000002 0000000000000003 00")
+        request = bytes.fromhex(
+            "00000028 07 00000000 0004 0000000000000001 0000000000000002 0000000000000002 0000000000000003 00"
+        )
         reply = bytes.fromhex("0000001F 07 0002 0000000000000001 00 01 0000000000000000 0000000000000002 01 01")
         for options in ((), ("--steps", "1")):
             with self.subTest(options=options), Running(*options) as front, front.open() as a:
@@ -170,7 +192,14 @@ class ManyConnections(FrontTest):
         with Running() as front, front.open() as b:
             rng = random.Random(1)
             for _ in range(300):
-                good = [put(rng.randrange(9), 1), get(1), invoke(rng.randrange(3), 1), invoke_all(0, [1, 1]), define(plus()), END]
+                good = [
+                    put(rng.randrange(9), 1),
+                    get(1),
+                    invoke(rng.randrange(3), 1),
+                    invoke_all(0, [1, 1]),
+                    define(plus()),
+                    END,
+                ]
                 text = bytearray(b"".join(rng.choice(good) for _ in range(6)))
                 for _ in range(rng.randrange(1, 4)):
                     text[rng.randrange(len(text))] ^= rng.randrange(1, 256)
@@ -190,6 +219,7 @@ class ManyConnections(FrontTest):
                         self.ask(line, get(me) + get(-1 - me) + END, value(1000 * me + n) + value(None) + ENDED)
             except BaseException as e:
                 wrong.append((me, repr(e)))
+
         with Running() as front:
             team = [threading.Thread(target=work, args=(front, n)) for n in range(400)]
             for it in team:
@@ -278,6 +308,7 @@ class ManyConnections(FrontTest):
             while not going.is_set():
                 line.sendall(text)
                 rounds.append(take(line, len(wanted)) == wanted)
+
         with Running() as front, front.open() as b, front.open() as a:
             thread = threading.Thread(target=flood, args=(a,))
             thread.start()
@@ -287,7 +318,6 @@ class ManyConnections(FrontTest):
             thread.join(PATIENCE)
             self.assertGreater(len(rounds), 0)
             self.assertTrue(all(rounds))
-
 
     def test_rounds_sent_ahead_hold_up_nobody(self):
         count, taken, wrong = 50_000, [], []
@@ -302,7 +332,8 @@ class ManyConnections(FrontTest):
 
         def send_all(line):
             for _ in range(0, count, 1_000):
-                line.sendall(1_000 * (put(1, 1) + END))    # its timeout is that of the whole call
+                line.sendall(1_000 * (put(1, 1) + END))  # its timeout is that of the whole call
+
         with Running() as front, front.open() as b, front.open() as a:
             taker = threading.Thread(target=take_all, args=(a,))
             sender = threading.Thread(target=send_all, args=(a,))

@@ -20,9 +20,13 @@ from running import PATIENCE, PROGRAM, STAND_IN, FrontTest, Running, is_ended, t
 MOST = 64
 THREW = b"\0\0\0\3\6\1\3"
 REMOVE = struct.pack(">IBq", 9, 4, 7)
-GOOD = [b"GET /metrics HTTP/1.1\r\nHost: a\r\n\r\n", b"GET / HTTP/1.1\r\nHost: a\r\nConnection: close\r\n\r\n",
-        b"HEAD /healthz HTTP/1.0\r\n\r\n", b"GET /events HTTP/1.1\r\nAccept: text/event-stream\r\n\r\n",
-        b"POST /metrics HTTP/1.1\r\nContent-Length: 5\r\n\r\nabcde"]
+GOOD = [
+    b"GET /metrics HTTP/1.1\r\nHost: a\r\n\r\n",
+    b"GET / HTTP/1.1\r\nHost: a\r\nConnection: close\r\n\r\n",
+    b"HEAD /healthz HTTP/1.0\r\n\r\n",
+    b"GET /events HTTP/1.1\r\nAccept: text/event-stream\r\n\r\n",
+    b"POST /metrics HTTP/1.1\r\nContent-Length: 5\r\n\r\nabcde",
+]
 
 
 def increase(before, after):
@@ -57,7 +61,7 @@ def drip(address, count, seconds):
             try:
                 if n not in lines:
                     lines[n] = [socket.create_connection(address, 1), 0]
-                lines[n][0].sendall(text[lines[n][1]:lines[n][1] + 1])
+                lines[n][0].sendall(text[lines[n][1] : lines[n][1] + 1])
                 lines[n][1] += 1
             except OSError:
                 if n in lines:
@@ -82,13 +86,27 @@ class Metrics(FrontTest):
             self.ask(a, REMOVE + END, frame(b"\5\0") + ENDED)
             kinds = {"define": 1, "put": 2, "get": 3, "invoke": 3, "remove": 2}
             replies = {"defined": 1, "done": 2, "value": 3, "result": 2, "flag": 2, "denied": 1}
-            self.seen(front, before, {
-                **{f'jentry_requests_total{{kind="{kind}"}}': count for kind, count in kinds.items()},
-                **{f'jentry_replies_total{{kind="{kind}"}}': count for kind, count in replies.items()},
-                "jentry_runs_total": 2, "jentry_steps_total": 28, 'jentry_exceptions_total{number="3"}': 1,
-                'jentry_denials_total{number="1"}': 1, 'jentry_gets_total{result="hit"}': 1, 'jentry_gets_total{result="miss"}': 2,
-                'jentry_removes_total{result="removed"}': 1, 'jentry_removes_total{result="absent"}': 1, "jentry_rounds_total": 6,
-                "jentry_classes": 1, "jentry_class_bytes": len(plus()), "jentry_round_requests_count": 5, "jentry_round_requests_sum": 10})
+            self.seen(
+                front,
+                before,
+                {
+                    **{f'jentry_requests_total{{kind="{kind}"}}': count for kind, count in kinds.items()},
+                    **{f'jentry_replies_total{{kind="{kind}"}}': count for kind, count in replies.items()},
+                    "jentry_runs_total": 2,
+                    "jentry_steps_total": 28,
+                    'jentry_exceptions_total{number="3"}': 1,
+                    'jentry_denials_total{number="1"}': 1,
+                    'jentry_gets_total{result="hit"}': 1,
+                    'jentry_gets_total{result="miss"}': 2,
+                    'jentry_removes_total{result="removed"}': 1,
+                    'jentry_removes_total{result="absent"}': 1,
+                    "jentry_rounds_total": 6,
+                    "jentry_classes": 1,
+                    "jentry_class_bytes": len(plus()),
+                    "jentry_round_requests_count": 5,
+                    "jentry_round_requests_sum": 10,
+                },
+            )
             self.assertEqual(front.metrics()["jentry_connections"], 1)
 
     def test_an_invoke_all_in_parts_is_one_reply(self):
@@ -100,21 +118,39 @@ class Metrics(FrontTest):
                 a.sendall(invoke_all(0, [1, 2, 3, 4, 5]) + END)
                 self.assertEqual(take_frame(a)[:3], b"\7\0\5")
                 self.assertEqual(take(a, 5), ENDED)
-                self.seen(front, before, {
-                    'jentry_replies_total{kind="results"}': 1, 'jentry_requests_total{kind="invoke_all"}': 1, "jentry_runs_total": 5,
-                    'jentry_exceptions_total{number="3"}': 2, "jentry_rounds_total": 1, "jentry_batch_requests_count": 5 if options else 1})
+                self.seen(
+                    front,
+                    before,
+                    {
+                        'jentry_replies_total{kind="results"}': 1,
+                        'jentry_requests_total{kind="invoke_all"}': 1,
+                        "jentry_runs_total": 5,
+                        'jentry_exceptions_total{number="3"}': 2,
+                        "jentry_rounds_total": 1,
+                        "jentry_batch_requests_count": 5 if options else 1,
+                    },
+                )
 
     def test_limits_are_counted(self):
-        with Running("--http", "0", "--classes", "1", "--connections", "2") as front, front.open() as a, front.open() as b:
+        with Running(
+            "--http", "0", "--classes", "1", "--connections", "2"
+        ) as front, front.open() as a, front.open() as b:
             before = front.metrics()
             self.define(a, plus(), 0)
             self.ask(a, define(another(1)) + END, denied(4) + ENDED)
             with front.open() as more:
                 self.assertTrue(is_ended(more))
             self.send_all(b, b"\0\0\0\0")
-            self.seen(front, before, {
-                'jentry_denials_total{number="4"}': 1, "jentry_connections_rejected_total": 1,
-                'jentry_connections_closed_total{reason="invalid"}': 1, 'jentry_replies_total{kind="denied"}': 1})
+            self.seen(
+                front,
+                before,
+                {
+                    'jentry_denials_total{number="4"}': 1,
+                    "jentry_connections_rejected_total": 1,
+                    'jentry_connections_closed_total{reason="invalid"}': 1,
+                    'jentry_replies_total{kind="denied"}': 1,
+                },
+            )
             self.assertIn(" WARN ", front.logged("no request, or too many in a round")[0])
 
     @unittest.skipUnless(PROGRAM, "the stand-in refuses no class")
@@ -122,7 +158,9 @@ class Metrics(FrontTest):
         with Running("--http", "0") as front, front.open() as a:
             before = front.metrics()
             self.ask(a, define(b"abcd" + plus()[4:]) + END, frame(b"\2\3\0\0\0\0") + ENDED)
-            self.seen(front, before, {'jentry_refusals_total{number="3"}': 1, 'jentry_replies_total{kind="refused"}': 1})
+            self.seen(
+                front, before, {'jentry_refusals_total{number="3"}': 1, 'jentry_replies_total{kind="refused"}': 1}
+            )
             lines = front.logged("refused class")
             self.assertEqual(len(lines), 1, lines)
             self.assertRegex(lines[0], r" WARN .*number=3 name=BadMagic .*sha1=[0-9a-f]{40} ")
@@ -191,8 +229,12 @@ class Answers(FrontTest):
 
     def test_what_is_too_long_or_no_request(self):
         with Running("--http", "0") as front:
-            for text, status in ((b"GET / HTTP/1.1\r\nX: " + 9_000 * b"a", b"431"), (b"\0\0\0\x09\3" + bytes(8), b"400"), (GOOD[4], b"405"),
-                                 (b"GET / HTTP/1.1\r\nTransfer-Encoding: chunked\r\n\r\n0\r\n\r\n", b"400")):
+            for text, status in (
+                (b"GET / HTTP/1.1\r\nX: " + 9_000 * b"a", b"431"),
+                (b"\0\0\0\x09\3" + bytes(8), b"400"),
+                (GOOD[4], b"405"),
+                (b"GET / HTTP/1.1\r\nTransfer-Encoding: chunked\r\n\r\n0\r\n\r\n", b"400"),
+            ):
                 with self.subTest(text=text[:40]), connect(front.http_address()) as line:
                     line.sendall(text)
                     self.assertEqual(read_all(line).split(b" ")[1], status)
@@ -221,7 +263,9 @@ class Answers(FrontTest):
             while time.monotonic() < end:
                 if select.select([line], [], [], 0.1)[0]:
                     text += line.recv(65_536)
-            events = [json.loads(it.split("data: ")[1]) for it in text.decode().split("\n\n") if it.startswith("event: state")]
+            events = [
+                json.loads(it.split("data: ")[1]) for it in text.decode().split("\n\n") if it.startswith("event: state")
+            ]
             self.assertGreaterEqual(len(events), 3)
             self.assertEqual(events[-1]["totals"]["jentry_requests_total"], 101)
             self.assertEqual([(it["number"], it["steps"], it["runs"]) for it in events[-1]["classes"]], [(0, 14, 0)])
@@ -264,8 +308,10 @@ class Hostile(FrontTest):
                 self.assertLessEqual(files, MOST + 24)
                 dripper.join(PATIENCE)
             grown = front.memory() - memory
-            print(f"alone {statistics.median(alone):.0f} calls/s, beside 1,000 slow connections {statistics.median(beside):.0f}; "
-                  f"health in {max(answered):.3f} s at most; memory {grown:+} bytes")
+            print(
+                f"alone {statistics.median(alone):.0f} calls/s, beside 1,000 slow connections {statistics.median(beside):.0f}; "
+                f"health in {max(answered):.3f} s at most; memory {grown:+} bytes"
+            )
             self.assertGreater(statistics.median(beside), 0.5 * statistics.median(alone))
             self.assertLess(grown, 4 << 20)
 
@@ -279,7 +325,7 @@ class Hostile(FrontTest):
                 text = bytearray(b"".join(rng.choice(GOOD) for _ in range(rng.randrange(1, 4))))
                 for _ in range(rng.randrange(1, 6)):
                     at = rng.randrange(len(text))
-                    text[at:at + rng.randrange(2)] = bytes(rng.randrange(256) for _ in range(rng.randrange(1, 4)))
+                    text[at : at + rng.randrange(2)] = bytes(rng.randrange(256) for _ in range(rng.randrange(1, 4)))
                 with connect(front.http_address()) as line:
                     try:
                         line.sendall(text)

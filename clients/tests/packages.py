@@ -13,8 +13,15 @@ def need(**programs):
     missing = sorted({package for program, package in programs.items() if not shutil.which(program)})
     if missing and os.geteuid() == 0 and shutil.which("apt-get"):
         for words in (["update", "-q"], ["install", "-y", "-q", "--no-install-recommends", *missing]):
-            subprocess.run(["apt-get", *words], stdin=subprocess.DEVNULL, stdout=subprocess.DEVNULL, stderr=subprocess.DEVNULL,
-                           timeout=LIMIT, env={**os.environ, "DEBIAN_FRONTEND": "noninteractive", "RUNLEVEL": "1"}, check=False)
+            subprocess.run(
+                ["apt-get", *words],
+                stdin=subprocess.DEVNULL,
+                stdout=subprocess.DEVNULL,
+                stderr=subprocess.DEVNULL,
+                timeout=LIMIT,
+                env={**os.environ, "DEBIAN_FRONTEND": "noninteractive", "RUNLEVEL": "1"},
+                check=False,
+            )
         missing = sorted({package for program, package in programs.items() if not shutil.which(program)})
     if missing:
         raise unittest.SkipTest(f"packages are missing (apt-get install {' '.join(missing)})")

@@ -31,8 +31,15 @@ def blocks(language):
 
 
 def promtool(*words, text=None):
-    return subprocess.run(["promtool", *words], input=text, text=True, stdout=subprocess.PIPE, stderr=subprocess.STDOUT,
-                          timeout=PATIENCE, check=False)
+    return subprocess.run(
+        ["promtool", *words],
+        input=text,
+        text=True,
+        stdout=subprocess.PIPE,
+        stderr=subprocess.STDOUT,
+        timeout=PATIENCE,
+        check=False,
+    )
 
 
 def free_port():
@@ -54,11 +61,22 @@ class Prometheus:
         with open(rules, "w", encoding="utf-8") as file:
             file.write(alerts)
         with open(config, "w", encoding="utf-8") as file:
-            file.write(scrape.replace("127.0.0.1:9464", f"{host}:{port}").replace("15s", "1s").replace("/etc/prometheus/jentry.rules.yml", rules))
+            file.write(
+                scrape.replace("127.0.0.1:9464", f"{host}:{port}")
+                .replace("15s", "1s")
+                .replace("/etc/prometheus/jentry.rules.yml", rules)
+            )
         self.process = subprocess.Popen(
-            ["prometheus", f"--config.file={config}", f"--storage.tsdb.path={self.folder.name}/data",
-             f"--web.listen-address=127.0.0.1:{self.port}"],
-            stdin=subprocess.DEVNULL, stdout=subprocess.DEVNULL, stderr=subprocess.DEVNULL)
+            [
+                "prometheus",
+                f"--config.file={config}",
+                f"--storage.tsdb.path={self.folder.name}/data",
+                f"--web.listen-address=127.0.0.1:{self.port}",
+            ],
+            stdin=subprocess.DEVNULL,
+            stdout=subprocess.DEVNULL,
+            stderr=subprocess.DEVNULL,
+        )
 
     def __enter__(self):
         return self
@@ -69,7 +87,9 @@ class Prometheus:
         self.folder.cleanup()
 
     def ask(self, path, **words):
-        with urllib.request.urlopen(f"http://127.0.0.1:{self.port}{path}?{urllib.parse.urlencode(words)}", timeout=PATIENCE) as answer:
+        with urllib.request.urlopen(
+            f"http://127.0.0.1:{self.port}{path}?{urllib.parse.urlencode(words)}", timeout=PATIENCE
+        ) as answer:
             return json.load(answer)["data"]
 
     def value(self, query):
@@ -105,26 +125,42 @@ class Scraped(FrontTest):
     def test_counters_equal_what_the_load_counted(self):
         with Running("--http", "0") as front, Prometheus(front) as prometheus:
             self.assertEqual(prometheus.wait_for('up{job="jentry"}', 1), 1)
-            with front.open() as a:    # the load's class throws on keys that aren't there
+            with front.open() as a:  # the load's class throws on keys that aren't there
                 self.ask(a, b"".join(put(key, 0) for key in range(1_024)) + END, 1_024 * DONE + ENDED)
-            load = subprocess.run([LOAD, front.place, "16", str(SECONDS), CLASS, "4", "4"], stdout=subprocess.PIPE, text=True,
-                                  timeout=SECONDS + PATIENCE, check=True).stdout
+            load = subprocess.run(
+                [LOAD, front.place, "16", str(SECONDS), CLASS, "4", "4"],
+                stdout=subprocess.PIPE,
+                text=True,
+                timeout=SECONDS + PATIENCE,
+                check=True,
+            ).stdout
             rounds, calls = map(int, re.search(r"(\d+) rounds of (\d+) calls in all", load).groups())
             self.assertGreater(rounds, 0)
             self.assertEqual(prometheus.wait_for('jentry_requests_total{kind="invoke"}', calls), calls)
             for query, wanted in (
-                    ('jentry_replies_total{kind="result"}', calls), ("jentry_runs_total", calls), ("jentry_steps_total", 14 * calls),
-                    ("jentry_round_seconds_count", rounds + 1), ("jentry_round_requests_sum", calls + 1_024),
-                    ('jentry_requests_total{kind="define"}', 16), ('jentry_requests_total{kind="put"}', 1_024),
-                    ("jentry_rounds_total", rounds + 17), ("jentry_connections_opened_total", 17)):
+                ('jentry_replies_total{kind="result"}', calls),
+                ("jentry_runs_total", calls),
+                ("jentry_steps_total", 14 * calls),
+                ("jentry_round_seconds_count", rounds + 1),
+                ("jentry_round_requests_sum", calls + 1_024),
+                ('jentry_requests_total{kind="define"}', 16),
+                ('jentry_requests_total{kind="put"}', 1_024),
+                ("jentry_rounds_total", rounds + 17),
+                ("jentry_connections_opened_total", 17),
+            ):
                 self.assertEqual(prometheus.value(query), wanted, query)
             scrapes = prometheus.value(f'count_over_time(up{{job="jentry"}}[{SECONDS}s])')
             self.assertGreater(scrapes, 0.5 * SECONDS)
             self.assertEqual(prometheus.value(f'min_over_time(up{{job="jentry"}}[{SECONDS}s])'), 1)
             slowest = prometheus.value(f'max_over_time(scrape_duration_seconds{{job="jentry"}}[{SECONDS}s])')
-            print(f"{SECONDS} s of load: {calls} calls counted by both, {scrapes:.0f} scrapes, the slowest {slowest:.3f} s")
+            print(
+                f"{SECONDS} s of load: {calls} calls counted by both, {scrapes:.0f} scrapes, the slowest {slowest:.3f} s"
+            )
             rules = prometheus.ask("/api/v1/rules")["groups"]
-            self.assertEqual({(it["name"], it["health"]) for group in rules for it in group["rules"]}, {(name, "ok") for name in ALERTS})
+            self.assertEqual(
+                {(it["name"], it["health"]) for group in rules for it in group["rules"]},
+                {(name, "ok") for name in ALERTS},
+            )
 
 
 class Page(unittest.TestCase):
@@ -153,23 +189,40 @@ class Page(unittest.TestCase):
 
     def test_alerts_fire_when_they_should_and_only_then(self):
         series = {
-            'up{job="jentry", instance="a"}': "1x20 0x20", 'jentry_server_up{job="jentry", instance="a"}': "1x20 0x20",
+            'up{job="jentry", instance="a"}': "1x20 0x20",
+            'jentry_server_up{job="jentry", instance="a"}': "1x20 0x20",
             'jentry_round_seconds_bucket{job="jentry", instance="a", le="0.05"}': "0+100x20 2000x20",
             'jentry_round_seconds_bucket{job="jentry", instance="a", le="0.5"}': "0+100x20 2000+10x20",
             'jentry_round_seconds_bucket{job="jentry", instance="a", le="5"}': "0+100x20 2000+100x20",
             'jentry_round_seconds_bucket{job="jentry", instance="a", le="+Inf"}': "0+100x20 2000+100x20",
-            'jentry_classes{job="jentry", instance="a"}': "10x20 3500x20"}
-        cases = [{"eval_time": time, "alertname": name, "exp_alerts": [{"exp_labels": labels}] if fires else []}
-                 for name, labels in ((ALERTS[0], {"severity": "page"}), (ALERTS[1], {"severity": "ticket"}), (ALERTS[2], {"severity": "ticket"}))
-                 for time, fires in (("15m", False), ("40m", True))]
+            'jentry_classes{job="jentry", instance="a"}': "10x20 3500x20",
+        }
+        cases = [
+            {"eval_time": time, "alertname": name, "exp_alerts": [{"exp_labels": labels}] if fires else []}
+            for name, labels in (
+                (ALERTS[0], {"severity": "page"}),
+                (ALERTS[1], {"severity": "ticket"}),
+                (ALERTS[2], {"severity": "ticket"}),
+            )
+            for time, fires in (("15m", False), ("40m", True))
+        ]
         summaries = dict(re.findall(r"- alert: (\w+)\n.*?summary: (.*?)\n", blocks("yaml")[1], re.DOTALL))
         self.assertEqual(set(summaries), set(ALERTS))
         for case in cases:
             for alert in case["exp_alerts"]:
                 alert["exp_labels"] = {"job": "jentry", "instance": "a", **alert["exp_labels"]}
                 alert["exp_annotations"] = {"summary": summaries[case["alertname"]]}
-        test = {"rule_files": [self.rules], "evaluation_interval": "1m", "tests": [{
-            "interval": "1m", "input_series": [{"series": name, "values": values} for name, values in series.items()], "alert_rule_test": cases}]}
+        test = {
+            "rule_files": [self.rules],
+            "evaluation_interval": "1m",
+            "tests": [
+                {
+                    "interval": "1m",
+                    "input_series": [{"series": name, "values": values} for name, values in series.items()],
+                    "alert_rule_test": cases,
+                }
+            ],
+        }
         told = promtool("test", "rules", self.write("test.yml", json.dumps(test)))
         self.assertEqual(told.returncode, 0, told.stdout)
 

@@ -108,7 +108,7 @@ class Running:
 
     def open(self):
         line = socket.socket(socket.AF_INET if isinstance(self.place, tuple) else socket.AF_UNIX)
-        line.connect(self.place)    # it waits where many connect at once
+        line.connect(self.place)  # it waits where many connect at once
         line.settimeout(PATIENCE)
         return line
 
