@@ -5,9 +5,10 @@
 
 Of each FILE (without any: Plus.class, Counter.class and Ratio.class beside this script) every byte is changed to each of the 255 others.
 Each class that is accepted is invoked on key 7 without arguments and with the argument 1, where there is no entry and where the entry is 41. It
-must return or throw, and where it throws the entry must be as before. With `--each N` only each Nth class is sent. With `--run N` each Nth accepted class (without it each
-50th) is also run by `jentry run`, and must answer the same within the instructions and array words that its definition was told. The program is
-the built one, or what JENTRY names. The status is 1 if a stream ends otherwise than it should, or an answer is another than these.
+must return or throw, and where it throws the entry must be as before. With `--each N` only each Nth class is sent. With `--run N` each Nth
+accepted class (without it each 50th) is also run by `jentry run`, and must answer the same within the instructions and array words that its
+definition was told. The program is the built one, or what JENTRY names. The status is 1 if a stream ends otherwise than it should, or an
+answer is another than these.
 """
 import argparse
 import os
@@ -27,8 +28,14 @@ BATCH = 512
 MOST_CLASSES = 4096
 """So many classes a stream accepts."""
 
-LEVELS = {"A, layout": range(1, 7), "B, shape": range(7, 16), "C, instructions": [*range(16, 21), 24],
-          "D, types": [21, 22, 23, 26], "E, bounds": [25, 27, 28, 29], "no memory": [30]}
+LEVELS = {
+    "A, layout": range(1, 7),
+    "B, shape": range(7, 16),
+    "C, instructions": [*range(16, 21), 24],
+    "D, types": [21, 22, 23, 26],
+    "E, bounds": [25, 27, 28, 29],
+    "no memory": [30],
+}
 
 THREW, RETURNED = "threw", "returned"
 
@@ -47,7 +54,7 @@ def changed(data):
     for place, own in enumerate(data):
         for byte in range(256):
             if byte != own:
-                yield data[:place] + bytes([byte]) + data[place + 1:]
+                yield data[:place] + bytes([byte]) + data[place + 1 :]
 
 
 class Stream:
@@ -79,7 +86,9 @@ class Stream:
     def end(self):
         output, errors = self.process.communicate()
         if self.process.returncode != 0 or output or errors:
-            raise Wrong(f"the stream ended with status {self.process.returncode}, {len(output)} bytes more and {errors}")
+            raise Wrong(
+                f"the stream ended with status {self.process.returncode}, {len(output)} bytes more and {errors}"
+            )
 
 
 END = frames.request_text("end")
@@ -132,7 +141,7 @@ class Told:
 
     def add_accepted(self, stream, data, number, steps, words):
         replies = stream.ask(list(calls_of(number)))
-        told = [outcome_of(entry, *replies[3 * i + 1:3 * i + 3]) for i, (entry, _) in enumerate(CALLS)]
+        told = [outcome_of(entry, *replies[3 * i + 1 : 3 * i + 3]) for i, (entry, _) in enumerate(CALLS)]
         self.outcomes.update(kind for _, kind in told)
         if self.accepted % self.run_each == 0:
             for call, (outcome, _) in zip(CALLS, told, strict=True):
@@ -185,7 +194,9 @@ def main():
     parser = argparse.ArgumentParser(description=__doc__, formatter_class=argparse.RawDescriptionHelpFormatter)
     parser.add_argument("--each", type=int, default=1)
     parser.add_argument("--run", type=int, default=50)
-    parser.add_argument("files", nargs="*", default=[os.path.join(built.HERE, f"{name}.class") for name in ("Plus", "Counter", "Ratio")])
+    parser.add_argument(
+        "files", nargs="*", default=[os.path.join(built.HERE, f"{name}.class") for name in ("Plus", "Counter", "Ratio")]
+    )
     words = parser.parse_args()
     try:
         program = built.program()

@@ -110,7 +110,9 @@ class Body:
     def table_switch(self, default, labels):
         """A tableswitch of keys from 0 on."""
         origin = len(self.code)
-        self.put(bytes([TABLESWITCH]), bytes(3 - origin % 4)).leap(default, origin, ">i").put(u4(0), u4(len(labels) - 1))
+        self.put(bytes([TABLESWITCH]), bytes(3 - origin % 4)).leap(default, origin, ">i").put(
+            u4(0), u4(len(labels) - 1)
+        )
         for label in labels:
             self.leap(label, origin, ">i")
         return self
@@ -149,7 +151,9 @@ class Body:
         return self._frame(lambda d: bytes([251 + len(types)]) + u2(d) + b"".join(types))
 
     def full(self, locals_, stack=()):
-        return self._frame(lambda d: b"\xff" + u2(d, len(locals_)) + b"".join(locals_) + u2(len(stack)) + b"".join(stack))
+        return self._frame(
+            lambda d: b"\xff" + u2(d, len(locals_)) + b"".join(locals_) + u2(len(stack)) + b"".join(stack)
+        )
 
 
 def empty_attributes(name, count):
@@ -318,7 +322,9 @@ def long_class_name(n):
     return row.method(STATIC, "help", descriptor, 0, 1, Body().put(RETURN))
 
 
-@costly("{n} calls of an interface's method that isn't known, by a descriptor of 32,000 bytes", "refused 24 UnknownMember")
+@costly(
+    "{n} calls of an interface's method that isn't known, by a descriptor of 32,000 bytes", "refused 24 UnknownMember"
+)
 def long_interface_descriptor(n):
     row = ClassFile()
     pair = row.pool.pair(row.pool.utf8("x"), row.pool.utf8(f"(L{'a' * 32_000};)V"))
@@ -636,7 +642,9 @@ def full_frames_behind_longs(n):
     return ClassFile().hidden(0, 65_535, body.put(RETURN))
 
 
-@costly("{n} times a full frame of 100 longs and an empty one, of which none is reached from another, over 65,535 locals")
+@costly(
+    "{n} times a full frame of 100 longs and an empty one, of which none is reached from another, over 65,535 locals"
+)
 def full_frames_in_turn(n):
     body = Body()
     for _ in range(n):
@@ -913,7 +921,9 @@ def main(words):
             continue
         told, clock, processor, memory = measured([program, "check", path])
         text = it.text.format(n=f"{number:,}")
-        print(f"| {it.name}: {text} | {len(data):,} | {told} | {clock:.2f} | {processor:.2f} | {memory:.0f} |", flush=True)
+        print(
+            f"| {it.name}: {text} | {len(data):,} | {told} | {clock:.2f} | {processor:.2f} | {memory:.0f} |", flush=True
+        )
         if not told.startswith(it.verdict):
             print(f"costly: {it.name}: not {it.verdict}", file=sys.stderr)
             status = 1

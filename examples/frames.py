@@ -12,8 +12,14 @@ CLASS is the number that the reply to the class's definition told. ARGS are deci
 import struct
 import sys
 
-FAULTS = {1: "ArithmeticException", 2: "ArrayIndexOutOfBoundsException", 3: "NullPointerException",
-          4: "ClassCastException", 5: "IncompatibleClassChangeError", 6: "CacheLoaderException"}
+FAULTS = {
+    1: "ArithmeticException",
+    2: "ArrayIndexOutOfBoundsException",
+    3: "NullPointerException",
+    4: "ClassCastException",
+    5: "IncompatibleClassChangeError",
+    6: "CacheLoaderException",
+}
 DENIALS = {1: "UnknownClass", 2: "JournalFull", 3: "NoMemory", 4: "TooManyClasses", 5: "TooManyJobs"}
 ON_ONE_KEY = {"get": 3, "remove": 4, "contains": 5}
 

@@ -104,7 +104,10 @@ class Assurance(unittest.TestCase):
         first = len(re.findall(r"^pub \w+ : judge_by First", verdicts, re.M))
         second = len(re.findall(r"^pub \w+ : judge ", verdicts, re.M))
         ends = len(re.findall(r"^pub \w+ : outcome_", calls, re.M))
-        found = re.search(r"computes (\d+) verdicts by the second profile, (\d+) by the first, and the ends of (\d+) calls", text_of(PAGE))
+        found = re.search(
+            r"computes (\d+) verdicts by the second profile, (\d+) by the first, and the ends of (\d+) calls",
+            text_of(PAGE),
+        )
         self.assertEqual(tuple(map(int, found.groups())), (second, first, ends))
 
     def test_tests_are_there(self):

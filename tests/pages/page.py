@@ -52,7 +52,7 @@ def contract_of(name, path):
         elif line == "}":
             inside = ""
         if found is None:
-            if re.match(rf"\s*(?:pub )?fn {function}\b", line) and (not kind or inside == kind):
+            if re.match(rf'\s*(?:pub )?(?:extern "C" )?fn {function}\b', line) and (not kind or inside == kind):
                 found = []
         elif line.strip() in ("{", "{}"):
             return found

@@ -5,8 +5,10 @@ import time
 import row_classes as rows
 from running import Row, Runs, Told, proved_only, told
 
-USAGE = ("usage: bench run FILE COUNT KEY VALUE [ARGS..] | bench verify FILE COUNT | bench calls FILE KEYS SEATS | "
-         "bench rounds FILE JOBS SEATS | bench stripe FILE KEYS\n")
+USAGE = (
+    "usage: bench run FILE COUNT KEY VALUE [ARGS..] | bench verify FILE COUNT | bench calls FILE KEYS SEATS | "
+    "bench rounds FILE JOBS SEATS | bench stripe FILE KEYS\n"
+)
 REFUSED, UNREAD = "error: the class is refused\n", "error: cannot read the file\n"
 PLUS = rows.plus()
 ROUNDS, CACHE_CALLS, OF_ROUNDS = 9, 65_536, 201
@@ -19,7 +21,7 @@ LINES = {
     "calls": rf"invoke {TENTHS} ns, at least {TENTHS} ns, put {TENTHS} ns, at least {TENTHS} ns, by (\d+) seats, entries of (-?\d+) and (-?\d+) in all\n",
     "rounds": rf"round {TENTHS} us, at least {TENTHS} us, (\d+) jobs a second, entries of (-?\d+) in all\n",
     "stripe": rf"put {TENTHS} ns, at least {TENTHS} ns, of an absent key {TENTHS} ns, at least {TENTHS} ns, "
-              rf"invoke {TENTHS} ns, at least {TENTHS} ns, its run {TENTHS} ns, at least {TENTHS} ns, on (\d+) keys\n",
+    rf"invoke {TENTHS} ns, at least {TENTHS} ns, its run {TENTHS} ns, at least {TENTHS} ns, on (\d+) keys\n",
 }
 """The form of each line."""
 
@@ -64,49 +66,52 @@ class Bench(Runs):
         self.assertIsNotNone(found, it.output)
         numbers = [int(word) for word in found.groups()]
         times = LINES[words[0]].count(TENTHS)
-        tenths = [10 * whole + part for whole, part in zip(numbers[:2 * times:2], numbers[1:2 * times:2])]
+        tenths = [10 * whole + part for whole, part in zip(numbers[: 2 * times : 2], numbers[1 : 2 * times : 2])]
         for median, least in zip(tenths[::2], tenths[1::2]):
             self.assertLessEqual(least, median)
-        return tenths, numbers[2 * times:], passed
+        return tenths, numbers[2 * times :], passed
 
     def test_lines_are_read(self):
-        self.hold(Row(["run", "C", "0", *words.split()], 0, f"steps {steps} words 0\n", file=expecting()) for words, steps in [
-            ("-7 none 5", 48),
-            ("7 none 5", 17),
-            ("-7 none 6", 36),
-            ("-7 1 5", 45),
-        ])
-        self.hold([
-            Row(["run", "C", "0", "7", "41"], 0, "steps 14 words 0\n", file=PLUS),
-            Row(["run", "C", "0", "7", "none"], 0, "steps 6 words 65536\n", file=rows.named("ArrMost")),
-        ])
+        self.hold(
+            Row(["run", "C", "0", *words.split()], 0, f"steps {steps} words 0\n", file=expecting())
+            for words, steps in [("-7 none 5", 48), ("7 none 5", 17), ("-7 none 6", 36), ("-7 1 5", 45)]
+        )
+        self.hold(
+            [
+                Row(["run", "C", "0", "7", "41"], 0, "steps 14 words 0\n", file=PLUS),
+                Row(["run", "C", "0", "7", "none"], 0, "steps 6 words 65536\n", file=rows.named("ArrMost")),
+            ]
+        )
 
     def test_other_lines_are_refused(self):
-        self.hold(Row(words.split(), 1, errors=USAGE, file=PLUS) for words in [
-            "",
-            "runs C 2 3 4",
-            "verify C",
-            "verify C 2 3",
-            "verify C 0",
-            "run C 2 3",
-            "run C two 3 4",
-            "run C 2 3 nothing",
-            "run C 2 3 4 x",
-            "run C 2 3 4 1 2 3 4 5 6 7 8 9",
-            "stripe C 5 1",
-            "stripe C 0",
-            "stripe C 1000001",
-            "calls C 1000",
-            "calls C 15 1",
-            "calls C 1000001 1",
-            "calls C 1000 0",
-            "calls C 1000 17",
-            "rounds C 8 two",
-            "rounds C 0 1",
-            "rounds C 4097 1",
-            "rounds C 8 0",
-            "rounds C 8 17",
-        ])
+        self.hold(
+            Row(words.split(), 1, errors=USAGE, file=PLUS)
+            for words in [
+                "",
+                "runs C 2 3 4",
+                "verify C",
+                "verify C 2 3",
+                "verify C 0",
+                "run C 2 3",
+                "run C two 3 4",
+                "run C 2 3 nothing",
+                "run C 2 3 4 x",
+                "run C 2 3 4 1 2 3 4 5 6 7 8 9",
+                "stripe C 5 1",
+                "stripe C 0",
+                "stripe C 1000001",
+                "calls C 1000",
+                "calls C 15 1",
+                "calls C 1000001 1",
+                "calls C 1000 0",
+                "calls C 1000 17",
+                "rounds C 8 two",
+                "rounds C 0 1",
+                "rounds C 4097 1",
+                "rounds C 8 0",
+                "rounds C 8 17",
+            ]
+        )
 
     def test_files_outputs_and_classes_fail(self):
         lines = ["run {} 0 7 41", "verify {} 2", "calls {} 1000 1", "rounds {} 8 1", "stripe {} 5"]

@@ -16,7 +16,7 @@ GREATEST, LEAST = "9223372036854775807", "-9223372036854775808"
 
 def changed(at, *given):
     """Plus with other bytes from a place on."""
-    return PLUS[:at] + bytes(given) + PLUS[at + len(given):]
+    return PLUS[:at] + bytes(given) + PLUS[at + len(given) :]
 
 
 def checked(file, status, output):
@@ -32,21 +32,30 @@ class Commands(Runs):
 
     def test_plus_adds_one(self):
         run = partial(Row, file=PLUS)
-        self.hold([
-            checked(PLUS, 0, ACCEPTED),
-            run(["run", "C", "7", "41"], 0, ANSWER),
-            run(["run", "C", "007", "041", "1", "2i", "null"], 0, ANSWER),
-            run(["run", "C", "7", "none"], 4, NULL),
-            run(["run", "C", GREATEST, GREATEST], 0, f"result {LEAST}\nvalue {LEAST}\nsteps 14 words 0\n"),
-        ])
+        self.hold(
+            [
+                checked(PLUS, 0, ACCEPTED),
+                run(["run", "C", "7", "41"], 0, ANSWER),
+                run(["run", "C", "007", "041", "1", "2i", "null"], 0, ANSWER),
+                run(["run", "C", "7", "none"], 4, NULL),
+                run(["run", "C", GREATEST, GREATEST], 0, f"result {LEAST}\nvalue {LEAST}\nsteps 14 words 0\n"),
+            ]
+        )
 
     def test_straight_lines_run(self):
         unbox = rows.named("Unbox")
-        self.hold([
-            Row(["run", "C", "7", "none"], 4, NULL, file=unbox),
-            Row(["run", "C", "7", "5"], 0, "result 5\nvalue 5\nsteps 6 words 0\n", file=unbox),
-            Row(["run", "C", "7", "41"], 4, "threw 4 ClassCastException\nvalue 41\nsteps 2 words 0\n", file=rows.give_entry()),
-        ])
+        self.hold(
+            [
+                Row(["run", "C", "7", "none"], 4, NULL, file=unbox),
+                Row(["run", "C", "7", "5"], 0, "result 5\nvalue 5\nsteps 6 words 0\n", file=unbox),
+                Row(
+                    ["run", "C", "7", "41"],
+                    4,
+                    "threw 4 ClassCastException\nvalue 41\nsteps 2 words 0\n",
+                    file=rows.give_entry(),
+                ),
+            ]
+        )
 
     def test_classes_are_refused(self):
         for file, output in [
@@ -60,54 +69,63 @@ class Commands(Runs):
         self.hold([checked(rows.give_entry(8189), 0, "accepted steps=2 words=0 slots=8192 depth=1\n")])
 
     def test_declared_frames_are_read(self):
-        self.hold(checked(rows.plus(rows.Frames(count, bytes(entries))), 0, ACCEPTED) for count, entries in [
-            (0, []),
-            (1, [0]),
-            (1, [76, 4]),
-            (1, [247, 0, 12, 4]),
-            (1, [252, 0, 15, 4]),
-            (2, [252, 0, 15, 4, 9]),
-            (2, [252, 0, 15, 4, 251, 0, 9]),
-            (1, [255, 0, 17, 0, 4, 7, 0, 2, 7, 0, 16, 7, 0, 4, 4, 0, 2, 7, 0, 16, 4]),
-        ])
+        self.hold(
+            checked(rows.plus(rows.Frames(count, bytes(entries))), 0, ACCEPTED)
+            for count, entries in [
+                (0, []),
+                (1, [0]),
+                (1, [76, 4]),
+                (1, [247, 0, 12, 4]),
+                (1, [252, 0, 15, 4]),
+                (2, [252, 0, 15, 4, 9]),
+                (2, [252, 0, 15, 4, 251, 0, 9]),
+                (1, [255, 0, 17, 0, 4, 7, 0, 2, 7, 0, 16, 7, 0, 4, 4, 0, 2, 7, 0, 16, 4]),
+            ]
+        )
 
     def test_declared_frames_are_judged(self):
         operand, table = "refused 22 TypeMismatch at 16\n", "refused 21 BadStackMap\n"
-        self.hold(refused(rows.plus(rows.Frames(count, bytes(entries))), output) for count, entries, output in [
-            # The long is chopped with the arguments, or the stack's order is turned.
-            (1, [250, 0, 15], operand),
-            (1, [255, 0, 17, 0, 4, 7, 0, 2, 7, 0, 16, 7, 0, 4, 4, 0, 2, 4, 7, 0, 16], operand),
-            # The bytes are more or fewer than the entries, or there is no such entry or type.
-            (1, [252, 0, 15, 4, 9], table),
-            (2, [252, 0, 15, 4], table),
-            (1, [128, 0, 15], table),
-            (1, [252, 0, 15, 3], table),
-            (1, [252, 0, 15, 7, 0, 1], table),
-            (1, [76, 0], table),
-            # No instruction stands there.
-            (1, [2], table),
-            (1, [251, 255, 255], table),
-            (2, [252, 0, 15, 4, 8], table),
-            # There are no four locals to chop, or there is no room.
-            (2, [248, 0, 15, 250, 0, 0], table),
-            (1, [254, 0, 15, 4, 4, 4], table),
-            (1, [255, 0, 17, 0, 0, 0, 3, 4, 4, 4], table),
-        ])
+        self.hold(
+            refused(rows.plus(rows.Frames(count, bytes(entries))), output)
+            for count, entries, output in [
+                # The long is chopped with the arguments, or the stack's order is turned.
+                (1, [250, 0, 15], operand),
+                (1, [255, 0, 17, 0, 4, 7, 0, 2, 7, 0, 16, 7, 0, 4, 4, 0, 2, 4, 7, 0, 16], operand),
+                # The bytes are more or fewer than the entries, or there is no such entry or type.
+                (1, [252, 0, 15, 4, 9], table),
+                (2, [252, 0, 15, 4], table),
+                (1, [128, 0, 15], table),
+                (1, [252, 0, 15, 3], table),
+                (1, [252, 0, 15, 7, 0, 1], table),
+                (1, [76, 0], table),
+                # No instruction stands there.
+                (1, [2], table),
+                (1, [251, 255, 255], table),
+                (2, [252, 0, 15, 4, 8], table),
+                # There are no four locals to chop, or there is no room.
+                (2, [248, 0, 15, 250, 0, 0], table),
+                (1, [254, 0, 15, 4, 4, 4], table),
+                (1, [255, 0, 17, 0, 0, 0, 3, 4, 4, 4], table),
+            ]
+        )
 
     def test_layouts_and_shapes_are_refused(self):
         self.assertEqual(len(PLUS), 727)
         # Behind the header stand 14 bytes of it, the constructor of 31, `process` of 56 and a count.
         header = len(PLUS) - 2 - 56 - 31 - 14
-        self.hold(refused(changed(at, *given), output) for at, given, output in [
-            (0, [0xCB, 0xFE], "refused 3 BadMagic\n"),
-            (6, [0, 50], "refused 4 BadVersion\n"),
-            (4, [0, 1], "refused 4 BadVersion\n"),
-            (8, [0, 0], "refused 5 BadPool\n"),
-            (8, [0xFF, 0xFF], "refused 5 BadPool\n"),
-            (header, [0x02, 0x21], "refused 8 BadHeader\n"),
-            (header + 4, [0, 6], "refused 8 BadHeader\n"),
-            (header + 8, [0, 16], "refused 8 BadHeader\n"),
-        ])
+        self.hold(
+            refused(changed(at, *given), output)
+            for at, given, output in [
+                (0, [0xCB, 0xFE], "refused 3 BadMagic\n"),
+                (6, [0, 50], "refused 4 BadVersion\n"),
+                (4, [0, 1], "refused 4 BadVersion\n"),
+                (8, [0, 0], "refused 5 BadPool\n"),
+                (8, [0xFF, 0xFF], "refused 5 BadPool\n"),
+                (header, [0x02, 0x21], "refused 8 BadHeader\n"),
+                (header + 4, [0, 6], "refused 8 BadHeader\n"),
+                (header + 8, [0, 16], "refused 8 BadHeader\n"),
+            ]
+        )
         self.hold([refused(PLUS + b"\0", "refused 6 TrailingBytes\n")])
 
     def test_each_front_is_refused(self):
@@ -121,39 +139,47 @@ class Commands(Runs):
             return (0, ACCEPTED) if (at, byte) == (7, 51) else (2, "refused 4 BadVersion\n")
 
         own = [0xCA, 0xFE, 0xBA, 0xBE, 0, 0, 0, 52]
-        self.hold(checked(changed(at, byte), *told_of(at, byte)) for at in range(8) for byte in range(256) if byte != own[at])
+        self.hold(
+            checked(changed(at, byte), *told_of(at, byte)) for at in range(8) for byte in range(256) if byte != own[at]
+        )
 
     def test_long_lengths_are_refused(self):
         # Of the method `process`: the length of its Code attribute, and of the code in it.
         process = 727 - 2 - 56
-        self.hold(refused(changed(at, 0xFF, 0xFF, 0xFF, 0xFF), output) for at, output in [
-            (process + 10, "refused 2 Truncated\n"),
-            (process + 18, "refused 14 BadCode\n"),
-        ])
+        self.hold(
+            refused(changed(at, 0xFF, 0xFF, 0xFF, 0xFF), output)
+            for at, output in [(process + 10, "refused 2 Truncated\n"), (process + 18, "refused 14 BadCode\n")]
+        )
 
     def test_a_process_without_varargs_is_accepted(self):
         self.hold([checked(rows.class_of(rows.process(4, 5, rows.PLUS, flags=0x0001)), 0, ACCEPTED)])
 
     def test_flags_and_codes_are_refused(self):
         process = rows.process(1, 3, rows.GIVE)
-        self.hold(refused(rows.class_of(method), output) for method, output in [
-            (process._replace(flags=0x0080), "refused 11 NoProcess\n"),
-            (process._replace(flags=0x0089), "refused 11 NoProcess\n"),
-            (process._replace(flags=0x0181), "refused 13 NoBody\n"),
-            (process._replace(flags=0x0481), "refused 13 NoBody\n"),
-            (process._replace(code=b""), "refused 14 BadCode\n"),
-            (rows.process(1, 2, rows.GIVE), "refused 14 BadCode\n"),
-            (process._replace(frames=rows.Frames(1, b"")), "refused 21 BadStackMap\n"),
-        ])
+        self.hold(
+            refused(rows.class_of(method), output)
+            for method, output in [
+                (process._replace(flags=0x0080), "refused 11 NoProcess\n"),
+                (process._replace(flags=0x0089), "refused 11 NoProcess\n"),
+                (process._replace(flags=0x0181), "refused 13 NoBody\n"),
+                (process._replace(flags=0x0481), "refused 13 NoBody\n"),
+                (process._replace(code=b""), "refused 14 BadCode\n"),
+                (rows.process(1, 2, rows.GIVE), "refused 14 BadCode\n"),
+                (process._replace(frames=rows.Frames(1, b"")), "refused 21 BadStackMap\n"),
+            ]
+        )
 
     def test_names_and_descriptors_are_refused(self):
         process = rows.process(1, 3, rows.GIVE)
-        self.hold(refused(rows.class_of(*methods), output) for methods, output in [
-            ([], "refused 11 NoProcess\n"),
-            ([process, process], "refused 12 DuplicateMethod\n"),
-            ([process, process._replace(descriptor=12)], "refused 7 BadDescriptor\n"),
-            ([process, process._replace(name=7)], "refused 9 ConstructorForm\n"),
-        ])
+        self.hold(
+            refused(rows.class_of(*methods), output)
+            for methods, output in [
+                ([], "refused 11 NoProcess\n"),
+                ([process, process], "refused 12 DuplicateMethod\n"),
+                ([process, process._replace(descriptor=12)], "refused 7 BadDescriptor\n"),
+                ([process, process._replace(name=7)], "refused 9 ConstructorForm\n"),
+            ]
+        )
 
     def test_every_tag_is_read(self):
         """A constant of each tag that Plus has not, the first at index 55."""
@@ -167,78 +193,92 @@ class Commands(Runs):
             rows.invoke_dynamic(0, 9),
         ]
         plus = rows.process(4, 5, rows.PLUS)
-        self.hold([
-            checked(rows.class_of(plus, further=further), 0, ACCEPTED),
-            refused(rows.class_of(plus, further=[rows.method_handle(6, 1)]), "refused 5 BadPool\n"),
-            checked(changed(6, 0, 51), 0, ACCEPTED),
-            checked(changed(6, 0, 52), 0, ACCEPTED),
-        ])
+        self.hold(
+            [
+                checked(rows.class_of(plus, further=further), 0, ACCEPTED),
+                refused(rows.class_of(plus, further=[rows.method_handle(6, 1)]), "refused 5 BadPool\n"),
+                checked(changed(6, 0, 51), 0, ACCEPTED),
+                checked(changed(6, 0, 52), 0, ACCEPTED),
+            ]
+        )
 
     def test_special_methods_are_refused(self):
         plus = rows.process(4, 5, rows.PLUS)
         initialiser = plus._replace(flags=0x0008, name=55, descriptor=8, code=b"\xb1")
         constructor = rows.CONSTRUCTOR._replace(code=b"\x2a\xb7\0\x0a\0\xb1")
         catching = plus._replace(exceptions=b"\0\0\0\1\0\0\0\0")
-        self.hold([
-            refused(rows.class_of(plus, initialiser, further=[rows.utf8(b"<clinit>")]), "refused 10 ClassInitialiser\n"),
-            refused(rows.class_of(plus, constructor=constructor), "refused 9 ConstructorForm\n"),
-            refused(rows.class_of(catching), "refused 15 ExceptionTable\n"),
-        ])
+        self.hold(
+            [
+                refused(
+                    rows.class_of(plus, initialiser, further=[rows.utf8(b"<clinit>")]), "refused 10 ClassInitialiser\n"
+                ),
+                refused(rows.class_of(plus, constructor=constructor), "refused 9 ConstructorForm\n"),
+                refused(rows.class_of(catching), "refused 15 ExceptionTable\n"),
+            ]
+        )
 
     def test_instructions_are_refused(self):
-        self.hold(refused(rows.class_of(rows.process(2, 3, code)), output) for code, output in [
-            ([0xCA], "refused 16 UnknownOpcode\n"),
-            ([0xBA, 0, 0, 0, 0], "refused 17 OutsideProfile opcode 186\n"),
-            ([0x2B, 0xC0, 0], "refused 18 BadOperand\n"),
-            # A branch behind the code, one into an instruction, one to itself.
-            ([0xA7, 0, 4, 0xB0], "refused 19 BadTarget\n"),
-            ([0xA7, 0, 4, 0x10, 1, 0x01, 0xB0], "refused 19 BadTarget\n"),
-            ([0xA7, 0, 0], "refused 20 BackwardBranch\n"),
-            # A call of a method that the class lacks, and one of a constructor.
-            ([0x0A, 0xB8, 0, 45, 0x2B, 0xB0], "refused 24 UnknownMember\n"),
-            ([0x2A, 0xB7, 0, 10, 0x2B, 0xB0], "refused 24 UnknownMember\n"),
-            # What follows a return, and a target, have no frame.
-            ([0x2B, 0xB0, 0x2B, 0xB0], "refused 21 BadStackMap\n"),
-            ([0xA7, 0, 3, 0x2B, 0xB0], "refused 21 BadStackMap\n"),
-            ([0xB0], "refused 22 TypeMismatch at 0\n"),
-            ([0x2B, 0x00], "refused 23 FallsOff\n"),
-        ])
+        self.hold(
+            refused(rows.class_of(rows.process(2, 3, code)), output)
+            for code, output in [
+                ([0xCA], "refused 16 UnknownOpcode\n"),
+                ([0xBA, 0, 0, 0, 0], "refused 17 OutsideProfile opcode 186\n"),
+                ([0x2B, 0xC0, 0], "refused 18 BadOperand\n"),
+                # A branch behind the code, one into an instruction, one to itself.
+                ([0xA7, 0, 4, 0xB0], "refused 19 BadTarget\n"),
+                ([0xA7, 0, 4, 0x10, 1, 0x01, 0xB0], "refused 19 BadTarget\n"),
+                ([0xA7, 0, 0], "refused 20 BackwardBranch\n"),
+                # A call of a method that the class lacks, and one of a constructor.
+                ([0x0A, 0xB8, 0, 45, 0x2B, 0xB0], "refused 24 UnknownMember\n"),
+                ([0x2A, 0xB7, 0, 10, 0x2B, 0xB0], "refused 24 UnknownMember\n"),
+                # What follows a return, and a target, have no frame.
+                ([0x2B, 0xB0, 0x2B, 0xB0], "refused 21 BadStackMap\n"),
+                ([0xA7, 0, 3, 0x2B, 0xB0], "refused 21 BadStackMap\n"),
+                ([0xB0], "refused 22 TypeMismatch at 0\n"),
+                ([0x2B, 0x00], "refused 23 FallsOff\n"),
+            ]
+        )
 
     def test_lines_are_judged(self):
         line, argument = "error: bad command line\n", "error: bad argument\n"
-        self.hold(Row(words, 1, errors=errors, file=PLUS) for words, errors in [
-            ([], line),
-            (["check"], line),
-            (["check", "C", "D"], line),
-            (["check", "--help"], line),
-            (["check", "-h"], line),
-            (["--version"], line),
-            (["help"], line),
-            (["--", "check", "C"], line),
-            (["run", "C", "7"], line),
-            (["run", "C", "-7", "1"], line),
-            (["check", "C", "--workers=1"], line),
-            (["run", "C", "7", "nothing"], argument),
-            (["run", "C", "", "1"], argument),
-            (["run", "C", "+7", "1"], argument),
-            (["run", "C", "-", "1"], argument),
-            (["run", "C", "--", "-7", "1"], argument),
-            (["run", "C", "9223372036854775808", "1"], argument),
-            (["run", "C", "7", "9223372036854775808"], argument),
-            (["run", "C", "7", "1", "2147483648i"], argument),
-            (["run", "C", "7", "1", "none"], argument),
-            (["run", "C", "7", "1", "1", "2", "3", "4", "5", "6", "7", "8", "9"], argument),
-            # The form and the values are judged before the file is read.
-            (["run", "D", "7", "x"], argument),
-        ])
+        self.hold(
+            Row(words, 1, errors=errors, file=PLUS)
+            for words, errors in [
+                ([], line),
+                (["check"], line),
+                (["check", "C", "D"], line),
+                (["check", "--help"], line),
+                (["check", "-h"], line),
+                (["--version"], line),
+                (["help"], line),
+                (["--", "check", "C"], line),
+                (["run", "C", "7"], line),
+                (["run", "C", "-7", "1"], line),
+                (["check", "C", "--workers=1"], line),
+                (["run", "C", "7", "nothing"], argument),
+                (["run", "C", "", "1"], argument),
+                (["run", "C", "+7", "1"], argument),
+                (["run", "C", "-", "1"], argument),
+                (["run", "C", "--", "-7", "1"], argument),
+                (["run", "C", "9223372036854775808", "1"], argument),
+                (["run", "C", "7", "9223372036854775808"], argument),
+                (["run", "C", "7", "1", "2147483648i"], argument),
+                (["run", "C", "7", "1", "none"], argument),
+                (["run", "C", "7", "1", "1", "2", "3", "4", "5", "6", "7", "8", "9"], argument),
+                # The form and the values are judged before the file is read.
+                (["run", "D", "7", "x"], argument),
+            ]
+        )
 
     def test_limits_of_words_pass(self):
         eight = ["2147483647i", GREATEST, "null", "1", "2", "3", "4", "5"]
-        self.hold([
-            Row(["run", "C", "0", "0", *eight], 0, "result 1\nvalue 1\nsteps 14 words 0\n", file=PLUS),
-            Row(["run", "--", "C", "7", "41"], 0, ANSWER, file=PLUS),
-            Row(["check", "C", "--"], 0, ACCEPTED, file=PLUS),
-        ])
+        self.hold(
+            [
+                Row(["run", "C", "0", "0", *eight], 0, "result 1\nvalue 1\nsteps 14 words 0\n", file=PLUS),
+                Row(["run", "--", "C", "7", "41"], 0, ANSWER, file=PLUS),
+                Row(["check", "C", "--"], 0, ACCEPTED, file=PLUS),
+            ]
+        )
 
     def test_files_and_outputs_fail(self):
         """Files that can't be read, and outputs that are full, closed, or take no more than ten bytes."""
@@ -253,10 +293,19 @@ class Commands(Runs):
         few = partial(resource.setrlimit, resource.RLIMIT_FSIZE, (10, 10))
         with tempfile.TemporaryFile() as short:
             # (a child of Python ignores SIGXFSZ where its signals aren't restored, so that the write itself fails)
-            self.assertEqual(told(self.program, ["check", "C"], PLUS, stdout=short, restore_signals=False, preexec_fn=few), failed)
+            self.assertEqual(
+                told(self.program, ["check", "C"], PLUS, stdout=short, restore_signals=False, preexec_fn=few), failed
+            )
             short.seek(0)
             self.assertEqual(short.read(), ACCEPTED[:10].encode())
 
     def test_real_files_are_read_or_not(self):
-        self.hold([Row(["check", name], 3, errors=f"error: cannot read {name}\n") for name in [".", "no such file", ""]])
-        self.hold([Row(["check", "/dev/null"], 2, "refused 2 Truncated\n"), Row(["check", "/dev/zero"], 2, "refused 1 TooLarge\n")])
+        self.hold(
+            [Row(["check", name], 3, errors=f"error: cannot read {name}\n") for name in [".", "no such file", ""]]
+        )
+        self.hold(
+            [
+                Row(["check", "/dev/null"], 2, "refused 2 Truncated\n"),
+                Row(["check", "/dev/zero"], 2, "refused 1 TooLarge\n"),
+            ]
+        )

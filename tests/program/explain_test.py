@@ -44,7 +44,17 @@ def sources():
 def compiled(source, *options):
     """The bytes of the class of a source by javac."""
     with tempfile.TemporaryDirectory() as folder:
-        words = ["javac", "-nowarn", *options, "-implicit:none", "-sourcepath", os.path.join(TOP, "examples", "api"), "-d", folder, source]
+        words = [
+            "javac",
+            "-nowarn",
+            *options,
+            "-implicit:none",
+            "-sourcepath",
+            os.path.join(TOP, "examples", "api"),
+            "-d",
+            folder,
+            source,
+        ]
         subprocess.run(words, check=True, stdout=subprocess.DEVNULL, stderr=subprocess.DEVNULL)
         return bytes_of(os.path.join(folder, os.path.basename(source)[: -len(".java")] + ".class"))
 
@@ -58,7 +68,9 @@ def spent():
 def many_methods():
     """A class of some 60 KB with 250 methods beside `process`."""
     names = [rows.utf8(b"m%d" % number) for number in range(250)]
-    methods = [rows.Method(0x0008, rows.FURTHER + number, 8, 0, 0, 215 * b"\0" + b"\xb1", b"", None) for number in range(250)]
+    methods = [
+        rows.Method(0x0008, rows.FURTHER + number, 8, 0, 0, 215 * b"\0" + b"\xb1", b"", None) for number in range(250)
+    ]
     return rows.class_of(rows.process(1, 3, rows.GIVE), *methods, further=names)
 
 
@@ -76,7 +88,7 @@ class Explain(Runs):
         self.assertEqual(whole.status, check.status)
         self.assertEqual(whole.errors, b"")
         self.assertTrue(whole.output.startswith(check.output), whole)
-        return whole.output[len(check.output):]
+        return whole.output[len(check.output) :]
 
     def test_the_line_of_check_comes_first(self):
         files = [bytes_of(path) for path in glob.glob(os.path.join(TOP, "examples", "**", "*.class"), recursive=True)]
@@ -104,14 +116,17 @@ class Explain(Runs):
                 self.assertEqual(without.output.split(b"\n")[1], self.explained(whole).output.split(b"\n")[1])
 
     def test_types_are_told_where_they_are_the_reason(self):
-        self.assertEqual(self.lines(rows.named("Mixed"))[:6], [
-            "refused 22 TypeMismatch at 1",
-            "method Object process(MutableEntry, Object...)",
-            "instruction 1 areturn",
-            "locals this, MutableEntry, Object[]",
-            "operands long",
-            "No Java source was seen to cause this: compile the class again.",
-        ])
+        self.assertEqual(
+            self.lines(rows.named("Mixed"))[:6],
+            [
+                "refused 22 TypeMismatch at 1",
+                "method Object process(MutableEntry, Object...)",
+                "instruction 1 areturn",
+                "locals this, MutableEntry, Object[]",
+                "operands long",
+                "No Java source was seen to cause this: compile the class again.",
+            ],
+        )
 
     def test_switches_are_told_by_their_cases(self):
         def other(name, old, new):
@@ -120,11 +135,27 @@ class Explain(Runs):
 
         many = "aa0000" + "00000000" + "ffffffff" + "00000005" + 7 * "00000001"
         for file, verdict, instruction in [
-            (other("Table", "0000001e", "00000000"), "20 BackwardBranch", "13 tableswitch of 2 cases: 1 -> 36, 2 -> 41, default -> 13"),
-            (other("Look", "0000000900000020", "0000000900000024"), "19 BadTarget", "13 lookupswitch of 2 cases: -5 -> 40, 9 -> 49, default -> 47"),
+            (
+                other("Table", "0000001e", "00000000"),
+                "20 BackwardBranch",
+                "13 tableswitch of 2 cases: 1 -> 36, 2 -> 41, default -> 13",
+            ),
+            (
+                other("Look", "0000000900000020", "0000000900000024"),
+                "19 BadTarget",
+                "13 lookupswitch of 2 cases: -5 -> 40, 9 -> 49, default -> 47",
+            ),
             (other("Look", "00000002", "ffffffff"), "18 BadOperand", "13 lookupswitch of -1 cases: default -> 47"),
-            (rows.class_of(rows.process(2, 3, bytes.fromhex("03" + "ab0000" + "00000000" + "00000000"))), "20 BackwardBranch", "1 lookupswitch of 0 cases: default -> 1"),
-            (rows.class_of(rows.process(2, 3, bytes.fromhex("03" + many))), "20 BackwardBranch", "1 tableswitch of 7 cases: -1 -> 2, 0 -> 2, 1 -> 2, 2 -> 2, .., default -> 1"),
+            (
+                rows.class_of(rows.process(2, 3, bytes.fromhex("03" + "ab0000" + "00000000" + "00000000"))),
+                "20 BackwardBranch",
+                "1 lookupswitch of 0 cases: default -> 1",
+            ),
+            (
+                rows.class_of(rows.process(2, 3, bytes.fromhex("03" + many))),
+                "20 BackwardBranch",
+                "1 tableswitch of 7 cases: -1 -> 2, 0 -> 2, 1 -> 2, 2 -> 2, .., default -> 1",
+            ),
         ]:
             with self.subTest(instruction=instruction):
                 lines = self.lines(file)
@@ -145,25 +176,70 @@ class Explain(Runs):
 
     def test_wide_forms_are_told_by_their_names(self):
         far = self.lines(rows.class_of(rows.CLASSES["Far"][0]._replace(max_locals=257)))
-        self.assertEqual(far[:5], [
-            "refused 22 TypeMismatch at 1",
-            "method Object process(MutableEntry, Object...)",
-            "instruction 1 wide lstore 256",
-            "locals this, MutableEntry, Object[]",
-            "operands long",
-        ])
+        self.assertEqual(
+            far[:5],
+            [
+                "refused 22 TypeMismatch at 1",
+                "method Object process(MutableEntry, Object...)",
+                "instruction 1 wide lstore 256",
+                "locals this, MutableEntry, Object[]",
+                "operands long",
+            ],
+        )
         jump = rows.CLASSES["Jump"][0]
-        self.assertIn("instruction 0 goto_w 0", self.lines(rows.class_of(jump._replace(code=b"\xc8\0\0\0\0" + jump.code[5:]))))
+        self.assertIn(
+            "instruction 0 goto_w 0", self.lines(rows.class_of(jump._replace(code=b"\xc8\0\0\0\0" + jump.code[5:])))
+        )
 
     def test_what_to_write_instead_is_of_the_opcode(self):
         for code, advice in [
-            ("0c", "float and double"), ("33", "Arrays are of int or long"), ("53", "Arrays of references"),
-            ("a8", "No Java source"), ("b2", "Static fields and enums"), ("b4", "Fields"), ("c5", "Use one array"),
+            ("0c", "float and double"),
+            ("33", "Arrays are of int or long"),
+            ("53", "Arrays of references"),
+            ("a8", "No Java source"),
+            ("b2", "Static fields and enums"),
+            ("b4", "Fields"),
+            ("c5", "Use one array"),
         ]:
             with self.subTest(code=code):
                 lines = self.lines(rows.class_of(rows.process(2, 3, bytes.fromhex(code))))
                 self.assertEqual(lines[0], "refused 17 OutsideProfile opcode %d" % int(code, 16))
                 self.assertTrue(lines[-2].startswith(advice), lines)
+
+    def test_the_compiler_is_named_where_it_helps(self):
+        helps = {
+            "VoidResult": (7, "jentry-compile takes Void, byte, short and char, and leaves unused methods out."),
+            "Main": (7, "jentry-compile takes Void, byte, short and char, and leaves unused methods out."),
+            "StaticTable": (10, "jentry-compile computes static final tables and boxed constants at compile time."),
+            "BoxedConstant": (10, "jentry-compile computes static final tables and boxed constants at compile time."),
+            "StaticCounter": (17, "jentry-compile makes constants of final fields."),
+            "InstanceField": (17, "jentry-compile makes constants of final fields."),
+            "ByteArray": (17, "jentry-compile makes int arrays of byte, short, char and boolean arrays."),
+            "Loop": (
+                20,
+                "compile the class with jentry-compile, which writes the passes of counted loops out, or use a formula.",
+            ),
+            "UnknownCall": (
+                24,
+                "jentry-compile copies most methods of Long, Integer, Math and Objects into the class.",
+            ),
+        }
+        for source in sources():
+            name = os.path.basename(source)[: -len(".java")]
+            lines = self.lines(bytes_of(source[: -len(".java")] + ".class"))
+            with self.subTest(name=name):
+                if name in helps:
+                    number, text = helps[name]
+                    self.assertTrue(lines[0].startswith(f"refused {number} "), lines)
+                    self.assertTrue(lines[-2].endswith(text), lines)
+                else:
+                    told = any("jentry-compile" in line for line in lines)
+                    self.assertEqual(
+                        told,
+                        lines[0].split()[1] in ("7", "10", "20", "24")
+                        or lines[0].endswith(("178", "179", "180", "181", "188")),
+                        lines,
+                    )
 
     def test_an_unknown_type_of_a_frame_is_told(self):
         lines = self.lines(bytes_of(os.path.join(REFUSED, "DeclaredComparable.class")))
@@ -172,17 +248,23 @@ class Explain(Runs):
     def test_each_call_of_a_circle_is_told(self):
         lines = self.lines(rows.named("Circle"))
         self.assertEqual(lines[0], "refused 25 Recursive")
-        self.assertEqual([line for line in lines if line.startswith(("method", "instruction"))], [
-            "method long help(long)",
-            "instruction 1 invokestatic Row.other(J)J",
-            "method long other(long)",
-            "instruction 1 invokestatic Row.help(J)J",
-        ])
+        self.assertEqual(
+            [line for line in lines if line.startswith(("method", "instruction"))],
+            [
+                "method long help(long)",
+                "instruction 1 invokestatic Row.other(J)J",
+                "method long other(long)",
+                "instruction 1 invokestatic Row.help(J)J",
+            ],
+        )
 
     def test_each_method_of_an_accepted_class_has_its_own_costs(self):
         lines = self.lines(rows.named("NestFault"))
         self.assertEqual(len(lines), 4)
-        self.assertEqual(lines[1][: len("method Object process(MutableEntry, Object...) ")], "method Object process(MutableEntry, Object...) ")
+        self.assertEqual(
+            lines[1][: len("method Object process(MutableEntry, Object...) ")],
+            "method Object process(MutableEntry, Object...) ",
+        )
         self.assertEqual(lines[0].split(" ", 1)[1], lines[1].split(") ", 1)[1])
         self.assertEqual(lines[2], "method long help(long) steps=4 words=0 slots=6 depth=1")
 
@@ -190,11 +272,18 @@ class Explain(Runs):
         loop = bytes_of(os.path.join(REFUSED, "Loop.class"))
         table = b"\x00\x00\x00\x16\x00\x05\x00\x00\x00\x07"
         self.assertEqual(loop.count(table), 1)
-        self.assertIsNone(named(self.explained(loop.replace(table, b"\x00\x00\x00\x16\x00\x04\x00\x00\x00\x07")).output))
+        self.assertIsNone(
+            named(self.explained(loop.replace(table, b"\x00\x00\x00\x16\x00\x04\x00\x00\x00\x07")).output)
+        )
 
     def test_strange_names_are_printed_as_ascii(self):
         loop = bytes_of(os.path.join(REFUSED, "UnknownCall.class"))
-        for name, shown in ((b"\x1b[2", rb"\u001b[2"), (b"a\xc3\xa9", rb"a\u00e9"), (b"ab\xff", None), (b"a\xc2b", rb"a\xc2b")):
+        for name, shown in (
+            (b"\x1b[2", rb"\u001b[2"),
+            (b"a\xc3\xa9", rb"a\u00e9"),
+            (b"ab\xff", None),
+            (b"a\xc2b", rb"a\xc2b"),
+        ):
             told_of = self.explained(loop.replace(b"\x00\x03abs", b"\x00\x03" + name))
             self.assertEqual(told_of.errors, b"")
             self.assertTrue(all(byte == 10 or 32 <= byte < 127 for byte in told_of.output), told_of)

@@ -59,13 +59,15 @@ class Loads(Runs):
     def test_a_get_of_an_absent_key_loads_it(self):
         file = bytes.fromhex("00000000000000070000000000000029")
         given = asked(contains(7), get(7), contains(7))
-        output = bytes.fromhex("000000020500" "0000000109" "0000000A04010000000000000029" "0000000109" "000000020501" "0000000109")
+        output = bytes.fromhex(
+            "000000020500" "0000000109" "0000000A04010000000000000029" "0000000109" "000000020501" "0000000109"
+        )
         self.hold(loaded(file, given, output, words=["--workers", workers]) for workers in WORKERS)
 
     def test_of_equal_keys_the_last_counts(self):
-        file = rows([(5, 1), (-5, -1), (5, 2), (2**63 - 1, -2**63), (5, 3)])
+        file = rows([(5, 1), (-5, -1), (5, 2), (2**63 - 1, -(2**63)), (5, 3)])
         given = asked(get(5), get(-5), get(2**63 - 1), get(6))
-        output = told(value(3), value(-1), value(-2**63), value(None))
+        output = told(value(3), value(-1), value(-(2**63)), value(None))
         self.hold(loaded(file, given, output, words=["--workers", workers]) for workers in WORKERS)
 
     def test_an_entry_is_not_loaded(self):
@@ -77,7 +79,13 @@ class Loads(Runs):
     def test_other_lengths_are_bad(self):
         for length in range(34):
             given, output = asked(contains(0)), told(flag(0))
-            self.hold([loaded(bytes(length), given, output) if length % 16 == 0 else loaded(bytes(length), given, b"", 1, BAD)])
+            self.hold(
+                [
+                    loaded(bytes(length), given, output)
+                    if length % 16 == 0
+                    else loaded(bytes(length), given, b"", 1, BAD)
+                ]
+            )
 
     def test_a_long_file_is_read(self):
         count = 655_360
@@ -91,21 +99,29 @@ class Loads(Runs):
         self.hold([Row(["serve", "--load", "/dev/zero"], 1, b"", BAD, given=asked(get(1)))])
 
     def test_a_file_that_can_not_be_read_is_told(self):
-        self.hold(Row(["serve", f"--load={name}"], 3, b"", f"error: cannot read {name}\n", given=asked(get(1))) for name in ["absent", ".", "C/C"])
+        self.hold(
+            Row(["serve", f"--load={name}"], 3, b"", f"error: cannot read {name}\n", given=asked(get(1)))
+            for name in ["absent", ".", "C/C"]
+        )
 
     def test_the_file_is_judged_before_the_counts(self):
         many = ["--workers", "17", "--stripes=65"]
-        self.hold([
-            loaded(bytes(3), asked(get(1)), b"", 1, BAD, many),
-            loaded(bytes(16), asked(get(1)), b"", 3, "serve fault 7 BadCount\n", many),
-            Row(["serve", *many, "--load", "absent"], 3, b"", "error: cannot read absent\n"),
-        ])
+        self.hold(
+            [
+                loaded(bytes(3), asked(get(1)), b"", 1, BAD, many),
+                loaded(bytes(16), asked(get(1)), b"", 3, "serve fault 7 BadCount\n", many),
+                Row(["serve", *many, "--load", "absent"], 3, b"", "error: cannot read absent\n"),
+            ]
+        )
 
     def test_lines_of_another_form_load_nothing(self):
-        self.hold(Row(words, 1, errors="error: bad command line\n", given=asked(get(1))) for words in [
-            ["serve", "--load"],
-            ["serve", "--load", "C", "--load", "C"],
-            ["serve", "--load", "C", "C"],
-            ["serve", "--load", "absent", "--workers", "x"],
-            ["check", "C", "--load", "C"],
-        ])
+        self.hold(
+            Row(words, 1, errors="error: bad command line\n", given=asked(get(1)))
+            for words in [
+                ["serve", "--load"],
+                ["serve", "--load", "C", "--load", "C"],
+                ["serve", "--load", "C", "C"],
+                ["serve", "--load", "absent", "--workers", "x"],
+                ["check", "C", "--load", "C"],
+            ]
+        )

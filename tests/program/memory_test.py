@@ -13,7 +13,11 @@ from running import Runs, Told, proved_only, side_by_side, told
 
 SOURCE = os.path.join(os.path.dirname(os.path.abspath(__file__)), "../../bin/starve.c")
 GROWTHS = re.compile(rb"growths (\d+)\n")
-LACKING = [Told(2, b"refused 30 NoMemory\n", b""), Told(3, b"", b"error: no memory\n"), Told(3, b"", b"serve fault 5 NoMemory\n")]
+LACKING = [
+    Told(2, b"refused 30 NoMemory\n", b""),
+    Told(3, b"", b"error: no memory\n"),
+    Told(3, b"", b"serve fault 5 NoMemory\n"),
+]
 """What a command may tell of want of memory."""
 
 
@@ -21,10 +25,19 @@ ENDED = bytes([0, 0, 0, 1, 9])
 LACKED = bytes([0, 0, 0, 2, 8, 3])
 LONG_ON_7 = bytes.fromhex("0000000000000007")
 SCRIPT = (
-    bytes([0, 0, 2, 0xD8, 1]) + PLUS
-    + bytes([0, 0, 0, 0x11, 2]) + LONG_ON_7 + bytes([0, 0, 0, 0, 0, 0, 0, 41]) + bytes([0, 0, 0, 1, 8])
-    + bytes([0, 0, 0, 0x0E, 6, 0, 0, 0, 0]) + LONG_ON_7 + bytes([0])
-    + bytes([0, 0, 0, 0x18, 7, 0, 0, 0, 0, 0, 2]) + LONG_ON_7 + bytes([0, 0, 0, 0, 0, 0, 0, 8, 0]) + bytes([0, 0, 0, 1, 8])
+    bytes([0, 0, 2, 0xD8, 1])
+    + PLUS
+    + bytes([0, 0, 0, 0x11, 2])
+    + LONG_ON_7
+    + bytes([0, 0, 0, 0, 0, 0, 0, 41])
+    + bytes([0, 0, 0, 1, 8])
+    + bytes([0, 0, 0, 0x0E, 6, 0, 0, 0, 0])
+    + LONG_ON_7
+    + bytes([0])
+    + bytes([0, 0, 0, 0x18, 7, 0, 0, 0, 0, 0, 2])
+    + LONG_ON_7
+    + bytes([0, 0, 0, 0, 0, 0, 0, 8, 0])
+    + bytes([0, 0, 0, 1, 8])
 )
 """Plus is class 0 and key 7 is put to 41; in a second round Plus is invoked on it, and beside that on the keys 7 and 8 by one request."""
 
@@ -109,7 +122,9 @@ class Lacking(Runs):
     def test_a_script_is_served_or_lacks_memory(self):
         """The script's growths are refused one after the other, until there are no more of them."""
         ends = {Told(0, output, b"") for output in replies_to_script()}
-        ends |= {Told(3, output, b"serve fault 5 NoMemory\n") for output in [b"", *(first for _, _, first in first_rounds())]}
+        ends |= {
+            Told(3, output, b"serve fault 5 NoMemory\n") for output in [b"", *(first for _, _, first in first_rounds())]
+        }
         ends.add(Told(3, b"", b"error: no memory\n"))
         for count in ("0", "4"):
             words = ["serve", "--workers", count]
@@ -117,7 +132,9 @@ class Lacking(Runs):
             self.assertEqual(whole.status, 0)
             self.assertIn(whole, ends)
             numbers = range(1, growths + 2)
-            all_told = side_by_side(lambda number: starved(self.program, self.library, words, b"", number, SCRIPT), numbers)
+            all_told = side_by_side(
+                lambda number: starved(self.program, self.library, words, b"", number, SCRIPT), numbers
+            )
             for number, (was, asked) in zip(numbers, all_told):
                 with self.subTest(words=words, refused=number):
                     self.assertIn(was, ends)

@@ -42,7 +42,12 @@ RAN = [
     ("Counter", "none 1", 0, "result 1\nvalue 1\nsteps 20 words 0\n"),
     ("Counter", "41", 4, "threw 2 ArrayIndexOutOfBoundsException\nvalue 41\nsteps 13 words 0\n"),
     ("Counter", "41 1i", 4, "threw 4 ClassCastException\nvalue 41\nsteps 14 words 0\n"),
-    ("Counter", "9223372036854775807 1", 0, "result -9223372036854775808\nvalue -9223372036854775808\nsteps 24 words 0\n"),
+    (
+        "Counter",
+        "9223372036854775807 1",
+        0,
+        "result -9223372036854775808\nvalue -9223372036854775808\nsteps 24 words 0\n",
+    ),
     ("NestFault", "41", 4, "threw 1 ArithmeticException\nvalue 41\nsteps 10 words 0\n"),
     ("SetRemove", "none", 0, "result 2\nvalue none\nsteps 21 words 0\n"),
     ("SetRemove", "5", 0, "result 3\nvalue none\nsteps 21 words 0\n"),
@@ -96,59 +101,75 @@ class Classes(Runs):
 
     def test_runs_are_told(self):
         self.assertEqual(len(RAN), 41)
-        self.hold(Row(["run", "C", "7", *words.split()], status, output, file=rows.named(name)) for name, words, status, output in RAN)
+        self.hold(
+            Row(["run", "C", "7", *words.split()], status, output, file=rows.named(name))
+            for name, words, status, output in RAN
+        )
 
     def test_switches_and_wide_forms_are_judged(self):
         def other(name, old, new):
             method = rows.CLASSES[name][0]
             return rows.class_of(method._replace(code=method.code.replace(bytes.fromhex(old), bytes.fromhex(new), 1)))
 
-        self.hold(check_tells(data, 2 if told.startswith("refused") else 0, told + "\n") for data, told in [
-            (other("Table", "aa0000", "aaffff"), "accepted steps=9 words=0 slots=5 depth=1"),
-            (other("Table", "0000000100000002", "0000000300000002"), "refused 18 BadOperand"),
-            (other("Table", "0000001e", "00000000"), "refused 20 BackwardBranch"),
-            (other("Table", "0000001c0a", "000000190a"), "refused 19 BadTarget"),
-            (other("Table", "0000001c0a", "0000001d0a"), "refused 21 BadStackMap"),
-            (other("Look", "fffffffb0000001b00000009", "000000090000001bfffffffb"), "refused 18 BadOperand"),
-            (other("Look", "00000009", "fffffffb"), "refused 18 BadOperand"),
-            (other("Look", "00000002", "ffffffff"), "refused 18 BadOperand"),
-            (rows.class_of(rows.CLASSES["Far"][0]._replace(max_locals=257)), "refused 22 TypeMismatch at 1"),
-            (other("Jump", "c800000005", "c800000000"), "refused 20 BackwardBranch"),
-        ])
+        self.hold(
+            check_tells(data, 2 if told.startswith("refused") else 0, told + "\n")
+            for data, told in [
+                (other("Table", "aa0000", "aaffff"), "accepted steps=9 words=0 slots=5 depth=1"),
+                (other("Table", "0000000100000002", "0000000300000002"), "refused 18 BadOperand"),
+                (other("Table", "0000001e", "00000000"), "refused 20 BackwardBranch"),
+                (other("Table", "0000001c0a", "000000190a"), "refused 19 BadTarget"),
+                (other("Table", "0000001c0a", "0000001d0a"), "refused 21 BadStackMap"),
+                (other("Look", "fffffffb0000001b00000009", "000000090000001bfffffffb"), "refused 18 BadOperand"),
+                (other("Look", "00000009", "fffffffb"), "refused 18 BadOperand"),
+                (other("Look", "00000002", "ffffffff"), "refused 18 BadOperand"),
+                (rows.class_of(rows.CLASSES["Far"][0]._replace(max_locals=257)), "refused 22 TypeMismatch at 1"),
+                (other("Jump", "c800000005", "c800000000"), "refused 20 BackwardBranch"),
+            ]
+        )
 
     def test_frames_are_judged(self):
-        self.hold(check_tells(rows.class_of(rows.process(4, 5, rows.RATIO, frames)), 2, output) for frames, output in [
-            (None, "refused 21 BadStackMap\n"),
-            (rows.Frames(1, bytes([0xFC, 0, 0x14, 4])), "refused 21 BadStackMap\n"),
-            (rows.Frames(1, bytes([0xFC, 0, 0x15, 1])), "refused 22 TypeMismatch at 16\n"),
-        ])
+        self.hold(
+            check_tells(rows.class_of(rows.process(4, 5, rows.RATIO, frames)), 2, output)
+            for frames, output in [
+                (None, "refused 21 BadStackMap\n"),
+                (rows.Frames(1, bytes([0xFC, 0, 0x14, 4])), "refused 21 BadStackMap\n"),
+                (rows.Frames(1, bytes([0xFC, 0, 0x15, 1])), "refused 22 TypeMismatch at 16\n"),
+            ]
+        )
 
     def test_a_frame_may_stand_at_the_start(self):
         def class_with(local):
             entries = bytes([0xFF, 0, 0, 0, 2, local, 7, 0, 0x10, 0, 0])
             return rows.class_of(rows.process(1, 3, rows.GIVE, rows.Frames(1, entries)))
 
-        self.hold([
-            check_tells(class_with(0), 0, "accepted steps=2 words=0 slots=4 depth=1\n"),
-            check_tells(class_with(1), 2, "refused 22 TypeMismatch at 0\n"),
-        ])
+        self.hold(
+            [
+                check_tells(class_with(0), 0, "accepted steps=2 words=0 slots=4 depth=1\n"),
+                check_tells(class_with(1), 2, "refused 22 TypeMismatch at 0\n"),
+            ]
+        )
 
     def test_calls_are_counted(self):
-        self.hold(check_tells(rows.line_of(count, calls), status, output) for count, calls, status, output in [
-            (18, 2, 0, "accepted steps=524288 words=0 slots=4 depth=19\n"),
-            (19, 2, 0, "accepted steps=1048576 words=0 slots=4 depth=20\n"),
-            (20, 2, 0, "accepted steps=2097152 words=0 slots=4 depth=21\n"),
-            (21, 2, 2, "refused 27 StepLimit\n"),
-            (60, 2, 2, "refused 27 StepLimit\n"),
-            (63, 1, 0, "accepted steps=128 words=0 slots=4 depth=64\n"),
-            (64, 1, 2, "refused 29 FrameLimit\n"),
-        ])
+        self.hold(
+            check_tells(rows.line_of(count, calls), status, output)
+            for count, calls, status, output in [
+                (18, 2, 0, "accepted steps=524288 words=0 slots=4 depth=19\n"),
+                (19, 2, 0, "accepted steps=1048576 words=0 slots=4 depth=20\n"),
+                (20, 2, 0, "accepted steps=2097152 words=0 slots=4 depth=21\n"),
+                (21, 2, 2, "refused 27 StepLimit\n"),
+                (60, 2, 2, "refused 27 StepLimit\n"),
+                (63, 1, 0, "accepted steps=128 words=0 slots=4 depth=64\n"),
+                (64, 1, 2, "refused 29 FrameLimit\n"),
+            ]
+        )
         output = "result null\nvalue none\nsteps 524288 words 0\n"
         self.hold([Row(["run", "C", "7", "none"], 0, output, file=rows.line_of(18, 2))])
 
     def test_branches_are_counted(self):
         diamond = rows.diamond(8000)
-        self.hold([
-            check_tells(diamond, 0, "accepted steps=24002 words=0 slots=4 depth=1\n"),
-            Row(["run", "C", "7", "none"], 0, "result null\nvalue none\nsteps 16002 words 0\n", file=diamond),
-        ])
+        self.hold(
+            [
+                check_tells(diamond, 0, "accepted steps=24002 words=0 slots=4 depth=1\n"),
+                Row(["run", "C", "7", "none"], 0, "result null\nvalue none\nsteps 16002 words 0\n", file=diamond),
+            ]
+        )

@@ -9,7 +9,10 @@ from concurrent.futures import ThreadPoolExecutor
 LIMIT = 60
 """The most seconds of a run."""
 
-proved_only = unittest.skipIf(os.environ.get("JENTRY_TRIAL"), "a trial build is slow, and checks its memory itself: only the proved program shows this")
+proved_only = unittest.skipIf(
+    os.environ.get("JENTRY_TRIAL"),
+    "a trial build is slow, and checks its memory itself: only the proved program shows this",
+)
 """Marks tests of the time that the program takes, and of the memory that it asks for."""
 
 Told = namedtuple("Told", "status output errors")

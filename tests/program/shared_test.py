@@ -29,7 +29,11 @@ def frame_of(request):
     body = {
         PUT: keys + struct.pack(">q", request.number),
         INVOKE: bytes(4) + keys + b"\1\1" + struct.pack(">q", request.number),
-        INVOKE_ALL: bytes(4) + struct.pack(">H", len(request.keys)) + keys + b"\1\1" + struct.pack(">q", request.number),
+        INVOKE_ALL: bytes(4)
+        + struct.pack(">H", len(request.keys))
+        + keys
+        + b"\1\1"
+        + struct.pack(">q", request.number),
     }.get(request.kind, keys)
     return struct.pack(">IB", 1 + len(body), request.kind) + body
 
@@ -50,7 +54,7 @@ class Replies:
     def next(self):
         """The kind of the next reply, and its body."""
         (length,) = struct.unpack_from(">I", self.data, self.at)
-        body = self.data[self.at + 4:self.at + 4 + length]
+        body = self.data[self.at + 4 : self.at + 4 + length]
         if not 0 < length == len(body):
             raise ValueError(f"no whole reply at {self.at}")
         self.at += 4 + length
@@ -83,7 +87,7 @@ def answers_in(request, kind, body):
     # A count, and for each key its number, a 0 and the result as a Long.
     if body[:2] != struct.pack(">H", len(calls)) or len(body) != 2 + 18 * len(calls):
         raise ValueError(f"no results of {request}: {body}")
-    parts = [body[at:at + 18] for at in range(2, len(body), 18)]
+    parts = [body[at : at + 18] for at in range(2, len(body), 18)]
     if any(part[:9] != struct.pack(">qB", call.key, 0) for call, part in zip(calls, parts)):
         raise ValueError(f"results of other keys than {request}: {body}")
     return [(call, number_in(part[9:])) for call, part in zip(calls, parts)]
@@ -108,10 +112,7 @@ def left_by(calls, entries):
     reached = {(frozenset(range(len(calls))), entry) for entry in entries}
     for _ in calls:
         reached = {
-            (left - {at}, entry)
-            for left, before in reached
-            for at in left
-            for entry in after(*calls[at], before)
+            (left - {at}, entry) for left, before in reached for at in left for entry in after(*calls[at], before)
         }
     return {entry for _left, entry in reached}
 
@@ -162,11 +163,13 @@ class Shared(Runs):
 
     def test_the_class_states_more_than_it_runs(self):
         counter = rows.costly_counter()
-        self.hold([
-            Row(["check", "C"], 0, "accepted steps=900000 words=0 slots=11 depth=19\n", file=counter),
-            Row(["run", "C", "7", "41", "1"], 0, "result 42\nvalue 42\nsteps 26 words 0\n", file=counter),
-            Row(["run", "C", "7", "none", "1"], 0, "result 1\nvalue 1\nsteps 22 words 0\n", file=counter),
-        ])
+        self.hold(
+            [
+                Row(["check", "C"], 0, "accepted steps=900000 words=0 slots=11 depth=19\n", file=counter),
+                Row(["run", "C", "7", "41", "1"], 0, "result 42\nvalue 42\nsteps 26 words 0\n", file=counter),
+                Row(["run", "C", "7", "none", "1"], 0, "result 1\nvalue 1\nsteps 22 words 0\n", file=counter),
+            ]
+        )
 
     def test_replies_of_shared_rounds_have_a_legal_order(self):
         """Beside two workers or more there is a thread that waits for them; a single one is the only thread."""

@@ -63,26 +63,33 @@ class Requests(Runs):
 
     def test_refused_classes_have_no_number(self):
         first = define(rows.named("Circle")) + define(rows.named("Mixed")) + define(rows.plus()) + ROUND_END
-        self.hold(serve(first + define(rows.named("Counter")) + ROUND_END, bytes([
-            0, 0, 0, 6, 2, 0x19, 0, 0, 0, 0,
-            0, 0, 0, 6, 2, 0x16, 0, 0, 0, 1,
-            0, 0, 0, 13, 1, 0, 0, 0, 0, 0, 0, 0, 14, 0, 0, 0, 0,
-            0, 0, 0, 1, 9,
-            0, 0, 0, 13, 1, 0, 0, 0, 1, 0, 0, 0, 0x18, 0, 0, 0, 0,
-            0, 0, 0, 1, 9,
-        ]), ["4"]))
+        self.hold(
+            serve(
+                first + define(rows.named("Counter")) + ROUND_END,
+                bytes.fromhex(
+                    "00 00 00 06 02 19 00 00 00 00  00 00 00 06 02 16 00 00 00 01  "
+                    "00 00 00 0d 01 00 00 00 00 00 00 00 0e 00 00 00 00  00 00 00 01 09  "
+                    "00 00 00 0d 01 00 00 00 01 00 00 00 18 00 00 00 00  00 00 00 01 09"
+                ),
+                ["4"],
+            )
+        )
 
     def test_a_class_that_was_not_accepted_before_is_denied(self):
         """A round that invokes Plus before it is defined, and behind it."""
         invoke = bytes([0, 0, 0, 14, 6, 0, 0, 0, 5, 0, 0, 0, 0, 0, 0, 0, 5, 0])
         invoke_all = bytes([0, 0, 0, 8, 7, 0, 0, 0, 0, 0, 0, 0])
-        self.hold(serve(invoke + invoke_all + define(rows.plus()) + invoke_all + ROUND_END, bytes([
-            0, 0, 0, 2, 8, 1,
-            0, 0, 0, 2, 8, 1,
-            0, 0, 0, 13, 1, 0, 0, 0, 0, 0, 0, 0, 14, 0, 0, 0, 0,
-            0, 0, 0, 3, 7, 0, 0,
-            0, 0, 0, 1, 9,
-        ]), ["4"]))
+        self.hold(
+            serve(
+                invoke + invoke_all + define(rows.plus()) + invoke_all + ROUND_END,
+                bytes.fromhex(
+                    "00 00 00 02 08 01  00 00 00 02 08 01  "
+                    "00 00 00 0d 01 00 00 00 00 00 00 00 0e 00 00 00 00  00 00 00 03 07 00 00  "
+                    "00 00 00 01 09"
+                ),
+                ["4"],
+            )
+        )
 
     def test_more_keys_than_jobs_are_denied(self):
         """4,097 different keys, and no arguments, in 32,784 bytes."""
@@ -96,19 +103,21 @@ class Requests(Runs):
         unbox = define(rows.named("Unbox"))
         output = self.served(4096 * unbox + define(b"") + unbox + ROUND_END, "4")
         self.assertEqual(len(output), 4096 * 17 + 17)
-        self.assertEqual(output[4095 * 17:4096 * 17 - 4], bytes([0, 0, 0, 13, 1, 0, 0, 0x0F, 0xFF, 0, 0, 0, 6]))
-        self.assertEqual(output[4096 * 17:], bytes([0, 0, 0, 2, 8, 4, 0, 0, 0, 2, 8, 4, 0, 0, 0, 1, 9]))
+        self.assertEqual(output[4095 * 17 : 4096 * 17 - 4], bytes([0, 0, 0, 13, 1, 0, 0, 0x0F, 0xFF, 0, 0, 0, 6]))
+        self.assertEqual(output[4096 * 17 :], bytes([0, 0, 0, 2, 8, 4, 0, 0, 0, 2, 8, 4, 0, 0, 0, 1, 9]))
 
     def test_an_empty_stream_is_served(self):
         self.hold(serve(b"", b"", ["4"]) + serve(ROUND_END, ENDED, ["4"]))
 
     def test_frames_that_are_none_end_the_stream(self):
         malformed = "3 Malformed"
-        self.hold([
-            *serve(bytes([0, 0, 0, 0]), b"", ["4"], malformed),
-            *serve(bytes([0, 0, 0, 1, 10, 0, 0, 0, 1, 8]), b"", ["4"], malformed),
-            *serve(bytes([0, 2, 0, 1, 8]), b"", ["4"], "1 TooLong"),
-        ])
+        self.hold(
+            [
+                *serve(bytes([0, 0, 0, 0]), b"", ["4"], malformed),
+                *serve(bytes([0, 0, 0, 1, 10, 0, 0, 0, 1, 8]), b"", ["4"], malformed),
+                *serve(bytes([0, 2, 0, 1, 8]), b"", ["4"], "1 TooLong"),
+            ]
+        )
 
     def test_a_round_that_is_cut_is_not_answered(self):
         """Two rounds of one invocation each, cut at each place, are answered as far as they are whole."""
@@ -143,72 +152,80 @@ class Requests(Runs):
         ran = subprocess.run([self.program, "serve"], stdin=folder, capture_output=True, timeout=LIMIT)
         self.assertEqual(Told(ran.returncode, ran.stdout, ran.stderr), Told(3, b"", b"serve fault 4 Read\n"))
         with open("/dev/full", "wb") as full:
-            self.assertEqual(told(self.program, ["serve"], given=ROUND_END, stdout=full), Told(3, None, b"serve fault 6 Write\n"))
+            self.assertEqual(
+                told(self.program, ["serve"], given=ROUND_END, stdout=full), Told(3, None, b"serve fault 6 Write\n")
+            )
 
     def test_a_put_is_read_in_the_next_round(self):
-        self.hold(serve(PUT_1_ON_5 + ROUND_END + GET_5 + ROUND_END, bytes([
-            0, 0, 0, 1, 3,
-            0, 0, 0, 1, 9,
-            0, 0, 0, 0x0A, 4, 1, 0, 0, 0, 0, 0, 0, 0, 1,
-            0, 0, 0, 1, 9,
-        ])))
+        self.hold(
+            serve(
+                PUT_1_ON_5 + ROUND_END + GET_5 + ROUND_END,
+                bytes.fromhex(
+                    "00 00 00 01 03  00 00 00 01 09  00 00 00 0a 04 01 00 00 00 00 00 00 00 01  " "00 00 00 01 09"
+                ),
+            )
+        )
 
     def test_a_class_is_invoked_on_the_entry_of_the_round_before(self):
-        self.hold(serve(define(rows.plus()) + bytes([
-            0, 0, 0, 0x11, 2, 0, 0, 0, 0, 0, 0, 0, 7, 0, 0, 0, 0, 0, 0, 0, 41,
-            0, 0, 0, 1, 8,
-            0, 0, 0, 0x0E, 6, 0, 0, 0, 0, 0, 0, 0, 0, 0, 0, 0, 7, 0,
-            0, 0, 0, 1, 8,
-        ]), ACCEPTED_PLUS + bytes([
-            0, 0, 0, 1, 3,
-            0, 0, 0, 1, 9,
-            0, 0, 0, 0x0B, 6, 0, 1, 0, 0, 0, 0, 0, 0, 0, 0x2A,
-            0, 0, 0, 1, 9,
-        ])))
+        self.hold(
+            serve(
+                define(rows.plus())
+                + bytes.fromhex(
+                    "00 00 00 11 02 00 00 00 00 00 00 00 07 00 00 00 00 00 00 00 29  00 00 00 01 08  "
+                    "00 00 00 0e 06 00 00 00 00 00 00 00 00 00 00 00 07 00  00 00 00 01 08"
+                ),
+                ACCEPTED_PLUS
+                + bytes.fromhex(
+                    "00 00 00 01 03  00 00 00 01 09  00 00 00 0b 06 00 01 00 00 00 00 00 00 00 2a  " "00 00 00 01 09"
+                ),
+            )
+        )
 
     def test_a_removed_key_is_not_there(self):
-        self.hold(serve(PUT_1_ON_5 + ROUND_END + bytes([
-            0, 0, 0, 9, 4, 0, 0, 0, 0, 0, 0, 0, 5,
-            0, 0, 0, 1, 8,
-            0, 0, 0, 9, 5, 0, 0, 0, 0, 0, 0, 0, 5,
-            0, 0, 0, 1, 8,
-        ]), bytes([
-            0, 0, 0, 1, 3, 0, 0, 0, 1, 9,
-            0, 0, 0, 2, 5, 1, 0, 0, 0, 1, 9,
-            0, 0, 0, 2, 5, 0, 0, 0, 0, 1, 9,
-        ])))
+        self.hold(
+            serve(
+                PUT_1_ON_5
+                + ROUND_END
+                + bytes.fromhex(
+                    "00 00 00 09 04 00 00 00 00 00 00 00 05  00 00 00 01 08  "
+                    "00 00 00 09 05 00 00 00 00 00 00 00 05  00 00 00 01 08"
+                ),
+                bytes.fromhex(
+                    "00 00 00 01 03 00 00 00 01 09  00 00 00 02 05 01 00 00 00 01 09  "
+                    "00 00 00 02 05 00 00 00 00 01 09"
+                ),
+            )
+        )
 
     def test_results_have_no_nulls_and_no_doubles(self):
         """Three puts, and Ratio on keys 1, 2, 2 and 3."""
-        given = define(rows.named("Ratio")) + bytes([
-            0, 0, 0, 0x11, 2, 0, 0, 0, 0, 0, 0, 0, 1, 0, 0, 0, 0, 0, 0, 0, 2,
-            0, 0, 0, 0x11, 2, 0, 0, 0, 0, 0, 0, 0, 2, 0, 0, 0, 0, 0, 0, 0, 0,
-            0, 0, 0, 0x11, 2, 0, 0, 0, 0, 0, 0, 0, 3, 0, 0, 0, 0, 0, 0, 0, 1,
-            0, 0, 0, 1, 8,
-            0, 0, 0, 0x28, 7, 0, 0, 0, 0, 0, 4,
-            0, 0, 0, 0, 0, 0, 0, 1,
-            0, 0, 0, 0, 0, 0, 0, 2,
-            0, 0, 0, 0, 0, 0, 0, 2,
-            0, 0, 0, 0, 0, 0, 0, 3,
-            0,
-            0, 0, 0, 1, 8,
-        ])
+        given = define(rows.named("Ratio")) + bytes.fromhex(
+            "00 00 00 11 02 00 00 00 00 00 00 00 01 00 00 00 00 00 00 00 02  "
+            "00 00 00 11 02 00 00 00 00 00 00 00 02 00 00 00 00 00 00 00 00  "
+            "00 00 00 11 02 00 00 00 00 00 00 00 03 00 00 00 00 00 00 00 01  00 00 00 01 08  "
+            "00 00 00 28 07 00 00 00 00 00 04  00 00 00 00 00 00 00 01  00 00 00 00 00 00 00 02  "
+            "00 00 00 00 00 00 00 02  00 00 00 00 00 00 00 03  00  00 00 00 01 08"
+        )
         for count in WORKERS:
             output = self.served(given, count)
             # A class with its bounds, three puts and a round's end come first.
             self.assertEqual(len(output), 77)
-            self.assertEqual(output[17 + 3 * 5 + 5:], bytes([
-                0, 0, 0, 0x1F, 7, 0, 2,
-                0, 0, 0, 0, 0, 0, 0, 1, 0, 1, 0, 0, 0, 0, 0, 0, 0, 0,
-                0, 0, 0, 0, 0, 0, 0, 2, 1, 1,
-                0, 0, 0, 1, 9,
-            ]))
+            self.assertEqual(
+                output[17 + 3 * 5 + 5 :],
+                bytes.fromhex(
+                    "00 00 00 1f 07 00 02  00 00 00 00 00 00 00 01 00 01 00 00 00 00 00 00 00 00  "
+                    "00 00 00 00 00 00 00 02 01 01  00 00 00 01 09"
+                ),
+            )
 
     def test_a_round_that_is_cut_is_not_run(self):
-        given = PUT_1_ON_5 + ROUND_END + bytes([
-            0, 0, 0, 0x11, 2, 0, 0, 0, 0, 0, 0, 0, 5, 0, 0, 0, 0, 0, 0, 0, 2,
-            0, 0, 0, 9, 3, 0, 0, 0, 0, 0, 0,
-        ])
+        given = (
+            PUT_1_ON_5
+            + ROUND_END
+            + bytes.fromhex(
+                "00 00 00 11 02 00 00 00 00 00 00 00 05 00 00 00 00 00 00 00 02  " "00 00 00 09 03 00 00 00 00 00 00"
+            )
+        )
         self.hold(serve(given, bytes([0, 0, 0, 1, 3, 0, 0, 0, 1, 9]), fault="2 Truncated"))
 
     def test_more_jobs_than_a_round_may_have_are_denied(self):
@@ -217,7 +234,7 @@ class Requests(Runs):
         for count in ("0", "4"):
             output = self.served(jobs + ROUND_END, count)
             self.assertEqual(len(output), 4097 * 6 + 5)
-            self.assertEqual(output[4095 * 6:], bytes([0, 0, 0, 2, 5, 0, 0, 0, 0, 2, 8, 5, 0, 0, 0, 1, 9]))
+            self.assertEqual(output[4095 * 6 :], bytes([0, 0, 0, 2, 5, 0, 0, 0, 0, 2, 8, 5, 0, 0, 0, 1, 9]))
 
     def are_in_some_order(self, replies):
         """The replies say that the put and the two invocations were done in some order."""
@@ -242,11 +259,13 @@ class Requests(Runs):
         output = self.served(given, "4")
         self.assertEqual(len(output), 22 + 1000 * REPLIES_BESIDE)
         for at in range(22, len(output), REPLIES_BESIDE):
-            self.are_in_some_order(output[at:at + REPLIES_BESIDE])
+            self.are_in_some_order(output[at : at + REPLIES_BESIDE])
 
     def most_threads(self, given, count):
         """The most threads that the program was seen to have while it served this input, with so many workers."""
-        with subprocess.Popen([self.program, "serve", "--workers", count], stdin=subprocess.PIPE, stdout=subprocess.DEVNULL) as it:
+        with subprocess.Popen(
+            [self.program, "serve", "--workers", count], stdin=subprocess.PIPE, stdout=subprocess.DEVNULL
+        ) as it:
             it.stdin.write(given)
             it.stdin.close()
             most, end = 0, time.monotonic() + LIMIT
