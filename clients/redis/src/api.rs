@@ -211,6 +211,9 @@ interface! {
     close_key "CloseKey": unsafe extern "C" fn(*mut Key);
     length "ValueLength": unsafe extern "C" fn(*mut Key) -> usize;
     expire "GetExpire": unsafe extern "C" fn(*mut Key) -> c_longlong;
+    signal_modified "SignalModifiedKey": unsafe extern "C" fn(*mut Context, *mut Text) -> c_int;
+    notify "NotifyKeyspaceEvent": unsafe extern "C" fn(*mut Context, c_int, *const c_char, *mut Text) -> c_int;
+    replicate "Replicate": unsafe extern "C" fn(*mut Context, *const c_char, *const c_char, ...) -> c_int;
     free_reply "FreeCallReply": unsafe extern "C" fn(*mut Reply);
     reply_kind "CallReplyType": unsafe extern "C" fn(*mut Reply) -> c_int;
     reply_protocol "CallReplyProto": unsafe extern "C" fn(*mut Reply, *mut usize) -> *const u8;

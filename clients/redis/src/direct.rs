@@ -1,15 +1,23 @@
-//! Reading a long where Redis keeps it.
+//! Reading and writing a long where Redis keeps it.
 //!
-//! A string that is a long lies in its object as an integer. The module interface reads a value by GET, whose call costs more than a run, or by
-//! `StringDMA`, which turns the integer into a raw string in the keyspace. So the module looks at the object behind a key's handle, in the layout
-//! that it has in Redis 7.0. On another release, or where a string of the module's own shows another layout at the load, it asks by GET.
-//! Each look is held to what the interface says of the key, the first ones to GET, too, and one that differs ends them for good.
+//! A string that is a long lies in its object as an integer. The module interface reads a value by GET, and writes it by SET, whose calls cost
+//! more than a run, or by `StringDMA`, which turns the integer into a raw string in the keyspace. So the module looks at the object behind a key's
+//! handle, in the layout that it has in Redis 7.0. On another release, or where a string of the module's own shows another layout at the load, it
+//! asks by GET. Each look is held to what the interface says of the key, the first ones to GET, too, and one that differs ends them for good.
+//!
+//! An object that is the entry's alone is written where it is, as INCRBY does, and then the module does what else SET does. Redis shares the
+//! objects of 0 to 9,999 among all keys, and those can't be written. In their place SET gets an integer object of the module's own, which Redis
+//! keeps as it is, so the next write of the entry finds one that is its alone.
 use crate::api::{Key, Text};
 use crate::server::Server;
+use std::os::raw::c_int;
+use std::ptr::NonNull;
 use std::sync::atomic::{AtomicU32, Ordering};
 
 /// `OpenKey` for reading.
 const READ: i32 = 1;
+/// Events of strings, for `NotifyKeyspaceEvent`.
+const OF_STRINGS: c_int = 1 << 3;
 /// What `GetExpire` answers where an entry has no time to live.
 const NO_EXPIRE: i64 = -1;
 /// The release whose layout this is, as `GetServerVersion` gives it, without the last byte.
@@ -39,18 +47,25 @@ struct Object {
     payload: i64,
 }
 
-/// The bits of an object's type, that of a string, and the encoding as an integer.
-const KIND: u8 = 0x0f;
-const STRING: u8 = 0;
+/// The kinds of two strings: an integer, and bytes in the object's own block.
 const INTEGER: u8 = 0x10;
+const EMBEDDED: u8 = 0x80;
 
 /// What a look at a key finds.
 pub enum Found {
     /// It isn't known: GET has to be asked.
     Unknown,
     Absent,
-    /// The value, and whether the entry has a time to live.
-    Value(i64, bool),
+    Value(Place),
+}
+
+/// Where the integer of an entry is, until the next command of the server.
+#[derive(Clone, Copy)]
+pub struct Place {
+    object: NonNull<Object>,
+    pub value: i64,
+    /// Whether the entry has a time to live.
+    pub may_expire: bool,
 }
 
 /// How many characters a long has as a decimal.
@@ -64,15 +79,15 @@ fn length_of(value: i64) -> usize {
     length
 }
 
-/// Whether a string of the module's own lies in an object of this layout: one reference, and a pointer to the bytes where the interface
-/// says that they are.
+/// Whether a string of the module's own lies in an object of this layout: bytes in the object's block, one reference, and a pointer to the
+/// bytes where the interface says that they are.
 unsafe fn has_layout(server: Server) -> bool {
     let api = server.api();
     let text = (api.create_text)(server.context(), b"0".as_ptr().cast(), 1);
     let object = text.cast::<Object>();
     let mut length = 0;
     let bytes = (api.text_bytes)(text, &mut length);
-    let is_same = (*object).kind & KIND == STRING
+    let is_same = (*object).kind == EMBEDDED
         && (*object).references == 1
         && (*object).payload == bytes as i64
         && length == 1;
@@ -120,13 +135,17 @@ unsafe fn value_at(server: Server, key: *mut Text, handle: *mut Key) -> Option<F
         return None;
     }
     // SAFETY: the handle is open, so it has a value.
-    let object = &*inside.value;
-    if object.kind != INTEGER | STRING {
+    let object = NonNull::new(inside.value)?;
+    let (kind, value) = (object.as_ref().kind, object.as_ref().payload);
+    if kind != INTEGER {
         return Some(Found::Unknown);
     }
     let may_expire = (server.api().expire)(handle) != NO_EXPIRE;
-    ((server.api().length)(handle) == length_of(object.payload))
-        .then_some(Found::Value(object.payload, may_expire))
+    ((server.api().length)(handle) == length_of(value)).then_some(Found::Value(Place {
+        object,
+        value,
+        may_expire,
+    }))
 }
 
 /// Looks at a key.
@@ -147,4 +166,66 @@ pub unsafe fn look(server: Server, key: *mut Text) -> Found {
         end(server);
         Found::Unknown
     })
+}
+
+/// Does what a SET of the value does, KEEPTTL included, where the entry's object isn't shared: writes the value where it is, tells who watches
+/// or tracks the key and who listens to events, and writes the SET to the AOF and to replicas. False where the object is shared, and nothing is done.
+///
+/// The SET takes the object itself as its word. Where it is written to a file or a replica, the server holds the object until the command's end, and
+/// a second run on the entry in the same command finds it shared.
+///
+/// # Safety
+/// `key` is a string of the server's, and `place` is what a look at it found in this command, behind which nothing changed the entry.
+pub unsafe fn write(server: Server, key: *mut Text, place: Place, value: i64) -> bool {
+    let object = place.object.as_ptr();
+    if (*object).references != 1 || (*object).kind != INTEGER || (*object).payload != place.value {
+        return false;
+    }
+    (*object).payload = value;
+    let (api, context, word) = (server.api(), server.context(), object.cast::<Text>());
+    (api.signal_modified)(context, key);
+    (api.notify)(context, OF_STRINGS, b"set\0".as_ptr().cast(), key);
+    let name = b"SET\0".as_ptr().cast();
+    if place.may_expire {
+        let keep = b"KEEPTTL\0".as_ptr();
+        (api.replicate)(context, name, b"ssc\0".as_ptr().cast(), key, word, keep);
+    } else {
+        (api.replicate)(context, name, b"ss\0".as_ptr().cast(), key, word);
+    }
+    true
+}
+
+/// An integer object of the module's own.
+pub struct Integer {
+    server: Server,
+    text: *mut Text,
+}
+
+impl Integer {
+    /// None where the layout isn't known.
+    pub fn new(server: Server, value: i64) -> Option<Integer> {
+        if is_checked() {
+            return None;
+        }
+        // SAFETY: `begin` has found that a short string is one block with the bytes in it, and nobody else has seen this one yet.
+        unsafe {
+            let text = (server.api().create_text)(server.context(), b"0".as_ptr().cast(), 1);
+            let object = &mut *text.cast::<Object>();
+            object.kind = INTEGER;
+            object.payload = value;
+            Some(Integer { server, text })
+        }
+    }
+
+    /// What a command takes as a word.
+    pub fn text(&self) -> *mut Text {
+        self.text
+    }
+}
+
+impl Drop for Integer {
+    fn drop(&mut self) {
+        // SAFETY: the object is this one's own, but for what a command has kept of it.
+        unsafe { (self.server.api().free_text)(self.server.context(), self.text) };
+    }
 }

@@ -1,8 +1,8 @@
-//! Entries: plain strings of the keyspace that hold a decimal long, read and written by Redis's own commands.
+//! Entries: plain strings of the keyspace that hold a decimal long, read and written as Redis's own commands do.
 //!
 //! Redis runs one command at a time, so nothing else comes between the reading and the writing of a run.
 use crate::api::{Text, REPLY_NULL, REPLY_TEXT};
-use crate::direct::{self, Found};
+use crate::direct::{self, Found, Integer, Place};
 use crate::server::{Called, Failure, Server};
 use crate::words::long_of;
 
@@ -12,6 +12,8 @@ pub struct Entry {
     pub value: Option<i64>,
     /// Whether it has a time to live, or it isn't known that it has none.
     may_expire: bool,
+    /// Where its integer is, if it may be written there.
+    place: Option<Place>,
 }
 
 /// The entry at a key, by GET.
@@ -33,7 +35,7 @@ unsafe fn get(server: Server, key: *mut Text) -> Result<Entry, Failure> {
         }
         _ => return Err("ERR the entry can't be read".into()),
     };
-    Ok(Entry { value, may_expire: true })
+    Ok(Entry { value, may_expire: true, place: None })
 }
 
 /// The entry at a key.
@@ -43,14 +45,16 @@ unsafe fn get(server: Server, key: *mut Text) -> Result<Entry, Failure> {
 pub unsafe fn read(server: Server, key: *mut Text) -> Result<Entry, Failure> {
     let entry = match direct::look(server, key) {
         Found::Unknown => return get(server, key),
-        Found::Absent => Entry { value: None, may_expire: false },
-        Found::Value(value, may_expire) => Entry { value: Some(value), may_expire },
+        Found::Absent => Entry { value: None, may_expire: false, place: None },
+        Found::Value(place) => {
+            Entry { value: Some(place.value), may_expire: place.may_expire, place: Some(place) }
+        }
     };
     if direct::is_checked() {
         let told = get(server, key)?;
         let is_same = told.value == entry.value;
         direct::count(server, is_same);
-        return Ok(if is_same { entry } else { told });
+        return Ok(if is_same { Entry { place: None, ..entry } } else { told });
     }
     Ok(entry)
 }
@@ -66,11 +70,8 @@ pub enum Lifetime {
     Milliseconds(i64),
 }
 
-/// Sets the value of an entry, and writes it to the AOF and to replicas as a SET.
-///
-/// # Safety
-/// `key` is a string of the server's.
-pub unsafe fn set(
+/// Sets the value of an entry by SET, with an integer object of the module's own where there may be one.
+unsafe fn set_anew(
     server: Server,
     key: *mut Text,
     entry: Entry,
@@ -78,18 +79,39 @@ pub unsafe fn set(
     lifetime: Lifetime,
 ) -> Result<(), Failure> {
     let (call, context, name) = (server.api().call, server.context(), b"SET\0".as_ptr().cast());
-    let reply = match lifetime {
-        Lifetime::Keep if entry.may_expire => {
-            call(context, name, b"!slc\0".as_ptr().cast(), key, value, b"KEEPTTL\0".as_ptr())
-        }
-        Lifetime::Keep | Lifetime::Endless => {
-            call(context, name, b"!sl\0".as_ptr().cast(), key, value)
-        }
-        Lifetime::Milliseconds(time) => {
+    let reply = match (lifetime, Integer::new(server, value)) {
+        (Lifetime::Milliseconds(time), _) => {
             call(context, name, b"!slcl\0".as_ptr().cast(), key, value, b"PX\0".as_ptr(), time)
         }
+        (Lifetime::Keep, Some(own)) if entry.may_expire => {
+            call(context, name, b"!ssc\0".as_ptr().cast(), key, own.text(), b"KEEPTTL\0".as_ptr())
+        }
+        (Lifetime::Keep, None) if entry.may_expire => {
+            call(context, name, b"!slc\0".as_ptr().cast(), key, value, b"KEEPTTL\0".as_ptr())
+        }
+        (_, Some(own)) => call(context, name, b"!ss\0".as_ptr().cast(), key, own.text()),
+        (_, None) => call(context, name, b"!sl\0".as_ptr().cast(), key, value),
     };
     Called::of(server, reply).map(drop)
+}
+
+/// Sets the value of an entry, and writes it to the AOF and to replicas as a SET.
+///
+/// # Safety
+/// `key` is a string of the server's, and `entry` is what was read of it in this command, behind which nothing changed it.
+pub unsafe fn set(
+    server: Server,
+    key: *mut Text,
+    entry: Entry,
+    value: i64,
+    lifetime: Lifetime,
+) -> Result<(), Failure> {
+    match entry.place {
+        Some(place) if lifetime == Lifetime::Keep && direct::write(server, key, place, value) => {
+            Ok(())
+        }
+        _ => set_anew(server, key, entry, value, lifetime),
+    }
 }
 
 /// Deletes the entry at a key, as a DEL.

@@ -1,0 +1,183 @@
+"""On Redis 7.0 the integer of an entry is written where it lies, with all that a SET does beside."""
+import unittest
+
+from commands_test import OneServer
+from servers import Server, wait_for
+
+CHECKS = 64
+"""So many looks are held to GET, and until then each write is a SET."""
+
+
+class Writes(OneServer):
+    def setUp(self):
+        super().setUp()
+        if not self.line.info("server")["redis_version"].startswith("7.0."):
+            self.skipTest("this isn't Redis 7.0")
+        self.warm(self.line, self.add)
+
+    def warm(self, line, add):
+        line.get("SET", "warm:1", 1)
+        for _ in range(CHECKS):
+            line.get("JENTRY.INVOKE", add, "warm:1", 1)
+
+    def sets(self):
+        return int(self.line.info("commandstats")["cmdstat_set"].split(",")[0].split("=")[1])
+
+    def sets_of(self, runs, key="v:1"):
+        """How many SETs these runs of Add on an entry call."""
+        before = self.sets()
+        for _ in range(runs):
+            self.line.get("JENTRY.INVOKE", self.add, key, 1)
+        return self.sets() - before
+
+    def held(self, key="v:1"):
+        """The value of an entry, its encoding, and how many hold its object."""
+        return [self.ask("GET", key), self.ask("OBJECT", "ENCODING", key), self.ask("OBJECT", "REFCOUNT", key)]
+
+    def test_an_integer_of_its_own(self):
+        self.line.get("SET", "v:1", 20_000)
+        self.assertEqual(self.sets_of(10), 0)
+        self.assertEqual(self.held(), [b"20010", b"int", 1])
+
+    def test_values_of_all_lengths(self):
+        for value in [-(2**63), 2**63 - 2, 10**18, -(10**18), -1, -10, 99_999]:
+            self.line.get("SET", "v:1", value)
+            self.assertEqual(self.sets_of(1), 0, value)
+            self.assertEqual(self.held(), [b"%d" % (value + 1), b"int", 1])
+
+    def test_a_shared_integer_is_never_written(self):
+        for number in range(1, 4):
+            self.line.get("SET", f"v:{number}", 5)
+        self.assertGreater(self.ask("OBJECT", "REFCOUNT", "v:1"), 1)
+        self.assertEqual(self.sets_of(10), 1)
+        self.assertEqual(self.held(), [b"15", b"int", 1])
+        self.assertEqual(self.ask("MGET", "v:2", "v:3"), [b"5", b"5"])
+        self.line.get("SET", "v:4", 5)
+        self.assertEqual(self.ask("INCR", "v:4"), 6)
+
+    def test_a_new_entry(self):
+        self.assertEqual(self.sets_of(3), 1)
+        self.assertEqual(self.held(), [b"3", b"int", 1])
+
+    def test_a_text_of_digits(self):
+        self.line.get("SET", "v:1", 1)
+        self.line.get("APPEND", "v:1", 2)
+        self.assertEqual(self.ask("OBJECT", "ENCODING", "v:1"), b"raw")
+        self.assertEqual(self.sets_of(3), 1)
+        self.assertEqual(self.held(), [b"15", b"int", 1])
+
+    def test_a_copy_is_another_entry(self):
+        self.line.get("SET", "v:1", 20_000)
+        self.line.get("COPY", "v:1", "v:2")
+        self.assertEqual(self.sets_of(1), 0)
+        self.assertEqual(self.ask("MGET", "v:1", "v:2"), [b"20001", b"20000"])
+        self.line.get("RENAME", "v:1", "v:3")
+        self.assertEqual(self.sets_of(1, "v:3"), 0)
+        self.assertEqual(self.ask("MGET", "v:1", "v:2", "v:3"), [None, b"20000", b"20002"])
+
+    def test_a_time_to_live_stays(self):
+        for value in [5, 20_000]:
+            self.line.get("SET", "v:1", value, "PX", 100_000)
+            self.sets_of(3)
+            self.assertTrue(90_000 < self.ask("PTTL", "v:1") <= 100_000)
+            self.assertEqual(self.ask("GET", "v:1"), b"%d" % (value + 3))
+
+    def test_who_watches_the_key(self):
+        self.line.get("SET", "v:1", 20_000)
+        with self.server.open() as other:
+            other.get("WATCH", "v:1")
+            self.assertEqual(self.sets_of(1), 0)
+            other.get("MULTI")
+            other.get("SET", "v:2", 1)
+            self.assertIsNone(other.ask("EXEC"))
+
+    def test_who_tracks_the_key(self):
+        self.line.get("SET", "v:1", 20_000)
+        with self.server.open() as other, self.server.open() as listener:
+            listener.get("SUBSCRIBE", "__redis__:invalidate")
+            number = int(listener_id(self.line))
+            other.get("CLIENT", "TRACKING", "ON", "REDIRECT", number)
+            other.get("GET", "v:1")
+            self.assertEqual(self.sets_of(1), 0)
+            self.assertEqual(listener.take(), [b"message", b"__redis__:invalidate", [b"v:1"]])
+
+    def test_events(self):
+        self.line.get("CONFIG", "SET", "notify-keyspace-events", "KEA")
+        self.addCleanup(self.line.get, "CONFIG", "SET", "notify-keyspace-events", "")
+        self.line.get("SET", "v:1", 20_000)
+        with self.server.open() as listener:
+            listener.get("PSUBSCRIBE", "*")
+            self.assertEqual(self.sets_of(2), 0)
+            self.assertEqual(
+                [listener.take()[2:] for _ in range(4)],
+                [[b"__keyspace@0__:v:1", b"set"], [b"__keyevent@0__:set", b"v:1"]] * 2,
+            )
+
+    def test_each_is_a_change_to_be_saved(self):
+        def changes():
+            return int(self.line.info("persistence")["rdb_changes_since_last_save"])
+
+        self.line.get("SET", "v:1", 20_000)
+        before = changes()
+        self.assertEqual(self.sets_of(7), 0)
+        self.assertEqual(changes() - before, 7)
+
+    def test_a_key_several_times_in_one_command(self):
+        self.line.get("MULTI")
+        for _ in range(3):
+            self.line.get("JENTRY.INVOKEALL", self.add, 3, "v:1", "v:1", "v:1", 1)
+        self.assertEqual(self.ask("EXEC"), [[1, 2, 3], [4, 5, 6], [7, 8, 9]])
+        self.assertEqual(self.ask("GET", "v:1"), b"9")
+
+
+def listener_id(line):
+    """The id of the client that has subscribed."""
+    clients = [
+        dict(word.split("=", 1) for word in row.split()) for row in line.get("CLIENT", "LIST").decode().splitlines()
+    ]
+    return next(client["id"] for client in clients if client["sub"] == "1")
+
+
+class Written(Writes):
+    """What the AOF and a replica get of it. (The tests of one server run on one with an AOF, too.)"""
+
+    @classmethod
+    def setUpClass(cls):
+        cls.server = Server("--appendonly", "yes", "--appendfsync", "always")
+        cls.addClassCleanup(cls.server.__exit__)
+
+    def run_all(self):
+        """Runs on entries of every kind. Their values."""
+        self.line.get("MSET", "v:1", 5, "v:2", 20_000, "v:3", 5)
+        self.line.get("SET", "v:4", 20_000, "PX", 100_000)
+        for number in range(1, 6):
+            self.sets_of(5, f"v:{number}")
+        self.line.get("MULTI")
+        self.line.get("JENTRY.INVOKEALL", self.add, 4, "v:1", "v:1", "v:6", "v:6", 1)
+        self.line.get("JENTRY.INVOKE", self.add, "v:4", 1)
+        self.line.get("EXEC")
+        keys = [f"v:{number}" for number in range(1, 7)]
+        values = self.ask("MGET", *keys)
+        self.assertEqual(values, [b"12", b"20005", b"10", b"20006", b"5", b"2"])
+        return keys, values
+
+    def test_after_a_kill(self):
+        keys, values = self.run_all()
+        self.line.close()
+        self.server.restart(by="kill")
+        self.line = self.server.open()
+        self.assertEqual(self.ask("MGET", *keys), values)
+        self.assertTrue(80_000 < self.ask("PTTL", "v:4") <= 100_000)
+
+    def test_on_a_replica(self):
+        with Server() as replica, replica.open() as other:
+            other.get("REPLICAOF", "127.0.0.1", self.server.port)
+            wait_for(lambda: other.info("replication").get("master_link_status") == "up", "the link")
+            keys, values = self.run_all()
+            self.assertEqual(self.ask("WAIT", 1, 60_000), 1)
+            self.assertEqual(other.ask("MGET", *keys), values)
+            self.assertTrue(80_000 < other.ask("PTTL", "v:4") <= 100_000)
+
+
+if __name__ == "__main__":
+    unittest.main()
