@@ -25,55 +25,14 @@ import threading
 from collections import deque
 
 import jentry_processors
+from jentry_errors import DENIALS, EXCEPTIONS, REFUSALS  # noqa: F401  (users find them here)
+from jentry_errors import Denied, Error, ProcessorThrew, Refused, StreamEnded
 
 MOST_JOBS = 4_096
 LONGEST = 131_072
 PROGRAM = ("jentry", "serve")
 # What a round of the server frees stays for its next one, where its C library is glibc: memory that is new each time costs as much as the calls.
 KEEPS_MEMORY = {"MALLOC_MMAP_THRESHOLD_": "33554432", "MALLOC_TRIM_THRESHOLD_": "67108864"}
-REFUSALS = (
-    None,
-    "TooLarge",
-    "Truncated",
-    "BadMagic",
-    "BadVersion",
-    "BadPool",
-    "TrailingBytes",
-    "BadDescriptor",
-    "BadHeader",
-    "ConstructorForm",
-    "ClassInitialiser",
-    "NoProcess",
-    "DuplicateMethod",
-    "NoBody",
-    "BadCode",
-    "ExceptionTable",
-    "UnknownOpcode",
-    "OutsideProfile",
-    "BadOperand",
-    "BadTarget",
-    "BackwardBranch",
-    "BadStackMap",
-    "TypeMismatch",
-    "FallsOff",
-    "UnknownMember",
-    "Recursive",
-    "LengthNotConstant",
-    "StepLimit",
-    "WordLimit",
-    "FrameLimit",
-    "NoMemory",
-)
-EXCEPTIONS = (
-    None,
-    "ArithmeticException",
-    "ArrayIndexOutOfBoundsException",
-    "NullPointerException",
-    "ClassCastException",
-    "IncompatibleClassChangeError",
-    "CacheLoaderException",
-)
-DENIALS = (None, "UnknownClass", "JournalFull", "NoMemory", "TooManyClasses", "TooManyJobs")
 END = b"\0\0\0\1\x08"
 ENDED = b"\x09"
 LOST = "the stream has ended; whether calls that were out have run is not known"
@@ -82,46 +41,8 @@ DEFINE, PUT, GET, REMOVE, CONTAINS, INVOKE, INVOKE_ALL = range(1, 8)
 DEFINED, REFUSED, DONE, VALUE, FLAG, RESULT, RESULTS, DENIED = range(1, 9)
 
 
-def _name(names, number):
-    """The name of a number, which a later server may know and this client not."""
-    return names[number] if 0 < number < len(names) else "unknown"
-
-
 class Int(int):
     """A Java Integer. A plain number is a Long."""
-
-
-class Error(Exception):
-    """What this module raises."""
-
-
-class StreamEnded(Error):
-    """The stream is broken. Whether calls that were out have run is not known."""
-
-
-class Denied(Error):
-    """A request that the server didn't run; it changed nothing. `number` and `name` say why."""
-
-    def __init__(self, number):
-        self.number, self.name = number, _name(DENIALS, number)
-        super().__init__(f"denied: {number} {self.name}")
-
-
-class Refused(Error):
-    """A class that the server doesn't take. `number` and `name` say why, `detail` is the opcode for 17 and the place for 22."""
-
-    def __init__(self, number, detail):
-        self.number, self.name, self.detail = number, _name(REFUSALS, number), detail
-        place = f" opcode {detail}" if number == 17 else f" at {detail}" if number == 22 else ""
-        super().__init__(f"refused: {number} {self.name}{place}")
-
-
-class ProcessorThrew(Error):
-    """A processor, or the server's loader in a get, ended by a Java exception, which `number` and `name` say. The entry is as before."""
-
-    def __init__(self, number):
-        self.number, self.name = number, _name(EXCEPTIONS, number)
-        super().__init__(self.name)
 
 
 class Class:

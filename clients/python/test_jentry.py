@@ -372,6 +372,9 @@ class Answers(unittest.TestCase):
         self.assertEqual(str(jentry.Refused(17, 186)), "refused: 17 OutsideProfile opcode 186")
         self.assertEqual(str(jentry.Refused(22, 9)), "refused: 22 TypeMismatch at 9")
         self.assertEqual(str(jentry.Denied(77)), "denied: 77 unknown")
+        for it in (jentry.Error, jentry.StreamEnded, jentry.Denied, jentry.Refused, jentry.ProcessorThrew):
+            self.assertIs(getattr(jentry, it.__name__), it)
+            self.assertEqual(it.__module__, "jentry")
 
 
 @unittest.skipUnless(PROGRAM, "the program isn't built")

@@ -110,6 +110,7 @@ class Releases(unittest.TestCase):
             "lib/systemd/system/jentry-front.socket",
             "lib/systemd/system/jentry-front.service",
             "lib/python3/dist-packages/jentry.py",
+            "lib/python3/dist-packages/jentry_errors.py",
             "lib/python3/dist-packages/jentry_processors/GetAndPut.class",
         ):
             self.assertIn(name, members)
