@@ -1,11 +1,7 @@
 #!/usr/bin/env python3
-"""test_jentry: the clients for threads and for asyncio, before the stand-in and before the built program.
-JENTRY_PROGRAM names the program and JENTRY_FRONT the front, where they are there."""
-import asyncio
-import glob
+"""test_jentry: the client for threads, before the stand-in and before the built program, which JENTRY_PROGRAM names where it is there."""
 import io
 import os
-import shutil
 import signal
 import subprocess
 import sys
@@ -16,13 +12,10 @@ import unittest
 HERE = os.path.dirname(os.path.abspath(__file__))
 sys.path[:0] = [HERE, os.path.join(HERE, "../tests")]
 import jentry
-import jentry_aio
-import jentry_processors
-from class_files import heavy, plus, ratio
-from running import FRONT, PATIENCE, PROGRAM, SERVER, STAND_IN, Running
+from class_files import EXAMPLES, heavy, plus, ratio
+from python_cases import HAS_PROCESSORS, Endings, Threaded
+from running import PATIENCE, PROGRAM, SERVER, STAND_IN
 
-EXAMPLES = os.path.join(HERE, "../../examples")
-HAS_PROCESSORS = os.path.exists(os.path.join(HERE, "../processors/GetAndPut.class"))
 LEAST, MOST = -(2**63), 2**63 - 1
 INTERRUPTED = """
 import signal, sys, threading
@@ -43,18 +36,6 @@ with jentry.Cache.start(*sys.argv[2:]) as cache:
         except jentry.StreamEnded:
             print("ended", flush=True)
 """
-
-INSTALLED = """
-import sys
-import jentry, jentry_aio, jentry_processors
-assert all(it.__file__.startswith(sys.argv[1]) for it in (jentry, jentry_aio, jentry_processors)), jentry.__file__
-with jentry.Cache.start(*sys.argv[2:]) as cache:
-    cache.put(7, 41)
-    print(cache.get(7), *(jentry_processors.file(name)[:4].hex() for name in jentry_processors.NAMES))
-"""
-BUILDS = (
-    "import setuptools, pip; tuple(map(int, setuptools.__version__.split('.')[:2])) >= (70, 1) or __import__('wheel')"
-)
 
 
 class Interrupted:
@@ -151,51 +132,6 @@ class Plain(unittest.TestCase):
         self.cache.close()
         with self.assertRaises(jentry.StreamEnded):
             self.cache.get(1)
-
-
-class Threaded(unittest.TestCase):
-    """Tests that have threads."""
-
-    def run_threads(self, count, work, meanwhile=lambda: None):
-        """Runs `work(n)` on so many threads, each of which has to end without an error."""
-        wrong = []
-
-        def guarded(n):
-            try:
-                work(n)
-            except BaseException as e:
-                wrong.append(repr(e))
-
-        team = [threading.Thread(target=guarded, args=(n,)) for n in range(count)]
-        for it in team:
-            it.start()
-        meanwhile()
-        for it in team:
-            it.join(PATIENCE)
-            self.assertFalse(it.is_alive())
-        self.assertEqual(wrong, [])
-
-
-class Endings:
-    """What ends a stream, by the stand-in's options. `ends_for_all` sees that each call is told so."""
-
-    def test_the_server_ends(self):
-        self.ends_for_all("--die")
-
-    def test_a_reply_too_many(self):
-        self.ends_for_all("--wrong")
-
-    def test_a_reply_too_few(self):
-        self.ends_for_all("--short")
-
-    def test_another_kind_of_reply(self):
-        self.ends_for_all("--other")
-
-    def test_a_frame_of_1_mb(self):
-        self.ends_for_all("--huge")
-
-    def test_a_frame_of_no_length(self):
-        self.ends_for_all("--empty")
 
 
 class Threads(Threaded, Endings):
@@ -445,289 +381,6 @@ class BuiltIn(Threaded):
         self.run_threads(32, lambda n: told.append(self.cache.put_if_absent(1, n)))
         self.assertEqual(sorted(told), 31 * [False] + [True])
         self.assertEqual(self.cache.define(plus()).number, 1)
-
-
-class Loop(unittest.TestCase, Endings):
-    """The client for asyncio."""
-
-    def run_in_loop(self, work, server=SERVER):
-        async def limited():
-            async with await jentry_aio.start(*server) as cache:
-                await asyncio.wait_for(work(cache), PATIENCE)
-
-        asyncio.run(limited())
-
-    def test_the_plain_requests(self):
-        async def work(cache):
-            self.assertIsNone(await cache.get(7))
-            self.assertIsNone(await cache.put(7, 41))
-            self.assertEqual(await cache.get(7), 41)
-            self.assertIs(await cache.remove(7), True)
-            self.assertIs(await cache.contains(7), False)
-            with self.assertRaises(jentry.Denied):
-                await cache.invoke(7, jentry.Class(5, 0, 0))
-
-        self.run_in_loop(work)
-
-    def test_many_tasks(self):
-        async def work(cache):
-            processor = await cache.define(plus())
-            await cache.put(1, 0)
-            told = await asyncio.gather(*(cache.invoke(1, processor) for _ in range(10_000)))
-            self.assertEqual(sorted(told), list(range(1, 10_001)))
-            keys = await asyncio.gather(*(cache.put(key, -key) for key in range(10_000)))
-            self.assertEqual(set(keys), {None})
-            self.assertEqual(
-                await asyncio.gather(*(cache.get(key) for key in range(10_000))), [-key for key in range(10_000)]
-            )
-
-        self.run_in_loop(work)
-
-    def test_a_cancelled_task_leaves_others_their_replies(self):
-        async def work(cache):
-            for key in range(100):
-                await cache.put(key, 7 * key)
-            for turns in range(4):
-                tasks = [asyncio.ensure_future(self.get(cache, key)) for key in range(100)]
-                for _ in range(turns):
-                    await asyncio.sleep(0)
-                for task in tasks[::2]:
-                    task.cancel()
-                told = await asyncio.gather(*tasks, return_exceptions=True)
-                self.assertEqual(told[1::2], [7 * key for key in range(1, 100, 2)])
-                self.assertTrue(all(isinstance(it, asyncio.CancelledError) for it in told[::2]))
-            self.assertEqual(await cache.get(3), 21)
-
-        self.run_in_loop(work, STAND_IN + ["--slow", "0.002"])
-
-    async def get(self, cache, key):
-        return await cache.get(key)
-
-    def ends_for_all(self, option):
-        async def work(cache):
-            await asyncio.gather(*(cache.put(key, 1) for key in range(10)))
-            told = await asyncio.gather(*(cache.get(key) for key in range(10)), return_exceptions=True)
-            self.assertTrue(all(isinstance(it, jentry.StreamEnded) for it in told))
-            with self.assertRaises(jentry.StreamEnded):
-                await cache.get(1)
-
-        self.run_in_loop(work, STAND_IN + [option, "2"])
-
-    @unittest.skipUnless(PROGRAM, "the program isn't built")
-    def test_the_server_is_killed_in_mid_round(self):
-        async def work(cache):
-            processor = await cache.define(heavy())
-            out = [asyncio.ensure_future(self.invoke_all(cache, processor))]
-            await asyncio.sleep(0.05)
-            out += [asyncio.ensure_future(self.get(cache, key)) for key in range(8)]
-            await asyncio.sleep(0)
-            self.assertEqual([it.done() for it in out], 9 * [False])
-            cache._child.kill()
-            told = await asyncio.gather(*out, return_exceptions=True)
-            self.assertEqual([type(it) for it in told], 9 * [jentry.StreamEnded])
-            with self.assertRaises(jentry.StreamEnded):
-                await cache.get(1)
-
-        self.run_in_loop(work)
-
-    async def invoke_all(self, cache, processor):
-        return await cache.invoke_all(range(4_096), processor)
-
-    def test_what_can_not_be_sent_is_not_sent(self):
-        async def work(cache):
-            processor = await cache.define(plus())
-            for wrong in (
-                lambda: cache.put(2**63, 1),
-                lambda: cache.get("7"),
-                lambda: cache.invoke(1, processor, *range(9)),
-                lambda: cache.invoke_all(range(4_097), processor),
-                lambda: cache.define(bytes(jentry.LONGEST)),
-            ):
-                with self.assertRaises(Exception) as told:
-                    await wrong()
-                self.assertNotIsInstance(told.exception, jentry.Error)
-            self.assertIsNone(await cache.get(1))
-
-        self.run_in_loop(work)
-
-    def test_processors(self):
-        async def work(cache):
-            processor = await cache.define(plus())
-            self.assertEqual((processor.number, processor.steps, processor.words), (0, 14, 0))
-            await cache.put(7, 41)
-            self.assertEqual(await cache.invoke(7, processor), 42)
-            with self.assertRaises(jentry.ProcessorThrew) as told:
-                await cache.invoke(8, processor)
-            self.assertEqual((told.exception.number, told.exception.name), (3, "NullPointerException"))
-            told = await cache.invoke_all([7, 8, 7], processor)
-            self.assertEqual(list(told), [7, 8])
-            self.assertEqual(told[7], 43)
-            self.assertIsInstance(told[8], jentry.ProcessorThrew)
-
-        self.run_in_loop(work)
-
-    def test_tasks_of_many_keys_beside_single_calls(self):
-        async def many(cache, processor, me):
-            keys = range(1_000 * me, 1_000 * me + 700)
-            await asyncio.gather(*(cache.put(key, key) for key in keys))
-            told = await cache.invoke_all(keys, processor)
-            return [told[key] - key for key in keys] + [await cache.get(key) - key for key in keys[:5]]
-
-        async def single(cache, processor):
-            return [await cache.invoke(-1, processor) for _ in range(50)]
-
-        async def work(cache):
-            processor = await cache.define(plus())
-            await cache.put(-1, 0)
-            told = await asyncio.gather(
-                *(many(cache, processor, me) for me in range(8)), *(single(cache, processor) for _ in range(8))
-            )
-            self.assertEqual(told[:8], 8 * [705 * [1]])
-            self.assertEqual(sorted(sum(told[8:], [])), list(range(1, 401)))
-            self.assertTrue(all(it == sorted(it) for it in told[8:]))
-
-        self.run_in_loop(work)
-
-    def test_closed(self):
-        async def work(cache):
-            await cache.close()
-            await cache.close()
-            with self.assertRaises(jentry.StreamEnded):
-                await cache.get(1)
-
-        self.run_in_loop(work)
-
-    @unittest.skipUnless(PROGRAM, "the program isn't built")
-    def test_a_refused_class(self):
-        async def work(cache):
-            with self.assertRaises(jentry.Refused) as told:
-                await cache.define(b"none")
-            self.assertEqual((told.exception.number, told.exception.name), (3, "BadMagic"))
-
-        self.run_in_loop(work)
-
-    @unittest.skipUnless(PROGRAM and HAS_PROCESSORS, "the program or the class files of the processors aren't there")
-    def test_built_in_processors(self):
-        async def work(cache):
-            told = await asyncio.gather(*(cache.put_if_absent(1, n) for n in range(32)))
-            self.assertEqual(sorted(told), 31 * [False] + [True])
-            self.assertIs(await cache.replace(1, 5), True)
-            self.assertEqual(await cache.get_and_remove(1), 5)
-            self.assertEqual((await cache.define(plus())).number, 3)
-
-        self.run_in_loop(work)
-
-
-@unittest.skipUnless(FRONT, "the front isn't built")
-class Shared(Threaded):
-    """Python's threads, asyncio and examples/frames.py on one cache, by the front."""
-
-    def test_all_on_one_cache(self):
-        with Running() as front, jentry.Cache.connect(front.place) as cache:
-            processor = cache.define(plus())
-            cache.put(1, 0)
-            self.run_threads(
-                8, lambda _: self.add(cache, processor), meanwhile=lambda: asyncio.run(self.add_in_loop(front.place))
-            )
-            self.assertEqual(cache.get(1), 8 * 50 + 400)
-            self.assertEqual(self.lines(front, b"get 1\nput 2 5\nend\n"), b"value 800\ndone\nend\n")
-            self.assertEqual(cache.get(2), 5)
-
-    def add(self, cache, processor):
-        for _ in range(50):
-            cache.invoke(1, processor)
-
-    async def add_in_loop(self, place):
-        async with await jentry_aio.connect(place) as cache:
-            processor = await cache.define(plus())
-            await asyncio.gather(*(cache.invoke(1, processor) for _ in range(400)))
-
-    def lines(self, front, text):
-        """What examples/frames.py makes of these lines, and of the front's replies to them."""
-        frames = [sys.executable, os.path.join(EXAMPLES, "frames.py")]
-        sent = subprocess.run(frames, input=text, stdout=subprocess.PIPE, timeout=PATIENCE, check=True).stdout
-        with front.open() as line:
-            line.sendall(sent)
-            line.shutdown(1)
-            replies = b"".join(iter(lambda: line.recv(65_536), b""))
-        return subprocess.run(
-            frames + ["--replies"], input=replies, stdout=subprocess.PIPE, timeout=PATIENCE, check=True
-        ).stdout
-
-    def test_the_front_ends(self):
-        with Running(server=STAND_IN + ["--die", "3"]) as front, jentry.Cache.connect(front.place) as cache:
-            cache.put(1, 1)
-            cache.put(1, 2)
-            with self.assertRaises(jentry.StreamEnded):
-                cache.put(1, 3)
-
-    def test_tcp(self):
-        with Running(tcp=True) as front, jentry.Cache.connect(front.place) as cache:
-            cache.put(1, 1)
-            self.assertEqual(cache.get(1), 1)
-
-
-class Package(unittest.TestCase):
-    @unittest.skipUnless(HAS_PROCESSORS, "the class files of the processors aren't there")
-    def test_the_class_files_are_found(self):
-        for name in jentry_processors.NAMES:
-            self.assertEqual(jentry_processors.file(name)[:4], b"\xca\xfe\xba\xbe")
-
-    def test_a_processor_that_is_not_there(self):
-        with self.assertRaises(FileNotFoundError):
-            jentry_processors.file("None")
-
-    @unittest.skipUnless(HAS_PROCESSORS, "the class files of the processors aren't there")
-    def test_pip_installs_it_from_its_folder_and_from_a_source_distribution(self):
-        python = python_that_builds()
-        if python is None:
-            self.skipTest(
-                "pip, setuptools or wheel isn't there (apt-get install python3-pip python3-setuptools python3-wheel)"
-            )
-        with tempfile.TemporaryDirectory() as folder:
-            for name in ("python", "processors"):
-                shutil.copytree(
-                    os.path.join(HERE, "..", name),
-                    os.path.join(folder, name),
-                    ignore=shutil.ignore_patterns("__pycache__", "build", "*.egg-info"),
-                )
-            sources, sent = os.path.join(folder, "python"), os.path.join(folder, "sent")
-            self.installs(python, sources, os.path.join(folder, "one"))
-            self.run_quietly(python, "setup.py", "-q", "sdist", "-d", sent, cwd=sources)
-            shutil.rmtree(os.path.join(folder, "processors"))
-            self.installs(python, *glob.glob(os.path.join(sent, "*.tar.gz")), os.path.join(folder, "other"))
-
-    def installs(self, python, sources, target):
-        """Installs these sources without a net, and uses what was installed, away from the repository."""
-        self.run_quietly(
-            python, "-m", "pip", "install", "-q", "--no-index", "--no-build-isolation", "--target", target, sources
-        )
-        told = self.run_quietly(
-            python,
-            "-B",
-            "-c",
-            INSTALLED,
-            target,
-            *STAND_IN,
-            env={"PYTHONPATH": target, "PATH": os.environ["PATH"]},
-            cwd=target,
-        )
-        self.assertEqual(told, " ".join(["41"] + 7 * ["cafebabe"]) + "\n")
-
-    def run_quietly(self, *words, **options):
-        done = subprocess.run(
-            words, stdout=subprocess.PIPE, stderr=subprocess.PIPE, text=True, timeout=PATIENCE, **options
-        )
-        self.assertEqual(done.returncode, 0, done.stdout + done.stderr)
-        return done.stdout
-
-
-def python_that_builds():
-    """A Python with what pip needs to build a package without a net, if there is one."""
-    for python in (sys.executable, "/usr/bin/python3"):
-        if os.path.exists(python) and subprocess.run([python, "-c", BUILDS], stderr=subprocess.DEVNULL).returncode == 0:
-            return python
-    return None
 
 
 if __name__ == "__main__":

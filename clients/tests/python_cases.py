@@ -1,0 +1,53 @@
+"""What the tests of the Python clients share."""
+import os
+import threading
+import unittest
+
+from running import HERE, PATIENCE
+
+HAS_PROCESSORS = os.path.exists(os.path.join(HERE, "../processors/GetAndPut.class"))
+
+
+class Threaded(unittest.TestCase):
+    """Tests that have threads."""
+
+    def run_threads(self, count, work, meanwhile=lambda: None):
+        """Runs `work(n)` on so many threads, each of which has to end without an error."""
+        wrong = []
+
+        def guarded(n):
+            try:
+                work(n)
+            except BaseException as e:
+                wrong.append(repr(e))
+
+        team = [threading.Thread(target=guarded, args=(n,)) for n in range(count)]
+        for it in team:
+            it.start()
+        meanwhile()
+        for it in team:
+            it.join(PATIENCE)
+            self.assertFalse(it.is_alive())
+        self.assertEqual(wrong, [])
+
+
+class Endings:
+    """What ends a stream, by the stand-in's options. `ends_for_all` sees that each call is told so."""
+
+    def test_the_server_ends(self):
+        self.ends_for_all("--die")
+
+    def test_a_reply_too_many(self):
+        self.ends_for_all("--wrong")
+
+    def test_a_reply_too_few(self):
+        self.ends_for_all("--short")
+
+    def test_another_kind_of_reply(self):
+        self.ends_for_all("--other")
+
+    def test_a_frame_of_1_mb(self):
+        self.ends_for_all("--huge")
+
+    def test_a_frame_of_no_length(self):
+        self.ends_for_all("--empty")
