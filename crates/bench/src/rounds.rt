@@ -20,7 +20,7 @@ use std::sync::Wait;
 use std::thread::Threads;
 use std::time::{Clock, Duration};
 use stripe::{ArgSlice, Tables};
-use workers::{STEPS_PER_WORKER, WorkspacePool, cost_of, run_by_workers, workers_for};
+use workers::{PoolRound, STEPS_PER_WORKER, WorkspacePool, cost_of, run_by_workers, workers_for};
 
 /// How many rounds there are.
 const ROUNDS: usize = 201;
@@ -61,9 +61,13 @@ pub fn one<R: Threads + Wait + Clock + Sync>(
     let calls = calls_for(alloc, registry, jobs)?;
     let begin = now(rt)?;
     let workers = workers_for(steps, seats, STEPS_PER_WORKER);
-    let Ok(left) = run_by_workers(
-        rt, alloc, registry, tables, workers, &calls, kept, &NoGate, &NoLoader,
-    ) else {
+    let round = PoolRound {
+        registry,
+        calls: &calls,
+        gate: &NoGate,
+        loader: &NoLoader,
+    };
+    let Ok(left) = run_by_workers(rt, alloc, tables, workers, &round, kept) else {
         return Err(Failure::NoMemory);
     };
     let time = now(rt)?.saturating_duration_since(begin);

@@ -15,4 +15,5 @@ pub use all::invoke_all;
 pub use buffers::{RoundBuffers, room_for};
 pub use job::{Job, JobReply, calls_for};
 pub use round::{run_in, run_round};
+pub use round_task::Round;
 pub use single::run_alone;

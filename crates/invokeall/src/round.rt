@@ -1,23 +1,29 @@
 //! A round of jobs.
 
-ghost use Rattle.std.specs.Prelude.{◌≡◌, ◌<◌, length, IfOk, OnErr, OnOk};
+ghost use Rattle.std.specs.Prelude.{◌≡◌, ◌<◌, ◌≤◌, ℕ, length, slice_index_or, IfOk, OnErr, OnOk};
 ghost use Rattle.std.specs.List.{All};
 ghost use Rattle.claims.specs.Counters.{IsJobCount, IsWorkerCount};
+ghost use Rattle.invokeall.specs.declared.worker.Worker.{Worker};
 ghost use Rattle.invokeall.specs.Jobs.{IsCallable, calls_of, all_seen};
+ghost use Rattle.invokeall.specs.Groups.{AreGroups};
+ghost use Rattle.invokeall.specs.Crews.{IsReady, HasWorked};
 ghost use Rattle.invokeall.specs.Rounds.{IsRound, IsAtHome};
 ghost use Rattle.invokeall.specs.Rooms.{IsRoom};
 
 use crate::buffers::{RoundBuffers, collect, into_parts, make_workers, room_for};
+use crate::groups::Groups;
 use crate::job::{Job, JobReply, calls_for};
-use crate::round_task::run_all;
+use crate::round_task::{Round, RoundTask};
+use crate::threads::run_on_threads;
+use crate::worker::Worker;
 use cache::{Cache, Gate, Seat};
+use claims::Counter;
 use jtypes::Loader;
 use machine::Workspace;
 use std::alloc::{AllocError, Global};
 use std::mem;
 use std::sync::Wait;
 use std::thread::Threads;
-use stripe::Call;
 
 /// Runs the jobs, by a worker at each seat, each with a workspace. A group is all jobs whose keys are of one stripe, or of one part of it.
 /// A worker claims one group after the other and makes the calls of its jobs in their order, until there is no group left;
@@ -43,29 +49,33 @@ pub fn run_round<'a, R: Threads + Wait + Sync, G: Gate + Sync, L: Loader + Sync>
     ensures workspaces { OnOk result (length workspaces.new.items ≡ length workspaces.old.items) }
     ensures err { OnErr result ((seats.new.items ≡ seats.old.items) × (workspaces.new.items ≡ workspaces.old.items)) }
 {
-    let room = room_for(alloc, jobs.len(), cache.stripes(), seats.len())?;
+    let buffers = room_for(alloc, jobs.len(), cache.stripes(), seats.len())?;
     let calls = calls_for(alloc, cache.registry(), jobs)?;
-    Ok(run_in(rt, cache, &calls, seats, workspaces, room, gate))
+    let round = Round {
+        cache,
+        calls: &calls,
+        gate,
+    };
+    Ok(run_in(rt, &round, seats, workspaces, buffers))
 }
 
-/// Makes the calls in the room for them, as `run_round` does those of its jobs. So it takes no memory of its own, and a call may be
+/// Makes the calls in the buffers for them, as `run_round` does those of its jobs. So it takes no memory of its own, and a call may be
 /// refused by its answer alone.
 pub fn run_in<'a, R: Threads + Wait + Sync, G: Gate + Sync, L: Loader + Sync>(
     rt: &R,
-    cache: &Cache<'a, '_, L>,
-    calls: &[Call<'a>],
+    round: &Round<'_, 'a, '_, G, L>,
     seats: &mut Vec<Seat<'a>>,
     workspaces: &mut Vec<Workspace>,
-    room: RoundBuffers<'a>,
-    gate: &G,
+    buffers: RoundBuffers<'a>,
 ) -> Vec<JobReply>
     requires some_seat { 0 < length seats.old.items }
     requires workspaces { length workspaces.old.items ≡ length seats.old.items }
-    requires home { All (IsAtHome cache.now) seats.old.items }
-    requires room { IsRoom (length (all_seen calls.now)) (length seats.old.items) room }
-    ensures round { IsRound cache.now (all_seen calls.now) seats.old.items seats.new.items result.items }
+    requires home { All (IsAtHome round.now.cache.now) seats.old.items }
+    requires buffers { IsRoom (length (all_seen round.now.calls.now)) (length seats.old.items) buffers }
+    ensures round { IsRound round.now.cache.now (all_seen round.now.calls.now) seats.old.items seats.new.items result.items }
     ensures workspaces { length workspaces.new.items ≡ length workspaces.old.items }
 {
+    let calls = round.calls;
     let RoundBuffers {
         counter,
         groups,
@@ -77,22 +87,46 @@ pub fn run_in<'a, R: Threads + Wait + Sync, G: Gate + Sync, L: Loader + Sync>(
         workspaces: spaces,
         mut spent,
         mut answers,
-    } = room;
+    } = buffers;
     let groups = groups.of(calls);
     let old = mem::replace(seats, back);
     let used = mem::replace(workspaces, spaces);
     make_workers(calls.len(), old, used, claimers, lists, &mut workers);
-    run_all(
-        rt,
-        cache,
-        &counter,
-        &groups,
-        calls,
-        workers.as_mut_slice(),
-        gate,
-    );
+    run_all(rt, round, &counter, &groups, workers.as_mut_slice());
     into_parts(workers, seats, workspaces, &mut spent, &mut rows);
     counter.close(spent);
     collect(rows, answers.as_mut_slice());
     answers
+}
+
+/// How many threads serve: one a worker, but no more than there are calls or stripes.
+fn threads_for(calls: usize, stripes: usize, workers: usize) -> usize {
+    calls.min(stripes).min(workers)
+}
+
+/// Has all workers work.
+fn run_all<'a, R: Threads + Wait + Sync, G: Gate + Sync, L: Loader + Sync>(
+    rt: &R,
+    round: &Round<'_, 'a, '_, G, L>,
+    counter: &Counter,
+    groups: &Groups,
+    workers: &mut [Worker<'a>],
+)
+    requires counter { counter.now.jobs ≡ length groups.now.firsts.items }
+    requires few { counter.now.jobs ≤ 64 }
+    requires groups { AreGroups (all_seen round.now.calls.now) groups.now }
+    requires ready { All (IsReady round.now.cache.now counter.now (length (all_seen round.now.calls.now))) workers.old }
+    ensures { (i : ℕ) (d : Worker) → i < length workers.old → HasWorked round.now.cache.now counter.now groups.now (all_seen round.now.calls.now) (slice_index_or workers.old i d) (slice_index_or workers.new i d) }
+{
+    let Round { cache, calls, gate } = *round;
+    let task = RoundTask {
+        rt,
+        cache,
+        counter,
+        groups,
+        calls,
+        gate,
+    };
+    let threads = threads_for(calls.len(), cache.stripes(), workers.len());
+    run_on_threads(rt, &task, threads, workers);
 }

@@ -6,28 +6,27 @@ ghost use Rattle.invokeall.specs.Rounds.{IsRound};
 ghost use Rattle.invokeall.specs.Rooms.{HasRoom};
 
 use crate::job::JobReply;
+use crate::round_task::Round;
 use crate::worker::call_numbered;
-use cache::{Cache, Gate, Seat};
+use cache::{Gate, Seat};
 use jtypes::Loader;
 use machine::Workspace;
 use std::sync::Wait;
-use stripe::Call;
 
 /// Makes the calls in their order at one seat, and pushes their answers, for which there is capacity. It reserves their receipts at once, if
 /// there is memory for it. The gate hears of the ends behind the last call, when no stripe is locked.
 pub fn run_alone<'a, R: Wait, G: Gate, L: Loader>(
     rt: &R,
-    cache: &Cache<'a, '_, L>,
-    calls: &[Call<'a>],
+    round: &Round<'_, 'a, '_, G, L>,
     seat: &mut Seat<'a>,
     workspace: &mut Workspace,
     answers: &mut Vec<JobReply>,
-    gate: &G,
 )
-    requires home { seat.old.table ≡ cache.now.table }
-    requires room { HasRoom (length calls.now) answers.old }
-    ensures { IsRound cache.now (all_seen calls.now) (seat.old ∷ []) (seat.new ∷ []) answers.new.items }
+    requires home { seat.old.table ≡ round.now.cache.now.table }
+    requires room { HasRoom (length round.now.calls.now) answers.old }
+    ensures { IsRound round.now.cache.now (all_seen round.now.calls.now) (seat.old ∷ []) (seat.new ∷ []) answers.new.items }
 {
+    let Round { cache, calls, gate } = *round;
     seat.expect(calls.len());
     for number in 0..calls.len() {
         let call = call_numbered(calls, number);

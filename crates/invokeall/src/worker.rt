@@ -1,4 +1,4 @@
-//! One worker.
+//! The workers of a round.
 
 ghost use Rattle.std.specs.Prelude.{◌≡◌, ◌<◌, ◌≤◌, ◌++◌, ℕ, List, length, vec_capacity, IsTrue, IsFalse};
 ghost use mathlib.Core.Option.{some};
@@ -9,10 +9,11 @@ ghost use Rattle.invokeall.specs.Jobs.{all_seen};
 ghost use Rattle.invokeall.specs.Groups.{AreGroups, AreDifferent, groups_in, members};
 ghost use Rattle.invokeall.specs.Crews.{IsReady, HasAnswered, HasWorked, numbers};
 
-use crate::groups::Groups;
 use crate::job::JobReply;
-use cache::{Cache, Gate, Seat};
-use claims::{Claimer, Counter};
+use crate::round_task::RoundTask;
+use crate::threads::WorkerTask;
+use cache::{Gate, Seat};
+use claims::Claimer;
 use jtypes::Loader;
 use machine::Workspace;
 use std::sync::Wait;
@@ -44,47 +45,47 @@ pub struct Worker<'a> {
     pub behind: CacheLinePad,
 }
 
+impl<'s, 'a, 'l, R: Wait, G: Gate, L: Loader> WorkerTask<Worker<'a>>
+    for RoundTask<'s, 'a, 'l, R, G, L> {
+    ghost use Rattle.std.specs.Prelude.{◌≡◌, ◌≤◌, length};
+    ghost use Rattle.invokeall.specs.Jobs.{all_seen};
+    ghost use Rattle.invokeall.specs.Groups.{AreGroups};
+    ghost use Rattle.invokeall.specs.Crews.{IsReady, HasWorked};
+
+    ghost accepts = { λ s w. IsReady s.cache.now s.counter.now (length (all_seen s.calls.now)) w × (s.counter.now.jobs ≡ length s.groups.now.firsts.items) × (s.counter.now.jobs ≤ 64) × AreGroups (all_seen s.calls.now) s.groups.now };
+
+    ghost leaves = { λ s v w. HasWorked s.cache.now s.counter.now s.groups.now (all_seen s.calls.now) v w };
+
+    fn serve(&self, worker: &mut Worker<'a>) {
+        work(self, worker)
+    }
+}
+
 /// The milliseconds that a worker waits at most for the stripe of a group that it put off, before it goes on to the next one of these.
 const PATIENCE: u64 = 1;
 
 /// Claims groups of calls and makes them, until there is no group left. A group whose stripe another worker holds is put off until all
 /// are claimed: so a worker waits for a stripe only where it can make no call of another one.
 pub fn work<'a, R: Wait, G: Gate, L: Loader>(
-    rt: &R,
-    cache: &Cache<'a, '_, L>,
-    counter: &Counter,
-    groups: &Groups,
-    calls: &[Call<'a>],
+    task: &RoundTask<'_, 'a, '_, R, G, L>,
     worker: &mut Worker<'a>,
-    gate: &G,
 )
-    requires counter { counter.now.jobs ≡ length groups.now.firsts.items }
-    requires few { counter.now.jobs ≤ 64 }
-    requires groups { AreGroups (all_seen calls.now) groups.now }
-    requires ready { IsReady cache.now counter.now (length (all_seen calls.now)) worker.old }
-    ensures { HasWorked cache.now counter.now groups.now (all_seen calls.now) worker.old worker.new }
+    requires counter { task.now.counter.now.jobs ≡ length task.now.groups.now.firsts.items }
+    requires few { task.now.counter.now.jobs ≤ 64 }
+    requires groups { AreGroups (all_seen task.now.calls.now) task.now.groups.now }
+    requires ready { IsReady task.now.cache.now task.now.counter.now (length (all_seen task.now.calls.now)) worker.old }
+    ensures { HasWorked task.now.cache.now task.now.counter.now task.now.groups.now (all_seen task.now.calls.now) worker.old worker.new }
 {
     let mut later = [false; 64];
-    while let Some(group) = worker.claimer.claim(counter) {
-        later[group] = !work_within(
-            rt,
-            cache,
-            groups,
-            group,
-            calls,
-            worker,
-            gate,
-            Duration::ZERO,
-        );
+    while let Some(group) = worker.claimer.claim(task.counter) {
+        later[group] = !work_within(task, group, worker, Duration::ZERO);
     }
     let patience = Duration::from_millis(PATIENCE);
-    for _ in rt.forever() {
+    for _ in task.rt.forever() {
         let mut is_done = true;
-        for put_off in 0..groups.firsts.len() {
+        for put_off in 0..task.groups.firsts.len() {
             if later[put_off] {
-                later[put_off] = !work_within(
-                    rt, cache, groups, put_off, calls, worker, gate, patience,
-                );
+                later[put_off] = !work_within(task, put_off, worker, patience);
                 is_done = is_done && !later[put_off];
             }
         }
@@ -99,24 +100,27 @@ pub fn work<'a, R: Wait, G: Gate, L: Loader>(
 /// stripe.
 #[inline(always)]
 fn work_within<'a, R: Wait, G: Gate, L: Loader>(
-    rt: &R,
-    cache: &Cache<'a, '_, L>,
-    groups: &Groups,
+    task: &RoundTask<'_, 'a, '_, R, G, L>,
     group: usize,
-    calls: &[Call<'a>],
     worker: &mut Worker<'a>,
-    gate: &G,
     patience: Duration,
 ) -> bool
-    requires group { group < length groups.now.firsts.items }
-    requires groups { AreGroups (all_seen calls.now) groups.now }
-    requires home { worker.old.seat.table ≡ cache.now.table }
-    requires free { AreDifferent (length (all_seen calls.now)) (numbers worker.old.answers.items ++ members (groups_in groups.now (all_seen calls.now)) group (length (all_seen calls.now))) }
-    requires room { length (all_seen calls.now) ≤ vec_capacity worker.old.answers }
+    requires group { group < length task.now.groups.now.firsts.items }
+    requires groups { AreGroups (all_seen task.now.calls.now) task.now.groups.now }
+    requires home { worker.old.seat.table ≡ task.now.cache.now.table }
+    requires free { AreDifferent (length (all_seen task.now.calls.now)) (numbers worker.old.answers.items ++ members (groups_in task.now.groups.now (all_seen task.now.calls.now)) group (length (all_seen task.now.calls.now))) }
+    requires room { length (all_seen task.now.calls.now) ≤ vec_capacity worker.old.answers }
     ensures claimer { worker.new.claimer ≡ worker.old.claimer }
-    ensures made { IsTrue result → (v : Worker) (before : List ℕ) → HasAnswered cache.now (all_seen calls.now) v worker.old before → HasAnswered cache.now (all_seen calls.now) v worker.new (before ++ members (groups_in groups.now (all_seen calls.now)) group (length (all_seen calls.now))) }
-    ensures put_off { IsFalse result → (v : Worker) (before : List ℕ) → HasAnswered cache.now (all_seen calls.now) v worker.old before → HasAnswered cache.now (all_seen calls.now) v worker.new before }
+    ensures made { IsTrue result → (v : Worker) (before : List ℕ) → HasAnswered task.now.cache.now (all_seen task.now.calls.now) v worker.old before → HasAnswered task.now.cache.now (all_seen task.now.calls.now) v worker.new (before ++ members (groups_in task.now.groups.now (all_seen task.now.calls.now)) group (length (all_seen task.now.calls.now))) }
+    ensures put_off { IsFalse result → (v : Worker) (before : List ℕ) → HasAnswered task.now.cache.now (all_seen task.now.calls.now) v worker.old before → HasAnswered task.now.cache.now (all_seen task.now.calls.now) v worker.new before }
 {
+    let RoundTask {
+        rt,
+        cache,
+        groups,
+        calls,
+        ..
+    } = *task;
     let first = groups.first(group);
     if first < calls.len() {
         let key = calls[first].key();
@@ -124,7 +128,7 @@ fn work_within<'a, R: Wait, G: Gate, L: Loader>(
             return false;
         }
     }
-    work_on(rt, cache, groups, group, calls, worker, gate);
+    work_on(task, group, worker);
     true
 }
 
@@ -132,22 +136,26 @@ fn work_within<'a, R: Wait, G: Gate, L: Loader>(
 /// gate hears of each of them.
 #[inline(always)]
 fn work_on<'a, R: Wait, G: Gate, L: Loader>(
-    rt: &R,
-    cache: &Cache<'a, '_, L>,
-    groups: &Groups,
+    task: &RoundTask<'_, 'a, '_, R, G, L>,
     group: usize,
-    calls: &[Call<'a>],
     worker: &mut Worker<'a>,
-    gate: &G,
 )
-    requires group { group < length groups.now.firsts.items }
-    requires groups { AreGroups (all_seen calls.now) groups.now }
-    requires home { worker.old.seat.table ≡ cache.now.table }
-    requires free { AreDifferent (length (all_seen calls.now)) (numbers worker.old.answers.items ++ members (groups_in groups.now (all_seen calls.now)) group (length (all_seen calls.now))) }
-    requires room { length (all_seen calls.now) ≤ vec_capacity worker.old.answers }
+    requires group { group < length task.now.groups.now.firsts.items }
+    requires groups { AreGroups (all_seen task.now.calls.now) task.now.groups.now }
+    requires home { worker.old.seat.table ≡ task.now.cache.now.table }
+    requires free { AreDifferent (length (all_seen task.now.calls.now)) (numbers worker.old.answers.items ++ members (groups_in task.now.groups.now (all_seen task.now.calls.now)) group (length (all_seen task.now.calls.now))) }
+    requires room { length (all_seen task.now.calls.now) ≤ vec_capacity worker.old.answers }
     ensures claimer { worker.new.claimer ≡ worker.old.claimer }
-    ensures answered { (v : Worker) (before : List ℕ) → HasAnswered cache.now (all_seen calls.now) v worker.old before → HasAnswered cache.now (all_seen calls.now) v worker.new (before ++ members (groups_in groups.now (all_seen calls.now)) group (length (all_seen calls.now))) }
+    ensures answered { (v : Worker) (before : List ℕ) → HasAnswered task.now.cache.now (all_seen task.now.calls.now) v worker.old before → HasAnswered task.now.cache.now (all_seen task.now.calls.now) v worker.new (before ++ members (groups_in task.now.groups.now (all_seen task.now.calls.now)) group (length (all_seen task.now.calls.now))) }
 {
+    let RoundTask {
+        rt,
+        cache,
+        groups,
+        calls,
+        gate,
+        ..
+    } = *task;
     let before = worker.answers.len();
     let mut number = groups.first(group);
     while number < calls.len() {

@@ -18,7 +18,7 @@ use std::alloc::Global;
 use std::sync::Wait;
 use std::thread::Threads;
 use stripe::{Call, Reply, Tables};
-use workers::{WorkspacePool, run_by_workers, workers_for};
+use workers::{PoolRound, WorkspacePool, run_by_workers, workers_for};
 
 /// What a round leaves: the tables of entries, and the answer to each job. A job that was refused found no memory.
 #[derive(Drop)]
@@ -95,17 +95,13 @@ pub fn run_jobs<'a, T: Threads + Wait + Sync, G: Gate + Sync, L: Loader + Sync>(
         return run_alone(server.alloc, tables, calls, server.loader);
     }
     let workers = workers_for(steps, settings.workers, settings.share);
-    match run_by_workers(
-        server.rt,
-        server.alloc,
-        server.registry,
-        tables,
-        workers,
+    let round = PoolRound {
+        registry: server.registry,
         calls,
-        workspaces,
-        server.gate,
-        server.loader,
-    ) {
+        gate: server.gate,
+        loader: server.loader,
+    };
+    match run_by_workers(server.rt, server.alloc, tables, workers, &round, workspaces) {
         Ok(workers::CrewLeft { tables, answers }) => Ok(RoundLeft { tables, answers }),
         Err(tables) => Err(tables),
     }

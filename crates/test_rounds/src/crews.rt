@@ -16,7 +16,9 @@ use std::sync::Wait;
 use std::test::Fail;
 use std::thread::Threads;
 use stripe::{ArgSlice, Reply, Tables};
-use workers::{CALL_COST, CrewLeft, WorkspacePool, cost_of, run_by_workers, workers_for};
+use workers::{
+    CALL_COST, CrewLeft, PoolRound, WorkspacePool, cost_of, run_by_workers, workers_for,
+};
 
 /// An invocation returned this Long.
 fn returned(n: i64) -> JobReply {
@@ -39,9 +41,13 @@ fn round<R: Threads + Wait + Sync>(
     }
     let mut kept = WorkspacePool::new(alloc);
     let calls = calls_for(alloc, registry, jobs).ok()?;
-    match run_by_workers(
-        rt, alloc, registry, tables, workers, &calls, &mut kept, &NoGate, &NoLoader,
-    ) {
+    let round = PoolRound {
+        registry,
+        calls: &calls,
+        gate: &NoGate,
+        loader: &NoLoader,
+    };
+    match run_by_workers(rt, alloc, tables, workers, &round, &mut kept) {
         Ok(left) => Some(left),
         Err(_) => None,
     }

@@ -18,7 +18,7 @@ use std::test::Fail;
 use std::thread::Threads;
 use stripe::{ArgSlice, Call, Reply, Tables};
 use verify::Verified;
-use workers::{WorkspacePool, run_by_workers};
+use workers::{PoolRound, WorkspacePool, run_by_workers};
 
 /// 7 gives 41, 9 gives 0, 13 fails, and no other key has a value.
 struct Few;
@@ -141,9 +141,13 @@ fn by_workers<R: Threads + Wait + Sync>(
         Ok(tables) => {
             let mut kept = WorkspacePool::new(alloc);
             let calls = calls_for(alloc, registry, jobs).ok()?;
-            match run_by_workers(
-                rt, alloc, registry, tables, 4, &calls, &mut kept, &NoGate, &Few,
-            ) {
+            let round = PoolRound {
+                registry,
+                calls: &calls,
+                gate: &NoGate,
+                loader: &Few,
+            };
+            match run_by_workers(rt, alloc, tables, 4, &round, &mut kept) {
                 Ok(left) => Some((have(&left.answers, replies), left.tables.entry(key))),
                 Err(_) => None,
             }

@@ -7,5 +7,5 @@ mod room;
 mod single;
 
 pub use cost_model::{CALL_COST, STEPS_PER_WORKER, cost_of, workers_for};
-pub use pool_run::{CrewLeft, run_by_workers};
+pub use pool_run::{CrewLeft, PoolRound, run_by_workers};
 pub use room::WorkspacePool;

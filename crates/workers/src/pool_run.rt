@@ -13,7 +13,7 @@ ghost use Rattle.workers.specs.Rooms.{HasPlace, IsRoom};
 use crate::room::{PoolBuffers, WorkspacePool, room_for};
 use crate::single::run_by_one;
 use cache::{Cache, Closed, Gate, Seat};
-use invokeall::{JobReply, run_in};
+use invokeall::{JobReply, Round, run_in};
 use jtypes::Loader;
 use registry::Registry;
 use std::alloc::Global;
@@ -23,6 +23,16 @@ use stripe::{Call, MOST_RECORDS, Tables};
 
 /// One worker makes so few calls in their order. More of them it makes stripe by stripe, since what a stripe stores stays at hand then.
 const FEW: usize = 512;
+
+/// What a round makes: these calls of classes of the registry. The gate hears of each of them, and the loader is asked where they find no
+/// entry.
+#[derive(Drop)]
+pub struct PoolRound<'s, 'a, G, L> {
+    pub registry: &'a Registry,
+    pub calls: &'s [Call<'a>],
+    pub gate: &'s G,
+    pub loader: &'s L,
+}
 
 /// What a round leaves.
 #[derive(Drop)]
@@ -57,34 +67,29 @@ fn needed(calls: usize, most: usize) -> usize
 pub fn run_by_workers<'a, R: Threads + Wait + Sync, G: Gate + Sync, L: Loader + Sync>(
     rt: &R,
     alloc: Global,
-    registry: &'a Registry,
     tables: Tables,
     workers: usize,
-    calls: &[Call<'a>],
+    round: &PoolRound<'_, 'a, G, L>,
     kept: &mut WorkspacePool,
-    gate: &G,
-    loader: &L,
 ) -> Result<CrewLeft, Tables>
     requires workers { IsSeatCount workers }
-    requires calls { IsJobCount (length calls.now) }
-    ensures done { IfOk result (λ left. IsDone L.ASKS (L.gives loader.now) (entry_among tables) (all_seen calls.now) (map reply_of left.answers.items) (entry_among left.tables)) }
+    requires calls { IsJobCount (length round.now.calls.now) }
+    ensures done { IfOk result (λ left. IsDone L.ASKS (L.gives round.now.loader.now) (entry_among tables) (all_seen round.now.calls.now) (map reply_of left.answers.items) (entry_among left.tables)) }
     ensures placed { IfOk result (λ left. All HasPlace left.answers.items) }
     ensures stripes { IfOk result (λ left. length left.tables ≡ length tables) }
     ensures kept { IfErr result (λ e. e ≡ tables) }
 {
-    let many = calls.len();
+    let many = round.calls.len();
     let seats = needed(many, workers);
     let records = needed(many, MOST_RECORDS);
     if seats == 1 && many <= FEW {
-        return run_by_one(
-            rt, alloc, registry, tables, records, calls, kept, gate, loader,
-        );
+        return run_by_one(rt, alloc, tables, records, round, kept);
     }
-    let Ok(room) = room_for(alloc, many, tables.stripes(), seats, kept) else {
+    let Ok(buffers) = room_for(alloc, many, tables.stripes(), seats, kept) else {
         return Err(tables);
     };
-    match Cache::open(alloc, registry, tables, records, seats, loader) {
-        Ok((cache, seats)) => Ok(run_on(rt, cache, seats, calls, room, kept, gate)),
+    match Cache::open(alloc, round.registry, tables, records, seats, round.loader) {
+        Ok((cache, seats)) => Ok(run_on(rt, cache, seats, round, buffers, kept)),
         Err((_, tables)) => Err(tables),
     }
 }
@@ -94,24 +99,28 @@ fn run_on<'a, R: Threads + Wait + Sync, G: Gate + Sync, L: Loader + Sync>(
     rt: &R,
     cache: Cache<'a, '_, L>,
     mut seats: Vec<Seat<'a>>,
-    calls: &[Call<'a>],
-    room: PoolBuffers<'a>,
+    round: &PoolRound<'_, 'a, G, L>,
+    buffers: PoolBuffers<'a>,
     kept: &mut WorkspacePool,
-    gate: &G,
 ) -> CrewLeft
     requires count { IsSeatCount cache.seats }
-    requires journal { length (all_seen calls.now) ≤ cache.journal }
+    requires journal { length (all_seen round.now.calls.now) ≤ cache.journal }
     requires seats { AreFresh cache.table cache.seats seats.items }
-    requires room { IsRoom (length (all_seen calls.now)) cache.seats room }
-    ensures done { IsDone L.ASKS (L.gives cache.entry.loader) (entry_among cache.entry.tables) (all_seen calls.now) (map reply_of result.answers.items) (entry_among result.tables) }
+    requires buffers { IsRoom (length (all_seen round.now.calls.now)) cache.seats buffers }
+    ensures done { IsDone L.ASKS (L.gives cache.entry.loader) (entry_among cache.entry.tables) (all_seen round.now.calls.now) (map reply_of result.answers.items) (entry_among result.tables) }
     ensures placed { All HasPlace result.answers.items }
     ensures stripes { length result.tables ≡ length cache.entry.tables }
 {
     let PoolBuffers {
-        round,
+        round: round_buffers,
         mut workspaces,
-    } = room;
-    let answers = run_in(rt, &cache, calls, &mut seats, &mut workspaces, round, gate);
+    } = buffers;
+    let round = Round {
+        cache: &cache,
+        calls: round.calls,
+        gate: round.gate,
+    };
+    let answers = run_in(rt, &round, &mut seats, &mut workspaces, round_buffers);
     let Closed { tables, .. } = cache.close(seats);
     kept.keep_all(workspaces);
     CrewLeft { tables, answers }

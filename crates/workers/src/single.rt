@@ -10,45 +10,43 @@ ghost use Rattle.invokeall.specs.Rounds.{reply_of};
 ghost use Rattle.invokeall.specs.Rooms.{HasRoom};
 ghost use Rattle.workers.specs.Rooms.{HasPlace};
 
-use crate::pool_run::CrewLeft;
+use crate::pool_run::{CrewLeft, PoolRound};
 use crate::room::WorkspacePool;
 use cache::{Cache, Closed, Gate, Seat};
-use invokeall::{JobReply, run_alone};
+use invokeall::{JobReply, Round, run_alone};
 use jtypes::Loader;
 use machine::Workspace;
-use registry::Registry;
 use std::alloc::Global;
 use std::sync::Wait;
-use stripe::{Call, Tables};
+use stripe::Tables;
 
 /// Makes the calls by one worker, on the caller's thread. It needs no groups of calls.
 pub fn run_by_one<'a, R: Wait, G: Gate, L: Loader>(
     rt: &R,
     alloc: Global,
-    registry: &'a Registry,
     tables: Tables,
     records: usize,
-    calls: &[Call<'a>],
+    round: &PoolRound<'_, 'a, G, L>,
     kept: &mut WorkspacePool,
-    gate: &G,
-    loader: &L,
 ) -> Result<CrewLeft, Tables>
-    requires records { length calls.now ≤ records }
-    ensures done { IfOk result (λ left. IsDone L.ASKS (L.gives loader.now) (entry_among tables) (all_seen calls.now) (map reply_of left.answers.items) (entry_among left.tables)) }
+    requires records { length round.now.calls.now ≤ records }
+    ensures done { IfOk result (λ left. IsDone L.ASKS (L.gives round.now.loader.now) (entry_among tables) (all_seen round.now.calls.now) (map reply_of left.answers.items) (entry_among left.tables)) }
     ensures placed { IfOk result (λ left. All HasPlace left.answers.items) }
     ensures stripes { IfOk result (λ left. length left.tables ≡ length tables) }
     ensures kept { IfErr result (λ e. e ≡ tables) }
 {
-    let Ok(answers) = Vec::with_capacity(alloc, calls.len()) else {
+    let Ok(answers) = Vec::with_capacity(alloc, round.calls.len()) else {
         return Err(tables);
     };
-    let Ok(workspace) = kept.workspace(alloc) else {
+    let Ok(mut workspace) = kept.workspace(alloc) else {
         return Err(tables);
     };
-    match Cache::open(alloc, registry, tables, records, 1, loader) {
-        Ok((cache, seats)) => Ok(run_at_one(
-            rt, cache, seats, calls, workspace, answers, kept, gate,
-        )),
+    match Cache::open(alloc, round.registry, tables, records, 1, round.loader) {
+        Ok((cache, seats)) => {
+            let left = run_at_one(rt, cache, seats, round, &mut workspace, answers);
+            kept.keep(workspace);
+            Ok(left)
+        }
         Err((_, tables)) => Err(tables),
     }
 }
@@ -58,30 +56,24 @@ fn run_at_one<'a, R: Wait, G: Gate, L: Loader>(
     rt: &R,
     cache: Cache<'a, '_, L>,
     mut seats: Vec<Seat<'a>>,
-    calls: &[Call<'a>],
-    mut workspace: Workspace,
+    round: &PoolRound<'_, 'a, G, L>,
+    workspace: &mut Workspace,
     mut answers: Vec<JobReply>,
-    kept: &mut WorkspacePool,
-    gate: &G,
 ) -> CrewLeft
     requires count { cache.seats ≡ 1 }
-    requires journal { length (all_seen calls.now) ≤ cache.journal }
+    requires journal { length (all_seen round.now.calls.now) ≤ cache.journal }
     requires seats { AreFresh cache.table cache.seats seats.items }
-    requires room { HasRoom (length calls.now) answers }
-    ensures done { IsDone L.ASKS (L.gives cache.entry.loader) (entry_among cache.entry.tables) (all_seen calls.now) (map reply_of result.answers.items) (entry_among result.tables) }
+    requires room { HasRoom (length round.now.calls.now) answers }
+    ensures done { IsDone L.ASKS (L.gives cache.entry.loader) (entry_among cache.entry.tables) (all_seen round.now.calls.now) (map reply_of result.answers.items) (entry_among result.tables) }
     ensures placed { All HasPlace result.answers.items }
     ensures stripes { length result.tables ≡ length cache.entry.tables }
 {
-    run_alone(
-        rt,
-        &cache,
-        calls,
-        &mut seats[0],
-        &mut workspace,
-        &mut answers,
-        gate,
-    );
+    let round = Round {
+        cache: &cache,
+        calls: round.calls,
+        gate: round.gate,
+    };
+    run_alone(rt, &round, &mut seats[0], workspace, &mut answers);
     let Closed { tables, .. } = cache.close(seats);
-    kept.keep(workspace);
     CrewLeft { tables, answers }
 }

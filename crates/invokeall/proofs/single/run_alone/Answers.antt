@@ -16,8 +16,8 @@ use Rattle.invokeall.proofs.single.run_alone.Goals as goal
 pub loop-number-preserved : goal.loop-number-preserved
 loop-number-preserved g c =
     let i = c.loop-number.invariant in
-    let d : Opened _ = c.args.cache.now in
-    let calls : List Call = all_seen c.args.calls.now in
+    let d : Opened _ = c.args.round.now.cache.now in
+    let calls : List Call = all_seen c.args.round.now.calls.now in
     let n : ℕ = c.loop-number.number in
     let a : Sitting = c.expect.new.self in
     let s : Sitting = c.loop-number.seat in
@@ -46,10 +46,10 @@ loop-number-preserved g c =
 pub returns : goal.returns
 returns g c =
     let i = c.loop-number.invariant in
-    let d : Opened _ = c.args.cache.now in
-    let calls : List Call = all_seen c.args.calls.now in
+    let d : Opened _ = c.args.round.now.cache.now in
+    let calls : List Call = all_seen c.args.round.now.calls.now in
     let xs : List Answer = c.loop-number.answers.items in
-    let many = length-map c.args.calls.now call_of in
+    let many = length-map c.args.round.now.calls.now call_of in
     let all : c.loop-number.number ≡ length calls = omega (arith, many, i.count, c.loop-number-test.false, c.loop-number.auto.number-end) in
     let whole : take c.loop-number.number calls ≡ calls = take_all c.loop-number.number calls (omega (arith, all)) in
     let a : Sitting = c.expect.new.self in

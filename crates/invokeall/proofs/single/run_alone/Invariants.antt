@@ -8,11 +8,11 @@ use Rattle.invokeall.proofs.single.run_alone.Given as goal
 
 abbrev pub invariant-loop-number : goal.invariant-loop-number
 invariant-loop-number g l = record {
-  home : l.seat.table ≡ l.cache.table;
+  home : l.seat.table ≡ l.round.cache.now.table;
   later : IsLaterSeat l.initial.seat l.seat;
   count : length l.answers.items ≡ l.number;
-  receipts : calls_told l.seat.receipts ≡ calls_told l.initial.seat.receipts ++ answered (take l.number (all_seen l.calls)) (map reply_of l.answers.items);
-  filed : AreFiled (length l.cache.tables) l.initial.seat.receipts → AreFiled (length l.cache.tables) l.seat.receipts;
-  full : IsShown l.cache (all_seen l.calls) l.seat l.answers.items;
-  room : length l.calls ≤ vec_capacity l.answers;
+  receipts : calls_told l.seat.receipts ≡ calls_told l.initial.seat.receipts ++ answered (take l.number (all_seen l.round.calls.now)) (map reply_of l.answers.items);
+  filed : AreFiled (length l.round.cache.now.tables) l.initial.seat.receipts → AreFiled (length l.round.cache.now.tables) l.seat.receipts;
+  full : IsShown l.round.cache.now (all_seen l.round.calls.now) l.seat l.answers.items;
+  room : length l.round.calls.now ≤ vec_capacity l.answers;
 }

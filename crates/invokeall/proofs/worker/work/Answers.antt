@@ -12,25 +12,25 @@ use Rattle.invokeall.proofs.worker.work.Goals.{then-later-put_off+then-is_done, 
 use Rattle.invokeall.proofs.worker.work.Goals as goal
 
 pub loop-group-init : goal.loop-group-init
-loop-group-init g c = at_start c.args.cache.now c.args.counter.now c.args.groups.now (all_seen c.args.calls.now) c.args.worker.now c.requires.ready
+loop-group-init g c = at_start c.args.task.now.cache.now c.args.task.now.counter.now c.args.task.now.groups.now (all_seen c.args.task.now.calls.now) c.args.worker.now c.requires.ready
 
 pub work_within-requires-clause-free : goal.work_within-requires-clause-free
 work_within-requires-clause-free g c =
     let i = c.loop-group.invariant in
-    let calls : List Call = all_seen c.args.calls.now in
-    let fresh = new_claimed c.args.cache.now c.args.counter.now c.args.groups.now calls c.args.worker.now c.loop-group.worker c.loop-group.later i c.in-Some.group c.in-Some.ensures.rising in
-    free_group c.args.cache.now c.args.counter.now c.args.groups.now calls c.args.worker.now c.loop-group.worker c.loop-group.later i c.in-Some.group fresh
+    let calls : List Call = all_seen c.args.task.now.calls.now in
+    let fresh = new_claimed c.args.task.now.cache.now c.args.task.now.counter.now c.args.task.now.groups.now calls c.args.worker.now c.loop-group.worker c.loop-group.later i c.in-Some.group c.in-Some.ensures.rising in
+    free_group c.args.task.now.cache.now c.args.task.now.counter.now c.args.task.now.groups.now calls c.args.worker.now c.loop-group.worker c.loop-group.later i c.in-Some.group fresh
 
 pub loop-group-preserved : goal.loop-group-preserved
 loop-group-preserved g c =
     let i = c.loop-group.invariant in
-    let d : Opened _ = c.args.cache.now in
-    let calls : List Call = all_seen c.args.calls.now in
+    let d : Opened _ = c.args.task.now.cache.now in
+    let calls : List Call = all_seen c.args.task.now.calls.now in
     let first : Worker = c.args.worker.now in
     let w : Worker = c.loop-group.worker in
-    let made : List ℕ = members_of_all (groups_in c.args.groups.now calls) (length calls) i.put_off.order in
+    let made : List ℕ = members_of_all (groups_in c.args.task.now.groups.now calls) (length calls) i.put_off.order in
     let old = same_answered d calls first w c.claim.new.self made i.put_off.answered in
-    on_claim d c.args.counter.now c.args.groups.now calls first w c.loop-group.later i c.in-Some.group c.in-Some.ensures.rising c.work_within.new.worker c.work_within.result c.in-Some.ensures.job c.requires.few
+    on_claim d c.args.task.now.counter.now c.args.task.now.groups.now calls first w c.loop-group.later i c.in-Some.group c.in-Some.ensures.rising c.work_within.new.worker c.work_within.result c.in-Some.ensures.job c.requires.few
     (c.work_within.ensures.claimer ∙ c.in-Some.ensures.some.1) (λ e. c.work_within.ensures.made e first made old) (λ e. c.work_within.ensures.put_off e first made old)
 
 pub loop-init : goal.loop-init
@@ -41,10 +41,10 @@ loop-put_off-init g c = record { way = λ v h. h; done = c.loop.invariant.done; 
 
 pub work_within-requires-then-later-put_off-clause-free : goal.work_within-requires-then-later-put_off-clause-free
 work_within-requires-then-later-put_off-clause-free g c =
-    let d : Opened _ = c.args.cache.now in
-    let counter : Numbering = c.args.counter.now in
-    let groups : Groups = c.args.groups.now in
-    let calls : List Call = all_seen c.args.calls.now in
+    let d : Opened _ = c.args.task.now.cache.now in
+    let counter : Numbering = c.args.task.now.counter.now in
+    let groups : Groups = c.args.task.now.groups.now in
+    let calls : List Call = all_seen c.args.task.now.calls.now in
     let first : Worker = c.args.worker.now in
     let w : Worker = c.loop-put_off.worker in
     let later : List Bool = c.loop-put_off.later in
@@ -55,22 +55,22 @@ work_within-requires-then-later-put_off-clause-free g c =
 
 pub work_within-requires-then-later-put_off-clause-home : goal.work_within-requires-then-later-put_off-clause-home
 work_within-requires-then-later-put_off-clause-home g c =
-    let end = told_end c.args.cache.now c.args.counter.now c.args.groups.now (all_seen c.args.calls.now) c.args.worker.now c.loop-group.worker c.loop-group.later c.loop-group.invariant c.claim.new.self c.in_default.ensures.none in
+    let end = told_end c.args.task.now.cache.now c.args.task.now.counter.now c.args.task.now.groups.now (all_seen c.args.task.now.calls.now) c.args.worker.now c.loop-group.worker c.loop-group.later c.loop-group.invariant c.claim.new.self c.in_default.ensures.none in
     let i = c.loop-put_off.invariant.way c.args.worker.now (c.loop.invariant.way c.args.worker.now end) in
     i.put_off.answered.seat.table ∙ c.requires.ready.home
 
 pub work_within-requires-then-later-put_off-clause-room : goal.work_within-requires-then-later-put_off-clause-room
 work_within-requires-then-later-put_off-clause-room g c =
-    let end = told_end c.args.cache.now c.args.counter.now c.args.groups.now (all_seen c.args.calls.now) c.args.worker.now c.loop-group.worker c.loop-group.later c.loop-group.invariant c.claim.new.self c.in_default.ensures.none in
+    let end = told_end c.args.task.now.cache.now c.args.task.now.counter.now c.args.task.now.groups.now (all_seen c.args.task.now.calls.now) c.args.worker.now c.loop-group.worker c.loop-group.later c.loop-group.invariant c.claim.new.self c.in_default.ensures.none in
     let i = c.loop-put_off.invariant.way c.args.worker.now (c.loop.invariant.way c.args.worker.now end) in
     omega (arith, i.put_off.answered.room, c.requires.ready.room)
 
 pub loop-put_off-preserved : goal.loop-put_off-preserved
 loop-put_off-preserved g c =
-    let d : Opened _ = c.args.cache.now in
-    let counter : Numbering = c.args.counter.now in
-    let groups : Groups = c.args.groups.now in
-    let calls : List Call = all_seen c.args.calls.now in
+    let d : Opened _ = c.args.task.now.cache.now in
+    let counter : Numbering = c.args.task.now.counter.now in
+    let groups : Groups = c.args.task.now.groups.now in
+    let calls : List Call = all_seen c.args.task.now.calls.now in
     let before : Worker = c.loop.worker in
     let w : Worker = c.loop-put_off.worker in
     let later : List Bool = c.loop-put_off.later in
@@ -112,10 +112,10 @@ loop-put_off-preserved g c =
 
 pub returns-then-is_done-2 : goal.returns-then-is_done-2
 returns-then-is_done-2 g c =
-    let d : Opened _ = c.args.cache.now in
-    let counter : Numbering = c.args.counter.now in
-    let groups : Groups = c.args.groups.now in
-    let calls : List Call = all_seen c.args.calls.now in
+    let d : Opened _ = c.args.task.now.cache.now in
+    let counter : Numbering = c.args.task.now.counter.now in
+    let groups : Groups = c.args.task.now.groups.now in
+    let calls : List Call = all_seen c.args.task.now.calls.now in
     let first : Worker = c.args.worker.now in
     let w : Worker = c.loop-put_off.worker in
     let later : List Bool = c.loop-put_off.later in

@@ -14,11 +14,11 @@ use Rattle.invokeall.proofs.worker.work_on.Goals as goal
 
 pub loop-number-init : goal.loop-number-init
 loop-number-init g c =
-    let calls : List Call = all_seen c.args.calls.now in
-    let of : List ℕ = groups_in c.args.groups.now calls in
+    let calls : List Call = all_seen c.args.task.now.calls.now in
+    let of : List ℕ = groups_in c.args.task.now.groups.now calls in
     let group : ℕ = c.args.group in
     let r : ℕ = c.first-number.result in
-    let long : length of ≡ length calls = length-map calls (group_of (length c.args.groups.now.firsts.items)) in
+    let long : length of ≡ length calls = length-map calls (group_of (length c.args.task.now.groups.now.firsts.items)) in
     let first : IsFirst of group 0 r = subst (IsFirst of group 0) (sym c.first-number.ensures) (c.requires.groups.first group c.requires.group) in
     let none : members of group r ≡ [] = members_first of group r first in
     let most = first.most in
@@ -26,22 +26,22 @@ loop-number-init g c =
     record {
       home = c.requires.home;
       claimer = refl;
-      few = omega (arith, length-map c.args.calls.now call_of);
-      same = length-map c.args.calls.now call_of;
-      here = λ below. first.here (omega (arith, length-map c.args.calls.now call_of));
+      few = omega (arith, length-map c.args.task.now.calls.now call_of);
+      same = length-map c.args.task.now.calls.now call_of;
+      here = λ below. first.here (omega (arith, length-map c.args.task.now.calls.now call_of));
       numbers_are = sym (ap (λ (l : List ℕ). numbers worker.answers.items ++ l) none ∙ append-nil (numbers worker.answers.items));
       room = omega arith;
-      answered = λ v before h. subst (HasAnswered c.args.cache.now calls v worker) (sym (ap (λ (l : List ℕ). before ++ l) none ∙ append-nil before)) h;
+      answered = λ v before h. subst (HasAnswered c.args.task.now.cache.now calls v worker) (sym (ap (λ (l : List ℕ). before ++ l) none ∙ append-nil before)) h;
     }
 
 pub push_reserved-requires : goal.push_reserved-requires
 push_reserved-requires g c =
     let i = c.loop-number.invariant in
-    let calls : List Call = all_seen c.args.calls.now in
-    let of : List ℕ = groups_in c.args.groups.now calls in
+    let calls : List Call = all_seen c.args.task.now.calls.now in
+    let of : List ℕ = groups_in c.args.task.now.groups.now calls in
     let n : ℕ = c.loop-number.number in
     let before : List ℕ = numbers c.args.worker.now.answers.items in
-    let below : n < length calls = omega (arith, c.loop-number-test.true, length-map c.args.calls.now call_of) in
+    let below : n < length calls = omega (arith, c.loop-number-test.true, length-map c.args.task.now.calls.now call_of) in
     let long = numbers_long c.loop-number.worker.answers.items in
     let same = ap (λ (l : List ℕ). length l) i.numbers_are in
     let few = room_more of before c.args.group (length calls) n c.requires.free below (i.here c.loop-number-test.true) in
@@ -49,21 +49,21 @@ push_reserved-requires g c =
 
 pub next-number-requires : goal.next-number-requires
 next-number-requires g c =
-    let calls : List Call = all_seen c.args.calls.now in
-    let long = length-map calls (group_of (length c.args.groups.now.firsts.items)) in
+    let calls : List Call = all_seen c.args.task.now.calls.now in
+    let long = length-map calls (group_of (length c.args.task.now.groups.now.firsts.items)) in
     let all = c.requires.groups.calls_are in
-    let below : c.loop-number.number < length calls = omega (arith, c.loop-number-test.true, length-map c.args.calls.now call_of) in omega arith
+    let below : c.loop-number.number < length calls = omega (arith, c.loop-number-test.true, length-map c.args.task.now.calls.now call_of) in omega arith
 
 pub loop-number-preserved : goal.loop-number-preserved
 loop-number-preserved g c =
     let i = c.loop-number.invariant in
-    let calls : List Call = all_seen c.args.calls.now in
-    let of : List ℕ = groups_in c.args.groups.now calls in
+    let calls : List Call = all_seen c.args.task.now.calls.now in
+    let of : List ℕ = groups_in c.args.task.now.groups.now calls in
     let group : ℕ = c.args.group in
     let n : ℕ = c.loop-number.number in
     let r : ℕ = c.next-number.result in
-    let below : n < length calls = omega (arith, c.loop-number-test.true, length-map c.args.calls.now call_of) in
-    let long : length of ≡ length calls = length-map calls (group_of (length c.args.groups.now.firsts.items)) in
+    let below : n < length calls = omega (arith, c.loop-number-test.true, length-map c.args.task.now.calls.now call_of) in
+    let long : length of ≡ length calls = length-map calls (group_of (length c.args.task.now.groups.now.firsts.items)) in
     let is : get_or of n 0 ≡ group = i.here c.loop-number-test.true in
     let next : IsFirst of (get_or of n 0) (n + 1) r = subst (IsFirst of (get_or of n 0) (n + 1)) (sym c.next-number.ensures) (c.requires.groups.next n (omega arith) (omega arith)) in
     let more : members of group r ≡ members of group n ++ n ∷ [] = members_next of group n r is next in
@@ -74,36 +74,36 @@ loop-number-preserved g c =
     let first : List ℕ = numbers c.args.worker.now.answers.items in
     let x : Answer = c.call_at-answer.result in
     let worker : Worker = record { before = c.loop-number.worker.before; seat = after; workspace = c.call_at-answer.new.workspace; claimer = c.loop-number.worker.claimer; answers = c.push_reserved.new.self; behind = c.loop-number.worker.behind } in
-    let one = one_call c.args.cache.now (call_of c.call_numbered-call.result) before after x c.call_at-answer.ensures.ok c.call_at-answer.ensures.err in
+    let one = one_call c.args.task.now.cache.now (call_of c.call_numbered-call.result) before after x c.call_at-answer.ensures.ok c.call_at-answer.ensures.err in
     let items : c.push_reserved.new.self.items ≡ xs ++ (n, x) ∷ [] = c.push_reserved.ensures.items in
     record {
       home = one.later.table ∙ i.home;
       claimer = i.claimer;
-      few = omega (arith, length-map c.args.calls.now call_of);
-      same = length-map c.args.calls.now call_of;
-      here = λ h. next.here (omega (arith, length-map c.args.calls.now call_of)) ∙ is;
+      few = omega (arith, length-map c.args.task.now.calls.now call_of);
+      same = length-map c.args.task.now.calls.now call_of;
+      here = λ h. next.here (omega (arith, length-map c.args.task.now.calls.now call_of)) ∙ is;
       numbers_are = ap numbers items ∙ numbers_more xs n x ∙ ap (λ (l : List ℕ). l ++ n ∷ []) i.numbers_are ∙ append_assoc first (members of group n) (n ∷ []) ∙ ap (λ (l : List ℕ). first ++ l) (sym more);
       room = omega (arith, c.push_reserved.ensures.capacity, i.room);
-      answered = λ v ns h. subst (HasAnswered c.args.cache.now calls v worker) (append_assoc ns (members of group n) (n ∷ []) ∙ ap (λ (l : List ℕ). ns ++ l) (sym more))
-          (one_answered c.args.cache.now calls v c.loop-number.worker worker (ns ++ members of group n) n (call_of c.call_numbered-call.result) x c.call_numbered-call.ensures one items (omega (arith, c.push_reserved.ensures.capacity)) (i.answered v ns h));
+      answered = λ v ns h. subst (HasAnswered c.args.task.now.cache.now calls v worker) (append_assoc ns (members of group n) (n ∷ []) ∙ ap (λ (l : List ℕ). ns ++ l) (sym more))
+          (one_answered c.args.task.now.cache.now calls v c.loop-number.worker worker (ns ++ members of group n) n (call_of c.call_numbered-call.result) x c.call_numbered-call.ensures one items (omega (arith, c.push_reserved.ensures.capacity)) (i.answered v ns h));
     }
 
 pub loop-number-smaller : goal.loop-number-smaller
 loop-number-smaller g c =
-    let calls : List Call = all_seen c.args.calls.now in
-    let of : List ℕ = groups_in c.args.groups.now calls in
+    let calls : List Call = all_seen c.args.task.now.calls.now in
+    let of : List ℕ = groups_in c.args.task.now.groups.now calls in
     let n : ℕ = c.loop-number.number in
-    let below : n < length calls = omega (arith, c.loop-number-test.true, length-map c.args.calls.now call_of) in
-    let long : length of ≡ length calls = length-map calls (group_of (length c.args.groups.now.firsts.items)) in
+    let below : n < length calls = omega (arith, c.loop-number-test.true, length-map c.args.task.now.calls.now call_of) in
+    let long : length of ≡ length calls = length-map calls (group_of (length c.args.task.now.groups.now.firsts.items)) in
     let next = c.requires.groups.next n (omega arith) (omega arith) in
     let from = next.from in omega (arith, c.next-number.ensures)
 
 pub returns-clause-answered : goal.returns-clause-answered
 returns-clause-answered g c =
     let i = c.loop-number.invariant in
-    let calls : List Call = all_seen c.args.calls.now in
-    let of : List ℕ = groups_in c.args.groups.now calls in
-    let all : c.loop-number.number ≡ length calls = omega (arith, i.few, c.loop-number-test.false, length-map c.args.calls.now call_of) in
+    let calls : List Call = all_seen c.args.task.now.calls.now in
+    let of : List ℕ = groups_in c.args.task.now.groups.now calls in
+    let all : c.loop-number.number ≡ length calls = omega (arith, i.few, c.loop-number-test.false, length-map c.args.task.now.calls.now call_of) in
     let w : Worker = c.loop-number.worker in
-    λ v before h. subst (λ (s : Sitting). HasAnswered c.args.cache.now calls v (record w { seat = s }) (before ++ members of c.args.group (length calls))) (sym c.leave.ensures)
-    (subst (λ (k : ℕ). HasAnswered c.args.cache.now calls v w (before ++ members of c.args.group k)) all (i.answered v before h))
+    λ v before h. subst (λ (s : Sitting). HasAnswered c.args.task.now.cache.now calls v (record w { seat = s }) (before ++ members of c.args.group (length calls))) (sym c.leave.ensures)
+    (subst (λ (k : ℕ). HasAnswered c.args.task.now.cache.now calls v w (before ++ members of c.args.group k)) all (i.answered v before h))

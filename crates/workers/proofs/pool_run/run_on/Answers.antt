@@ -21,9 +21,9 @@ close-tables-requires g c =
 pub returns-clause-placed : goal.returns-clause-placed
 returns-clause-placed g c =
     let d : Opened _ = c.args.cache in
-    all_have_places g.L.Loader.ASKS (g.L.Loader.gives d.loader) d d.seats c.args.seats.items c.run_in-answers.new.seats.items (all_seen c.args.calls.now) c.run_in-answers.result.items c.close-tables.result.tables _ c.requires.journal c.requires.seats c.run_in-answers.ensures.round c.close-tables.ensures.settled
+    all_have_places g.L.Loader.ASKS (g.L.Loader.gives d.loader) d d.seats c.args.seats.items c.run_in-answers.new.seats.items (all_seen c.args.round.now.calls.now) c.run_in-answers.result.items c.close-tables.result.tables _ c.requires.journal c.requires.seats c.run_in-answers.ensures.round c.close-tables.ensures.settled
 
 pub returns-clause-done : goal.returns-clause-done
 returns-clause-done g c =
     let d : Opened _ = c.args.cache in
-    round_done g.L.Loader.ASKS (g.L.Loader.gives d.loader) d d.seats c.args.seats.items c.run_in-answers.new.seats.items (all_seen c.args.calls.now) c.run_in-answers.result.items c.requires.seats c.run_in-answers.ensures.round c.close-tables.result.tables _ c.close-tables.ensures.settled
+    round_done g.L.Loader.ASKS (g.L.Loader.gives d.loader) d d.seats c.args.seats.items c.run_in-answers.new.seats.items (all_seen c.args.round.now.calls.now) c.run_in-answers.result.items c.requires.seats c.run_in-answers.ensures.round c.close-tables.result.tables _ c.close-tables.ensures.settled

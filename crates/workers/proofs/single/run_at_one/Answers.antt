@@ -36,7 +36,7 @@ run_alone-requires-clause-home g c =
 pub close-tables-requires : goal.close-tables-requires
 close-tables-requires g c =
     let d : Opened _ = c.args.cache in
-    let calls : List Call = all_seen c.args.calls.now in
+    let calls : List Call = all_seen c.args.round.now.calls.now in
     let seats : List Sitting = c.args.seats.items in
     let new : Sitting = c.run_alone.new.seat in
     let round = all_seats d calls seats c.index_mut.result.now new c.run_alone.new.answers.items (c.requires.seats.count ∙ c.requires.count) c.index_mut.ensures.value c.run_alone.ensures in
@@ -45,7 +45,7 @@ close-tables-requires g c =
 pub returns-clause-placed : goal.returns-clause-placed
 returns-clause-placed g c =
     let d : Opened _ = c.args.cache in
-    let calls : List Call = all_seen c.args.calls.now in
+    let calls : List Call = all_seen c.args.round.now.calls.now in
     let seats : List Sitting = c.args.seats.items in
     let new : Sitting = c.run_alone.new.seat in
     let round = all_seats d calls seats c.index_mut.result.now new c.run_alone.new.answers.items (c.requires.seats.count ∙ c.requires.count) c.index_mut.ensures.value c.run_alone.ensures in
@@ -54,7 +54,7 @@ returns-clause-placed g c =
 pub returns-clause-done : goal.returns-clause-done
 returns-clause-done g c =
     let d : Opened _ = c.args.cache in
-    let calls : List Call = all_seen c.args.calls.now in
+    let calls : List Call = all_seen c.args.round.now.calls.now in
     let seats : List Sitting = c.args.seats.items in
     let new : Sitting = c.run_alone.new.seat in
     let round = all_seats d calls seats c.index_mut.result.now new c.run_alone.new.answers.items (c.requires.seats.count ∙ c.requires.count) c.index_mut.ensures.value c.run_alone.ensures in
