@@ -11,7 +11,7 @@ use Rattle.cache.specs.Opened.{Opened, Sitting, stripe_in}
 use Rattle.round_outcome.specs.Outcome.{answered}
 use Rattle.round_outcome.specs.Closed.{calls_told, calls_at, AreFiled, AllAreFiled}
 use Rattle.invokeall.specs.Rounds.{Answer, reply_of, IsLaterSeat, IsFull, IsRound}
-use Rattle.invokeall.specs.Crews.{told_answer}
+use Rattle.invokeall.specs.Workers.{told_answer}
 use Rattle.invokeall.proofs.Turns.{OneCall}
 
 -- a refusal for a full journal shows at the seat

@@ -10,7 +10,7 @@ use Rattle.cache.specs.Opened.{Opened}
 use Rattle.invokeall.specs.declared.groups.Groups.{Groups}
 use Rattle.invokeall.specs.declared.worker.Worker.{Worker}
 use Rattle.invokeall.specs.Groups.{groups_in, members, members_of_all, AreDifferent}
-use Rattle.invokeall.specs.Crews.{numbers, IsReady, HasAnswered, HasPutOff}
+use Rattle.invokeall.specs.Workers.{numbers, IsReady, HasAnswered, HasPutOff}
 use Rattle.invokeall.proofs.Members.{same_test, other_test, claimed_once, different_members, members_more}
 use Rattle.invokeall.proofs.Turns.{none_answered, same_answered}
 

@@ -17,8 +17,8 @@ use Rattle.claims.specs.Counters.{one_if, times}
 use Rattle.cache.specs.declared.refusal.InvokeRefusal.TheVariants.{NoMemory}
 use Rattle.round_outcome.specs.Outcome.{answered}
 use Rattle.invokeall.specs.Rounds.{Answer, reply_of}
-use Rattle.invokeall.specs.Crews.{told_at, told_row, numbers}
-use Rattle.invokeall.specs.Rooms.{Places, blanks, placed, shown_place, shown, put_all, IsThere}
+use Rattle.invokeall.specs.Workers.{told_at, told_row, numbers}
+use Rattle.invokeall.specs.Buffers.{Places, blanks, placed, shown_place, shown, put_all, IsThere}
 
 -- the reply at a place
 abbrev pub reply_in : Option Answer → Option Reply

@@ -15,7 +15,7 @@ use Rattle.round_outcome.specs.Closed.{calls_told, AreFiled}
 use Rattle.round_outcome.proofs.Handed.{filed_by_calls, filed_by_refusals}
 use Rattle.invokeall.specs.declared.worker.Worker.{Worker}
 use Rattle.invokeall.specs.Rounds.{Answer, IsLaterSeat, IsFull}
-use Rattle.invokeall.specs.Crews.{told_answer, told_at, told_row, numbers, ShowsFull, HasAnswered}
+use Rattle.invokeall.specs.Workers.{told_answer, told_at, told_row, numbers, ShowsFull, HasAnswered}
 
 abbrev pub told_seat : Sitting → List (Call × Reply)
 told_seat s = calls_told s.receipts

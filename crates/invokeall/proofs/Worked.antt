@@ -24,8 +24,8 @@ use Rattle.invokeall.specs.declared.worker.Worker.{Worker}
 use Rattle.invokeall.specs.Jobs.{calls_of}
 use Rattle.invokeall.specs.Groups.{group_of, groups_in, AreGroups}
 use Rattle.invokeall.specs.Rounds.{Answer, reply_of, IsLaterSeat, IsFull, IsRound, IsAtHome}
-use Rattle.invokeall.specs.Crews.{IsReady, HasWorked, told_row, told_at, numbers}
-use Rattle.invokeall.specs.Rooms.{Row, Places, HasRoom, blanks, placed, entries_of, seats_of, claimers_of, rows_of, IsThere}
+use Rattle.invokeall.specs.Workers.{IsReady, HasWorked, told_row, told_at, numbers}
+use Rattle.invokeall.specs.Buffers.{Row, Places, HasRoom, blanks, placed, entries_of, seats_of, claimers_of, rows_of, IsThere}
 use Rattle.invokeall.proofs.Members.{times_all_members, sum_if, same_if, if_one, if_below}
 use Rattle.invokeall.proofs.Rows.{told_all, reply_in, AreOnce, told_rows, from_entry, blank_at, length_placed, length_blanks, all_filled}
 

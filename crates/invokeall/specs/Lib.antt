@@ -1,7 +1,7 @@
+pub mod Buffers
 pub mod Collected
-pub mod Crews
 pub mod Groups
 pub mod Jobs
-pub mod Rooms
 pub mod Rounds
-pub mod Shifts
+pub mod Tasks
+pub mod Workers

@@ -6,7 +6,7 @@ ghost use Rattle.registry.specs.Ids.{IsOf, class_of};
 ghost use Rattle.claims.specs.Counters.{IsJobCount, IsWorkerCount};
 ghost use Rattle.invokeall.specs.Jobs.{IsCallable, calls_of};
 ghost use Rattle.invokeall.specs.Rounds.{IsAtHome};
-ghost use Rattle.invokeall.specs.Rooms.{HasRoom};
+ghost use Rattle.invokeall.specs.Buffers.{HasRoom};
 ghost use Rattle.invokeall.specs.Collected.{IsInvokedAll, different, invocations, is_null as is_null_answer, listed};
 ghost use Rattle.boxcar.specs.Table.{Shelves};
 ghost use Rattle.stripe.specs.Rows.{arguments};

@@ -4,7 +4,7 @@ ghost use Rattle.std.specs.Prelude.{◌≡◌, length, IfOk};
 ghost use Rattle.std.specs.List.{All};
 ghost use Rattle.stripe.specs.Tables.{IsCount};
 ghost use Rattle.claims.specs.Counters.{IsJobCount, IsWorkerCount};
-ghost use Rattle.invokeall.specs.Rooms.{put_all, entries_of, seats_of, claimers_of, rows_of, HasRoom, IsRoom};
+ghost use Rattle.invokeall.specs.Buffers.{put_all, entries_of, seats_of, claimers_of, rows_of, HasRoom, CanHold};
 
 use crate::groups::{Groups, groups_for, no_groups};
 use crate::job::JobReply;
@@ -33,8 +33,8 @@ pub struct RoundBuffers<'a> {
     pub answers: Vec<JobReply>,
 }
 
-/// Room for a round of so many jobs, on a cache of so many stripes, by so many workers. `run_in` uses it.
-pub fn room_for<'a>(
+/// The buffers of a round of `jobs` jobs by `count` workers, on a cache of `stripes` stripes. `run_in` uses them.
+pub fn buffers_for<'a>(
     alloc: Global,
     jobs: usize,
     stripes: usize,
@@ -43,7 +43,7 @@ pub fn room_for<'a>(
     requires jobs { IsJobCount jobs }
     requires stripes { IsCount stripes }
     requires workers { IsWorkerCount count }
-    ensures { IfOk result (IsRoom jobs count) }
+    ensures { IfOk result (CanHold jobs count) }
 {
     let many = groups_for(stripes, count);
     let groups = no_groups(alloc, jobs, many)?;

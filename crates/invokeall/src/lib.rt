@@ -12,7 +12,7 @@ mod threads;
 mod worker;
 
 pub use all::invoke_all;
-pub use buffers::{RoundBuffers, room_for};
+pub use buffers::{RoundBuffers, buffers_for};
 pub use job::{Job, JobReply, calls_for};
 pub use round::{run_in, run_round};
 pub use round_task::Round;

@@ -6,11 +6,11 @@ ghost use Rattle.claims.specs.Counters.{IsJobCount, IsWorkerCount};
 ghost use Rattle.invokeall.specs.declared.worker.Worker.{Worker};
 ghost use Rattle.invokeall.specs.Jobs.{IsCallable, calls_of, all_seen};
 ghost use Rattle.invokeall.specs.Groups.{AreGroups};
-ghost use Rattle.invokeall.specs.Crews.{IsReady, HasWorked};
 ghost use Rattle.invokeall.specs.Rounds.{IsRound, IsAtHome};
-ghost use Rattle.invokeall.specs.Rooms.{IsRoom};
+ghost use Rattle.invokeall.specs.Buffers.{CanHold};
+ghost use Rattle.invokeall.specs.Workers.{IsReady, HasWorked};
 
-use crate::buffers::{RoundBuffers, collect, into_parts, make_workers, room_for};
+use crate::buffers::{RoundBuffers, buffers_for, collect, into_parts, make_workers};
 use crate::groups::Groups;
 use crate::job::{Job, JobReply, calls_for};
 use crate::round_task::{Round, RoundTask};
@@ -49,7 +49,7 @@ pub fn run_round<'a, R: Threads + Wait + Sync, G: Gate + Sync, L: Loader + Sync>
     ensures workspaces { OnOk result (length workspaces.new.items ≡ length workspaces.old.items) }
     ensures err { OnErr result ((seats.new.items ≡ seats.old.items) × (workspaces.new.items ≡ workspaces.old.items)) }
 {
-    let buffers = room_for(alloc, jobs.len(), cache.stripes(), seats.len())?;
+    let buffers = buffers_for(alloc, jobs.len(), cache.stripes(), seats.len())?;
     let calls = calls_for(alloc, cache.registry(), jobs)?;
     let round = Round {
         cache,
@@ -59,8 +59,8 @@ pub fn run_round<'a, R: Threads + Wait + Sync, G: Gate + Sync, L: Loader + Sync>
     Ok(run_in(rt, &round, seats, workspaces, buffers))
 }
 
-/// Makes the calls in the buffers for them, as `run_round` does those of its jobs. So it takes no memory of its own, and a call may be
-/// refused by its answer alone.
+/// Makes the calls in the buffers for them, as `run_round` does those of its jobs.
+/// So it takes no memory of its own, and a call may be refused by its answer alone.
 pub fn run_in<'a, R: Threads + Wait + Sync, G: Gate + Sync, L: Loader + Sync>(
     rt: &R,
     round: &Round<'_, 'a, '_, G, L>,
@@ -71,7 +71,7 @@ pub fn run_in<'a, R: Threads + Wait + Sync, G: Gate + Sync, L: Loader + Sync>(
     requires some_seat { 0 < length seats.old.items }
     requires workspaces { length workspaces.old.items ≡ length seats.old.items }
     requires home { All (IsAtHome round.now.cache.now) seats.old.items }
-    requires buffers { IsRoom (length (all_seen round.now.calls.now)) (length seats.old.items) buffers }
+    requires buffers { CanHold (length (all_seen round.now.calls.now)) (length seats.old.items) buffers }
     ensures round { IsRound round.now.cache.now (all_seen round.now.calls.now) seats.old.items seats.new.items result.items }
     ensures workspaces { length workspaces.new.items ≡ length workspaces.old.items }
 {

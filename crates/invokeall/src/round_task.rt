@@ -6,7 +6,8 @@ use claims::Counter;
 use jtypes::Loader;
 use stripe::Call;
 
-/// What a round makes: these calls, on this cache. The gate hears of each of them.
+/// What a round makes: these calls, on this cache.
+/// The gate hears of each of them.
 #[derive(Drop)]
 pub struct Round<'s, 'a, 'l, G, L: Loader> {
     pub cache: &'s Cache<'a, 'l, L>,

@@ -3,7 +3,7 @@
 ghost use Rattle.std.specs.Prelude.{◌≡◌, ◌∷◌, [], length};
 ghost use Rattle.invokeall.specs.Jobs.{all_seen};
 ghost use Rattle.invokeall.specs.Rounds.{IsRound};
-ghost use Rattle.invokeall.specs.Rooms.{HasRoom};
+ghost use Rattle.invokeall.specs.Buffers.{HasRoom};
 
 use crate::job::JobReply;
 use crate::round_task::Round;
@@ -13,8 +13,9 @@ use jtypes::Loader;
 use machine::Workspace;
 use std::sync::Wait;
 
-/// Makes the calls in their order at one seat, and pushes their answers, for which there is capacity. It reserves their receipts at once, if
-/// there is memory for it. The gate hears of the ends behind the last call, when no stripe is locked.
+/// Makes the calls in their order at one seat, and pushes their answers, for which there is capacity.
+/// It reserves their receipts at once, if there is memory for it.
+/// The gate hears of their ends after the last call, when no stripe is locked.
 pub fn run_alone<'a, R: Wait, G: Gate, L: Loader>(
     rt: &R,
     round: &Round<'_, 'a, '_, G, L>,

@@ -7,7 +7,7 @@ ghost use Rattle.stripe.specs.Seen.{call_of as seen_call};
 ghost use Rattle.invokeall.specs.declared.worker.Worker.{Worker};
 ghost use Rattle.invokeall.specs.Jobs.{all_seen};
 ghost use Rattle.invokeall.specs.Groups.{AreGroups, AreDifferent, groups_in, members};
-ghost use Rattle.invokeall.specs.Crews.{IsReady, HasAnswered, HasWorked, numbers};
+ghost use Rattle.invokeall.specs.Workers.{IsReady, HasAnswered, HasWorked, numbers};
 
 use crate::job::JobReply;
 use crate::round_task::RoundTask;
@@ -50,7 +50,7 @@ impl<'s, 'a, 'l, R: Wait, G: Gate, L: Loader> WorkerTask<Worker<'a>>
     ghost use Rattle.std.specs.Prelude.{◌≡◌, ◌≤◌, length};
     ghost use Rattle.invokeall.specs.Jobs.{all_seen};
     ghost use Rattle.invokeall.specs.Groups.{AreGroups};
-    ghost use Rattle.invokeall.specs.Crews.{IsReady, HasWorked};
+    ghost use Rattle.invokeall.specs.Workers.{IsReady, HasWorked};
 
     ghost accepts = { λ s w. IsReady s.cache.now s.counter.now (length (all_seen s.calls.now)) w × (s.counter.now.jobs ≡ length s.groups.now.firsts.items) × (s.counter.now.jobs ≤ 64) × AreGroups (all_seen s.calls.now) s.groups.now };
 
@@ -64,8 +64,9 @@ impl<'s, 'a, 'l, R: Wait, G: Gate, L: Loader> WorkerTask<Worker<'a>>
 /// The milliseconds that a worker waits at most for the stripe of a group that it put off, before it goes on to the next one of these.
 const PATIENCE: u64 = 1;
 
-/// Claims groups of calls and makes them, until there is no group left. A group whose stripe another worker holds is put off until all
-/// are claimed: so a worker waits for a stripe only where it can make no call of another one.
+/// Claims groups of calls and makes them, until there is no group left.
+/// A group whose stripe another worker holds is put off until all are claimed: so a worker waits for a stripe only where it can make no call
+/// of another one.
 pub fn work<'a, R: Wait, G: Gate, L: Loader>(
     task: &RoundTask<'_, 'a, '_, R, G, L>,
     worker: &mut Worker<'a>,
@@ -96,8 +97,8 @@ pub fn work<'a, R: Wait, G: Gate, L: Loader>(
     unreachable!()
 }
 
-/// Makes the calls of one group, if its stripe is free or is given back within so long: whether it did. A group without a call has no
-/// stripe.
+/// Makes the calls of one group, if its stripe is free or is given back within the time of `patience`: whether it does.
+/// A group without a call has no stripe.
 #[inline(always)]
 fn work_within<'a, R: Wait, G: Gate, L: Loader>(
     task: &RoundTask<'_, 'a, '_, R, G, L>,
@@ -132,8 +133,8 @@ fn work_within<'a, R: Wait, G: Gate, L: Loader>(
     true
 }
 
-/// Makes the calls of one group, in their order. The stripe is locked from the first one on and unlocked after the last one; then the
-/// gate hears of each of them.
+/// Makes the calls of one group, in their order.
+/// The stripe is locked from the first one on and unlocked after the last one; then the gate hears of each of them.
 #[inline(always)]
 fn work_on<'a, R: Wait, G: Gate, L: Loader>(
     task: &RoundTask<'_, 'a, '_, R, G, L>,

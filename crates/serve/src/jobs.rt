@@ -6,8 +6,8 @@ ghost use Rattle.stripe.specs.Stored.{entry_among};
 ghost use Rattle.round_outcome.specs.Outcome.{IsDone};
 ghost use Rattle.invokeall.specs.Jobs.{all_seen};
 ghost use Rattle.invokeall.specs.Rounds.{reply_of};
-ghost use Rattle.invokeall.specs.Rooms.{HasRoom};
-ghost use Rattle.workers.specs.Rooms.{HasPlace};
+ghost use Rattle.invokeall.specs.Buffers.{HasRoom};
+ghost use Rattle.workers.specs.Buffers.{HasPlace};
 
 use crate::context::Server;
 use cache::{Gate, InvokeRefusal};
@@ -102,7 +102,7 @@ pub fn run_jobs<'a, T: Threads + Wait + Sync, G: Gate + Sync, L: Loader + Sync>(
         loader: server.loader,
     };
     match run_by_workers(server.rt, server.alloc, tables, workers, &round, workspaces) {
-        Ok(workers::CrewLeft { tables, answers }) => Ok(RoundLeft { tables, answers }),
+        Ok(workers::RoundLeft { tables, answers }) => Ok(RoundLeft { tables, answers }),
         Err(tables) => Err(tables),
     }
 }

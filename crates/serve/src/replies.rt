@@ -3,7 +3,7 @@
 ghost use Rattle.std.specs.Prelude.{◌≡◌, ◌≤◌, ◌++◌, None, length, map, drop, slice_index_or, IfOk, OnOk};
 ghost use Rattle.std.specs.List.{All};
 ghost use Rattle.invokeall.specs.Rounds.{reply_of};
-ghost use Rattle.workers.specs.Rooms.{HasPlace};
+ghost use Rattle.workers.specs.Buffers.{HasPlace};
 ghost use Rattle.wire.specs.Frames.{IsReply, reply_frame};
 ghost use Rattle.serve.specs.Rounds.{work_reply, job_reply as reply_of_answer, all_listed, listed, most_jobs};
 ghost use Rattle.serve.specs.Served.{all_told, replies_text};

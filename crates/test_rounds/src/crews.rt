@@ -17,7 +17,7 @@ use std::test::Fail;
 use std::thread::Threads;
 use stripe::{ArgSlice, Reply, Tables};
 use workers::{
-    CALL_COST, CrewLeft, PoolRound, WorkspacePool, cost_of, run_by_workers, workers_for,
+    CALL_COST, PoolRound, RoundLeft, WorkspacePool, cost_of, run_by_workers, workers_for,
 };
 
 /// An invocation returned this Long.
@@ -33,7 +33,7 @@ fn round<R: Threads + Wait + Sync>(
     tables: Tables,
     workers: usize,
     jobs: &[Job<'_>],
-) -> Option<CrewLeft>
+) -> Option<RoundLeft>
     requires { All (IsCallable registry.now) jobs.now }
 {
     if workers == 0 || workers > 16 || jobs.len() > 4096 {
@@ -105,7 +105,7 @@ fn behind_puts<R: Threads + Wait + Sync>(
     registry: &Registry,
     workers: usize,
     jobs: &[Job<'_>],
-) -> Option<CrewLeft>
+) -> Option<RoundLeft>
     requires { All (IsCallable registry.now) jobs.now }
 {
     match Tables::new(alloc, 2) {

@@ -15,7 +15,7 @@ use Rattle.cache.specs.Closing.{Settles, history_at, full_at}
 use Rattle.round_outcome.specs.Outcome.{answered, calls_in}
 use Rattle.round_outcome.specs.Closed.{all_records, calls_at}
 use Rattle.invokeall.specs.Rounds.{Answer, reply_of, IsRound, ShowsAtSeats}
-use Rattle.workers.specs.Rooms.{HasPlace}
+use Rattle.workers.specs.Buffers.{HasPlace}
 use Rattle.workers.proofs.Done.{once_told, history_left}
 
 -- a history is among all of them

@@ -8,9 +8,9 @@ ghost use Rattle.cache.specs.Opened.{IsSeatCount, AreFresh};
 ghost use Rattle.round_outcome.specs.Outcome.{IsDone};
 ghost use Rattle.invokeall.specs.Jobs.{all_seen};
 ghost use Rattle.invokeall.specs.Rounds.{reply_of};
-ghost use Rattle.workers.specs.Rooms.{HasPlace, IsRoom};
+ghost use Rattle.workers.specs.Buffers.{CanHold, HasPlace};
 
-use crate::room::{PoolBuffers, WorkspacePool, room_for};
+use crate::buffers::{PoolBuffers, WorkspacePool, buffers_for};
 use crate::single::run_by_one;
 use cache::{Cache, Closed, Gate, Seat};
 use invokeall::{JobReply, Round, run_in};
@@ -24,8 +24,8 @@ use stripe::{Call, MOST_RECORDS, Tables};
 /// One worker makes so few calls in their order. More of them it makes stripe by stripe, since what a stripe stores stays at hand then.
 const FEW: usize = 512;
 
-/// What a round makes: these calls of classes of the registry. The gate hears of each of them, and the loader is asked where they find no
-/// entry.
+/// What a round makes: these calls, of classes of the registry.
+/// The gate hears of each of them, and the loader is asked where they find no entry.
 #[derive(Drop)]
 pub struct PoolRound<'s, 'a, G, L> {
     pub registry: &'a Registry,
@@ -36,7 +36,7 @@ pub struct PoolRound<'s, 'a, G, L> {
 
 /// What a round leaves.
 #[derive(Drop)]
-pub struct CrewLeft {
+pub struct RoundLeft {
     /// The entries afterwards.
     pub tables: Tables,
     /// An answer to each call, in the order of the calls. A call that was refused, for want of memory, changed nothing.
@@ -59,11 +59,12 @@ fn needed(calls: usize, most: usize) -> usize
     }
 }
 
-/// Makes the calls by so many workers, or one for each call where there are fewer calls. Where there are several, each has a thread of
-/// its own, for which the caller waits.
+/// Makes the calls by `workers` workers, or one for each call where there are fewer calls.
+/// Where there are several, each has a thread of its own, for which the caller waits.
 ///
-/// All memory of the round itself is taken before the first call. Where that fails, no call was made, and the tables come back as they
-/// were. What was kept is used, and what the next round can use is kept.
+/// All memory of the round itself is taken before the first call.
+/// Where that fails, no call is made, and the tables come back as they are.
+/// What is kept is used, and what the next round can use is kept.
 pub fn run_by_workers<'a, R: Threads + Wait + Sync, G: Gate + Sync, L: Loader + Sync>(
     rt: &R,
     alloc: Global,
@@ -71,7 +72,7 @@ pub fn run_by_workers<'a, R: Threads + Wait + Sync, G: Gate + Sync, L: Loader + 
     workers: usize,
     round: &PoolRound<'_, 'a, G, L>,
     kept: &mut WorkspacePool,
-) -> Result<CrewLeft, Tables>
+) -> Result<RoundLeft, Tables>
     requires workers { IsSeatCount workers }
     requires calls { IsJobCount (length round.now.calls.now) }
     ensures done { IfOk result (λ left. IsDone L.ASKS (L.gives round.now.loader.now) (entry_among tables) (all_seen round.now.calls.now) (map reply_of left.answers.items) (entry_among left.tables)) }
@@ -85,7 +86,7 @@ pub fn run_by_workers<'a, R: Threads + Wait + Sync, G: Gate + Sync, L: Loader + 
     if seats == 1 && many <= FEW {
         return run_by_one(rt, alloc, tables, records, round, kept);
     }
-    let Ok(buffers) = room_for(alloc, many, tables.stripes(), seats, kept) else {
+    let Ok(buffers) = buffers_for(alloc, many, tables.stripes(), seats, kept) else {
         return Err(tables);
     };
     match Cache::open(alloc, round.registry, tables, records, seats, round.loader) {
@@ -102,11 +103,11 @@ fn run_on<'a, R: Threads + Wait + Sync, G: Gate + Sync, L: Loader + Sync>(
     round: &PoolRound<'_, 'a, G, L>,
     buffers: PoolBuffers<'a>,
     kept: &mut WorkspacePool,
-) -> CrewLeft
+) -> RoundLeft
     requires count { IsSeatCount cache.seats }
     requires journal { length (all_seen round.now.calls.now) ≤ cache.journal }
     requires seats { AreFresh cache.table cache.seats seats.items }
-    requires buffers { IsRoom (length (all_seen round.now.calls.now)) cache.seats buffers }
+    requires buffers { CanHold (length (all_seen round.now.calls.now)) cache.seats buffers }
     ensures done { IsDone L.ASKS (L.gives cache.entry.loader) (entry_among cache.entry.tables) (all_seen round.now.calls.now) (map reply_of result.answers.items) (entry_among result.tables) }
     ensures placed { All HasPlace result.answers.items }
     ensures stripes { length result.tables ≡ length cache.entry.tables }
@@ -123,5 +124,5 @@ fn run_on<'a, R: Threads + Wait + Sync, G: Gate + Sync, L: Loader + Sync>(
     let answers = run_in(rt, &round, &mut seats, &mut workspaces, round_buffers);
     let Closed { tables, .. } = cache.close(seats);
     kept.keep_all(workspaces);
-    CrewLeft { tables, answers }
+    RoundLeft { tables, answers }
 }

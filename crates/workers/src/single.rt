@@ -7,11 +7,11 @@ ghost use Rattle.cache.specs.Opened.{AreFresh};
 ghost use Rattle.round_outcome.specs.Outcome.{IsDone};
 ghost use Rattle.invokeall.specs.Jobs.{all_seen};
 ghost use Rattle.invokeall.specs.Rounds.{reply_of};
-ghost use Rattle.invokeall.specs.Rooms.{HasRoom};
-ghost use Rattle.workers.specs.Rooms.{HasPlace};
+ghost use Rattle.invokeall.specs.Buffers.{HasRoom};
+ghost use Rattle.workers.specs.Buffers.{HasPlace};
 
-use crate::pool_run::{CrewLeft, PoolRound};
-use crate::room::WorkspacePool;
+use crate::buffers::WorkspacePool;
+use crate::pool_run::{PoolRound, RoundLeft};
 use cache::{Cache, Closed, Gate, Seat};
 use invokeall::{JobReply, Round, run_alone};
 use jtypes::Loader;
@@ -20,7 +20,8 @@ use std::alloc::Global;
 use std::sync::Wait;
 use stripe::Tables;
 
-/// Makes the calls by one worker, on the caller's thread. It needs no groups of calls.
+/// Makes the calls by one worker, on the caller's thread.
+/// It needs no groups of calls.
 pub fn run_by_one<'a, R: Wait, G: Gate, L: Loader>(
     rt: &R,
     alloc: Global,
@@ -28,7 +29,7 @@ pub fn run_by_one<'a, R: Wait, G: Gate, L: Loader>(
     records: usize,
     round: &PoolRound<'_, 'a, G, L>,
     kept: &mut WorkspacePool,
-) -> Result<CrewLeft, Tables>
+) -> Result<RoundLeft, Tables>
     requires records { length round.now.calls.now ≤ records }
     ensures done { IfOk result (λ left. IsDone L.ASKS (L.gives round.now.loader.now) (entry_among tables) (all_seen round.now.calls.now) (map reply_of left.answers.items) (entry_among left.tables)) }
     ensures placed { IfOk result (λ left. All HasPlace left.answers.items) }
@@ -59,7 +60,7 @@ fn run_at_one<'a, R: Wait, G: Gate, L: Loader>(
     round: &PoolRound<'_, 'a, G, L>,
     workspace: &mut Workspace,
     mut answers: Vec<JobReply>,
-) -> CrewLeft
+) -> RoundLeft
     requires count { cache.seats ≡ 1 }
     requires journal { length (all_seen round.now.calls.now) ≤ cache.journal }
     requires seats { AreFresh cache.table cache.seats seats.items }
@@ -75,5 +76,5 @@ fn run_at_one<'a, R: Wait, G: Gate, L: Loader>(
     };
     run_alone(rt, &round, &mut seats[0], workspace, &mut answers);
     let Closed { tables, .. } = cache.close(seats);
-    CrewLeft { tables, answers }
+    RoundLeft { tables, answers }
 }

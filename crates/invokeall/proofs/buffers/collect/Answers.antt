@@ -1,7 +1,7 @@
 use Rattle.std.proofs.Common.{◌≡◌, ℕ, List, [], ◌∷◌, ◌++◌, set, refl, sym, ap, ◌∙◌}
 use Rattle.std.specs.Vec.Iter.{into_iter_items}
 use Rattle.invokeall.specs.Rounds.{Answer}
-use Rattle.invokeall.specs.Rooms.{Row, put_all, entries_of}
+use Rattle.invokeall.specs.Buffers.{Row, put_all, entries_of}
 use Rattle.invokeall.proofs.buffers.collect.Goals as goal
 
 put_append : (a : List Answer) (xs ys : List (ℕ × Answer)) → put_all a (xs ++ ys) ≡ put_all (put_all a xs) ys

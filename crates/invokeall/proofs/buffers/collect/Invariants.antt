@@ -1,6 +1,6 @@
 use Rattle.std.proofs.Common.{◌≡◌}
 use Rattle.std.specs.Vec.Iter.{into_iter_items}
-use Rattle.invokeall.specs.Rooms.{put_all, entries_of}
+use Rattle.invokeall.specs.Buffers.{put_all, entries_of}
 use Rattle.invokeall.proofs.buffers.collect.Given as goal
 
 abbrev pub invariant-loop-row : goal.invariant-loop-row

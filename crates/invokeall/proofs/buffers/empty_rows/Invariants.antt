@@ -1,6 +1,6 @@
 use Rattle.std.proofs.Common.{◌≡◌, length}
 use Rattle.std.specs.List.{All}
-use Rattle.invokeall.specs.Rooms.{HasRoom}
+use Rattle.invokeall.specs.Buffers.{HasRoom}
 use Rattle.invokeall.proofs.buffers.empty_rows.Given as goal
 
 abbrev pub invariant-loop : goal.invariant-loop

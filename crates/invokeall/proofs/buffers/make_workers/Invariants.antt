@@ -1,6 +1,6 @@
 use Rattle.std.proofs.Common.{◌≡◌, ◌+◌, ◌≤◌, ◌++◌, length, vec_capacity}
 use Rattle.std.specs.Vec.Iter.{into_iter_items}
-use Rattle.invokeall.specs.Rooms.{seats_of, claimers_of, rows_of}
+use Rattle.invokeall.specs.Buffers.{seats_of, claimers_of, rows_of}
 use Rattle.invokeall.proofs.buffers.make_workers.Given as goal
 
 abbrev pub invariant-loop-seat : goal.invariant-loop-seat

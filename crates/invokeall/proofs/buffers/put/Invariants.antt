@@ -1,5 +1,5 @@
 use Rattle.std.proofs.Common.{◌≡◌, drop}
-use Rattle.invokeall.specs.Rooms.{put_all}
+use Rattle.invokeall.specs.Buffers.{put_all}
 use Rattle.invokeall.proofs.buffers.put.Given as goal
 
 abbrev pub invariant-loop-number : goal.invariant-loop-number

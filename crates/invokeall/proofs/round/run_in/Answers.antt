@@ -8,9 +8,9 @@ use Rattle.claims.specs.Counters.{Numbering, AreAll}
 use Rattle.invokeall.specs.declared.groups.Groups.{Groups}
 use Rattle.invokeall.specs.declared.worker.Worker.{Worker}
 use Rattle.invokeall.specs.Jobs.{all_seen}
-use Rattle.invokeall.specs.Crews.{IsReady, HasWorked}
+use Rattle.invokeall.specs.Workers.{IsReady, HasWorked}
 use Rattle.invokeall.specs.Rounds.{Answer}
-use Rattle.invokeall.specs.Rooms.{seats_of, claimers_of, rows_of, entries_of, blanks, placed, put_all}
+use Rattle.invokeall.specs.Buffers.{seats_of, claimers_of, rows_of, entries_of, blanks, placed, put_all}
 use Rattle.invokeall.proofs.Worked.{all_worked, all_ready, all_claimers, are_filled, is_round, each_once, length_seats}
 use Rattle.invokeall.proofs.Rows.{put_shown, shown_blanks, shown_there}
 use Rattle.invokeall.proofs.round.run_in.Goals as goal

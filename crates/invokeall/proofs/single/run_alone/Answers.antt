@@ -8,7 +8,7 @@ use Rattle.round_outcome.specs.Outcome.{answered}
 use Rattle.round_outcome.specs.Closed.{calls_told}
 use Rattle.invokeall.specs.Jobs.{all_seen}
 use Rattle.invokeall.specs.Rounds.{Answer, reply_of, IsRound}
-use Rattle.invokeall.specs.Crews.{told_answer}
+use Rattle.invokeall.specs.Workers.{told_answer}
 use Rattle.invokeall.proofs.OneSeat.{answered_more, shown_more, alone_round}
 use Rattle.invokeall.proofs.Turns.{one_call, later_seat}
 use Rattle.invokeall.proofs.single.run_alone.Goals as goal

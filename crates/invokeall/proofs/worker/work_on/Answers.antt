@@ -7,7 +7,7 @@ use Rattle.invokeall.specs.declared.worker.Worker.{Worker}
 use Rattle.invokeall.specs.Jobs.{all_seen}
 use Rattle.invokeall.specs.Groups.{group_of, groups_in, members, IsFirst}
 use Rattle.invokeall.specs.Rounds.{Answer}
-use Rattle.invokeall.specs.Crews.{numbers, HasAnswered}
+use Rattle.invokeall.specs.Workers.{numbers, HasAnswered}
 use Rattle.invokeall.proofs.Members.{members_first, members_next, room_more}
 use Rattle.invokeall.proofs.Turns.{one_call, numbers_more, numbers_long, one_answered}
 use Rattle.invokeall.proofs.worker.work_on.Goals as goal

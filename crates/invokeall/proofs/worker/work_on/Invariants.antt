@@ -2,7 +2,7 @@ use Rattle.std.proofs.Common.{◌≡◌, ℕ, ◌-◌, ◌<◌, ◌≤◌, ◌++
 use Rattle.invokeall.specs.declared.worker.Worker.{Worker}
 use Rattle.invokeall.specs.Jobs.{all_seen}
 use Rattle.invokeall.specs.Groups.{groups_in, members}
-use Rattle.invokeall.specs.Crews.{numbers, HasAnswered}
+use Rattle.invokeall.specs.Workers.{numbers, HasAnswered}
 use Rattle.invokeall.proofs.worker.work_on.Given as goal
 
 abbrev pub invariant-loop-number : goal.invariant-loop-number

@@ -2,7 +2,7 @@ use Rattle.std.proofs.Common.{◌≡◌, sym, ap, ◌∙◌, subst}
 use Rattle.cache.specs.Opened.{Sitting}
 use Rattle.invokeall.specs.declared.worker.Worker.{Worker}
 use Rattle.invokeall.specs.Jobs.{all_seen}
-use Rattle.invokeall.specs.Crews.{HasAnswered}
+use Rattle.invokeall.specs.Workers.{HasAnswered}
 use Rattle.invokeall.proofs.worker.work_within.Goals.{then-first-calls+else-not-hold_within, else-first-calls}
 use Rattle.invokeall.proofs.worker.work_within.Goals as goal
 

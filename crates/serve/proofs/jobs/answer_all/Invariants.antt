@@ -1,7 +1,7 @@
 use Rattle.std.proofs.Common.{◌≡◌, ◌≤◌, take, map, length, vec_capacity}
 use Rattle.std.specs.List.{All}
 use Rattle.invokeall.specs.Rounds.{reply_of}
-use Rattle.workers.specs.Rooms.{HasPlace}
+use Rattle.workers.specs.Buffers.{HasPlace}
 use Rattle.serve.proofs.jobs.answer_all.Given as goal
 
 abbrev pub invariant-loop-reply : goal.invariant-loop-reply

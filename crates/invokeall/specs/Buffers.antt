@@ -1,4 +1,4 @@
--- The memory of a round, and its workers before and after their work.
+-- The buffers of a round, and what its workers leave in them.
 use Rattle.std.specs.Prelude.{◌≡◌, ℕ, ◌≤◌, List, [], ◌∷◌, map, flat_map, length, replicate, slice_set, vec_capacity, Option, Some, None, Err, Vec}
 use Rattle.std.specs.Global.{Global}
 use Rattle.std.specs.List.{All}
@@ -60,8 +60,8 @@ rows_of ws = map (λ (w : Worker). w.answers) ws
 abbrev pub HasRoom : {A : Type 0} → ℕ → Vec A Global → Type 0
 HasRoom n v = (v.items ≡ []) × (n ≤ vec_capacity v)
 
--- room for a round of so many jobs by so many workers; what the counter counts are the groups
-pub record IsRoom (jobs count : ℕ) (r : RoundBuffers) : Type 0 where
+-- the buffers hold a round of so many jobs by so many workers; what the counter counts are the groups
+pub record CanHold (jobs count : ℕ) (r : RoundBuffers) : Type 0 where
   pub some_groups : IsCount r.counter.jobs
   pub workers_are : r.counter.workers ≡ count
   pub blank : AreBlank jobs r.counter.jobs r.groups

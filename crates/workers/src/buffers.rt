@@ -4,7 +4,7 @@ ghost use Rattle.std.specs.Prelude.{◌≡◌, length, IfOk};
 ghost use Rattle.claims.specs.Counters.{IsJobCount};
 ghost use Rattle.stripe.specs.Tables.{IsCount};
 ghost use Rattle.cache.specs.Opened.{IsSeatCount};
-ghost use Rattle.workers.specs.Rooms.{IsRoom};
+ghost use Rattle.workers.specs.Buffers.{CanHold};
 
 use invokeall::RoundBuffers;
 use machine::Workspace;
@@ -65,8 +65,9 @@ pub struct PoolBuffers<'a> {
     pub workspaces: Vec<Workspace>,
 }
 
-/// Room for so many jobs, stripes and workers. The workspaces are those that were kept, as far as they go.
-pub fn room_for<'a>(
+/// The buffers of a round of `jobs` jobs by `workers` workers, on a cache of `stripes` stripes. The workspaces are those that were kept, as
+/// far as they go.
+pub fn buffers_for<'a>(
     alloc: Global,
     jobs: usize,
     stripes: usize,
@@ -76,9 +77,9 @@ pub fn room_for<'a>(
     requires jobs { IsJobCount jobs }
     requires stripes { IsCount stripes }
     requires workers { IsSeatCount workers }
-    ensures { IfOk result (IsRoom jobs workers) }
+    ensures { IfOk result (CanHold jobs workers) }
 {
-    let round = invokeall::room_for(alloc, jobs, stripes, workers)?;
+    let round = invokeall::buffers_for(alloc, jobs, stripes, workers)?;
     let workspaces = workspaces(alloc, workers, kept)?;
     Ok(PoolBuffers { round, workspaces })
 }

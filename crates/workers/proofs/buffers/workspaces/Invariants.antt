@@ -1,5 +1,5 @@
 use Rattle.std.proofs.Common.{◌≡◌, length}
-use Rattle.workers.proofs.room.workspaces.Given as goal
+use Rattle.workers.proofs.buffers.workspaces.Given as goal
 
 abbrev pub invariant-loop : goal.invariant-loop
 invariant-loop l = length l.list.items ≡ l.counter
