@@ -205,7 +205,7 @@ no_instruction r any =
 
 -- ---- its types and its bounds
 
-body_goes_on : (pool : List Slot) (p : Parts) (m : Member) (e : Environment) (code : List Placed) (tables : List (List ℕ)) → IsBody First pool p m e code tables → IsBody Second pool p m e code tables
+pub body_goes_on : (pool : List Slot) (p : Parts) (m : Member) (e : Environment) (code : List Placed) (tables : List (List ℕ)) → IsBody First pool p m e code tables → IsBody Second pool p m e code tables
 body_goes_on pool p m e code tables b = record {
   parts = b.parts;
   has_code = b.has_code;

@@ -4,3 +4,8 @@ pub mod Fit
 pub mod SwitchShape
 pub mod FirstRefuses
 pub mod FirstAccepts
+pub mod Chain
+pub mod ChainShape
+pub mod ChainFile
+pub mod ChainLevels
+pub mod ChainVerdict

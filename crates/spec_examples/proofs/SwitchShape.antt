@@ -6,10 +6,11 @@ use Rattle.jtypes.proofs.Laws.{whole_found, first_stands}
 use Rattle.constpool.specs.declared.descriptor.Sig.{Sig}
 use Rattle.constpool.specs.declared.descriptor.FieldType.TheVariants as field
 use Rattle.constpool.specs.Names.{object_name, mutable_entry_name}
-use Rattle.constpool.specs.Lookup.{utf8_at, class_at, constant_refers, refers, pair_at, member_of, method_at}
+use Rattle.constpool.specs.Lookup.{Slot, utf8_at, class_at, constant_refers, refers, pair_at, member_of, method_at}
 use Rattle.constpool.specs.Descriptor.{sig_of, read_params, read_type}
 use Rattle.constpool.specs.Pool.{utf8, integer, long, index_of, indexes_of, method_handle, body, constant, slot, slots, pool}
 use Rattle.classfile.specs.declared.class_file.Member.{Member}
+use Rattle.classfile.specs.declared.class_file.Parts.{Parts}
 use Rattle.classfile.specs.declared.class_file.CodeParts.{CodeParts}
 use Rattle.classfile.specs.Class.{utf8_index, class_index, attribute, attributes, method_attribute, method_attributes, member, interfaces, fields, methods, superclass, header, parts, class_file}
 use Rattle.classfile.specs.Code.{plain_attribute, code_parts, parts_of_code, is_named, contents_named}
@@ -45,7 +46,7 @@ is_file = record {
 abbrev pub constructor_parts : CodeParts
 constructor_parts = record { max_stack = 1; max_locals = 1; code = 0x2A ∷ 0xB7 ∷ 0 ∷ 10 ∷ 0xB1 ∷ []; exceptions = 0; attributes = [] }
 
-abbrev no_params : Sig
+abbrev pub no_params : Sig
 no_params = record { params = []; result = None }
 
 constructor_parts_are : parts_of_code constructor_content ≡ Some constructor_parts
@@ -65,25 +66,25 @@ unfolding sig_of read_params read_type utf8_at class_at class_type field_type fi
 constructor_signed = refl
 
 -- a descriptor that is read, signed, and takes few slots
-few_slots : (m : Member) (sig : Sig) (s : Signature) (n : ℕ) → sig_of (method_view small_pool m).descriptor ≡ Some sig → method_signature (view_of small_pool switch_parts) (method_view small_pool m) ≡ Some s → n ≡ slots_taken m.flags sig → n < 256
-    → HasSlots (view_of small_pool switch_parts) (method_view small_pool m) n
-few_slots m sig s n is signed taken few = record { sig = sig; is = is; slots_are = taken; good = good }
+few_slots : (pool : List Slot) (p : Parts) (m : Member) (sig : Sig) (s : Signature) (n : ℕ) → sig_of (method_view pool m).descriptor ≡ Some sig → method_signature (view_of pool p) (method_view pool m) ≡ Some s → n ≡ slots_taken m.flags sig → n < 256
+    → HasSlots (view_of pool p) (method_view pool m) n
+few_slots pool p m sig s n is signed taken few = record { sig = sig; is = is; slots_are = taken; good = good }
   where
-    good : HasBadDescriptor (view_of small_pool switch_parts) (method_view small_pool m) → ⊥
+    good : HasBadDescriptor (view_of pool p) (method_view pool m) → ⊥
     good (inl none) = cc (none, signed)
     good (inr (x, k, many)) =
         let same : x ≡ sig = cc (k, is) in
         omega (arith, many, ap (slots_taken m.flags) same, taken, few)
 
 -- a Code whose parts are read, with room for so many slots
-one_code : (m : Member) (content : List ℕ) (c : CodeParts) (sig : Sig) (s : Signature) (n : ℕ) → codes_of small_pool m ≡ content ∷ [] → parts_of_code content ≡ Some c → sig_of (method_view small_pool m).descriptor ≡ Some sig
-    → method_signature (view_of small_pool switch_parts) (method_view small_pool m) ≡ Some s → n ≡ slots_taken m.flags sig → n < 256 → (is_abstract m.flags || is_native m.flags || false) ≡ false → ArePartsGood n c → HasGoodMethod small_pool switch_parts m c
-one_code m content c sig s n codes parts is signed taken few plain good =
-    method_judged small_pool switch_parts m n (Ok c) (few_slots m sig s n is signed taken few)
-    (good_code small_pool m (content ∷ []) 1 c n sig (sym codes) refl plain parts is taken good)
+pub one_code : (pool : List Slot) (p : Parts) (m : Member) (content : List ℕ) (c : CodeParts) (sig : Sig) (s : Signature) (n : ℕ) → codes_of pool m ≡ content ∷ [] → parts_of_code content ≡ Some c → sig_of (method_view pool m).descriptor ≡ Some sig
+    → method_signature (view_of pool p) (method_view pool m) ≡ Some s → n ≡ slots_taken m.flags sig → n < 256 → (is_abstract m.flags || is_native m.flags || false) ≡ false → ArePartsGood n c → HasGoodMethod pool p m c
+one_code pool p m content c sig s n codes parts is signed taken few plain good =
+    method_judged pool p m n (Ok c) (few_slots pool p m sig s n is signed taken few)
+    (good_code pool m (content ∷ []) 1 c n sig (sym codes) refl plain parts is taken good)
 
 good_constructor : HasGoodMethod small_pool switch_parts constructor_member constructor_parts
-good_constructor = one_code constructor_member constructor_content constructor_parts no_params constructor_signature 1 constructor_codes constructor_parts_are constructor_sig constructor_signed refl (omega arith) refl
+good_constructor = one_code small_pool switch_parts constructor_member constructor_content constructor_parts no_params constructor_signature 1 constructor_codes constructor_parts_are constructor_sig constructor_signed refl (omega arith) refl
     (record { some = omega arith; within = omega arith; room = omega arith; no_table = refl })
 
 -- ---- `process`
@@ -91,7 +92,7 @@ good_constructor = one_code constructor_member constructor_content constructor_p
 abbrev pub process_parts : CodeParts
 process_parts = record { max_stack = 1; max_locals = 3; code = switch_code; exceptions = 0; attributes = [] }
 
-abbrev process_sig : Sig
+abbrev pub process_sig : Sig
 process_sig = record { params = field.Class mutable_entry_name ∷ field.ObjectArray ∷ []; result = Some (field.Class object_name) }
 
 process_parts_are : parts_of_code switch_content ≡ Some process_parts
@@ -111,7 +112,7 @@ unfolding sig_of read_params read_type utf8_at class_at class_type field_type fi
 process_signed = refl
 
 good_process : HasGoodMethod small_pool switch_parts switch_member process_parts
-good_process = one_code switch_member switch_content process_parts process_sig example.signature 3 process_codes process_parts_are process_sig_is process_signed refl (omega arith) refl
+good_process = one_code small_pool switch_parts switch_member switch_content process_parts process_sig example.signature 3 process_codes process_parts_are process_sig_is process_signed refl (omega arith) refl
     (record { some = omega arith; within = omega arith; room = omega arith; no_table = refl })
 
 -- ---- the shape

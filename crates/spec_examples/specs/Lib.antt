@@ -6,6 +6,8 @@ pub mod Plain
 pub mod Opened
 pub mod Bytes
 pub mod SwitchBytes
+pub mod ChainBytes
 pub mod Rows
 pub mod Judge
 pub mod Verdicts
+pub mod Chain

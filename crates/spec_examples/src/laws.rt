@@ -3,6 +3,7 @@
 ghost use Rattle.spec_examples.specs.Statements.{FitsAssignable, OneMeaning, OrderedEnds, PassedFits, RunsMean};
 ghost use Rattle.spec_examples.specs.Small.{GivesEntry};
 ghost use Rattle.spec_examples.specs.Profiles.{AcceptsSmall, RefusesSwitch, RefusesMoreSteps};
+ghost use Rattle.spec_examples.specs.Chain.{IsChain, HasChainBounds, RefusesChain, AcceptsChain};
 
 /// What a run computes is the meaning.
 pub fn runs_mean()
@@ -40,4 +41,13 @@ pub fn first_profile_accepts()
 pub fn first_profile_refuses()
     ensures switch { RefusesSwitch }
     ensures steps { RefusesMoreSteps }
+{}
+
+/// Of those it refuses a class of 19 methods, of which each but the last calls the next one twice. It takes 2^20 steps at most, and the
+/// second profile accepts it.
+pub fn first_profile_refuses_a_chain()
+    ensures class { IsChain }
+    ensures bounds { HasChainBounds }
+    ensures first { RefusesChain }
+    ensures second { AcceptsChain }
 {}

@@ -1,0 +1,31 @@
+-- The verdicts on the bytes of the chain.
+use Rattle.std.proofs.Common.{◌≡◌, List, [], length, refl, subst}
+use Rattle.jtypes.specs.Profile.{First, Second}
+use Rattle.jtypes.proofs.Laws.{laid_out_once}
+use Rattle.constpool.specs.Lookup.{Slot}
+use Rattle.classfile.specs.declared.class_file.Parts.{Parts}
+use Rattle.classfile.specs.Class.{class_file}
+use Rattle.verdict.specs.Shape.{ShapeStands}
+use Rattle.verdict.specs.Verdict.{IsClassFile, InstructionsStand, TypesStand, IsClassOfFile, ClassStands, by_layout, by_shape, by_instructions, by_types, by_class}
+use Rattle.soundness.proofs.OneClass.{class_once}
+use Rattle.spec_examples.specs.Chain.{chain, chain_pool, chain_parts, RefusesChain, AcceptsChain}
+use Rattle.spec_examples.specs.ChainBytes.{chain_bytes}
+use Rattle.spec_examples.proofs.Chain.{steps_exceed, allows}
+use Rattle.spec_examples.proofs.ChainFile.{is_file, is_class}
+use Rattle.spec_examples.proofs.ChainLevels.{has_instructions, has_types}
+use Rattle.spec_examples.proofs.ChainShape.{has_shape}
+
+same_file : (pool : List Slot) (p : Parts) → IsClassFile chain_bytes pool p → (let x : List Slot × Parts = (pool, p) in x ≡ (chain_pool, chain_parts))
+same_file pool p file = (laid_out_once (class_file (length chain_bytes)) chain_bytes [] chain_bytes [] (pool, p) (chain_pool, chain_parts) file.laid_out is_file.laid_out refl).2
+
+pub refuses_chain : RefusesChain
+refuses_chain = by_class chain_pool chain_parts chain is_file has_shape (has_instructions First) (has_types First) (is_class First) steps_exceed
+
+pub accepts_chain : AcceptsChain
+accepts_chain r (by_layout s) = is_file.none_stands r s
+accepts_chain r (by_shape pool p file s) = has_shape.none_stands r (subst (λ (x : List Slot × Parts). ShapeStands x.0 x.1 r) (same_file pool p file) s)
+accepts_chain r (by_instructions pool p file a s) = (has_instructions Second).none_stands r (subst (λ (x : List Slot × Parts). InstructionsStand Second x.0 x.1 r) (same_file pool p file) s)
+accepts_chain r (by_types pool p file a b s) = (has_types Second).none_stands r (subst (λ (x : List Slot × Parts). TypesStand Second x.0 x.1 r) (same_file pool p file) s)
+accepts_chain r (by_class pool p c file a b d of s) =
+    let class : IsClassOfFile Second chain_pool chain_parts c = subst (λ (x : List Slot × Parts). IsClassOfFile Second x.0 x.1 c) (same_file pool p file) of in
+    allows r (subst (λ x. ClassStands Second x r) (class_once chain_pool chain_parts c chain class (is_class Second)) s)
