@@ -10,6 +10,7 @@ ghost use Rattle.invokeall.specs.Jobs.{IsCallable};
 ghost use Rattle.invokeall.specs.Rounds.{IsAtHome};
 
 mod holding;
+mod racing;
 
 use cache::{Cache, Gate, NoGate, Seat};
 use invokeall::{Job, JobReply, invoke_all, run_round};
@@ -391,12 +392,19 @@ fn beside_a_put<R: Threads + Wait + Sync>(
     }
 }
 
+/// What two invocations of Counter beside a put of 1 may return, and the entry that they leave, by the six orders of the three calls.
+static OUTCOMES: [(i64, i64, i64); 6] = [
+    (2, 3, 3),
+    (3, 2, 3),
+    (1, 2, 2),
+    (2, 1, 2),
+    (1, 2, 1),
+    (2, 1, 1),
+];
+
 /// Whether the three calls may have had this outcome, one after the other in some order.
 fn is_possible(outcome: Option<(i64, i64, i64)>) -> bool {
-    matches!(
-        outcome,
-        Some((2, 3, 3) | (3, 2, 3) | (1, 2, 2) | (2, 1, 2) | (1, 2, 1) | (2, 1, 1))
-    )
+    outcome.is_some_and(|outcome| OUTCOMES.contains(&outcome))
 }
 
 #[test]
