@@ -55,9 +55,10 @@ class Weights(unittest.TestCase):
         self.assertEqual(set(rows) - set(self.crates), set())
 
     def test_a_crate_without_a_measure_is_weighed_by_its_lines(self):
-        weights = self.build.weights_of(self.rt, [self.crates["machine"], self.crates["wire"]])
-        lines = {name: self.build.lines_of(self.rt, self.crates[name]) for name in weights}
-        self.assertAlmostEqual(weights["wire"], 1 + weights["machine"] * lines["wire"] / lines["machine"])
+        bench = self.rt.rtlib.Crate(f"{TOP}/crates/bench", TOP, {})
+        weights = self.build.weights_of(self.rt, [self.crates["machine"], bench])
+        lines = {it.name: self.build.lines_of(self.rt, it) for it in (self.crates["machine"], bench)}
+        self.assertAlmostEqual(weights["bench"], 1 + weights["machine"] * lines["bench"] / lines["machine"])
 
     def test_slots_is_urgent_beside_what_runs_when_it_can_begin(self):
         """slots can begin once verdict is proved, beside soundness and vmcode: the machine waits for all of them."""
