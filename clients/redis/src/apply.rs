@@ -59,10 +59,10 @@ fn change_of(done: &Done, before: Option<i64>, times: [Time; 3]) -> Change {
 impl Change {
     /// # Safety
     /// `key` is a string of the server's.
-    unsafe fn make(&self, server: Server, key: *mut Text, before: Entry) -> Answer {
+    unsafe fn make(&self, server: Server, words: Words, key: *mut Text, before: Entry) -> Answer {
         match *self {
             Change::None => Ok(()),
-            Change::Set(value, lifetime) => entry::set(server, key, before, value, lifetime),
+            Change::Set(value, lifetime) => entry::set(server, words, key, before, value, lifetime),
             Change::Touch(lifetime) => entry::touch(server, key, lifetime),
             Change::Delete => entry::delete(server, key),
         }
@@ -117,7 +117,7 @@ pub fn apply(server: Server, words: Words) -> Answer {
     let change = change_of(&done, before, times);
     if !is_dry {
         // SAFETY: as above.
-        unsafe { change.make(server, key, entry)? };
+        unsafe { change.make(server, words, key, entry)? };
     }
     server.reply_array(7);
     reply_value(server, &done);

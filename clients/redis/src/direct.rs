@@ -8,11 +8,14 @@
 //! An object that is the entry's alone is written where it is, as INCRBY does, and then the module does what else SET does. Redis shares the
 //! objects of 0 to 9,999 among all keys, and those can't be written. In their place SET gets an integer object of the module's own, which Redis
 //! keeps as it is, so the next write of the entry finds one that is its alone.
+//!
+//! `Replicate` looks its command up and copies its words, which costs as much as the run. `ReplicateVerbatim` takes the words of the command that
+//! runs as they are, so the module lends it those of a SET in their place, where there are as many.
 use crate::api::{Key, Text};
-use crate::server::Server;
+use crate::server::{Server, Words};
 use std::os::raw::c_int;
-use std::ptr::NonNull;
-use std::sync::atomic::{AtomicU32, Ordering};
+use std::ptr::{null_mut, NonNull};
+use std::sync::atomic::{AtomicPtr, AtomicU32, Ordering};
 
 /// `OpenKey` for reading.
 const READ: i32 = 1;
@@ -28,6 +31,9 @@ const CHECKS: u32 = 64;
 const NEVER: u32 = u32::MAX;
 
 static CHECKS_LEFT: AtomicU32 = AtomicU32::new(NEVER);
+/// The words of a SET beside key and value, for the server's life.
+static SET: AtomicPtr<Text> = AtomicPtr::new(null_mut());
+static KEEPTTL: AtomicPtr<Text> = AtomicPtr::new(null_mut());
 
 /// The members of a handle before and with its value (`RedisModuleKey`).
 #[repr(C)]
@@ -123,6 +129,11 @@ pub fn count(server: Server, is_same: bool) {
 pub unsafe fn begin(server: Server) {
     let is_machine = cfg!(all(target_endian = "little", target_pointer_width = "64"));
     if is_machine && (server.api().server_version)() >> 8 == RELEASE && has_layout(server) {
+        let word = |bytes: &[u8]| {
+            (server.api().create_text)(server.context(), bytes.as_ptr().cast(), bytes.len())
+        };
+        SET.store(word(b"SET"), Ordering::Relaxed);
+        KEEPTTL.store(word(b"KEEPTTL"), Ordering::Relaxed);
         CHECKS_LEFT.store(CHECKS, Ordering::Relaxed);
     }
 }
@@ -168,6 +179,23 @@ pub unsafe fn look(server: Server, key: *mut Text) -> Found {
     })
 }
 
+/// Writes the SET of a value to the AOF and to replicas. With KEEPTTL it means the same where the entry has no time to live.
+unsafe fn replicate(server: Server, words: Words, key: *mut Text, value: *mut Text, ttl: bool) {
+    let (set, keep) = (SET.load(Ordering::Relaxed), KEEPTTL.load(Ordering::Relaxed));
+    let (api, context, name) = (server.api(), server.context(), b"SET\0".as_ptr().cast());
+    match (words.count(), ttl) {
+        (4, _) => words.with([set, key, value, keep], || server.replicate_verbatim()),
+        (3, false) => words.with([set, key, value], || server.replicate_verbatim()),
+        (_, true) => {
+            let keep = b"KEEPTTL\0".as_ptr();
+            (api.replicate)(context, name, b"ssc\0".as_ptr().cast(), key, value, keep);
+        }
+        (_, false) => {
+            (api.replicate)(context, name, b"ss\0".as_ptr().cast(), key, value);
+        }
+    }
+}
+
 /// Does what a SET of the value does, KEEPTTL included, where the entry's object isn't shared: writes the value where it is, tells who watches
 /// or tracks the key and who listens to events, and writes the SET to the AOF and to replicas. False where the object is shared, and nothing is done.
 ///
@@ -175,23 +203,23 @@ pub unsafe fn look(server: Server, key: *mut Text) -> Found {
 /// a second run on the entry in the same command finds it shared.
 ///
 /// # Safety
-/// `key` is a string of the server's, and `place` is what a look at it found in this command, behind which nothing changed the entry.
-pub unsafe fn write(server: Server, key: *mut Text, place: Place, value: i64) -> bool {
+/// `words` are the command's, `key` is a string of the server's, and `place` is what a look at it found in this command, behind which nothing
+/// changed the entry.
+pub unsafe fn write(
+    server: Server,
+    words: Words,
+    key: *mut Text,
+    place: Place,
+    value: i64,
+) -> bool {
     let object = place.object.as_ptr();
     if (*object).references != 1 || (*object).kind != INTEGER || (*object).payload != place.value {
         return false;
     }
     (*object).payload = value;
-    let (api, context, word) = (server.api(), server.context(), object.cast::<Text>());
-    (api.signal_modified)(context, key);
-    (api.notify)(context, OF_STRINGS, b"set\0".as_ptr().cast(), key);
-    let name = b"SET\0".as_ptr().cast();
-    if place.may_expire {
-        let keep = b"KEEPTTL\0".as_ptr();
-        (api.replicate)(context, name, b"ssc\0".as_ptr().cast(), key, word, keep);
-    } else {
-        (api.replicate)(context, name, b"ss\0".as_ptr().cast(), key, word);
-    }
+    (server.api().signal_modified)(server.context(), key);
+    (server.api().notify)(server.context(), OF_STRINGS, b"set\0".as_ptr().cast(), key);
+    replicate(server, words, key, object.cast::<Text>(), place.may_expire);
     true
 }
 

@@ -3,7 +3,7 @@
 //! Redis runs one command at a time, so nothing else comes between the reading and the writing of a run.
 use crate::api::{Text, REPLY_NULL, REPLY_TEXT};
 use crate::direct::{self, Found, Integer, Place};
-use crate::server::{Called, Failure, Server};
+use crate::server::{Called, Failure, Server, Words};
 use crate::words::long_of;
 
 /// The entry at a key.
@@ -98,16 +98,20 @@ unsafe fn set_anew(
 /// Sets the value of an entry, and writes it to the AOF and to replicas as a SET.
 ///
 /// # Safety
-/// `key` is a string of the server's, and `entry` is what was read of it in this command, behind which nothing changed it.
+/// `words` are the command's, `key` is a string of the server's, and `entry` is what was read of it in this command, behind which nothing
+/// changed it.
 pub unsafe fn set(
     server: Server,
+    words: Words,
     key: *mut Text,
     entry: Entry,
     value: i64,
     lifetime: Lifetime,
 ) -> Result<(), Failure> {
     match entry.place {
-        Some(place) if lifetime == Lifetime::Keep && direct::write(server, key, place, value) => {
+        Some(place)
+            if lifetime == Lifetime::Keep && direct::write(server, words, key, place, value) =>
+        {
             Ok(())
         }
         _ => set_anew(server, key, entry, value, lifetime),

@@ -73,12 +73,12 @@ pub fn number_of(name: &[u8]) -> Result<i64, Failure> {
 }
 
 /// Does to an entry what a run says.
-fn apply(server: Server, key: *mut Text, before: Entry, done: &Done) -> Answer {
+fn apply(server: Server, words: Words, key: *mut Text, before: Entry, done: &Done) -> Answer {
     // SAFETY: the key is a word of the command.
     unsafe {
         match done.effect {
             KEEP => Ok(()),
-            PUT => entry::set(server, key, before, done.put, Lifetime::Keep),
+            PUT => entry::set(server, words, key, before, done.put, Lifetime::Keep),
             _ => entry::delete(server, key),
         }
     }
@@ -111,12 +111,18 @@ pub fn reply_effect(server: Server, done: &Done) {
     });
 }
 
-/// Runs a plan on the entry at a key, whose number is the processor's, and does what it says.
-fn invoke_on(server: Server, plan: &Plan, key: *mut Text, number: i64) -> Result<Done, Failure> {
+/// Runs a plan on the entry at a key, a word of the command, whose number is the processor's, and does what it says.
+fn invoke_on(
+    server: Server,
+    words: Words,
+    plan: &Plan,
+    key: *mut Text,
+    number: i64,
+) -> Result<Done, Failure> {
     // SAFETY: the key is a word of the command.
     let before = unsafe { entry::read(server, key)? };
     let done = plan.run(number, before.value)?;
-    apply(server, key, before, &done)?;
+    apply(server, words, key, before, &done)?;
     Ok(done)
 }
 
@@ -125,7 +131,7 @@ fn one(server: Server, words: Words) -> Result<Done, Failure> {
     let (key, name) = (words.text(2)?, words.bytes(2)?);
     let plan = Plan::of_class(words, 1)?;
     let number = number_of(name)?;
-    invoke_on(server, &plan.with_args(words.from(3))?, key, number)
+    invoke_on(server, words, &plan.with_args(words.from(3))?, key, number)
 }
 
 /// JENTRY.INVOKE ID KEY [ARG ..]: what the run returned.
@@ -176,7 +182,7 @@ pub fn invoke_all(server: Server, words: Words) -> Answer {
     server.reply_array(count);
     for place in 3..3 + count {
         let done = number_of(words.bytes(place)?)
-            .and_then(|number| invoke_on(server, &plan, words.text(place)?, number));
+            .and_then(|number| invoke_on(server, words, &plan, words.text(place)?, number));
         match done {
             Ok(done) => reply_value(server, &done),
             Err(failure) => server.reply_failure(failure),

@@ -1,5 +1,6 @@
 //! What a command sees of the server: its words, and the ways to reply.
 use crate::api::{Api, Context, Reply, Text};
+use std::cell::Cell;
 use std::ffi::CString;
 use std::os::raw::c_int;
 use std::ptr::{null, null_mut, NonNull};
@@ -128,18 +129,19 @@ impl Server {
     }
 }
 
-/// The words of a command, its name among them.
+/// The words of a command, its name among them, where the server keeps them.
 #[derive(Clone, Copy)]
 pub struct Words<'a> {
     api: &'static Api,
-    texts: &'a [*mut Text],
+    texts: &'a [Cell<*mut Text>],
 }
 
 impl<'a> Words<'a> {
     /// # Safety
     /// They are a command's, which lasts for `'a`.
-    pub unsafe fn of(argv: *const *mut Text, argc: c_int) -> Words<'a> {
-        Words { api: api(), texts: slice::from_raw_parts(argv, usize::try_from(argc).unwrap_or(0)) }
+    pub unsafe fn of(argv: *mut *mut Text, argc: c_int) -> Words<'a> {
+        let count = usize::try_from(argc).unwrap_or(0);
+        Words { api: api(), texts: slice::from_raw_parts(argv.cast::<Cell<*mut Text>>(), count) }
     }
 
     pub fn count(self) -> usize {
@@ -148,7 +150,7 @@ impl<'a> Words<'a> {
 
     /// The word at a place, for a command that is to be called.
     pub fn text(self, place: usize) -> Result<*mut Text, Failure> {
-        self.texts.get(place).copied().ok_or(Failure::Arity)
+        self.texts.get(place).map(Cell::get).ok_or(Failure::Arity)
     }
 
     /// The bytes of the word at a place.
@@ -157,6 +159,22 @@ impl<'a> Words<'a> {
         let mut length = 0;
         // SAFETY: the words last for `'a`, and Redis doesn't change the bytes of a command's words.
         unsafe { Ok(slice::from_raw_parts((self.api.text_bytes)(text, &mut length), length)) }
+    }
+
+    /// Lets other words stand in place of the first ones while something is done.
+    ///
+    /// # Safety
+    /// They are the server's strings, as many as these words at most, and what is done doesn't look at `self`.
+    pub unsafe fn with<const N: usize>(self, others: [*mut Text; N], action: impl FnOnce()) {
+        let mut own = others;
+        let swap = |texts: &mut [*mut Text; N]| {
+            for (text, cell) in texts.iter_mut().zip(self.texts) {
+                *text = cell.replace(*text);
+            }
+        };
+        swap(&mut own);
+        action();
+        swap(&mut own);
     }
 
     /// The words from a place on.

@@ -1,4 +1,6 @@
 """On Redis 7.0 the integer of an entry is written where it lies, with all that a SET does beside."""
+import glob
+import os
 import unittest
 
 from commands_test import OneServer
@@ -160,6 +162,36 @@ class Written(Writes):
         values = self.ask("MGET", *keys)
         self.assertEqual(values, [b"12", b"20005", b"10", b"20006", b"5", b"2"])
         return keys, values
+
+    def logged(self, *words):
+        """The commands that the AOF gets while one runs."""
+        [path] = glob.glob(os.path.join(self.server.folder, "appendonlydir", "*.incr.aof"))
+        before = os.path.getsize(path)
+        told = self.line.get(*words)
+        with open(path, "rb") as file:
+            file.seek(before)
+            lines = file.read().split(b"\r\n")
+        # A command is its count of words, and for each its length and itself.
+        heads = [place for place, line in enumerate(lines) if line.startswith(b"*")]
+        return told, [lines[head + 2 : head + 2 + 2 * int(lines[head][1:]) : 2] for head in heads]
+
+    def test_the_set_that_is_logged(self):
+        plus, cas = self.define(self.line, "Plus"), self.define(self.line, "CompareAndSet")
+        for keep in ([], [b"KEEPTTL"]):
+            self.line.get("SET", "v:1", 20_000, *(["PX", 100_000] if keep else []))
+            self.assertEqual(self.logged("JENTRY.INVOKE", plus, "v:1"), (20_001, [[b"SET", b"v:1", b"20001", *keep]]))
+            # A SET of as many words as the command costs least, and KEEPTTL keeps what there is none of.
+            self.assertEqual(
+                self.logged("JENTRY.INVOKE", self.add, "v:1", 1), (20_002, [[b"SET", b"v:1", b"20002", b"KEEPTTL"]])
+            )
+            self.assertEqual(
+                self.logged("JENTRY.INVOKE", cas, "v:1", 20_002, 20_005), (1, [[b"SET", b"v:1", b"20005", *keep]])
+            )
+            self.assertEqual(self.logged("JENTRY.INVOKE", self.add, "v:1", 0), (20_005, []))
+            self.assertEqual(
+                self.ask("EVAL", "return redis.call('JENTRY.INVOKE', ARGV[1], KEYS[1])", 1, "v:1", plus), 20_006
+            )
+        self.assertEqual(self.ask("GET", "v:1"), b"20006")
 
     def test_after_a_kill(self):
         keys, values = self.run_all()
