@@ -60,6 +60,14 @@ class Weights(unittest.TestCase):
         lines = {it.name: self.build.lines_of(self.rt, it) for it in (self.crates["machine"], bench)}
         self.assertAlmostEqual(weights["bench"], 1 + weights["machine"] * lines["bench"] / lines["machine"])
 
+    def test_memory_is_what_was_measured_with_a_margin(self):
+        """A crate without a measure needs what rt reckons."""
+        bench = self.rt.rtlib.Crate(f"{TOP}/crates/bench", TOP, {})
+        needs = self.build.needs_of(self.rt, [self.crates["verify"], bench])
+        took = self.build.measured()["verify"][1]
+        self.assertGreater(took, 500_000_000)
+        self.assertEqual(needs, {"verify": self.build.MARGIN * took, "bench": self.rt.need(bench)})
+
     def test_slots_is_urgent_beside_what_runs_when_it_can_begin(self):
         """slots can begin once verdict is proved, beside soundness and vmcode: the machine waits for all of them."""
         weights = self.build.weights_of(self.rt, self.crates.values())
