@@ -5,6 +5,8 @@ import static org.junit.jupiter.api.Assertions.assertTrue;
 import java.net.URI;
 import java.util.ArrayList;
 import java.util.List;
+import java.util.Map;
+import java.util.Set;
 import java.util.stream.Collectors;
 
 /** A cluster of a test's own: three masters, and a replica of each where that is wanted. */
@@ -94,8 +96,27 @@ final class RedisNodes implements AutoCloseable {
         throw new IllegalStateException("nobody has the slot " + slot);
     }
 
+    /** The masters' epochs, as a node knows them, by their ids. */
+    private static Map<String, String> epochs(RedisServer asked) {
+        return asked.text("CLUSTER", "NODES").lines().map(line -> line.split(" ")).filter(words -> words[2].contains("master"))
+            .collect(Collectors.toMap(words -> words[0], words -> words[6]));
+    }
+
+    /**
+     * Waits until all nodes know the masters' epochs, which differ then. Redis 7.0 may send a heartbeat 40 ms late: a master that
+     * doesn't know of a newer epoch gets a slot with an older one, the next heartbeat of the slot's old master takes the slot
+     * back, and the new master deletes its keys.
+     */
+    private void awaitEpochs() throws InterruptedException {
+        await(() -> {
+            Map<String, String> known = epochs(master(0));
+            return Set.copyOf(known.values()).size() == MASTERS && all.stream().allMatch(it -> known.equals(epochs(it)));
+        }, "masters that don't know each other's epochs");
+    }
+
     /** Begins to move a slot: its keys may be at either master. */
-    void beginMove(int slot, RedisServer from, RedisServer to) {
+    void beginMove(int slot, RedisServer from, RedisServer to) throws InterruptedException {
+        awaitEpochs();
         isDone(to.ask("CLUSTER", "SETSLOT", slot, "IMPORTING", id(from)));
         isDone(from.ask("CLUSTER", "SETSLOT", slot, "MIGRATING", id(to)));
     }
@@ -123,7 +144,7 @@ final class RedisNodes implements AutoCloseable {
     }
 
     /** Moves a slot with all its keys. */
-    void move(int slot, RedisServer from, RedisServer to) {
+    void move(int slot, RedisServer from, RedisServer to) throws InterruptedException {
         beginMove(slot, from, to);
         while (moveKeys(slot, from, to, 1_000) > 0) { }
         endMove(slot, to);
