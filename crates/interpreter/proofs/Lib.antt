@@ -21,6 +21,7 @@ pub mod Receiving
 pub mod Methods
 pub mod Switched
 pub mod Replying
+pub mod Taking
 pub mod Arity
 pub mod Passing
 pub mod Folding

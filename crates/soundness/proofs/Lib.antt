@@ -3,6 +3,7 @@ pub mod Callees
 pub mod GoodStates
 pub mod PathsExist
 pub mod Switched
+pub mod StepValues
 pub mod Steps
 pub mod SafeRuns
 pub mod AcceptedClasses

@@ -9,12 +9,12 @@ use Rattle.jtypes.specs.declared.types.Value.TheVariants as value
 use Rattle.jtypes.specs.Lists.{◌>>=◌}
 use Rattle.jtypes.proofs.Fit.{EachFit}
 use Rattle.frames.specs.Frames.{first_frame}
-use Rattle.typecheck.specs.Typing.{Method, Class, IsProcessOf}
+use Rattle.typecheck.specs.Typing.{Method, Class, IsProcessOf, instruction_at}
 use Rattle.bounds.specs.Paths.{Cost, Path, Bounds, IsWithin}
 use Rattle.verdict.specs.Checked.{IsChecked}
 use Rattle.soundness.specs.Premises.{SoundnessOver}
 use Rattle.soundness.specs.Room.{IsCheckedButForRoom}
-use Rattle.verdict.specs.Machine.{Invocation, State, Next, Goes, Ends, throws, step, asks, informed, after_load, step_with, start_of, start, activation_of, Reaches, here, onward, ReachesBy, here_by, onward_by}
+use Rattle.verdict.specs.Machine.{Invocation, State, Next, Goes, Ends, throws, step, asks, informed, after_load, step_with, start_of, start, activation_of, Reaches, here, onward, ReachesBy, here_by, onward_by, with_place, act, act_at, step_top}
 use Rattle.soundness.specs.Counting.{EachStepCounts, asked_after}
 use Rattle.jtypes.specs.declared.loader.LoadAnswer.{LoadAnswer}
 use Rattle.jtypes.specs.declared.loader.LoadAnswer.TheVariants as load
@@ -25,7 +25,19 @@ use Rattle.verdict.proofs.OwnCalls.{process_found}
 use Rattle.soundness.proofs.Callees.{entry_of, method_at_number}
 use Rattle.soundness.proofs.GoodStates.{IsAt, is_inside, IsGood, SafeNext, arrive, no_length_first, RestOf}
 use Rattle.soundness.proofs.PathsExist.{has_path, has_rest, path_steps, path_slots, path_depth}
-use Rattle.soundness.proofs.Steps.{step_safe}
+use Rattle.soundness.proofs.Steps.{act_safe}
+
+-- every step from a good state leads to a good state or ends within the bounds
+step_safe : (c : Class) (b : Bounds) → IsCheckedButForRoom c → (s : State) → IsGood c b s → SafeNext c b s.steps s.now.asked s.call (step c s)
+step_safe c b ok s h =
+    let m = h.m in
+    let a = h.top in
+    let i = is_inside h.here in
+    let p = i.0 in
+    let o = h.here.typing.outcome a.place p h.here.frame i.1 h.here.stands in
+    let is : step c s ≡ act c s m.environment (with_place a p.next) h.below p.instruction =
+    ap (step_top c s) h.activations ∙ ap (λ y. y >>= λ x. act_at c s x a h.below (instruction_at x a.place)) h.here.member.method ∙ ap (act_at c s m a h.below) i.1 in
+    subst (SafeNext c b s.steps s.now.asked s.call) (sym is) (act_safe c b ok s a h.below m p p.instruction o.0 (record { formed = ok.formed a.method h.here.view m h.here.member; here = h.here; awaits = h.awaits; budget = h.budget; code = i.1; is = refl; moved = o.1; flow = o.2 }))
 
 reaches_trans : {c : Class} {a : LoadAnswer} {s t u : State} → ReachesBy c a s t → ReachesBy c a t u → ReachesBy c a s u
 reaches_trans r here_by = r

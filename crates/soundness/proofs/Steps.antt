@@ -1,27 +1,24 @@
--- Each step from a good state is safe.
+-- Each instruction from a good state is safe.
 use Rattle.std.proofs.Common.{◌≡◌, ℕ, suc, ◌+◌, ◌≤◌, Bool, true, false, ◌&&◌, List, [], ◌∷◌, ◌++◌, length, reverse, Option, Some, None, refl, sym, ap, ◌∙◌, subst, arith, ◌⊎◌, inl, inr}
 use Rattle.std.specs.Prelude.{slice_get, slice_set, ℤ, pos, negsuc, ◌≤ℤ◌, nat_le, cond, option_and_then, option_map, is_some}
 use Rattle.std.specs.Int.{w32, int_wrapping_add}
-use Rattle.std.proofs.lemmas.Bool.{and_from, and_parts, leb-true, false≢true}
+use Rattle.std.proofs.lemmas.Bool.{and_from, and_parts}
 use Rattle.std.proofs.lemmas.List.{reverse-reverse, length-reverse}
 use Rattle.jtypes.specs.declared.types.RefType.{RefType}
 use Rattle.jtypes.specs.declared.types.RefType.TheVariants as ref
 use Rattle.jtypes.specs.declared.types.JType.{JType}
-use Rattle.jtypes.specs.declared.types.JType.TheVariants.{Top, Int, Long, Null, Ref}
+use Rattle.jtypes.specs.declared.types.JType.TheVariants.{Int, Ref}
 use Rattle.jtypes.specs.declared.types.RefValue.{RefValue}
 use Rattle.jtypes.specs.declared.types.RefValue.TheVariants as reference
 use Rattle.jtypes.specs.declared.types.Value.{Value}
 use Rattle.jtypes.specs.declared.types.Value.TheVariants as value
 use Rattle.jtypes.specs.declared.types.Arg.{Arg}
-use Rattle.jtypes.specs.declared.types.Arg.TheVariants as arg
 use Rattle.jtypes.specs.declared.types.JavaFault.{JavaFault}
 use Rattle.jtypes.specs.declared.types.JavaFault.TheVariants as fault
 use Rattle.jtypes.specs.declared.types.Outcome.{Outcome}
 use Rattle.jtypes.specs.declared.types.Outcome.TheVariants.{Returned, Threw}
 use Rattle.jtypes.specs.declared.operations.Kind.{Kind}
-use Rattle.jtypes.specs.declared.operations.Kind.TheVariants as kind
 use Rattle.jtypes.specs.declared.operations.ArrayKind.{ArrayKind}
-use Rattle.jtypes.specs.declared.operations.ArrayKind.TheVariants as array
 use Rattle.jtypes.specs.declared.operations.Pushed.{Pushed}
 use Rattle.jtypes.specs.declared.operations.Pushed.TheVariants as pushed
 use Rattle.jtypes.specs.declared.operations.Operation.{Operation}
@@ -29,13 +26,13 @@ use Rattle.jtypes.specs.declared.operations.Rearrangement.{Rearrangement}
 use Rattle.jtypes.specs.declared.operations.Test.{Test}
 use Rattle.jtypes.specs.declared.operations.Invoke.{Invoke}
 use Rattle.jtypes.specs.declared.operations.Native.{Native}
-use Rattle.jtypes.specs.Lists.{only_if, result_list, change, ◌>>=◌}
+use Rattle.jtypes.specs.Lists.{only_if, result_list, change}
 use Rattle.jtypes.specs.Types.{assignable, is_long, slots_if, slots_by, type_of_kind, element_type, array_type}
-use Rattle.jtypes.specs.Values.{Array, Arrays, new_array, words_of, is_long_value, array_fits, found_fits, ref_fits, fits, all_fit, passes, value_of_arg, item_at, arg_of_value}
+use Rattle.jtypes.specs.Values.{Arrays, new_array, words_of, is_long_value, found_fits, fits, all_fit, passes, value_of_arg, item_at, arg_of_value}
 use Rattle.jtypes.specs.Arithmetic.{Answer, Leaves, Throws, Lacks, operate, takes_of, puts_of, tested, takes_of_test}
 use Rattle.jtypes.specs.Loading.{EntryNow, left_by}
 use Rattle.jtypes.specs.Library.{Reply, Gives, Faults, Misses, library, flag}
-use Rattle.jtypes.proofs.Fit.{is_top, NoneTop, EachFit, EachSlotFits, SlotFits, IsKept, same_kept, one_more_kept, last_is, change_kept, fit_kept, slots_kept, slots_fit, long_fits, append_fit, fit_reverse, fit_from_all, no_top_reverse, only_if_true, only_if_some, then_some_parts, fits_int, fits_long, fits_null, fits_ref, fits_assignable, array_is, passes_fits}
+use Rattle.jtypes.proofs.Fit.{is_top, NoneTop, EachFit, EachSlotFits, SlotFits, IsKept, same_kept, one_more_kept, last_is, change_kept, fit_kept, slots_kept, slots_fit, long_fits, append_fit, fit_reverse, fit_from_all, no_top_reverse, only_if_true, only_if_some, then_some_parts, fits_int, fits_ref, fits_assignable}
 use Rattle.jtypes.proofs.OperationsFit.{AnswerFits, one_int, operation_fits, test_fits}
 use Rattle.jtypes.proofs.LibraryCalls.{ReplyFits}
 use Rattle.decode.specs.declared.instruction.Instruction.{Instruction}
@@ -49,182 +46,19 @@ use Rattle.frames.specs.declared.members.Callee.{Callee}
 use Rattle.frames.specs.declared.members.Reached.{Reached}
 use Rattle.frames.specs.declared.members.Reached.TheVariants.{Library, Own}
 use Rattle.frames.specs.Members.{callee_at}
-use Rattle.frames.specs.declared.frame.Environment.{Environment}
 use Rattle.frames.specs.Frames.{Frame, first_frame}
 use Rattle.transfer.specs.Forms.{forms_of, rearranged}
-use Rattle.transfer.specs.Transfer.{transfer, take_types, with_stack, take_put, type_of_pushed, loaded, store_type, stored, incremented, returned, returned_void, called, element_of, reference_loaded, has_length, measured, cast as cast_frame, asked}
+use Rattle.transfer.specs.Transfer.{take_types, with_stack, type_of_pushed, loaded, store_type, stored, incremented, returned, returned_void, called, element_of, reference_loaded, has_length, measured, cast as cast_frame, asked}
 use Rattle.transfer.proofs.RearrangedFit.{took, by_forms_fit}
-use Rattle.typecheck.specs.Typing.{Method, Class, instruction_at, IsFlow, own_number, own_of, call_of}
+use Rattle.typecheck.specs.Typing.{Method, Class, own_number, own_of, call_of}
 use Rattle.bounds.specs.Paths.{Cost, Path, Bounds, StandsAt, length_of, words_at, last_cost, after_one, jumps, falls, calls, ends as ends_path}
-use Rattle.soundness.specs.Room.{IsFormedButForRoom, IsCheckedButForRoom}
-use Rattle.verdict.specs.Machine.{Activation, State, ends, throws, goes_on, with_operands, with_place, next_with, jump_with, load, store, store_value, increment, value_of_pushed, after_answer, after_test, switch, make_array, same_kind, element_value, number_of, push_item, load_from, load_item, with_element, store_to, store_number, store_item, load_reference, push_length, measure, may_cast, cast, ask, split, activation_of, is_on_null, enter, after_reply, reach, invoke, end_with, return_to, narrowed, return_value, return_void, act, act_at, step, step_top}
+use Rattle.soundness.specs.Room.{IsCheckedButForRoom}
+use Rattle.verdict.specs.Machine.{Activation, State, ends, throws, goes_on, with_operands, with_place, next_with, jump_with, load, store, store_value, increment, value_of_pushed, after_answer, after_test, switch, make_array, element_value, push_item, load_from, load_item, with_element, store_to, store_number, store_item, load_reference, push_length, measure, may_cast, cast, ask, split, activation_of, is_on_null, enter, after_reply, reach, invoke, end_with, return_to, narrowed, return_value, return_void, act}
 use Rattle.soundness.proofs.Locals.{slot_at, slots_length, slots_store, slots_keep, first_locals, split_took}
 use Rattle.soundness.proofs.Callees.{IsOwn, CalleeFits, callee_fits}
-use Rattle.soundness.proofs.GoodStates.{none_top, alone, IsCounted, IsAt, is_inside, with_result, Awaits, AllAwait, all_await_kept, HasBudget, budget_on, budget_same, budget_call, budget_return, IsGood, SafeNext, goes_safe, arrive, enters_inside, enters_target, no_length, no_length_target, no_length_first, RestOf}
+use Rattle.soundness.proofs.GoodStates.{none_top, alone, IsCounted, is_inside, with_result, Awaits, AllAwait, all_await_kept, HasBudget, budget_on, budget_same, budget_call, budget_return, SafeNext, goes_safe, arrive, enters_inside, enters_target, no_length, no_length_target, no_length_first, RestOf}
 use Rattle.soundness.proofs.PathsExist.{has_path, has_rest, path_steps}
-
--- ---- what an outcome says
-
-record HasStack (e : Environment) (f : Frame) (stack : List JType) (g : Frame) : Type 0 where
-  room : slots_by is_long stack ≤ e.max_stack
-  locals : f.locals ≡ g.locals
-  operands : stack ≡ g.stack
-
-stack_parts : (e : Environment) (f : Frame) (stack : List JType) (g : Frame) → with_stack e f stack ≡ Some g → HasStack e f stack g
-stack_parts e f stack g h =
-    let new : Frame = record { locals = f.locals; stack = stack } in
-    let p = only_if_some (nat_le (slots_by is_long stack) e.max_stack) (Some new) g h in
-    let same : new ≡ g = cc p.1 in
-    record { room = leb-true _ _ p.0; locals = ap (λ (x : Frame). x.locals) same; operands = ap (λ (x : Frame). x.stack) same }
-
-take_put_parts : (e : Environment) (f g : Frame) (taken put : List JType) → take_put e f taken put ≡ Some g → (rest : List JType) × (take_types taken f.stack ≡ Some rest) × HasStack e f (put ++ rest) g
-take_put_parts e f g taken put h =
-    let p = then_some_parts (λ rest. with_stack e f (put ++ rest)) (take_types taken f.stack) g h in
-    (p.0, p.1, stack_parts e f (put ++ p.0) g p.2)
-
--- ---- values
-
-pushed_fits : (arrays : Arrays) (k : Pushed) → fits arrays (value_of_pushed k) (type_of_pushed k) ≡ true
-pushed_fits arrays (pushed.Int n) = refl
-pushed_fits arrays (pushed.Long n) = refl
-pushed_fits arrays pushed.Null = refl
-
-pushed_not_top : (k : Pushed) → is_top (type_of_pushed k) ≡ false
-pushed_not_top (pushed.Int n) = refl
-pushed_not_top (pushed.Long n) = refl
-pushed_not_top pushed.Null = refl
-
-kind_not_top : (k : Kind) (t : JType) → assignable t (type_of_kind k) ≡ true → is_top t ≡ false
-kind_not_top kind.Int Top e = cc
-kind_not_top kind.Long Top e = cc
-kind_not_top kind.Reference Top e = cc
-kind_not_top k Int e = refl
-kind_not_top k Long e = refl
-kind_not_top k Null e = refl
-kind_not_top k (Ref r) e = refl
-
-narrowed_fits : (arrays : Arrays) (b : Bool) (v : Value) (t : JType) → fits arrays v t ≡ true → fits arrays (narrowed b v) t ≡ true
-narrowed_fits arrays true (value.Int n) Top h = refl
-narrowed_fits arrays true (value.Int n) Int h = refl
-narrowed_fits arrays true (value.Int n) Long h = cc
-narrowed_fits arrays true (value.Int n) Null h = cc
-narrowed_fits arrays true (value.Int n) (Ref r) h = cc
-narrowed_fits arrays true (value.Long n) t h = h
-narrowed_fits arrays true (value.Ref w) t h = h
-narrowed_fits arrays false v t h = h
-
-own_array : (k : ArrayKind) → array_fits k (array_type k) ≡ true
-own_array array.Int = refl
-own_array array.Long = refl
-
-kinds_same : (k l : ArrayKind) → array_fits l (array_type k) ≡ true → same_kind k l ≡ true
-kinds_same array.Int array.Int h = refl
-kinds_same array.Long array.Long h = refl
-kinds_same array.Int array.Long h = cc
-kinds_same array.Long array.Int h = cc
-
--- what fits the type of an array is null or such an array
-abbrev IsArray : Arrays → ArrayKind → RefValue → Type 0
-IsArray arrays k w = (id : ℕ) × (x : Array) × (w ≡ reference.Array id) × (slice_get arrays id ≡ Some x) × (same_kind k x.kind ≡ true)
-
-array_ref : (arrays : Arrays) (k : ArrayKind) (w : RefValue) → ref_fits arrays w (array_type k) ≡ true → (w ≡ reference.Null) ⊎ IsArray arrays k w
-array_ref arrays k reference.Null h = inl refl
-array_ref arrays k (reference.Array id) h = let x = array_is arrays id (array_type k) h in inr (id, x.0, refl, x.1, kinds_same k x.0.kind x.2)
-array_ref arrays array.Int (reference.Long n) h = cc
-array_ref arrays array.Int (reference.Integer n) h = cc
-array_ref arrays array.Int reference.Entry h = cc
-array_ref arrays array.Int reference.This h = cc
-array_ref arrays array.Int reference.Args h = cc
-array_ref arrays array.Long (reference.Long n) h = cc
-array_ref arrays array.Long (reference.Integer n) h = cc
-array_ref arrays array.Long reference.Entry h = cc
-array_ref arrays array.Long reference.This h = cc
-array_ref arrays array.Long reference.Args h = cc
-
-no_objects : (k : ArrayKind) → array_fits k ref.ObjectArray ≡ true → ⊥
-no_objects array.Int h = false≢true h
-no_objects array.Long h = false≢true h
-
-args_ref : (arrays : Arrays) (w : RefValue) → ref_fits arrays w ref.ObjectArray ≡ true → (w ≡ reference.Null) ⊎ (w ≡ reference.Args)
-args_ref arrays reference.Null h = inl refl
-args_ref arrays reference.Args h = inr refl
-args_ref arrays (reference.Array id) h = let x = array_is arrays id ref.ObjectArray h in absurd (no_objects x.0.kind x.2)
-args_ref arrays (reference.Long n) h = cc
-args_ref arrays (reference.Integer n) h = cc
-args_ref arrays reference.Entry h = cc
-args_ref arrays reference.This h = cc
-
-number_is : (arrays : Arrays) (k : ArrayKind) (v : Value) → fits arrays v (element_type k) ≡ true → (n : ℤ) × (number_of k v ≡ Some n)
-number_is arrays array.Int v h = let n = fits_int arrays v h in (n.0, ap (number_of array.Int) n.1)
-number_is arrays array.Long v h = let n = fits_long arrays v h in (n.0, ap (number_of array.Long) n.1)
-
-element_fits : (arrays : Arrays) (k : ArrayKind) (n : ℤ) → fits arrays (element_value k n) (element_type k) ≡ true
-element_fits arrays array.Int n = refl
-element_fits arrays array.Long n = refl
-
-element_not_top : (k : ArrayKind) → is_top (element_type k) ≡ false
-element_not_top array.Int = refl
-element_not_top array.Long = refl
-
-arg_fits : (arrays : Arrays) (x : Arg) → fits arrays (value_of_arg x) (Ref ref.Object) ≡ true
-arg_fits arrays arg.Null = refl
-arg_fits arrays (arg.Long n) = refl
-arg_fits arrays (arg.Integer n) = refl
-
--- the elements of the array of the arguments
-args_element : (arrays : Arrays) (t : JType) → fits arrays (value.Ref reference.Args) t ≡ true → is_top t ≡ false → element_of t ≡ Ref ref.Object
-args_element arrays Top h k = cc
-args_element arrays Int h k = cc
-args_element arrays Long h k = cc
-args_element arrays Null h k = cc
-args_element arrays (Ref r) h k = refl
-
-abbrev IsMeasured : Arrays → Value → Type 0
-IsMeasured arrays v = (v ≡ value.Ref reference.Null) ⊎ (v ≡ value.Ref reference.Args) ⊎ ((id : ℕ) × (x : Array) × (v ≡ value.Ref (reference.Array id)) × (slice_get arrays id ≡ Some x))
-
-array_measured : (arrays : Arrays) (k : ArrayKind) (v : Value) → fits arrays v (Ref (array_type k)) ≡ true → IsMeasured arrays v
-array_measured arrays k v h = let w = fits_ref arrays v (array_type k) h in go w.0 w.1 (array_ref arrays k w.0 w.2)
-  where
-    go : (w : RefValue) → v ≡ value.Ref w → (w ≡ reference.Null) ⊎ IsArray arrays k w → IsMeasured arrays v
-    go w e (inl n) = inl (e ∙ ap (λ x. value.Ref x) n)
-    go w e (inr x) = inr (inr (x.0, x.1, e ∙ ap (λ y. value.Ref y) x.2, x.3))
-
-length_fits : (arrays : Arrays) (v : Value) (t : JType) → fits arrays v t ≡ true → has_length t ≡ true → IsMeasured arrays v
-length_fits arrays v Null h l = inl (fits_null arrays v h)
-length_fits arrays v (Ref ref.IntArray) h l = array_measured arrays array.Int v h
-length_fits arrays v (Ref ref.LongArray) h l = array_measured arrays array.Long v h
-length_fits arrays v (Ref ref.ObjectArray) h l = let w = fits_ref arrays v ref.ObjectArray h in go w.0 w.1 (args_ref arrays w.0 w.2)
-  where
-    go : (w : RefValue) → v ≡ value.Ref w → (w ≡ reference.Null) ⊎ (w ≡ reference.Args) → IsMeasured arrays v
-    go w e (inl n) = inl (e ∙ ap (λ x. value.Ref x) n)
-    go w e (inr n) = inr (inl (e ∙ ap (λ x. value.Ref x) n))
-length_fits arrays v _ h l = cc
-
-cast_fits : (arrays : Arrays) (w : RefValue) (r : RefType) → may_cast arrays w r ≡ true → ref_fits arrays w r ≡ true
-cast_fits arrays reference.Null r h = refl
-cast_fits arrays (reference.Long n) r h = passes_fits arrays (reference.Long n) r h
-cast_fits arrays (reference.Integer n) r h = passes_fits arrays (reference.Integer n) r h
-cast_fits arrays (reference.Array id) r h = passes_fits arrays (reference.Array id) r h
-cast_fits arrays reference.Entry r h = passes_fits arrays reference.Entry r h
-cast_fits arrays reference.This r h = passes_fits arrays reference.This r h
-cast_fits arrays reference.Args r h = passes_fits arrays reference.Args r h
-
-flag_fits : (arrays : Arrays) (b : Bool) → fits arrays (flag b) Int ≡ true
-flag_fits arrays true = refl
-flag_fits arrays false = refl
-
--- ---- a step
-
--- the topmost activation is typed, and its instruction has this outcome
-record IsHere (c : Class) (b : Bounds) (s : State) (a : Activation) (below : List Activation) (m : Method) (p : Placed) (i : Instruction) (g : Frame) : Type 0 where
-  formed : IsFormedButForRoom m
-  here : IsAt c s.arrays m a
-  awaits : AllAwait c s.arrays m.environment.signature.result below
-  budget : HasBudget c b (a ∷ below) s.steps s.words
-  code : instruction_at m a.place ≡ Some p
-  is : p.instruction ≡ i
-  moved : transfer c.view m.environment i here.frame ≡ Some g
-  flow : IsFlow m here.frames p g
+use Rattle.soundness.proofs.StepValues.{HasStack, stack_parts, take_put_parts, pushed_fits, pushed_not_top, kind_not_top, narrowed_fits, own_array, IsArray, array_ref, args_ref, number_is, element_fits, element_not_top, arg_fits, args_element, IsMeasured, length_fits, cast_fits, flag_fits, IsHere}
 
 module _ (c : Class) (b : Bounds) (ok : IsCheckedButForRoom c) (s : State) (a : Activation) (below : List Activation) (m : Method) (p : Placed) where
   abbrev beyond : Activation
@@ -273,8 +107,7 @@ module _ (c : Class) (b : Bounds) (ok : IsCheckedButForRoom c) (s : State) (a : 
       let r : RestOf c (a ∷ below) = (k.0, k.1, has_rest c ok s.arrays m.environment.signature.result below h.awaits) in
       let one = path_steps k.1 in
       let few = h.budget.steps_left r in
-      let few_words = h.budget.words_left r in
-      (omega (arith, one, few), omega (arith, few_words))
+      (omega (arith, one, few), omega (arith, h.budget.words_left r))
 
   throws_safe : (i : Instruction) (g : Frame) (fault : JavaFault) → IsHere c b s a below m p i g → SafeNext c b s.steps s.now.asked s.call (throws s fault)
   throws_safe i g fault h = ends_safe i g (Threw fault) h
@@ -644,7 +477,7 @@ module _ (c : Class) (b : Bounds) (ok : IsCheckedButForRoom c) (s : State) (a : 
           let is : invoke c s beyond below k (Some callee) ≡ reach c s beyond below k callee callee.reached sp.taken sp.below = ap (option_and_then onto) parts ∙ only_if_true _ _ sp.fit in
           subst (SafeNext c b s.steps s.now.asked s.call) (sym is) (reached callee callee.reached (callee_fits c ok k n callee e) (ap own_of e) sp.taken sp.below x.0 x.2 sp.fit sp.rest_fit)
 
-  act_safe : (i : Instruction) (g : Frame) → IsHere c b s a below m p i g → SafeNext c b s.steps s.now.asked s.call (act c s m.environment beyond below i)
+  pub act_safe : (i : Instruction) (g : Frame) → IsHere c b s a below m p i g → SafeNext c b s.steps s.now.asked s.call (act c s m.environment beyond below i)
   act_safe instruction.Nop g h = nop_safe g h
   act_safe (instruction.Push k) g h = push_safe k g h
   act_safe (instruction.Load k n) g h = load_safe k n g h
@@ -665,15 +498,3 @@ module _ (c : Class) (b : Bounds) (ok : IsCheckedButForRoom c) (s : State) (a : 
   act_safe instruction.ArrayLength g h = measure_safe g h
   act_safe (instruction.CheckCast n) g h = cast_safe n g h
   act_safe (instruction.InstanceOf n) g h = ask_safe n g h
-
--- every step from a good state leads to a good state or ends within the bounds
-pub step_safe : (c : Class) (b : Bounds) → IsCheckedButForRoom c → (s : State) → IsGood c b s → SafeNext c b s.steps s.now.asked s.call (step c s)
-step_safe c b ok s h =
-    let m = h.m in
-    let a = h.top in
-    let i = is_inside h.here in
-    let p = i.0 in
-    let o = h.here.typing.outcome a.place p h.here.frame i.1 h.here.stands in
-    let is : step c s ≡ act c s m.environment (with_place a p.next) h.below p.instruction =
-    ap (step_top c s) h.activations ∙ ap (λ y. y >>= λ x. act_at c s x a h.below (instruction_at x a.place)) h.here.member.method ∙ ap (act_at c s m a h.below) i.1 in
-    subst (SafeNext c b s.steps s.now.asked s.call) (sym is) (act_safe c b ok s a h.below m p p.instruction o.0 (record { formed = ok.formed a.method h.here.view m h.here.member; here = h.here; awaits = h.awaits; budget = h.budget; code = i.1; is = refl; moved = o.1; flow = o.2 }))

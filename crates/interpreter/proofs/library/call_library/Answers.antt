@@ -1,5 +1,5 @@
 use Rattle.std.proofs.Common.{subst}
-use Rattle.interpreter.proofs.Replying.{HasShape, library_called, told_called, ints_shape, longs_shape, reference_shape}
+use Rattle.interpreter.proofs.Taking.{HasShape, library_called, told_called, ints_shape, longs_shape, reference_shape}
 use Rattle.interpreter.proofs.library.call_library.Goals as goal
 
 pub call_on_int-requires : goal.call_on_int-requires
