@@ -1,82 +1,56 @@
 //! Strangers' text, so that a terminal takes no harm.
 
-use std::alloc::AllocError;
+use crate::writer::Text;
 
 /// How many bytes of a text are shown at most.
 const SHOWN: usize = 200;
 
-/// The digits of a number by sixteen.
-const DIGITS: &[u8; 16] = b"0123456789abcdef";
-
-fn put_digit(text: &mut String, digit: usize) -> Result<(), AllocError> {
-    match DIGITS.get(digit) {
-        Some(d) => text.push(char::from(*d)),
-        None => Ok(()),
-    }
-}
-
-/// A byte that is no text, as two digits.
-fn put_byte(text: &mut String, byte: u8) -> Result<(), AllocError> {
-    text.push_str("\\x")?;
-    put_digit(text, usize::from(byte / 16))?;
-    put_digit(text, usize::from(byte % 16))
-}
-
 /// A unit of text: itself where it is a letter, a digit or a sign of ASCII, and else as Java writes it in ASCII alone (JLS §3.3).
-fn put_unit(text: &mut String, unit: u16) -> Result<(), AllocError> {
-    if unit >= 0x20 && unit < 0x7F && unit != 0x5C {
-        if let Ok(byte) = u8::try_from(unit) {
-            return text.push(char::from(byte));
-        }
+fn put_unit(text: &mut Text, unit: u16) {
+    match u8::try_from(unit) {
+        Ok(byte @ (0x20..=0x5B | 0x5D..=0x7E)) => text.put_value("", char::from(byte)),
+        _ => text.put_value("\\u", format_args!("{unit:04x}")),
     }
-    text.push_str("\\u")?;
-    put_digit(text, usize::from(unit / 4096))?;
-    put_digit(text, usize::from(unit / 256 % 16))?;
-    put_digit(text, usize::from(unit / 16 % 16))?;
-    put_digit(text, usize::from(unit % 16))
 }
 
 /// The unit of text at the front of bytes, and how many it takes (JVMS §4.4.7); none where they begin otherwise.
 fn unit_of(bytes: &[u8]) -> Option<(u16, usize)> {
-    let first = u16::from(*bytes.first()?);
-    if first < 0x80 {
-        return Some((first, 1));
+    match bytes {
+        [a, ..] if *a < 0x80 => Some((u16::from(*a), 1)),
+        [a, b, ..] if *a / 32 == 6 && *b / 64 == 2 => {
+            Some((u16::from(*a % 32) * 64 + u16::from(*b % 64), 2))
+        }
+        [a, b, c, ..] if *a / 16 == 14 && *b / 64 == 2 && *c / 64 == 2 => {
+            let high = u16::from(*a % 16) * 4096;
+            Some((high + u16::from(*b % 64) * 64 + u16::from(*c % 64), 3))
+        }
+        _ => None,
     }
-    let second = u16::from(*bytes.get(1)?);
-    if second / 64 != 2 {
-        return None;
+}
+
+/// What stands at the front of bytes, a byte that is no text as two digits; answers how many it takes.
+fn put_front(text: &mut Text, bytes: &[u8]) -> usize {
+    if let Some((unit, takes)) = unit_of(bytes) {
+        put_unit(text, unit);
+        return takes;
     }
-    if first / 32 == 6 {
-        return Some((first % 32 * 64 + second % 64, 2));
+    if let Some(byte) = bytes.first() {
+        text.put_value("\\x", format_args!("{byte:02x}"));
     }
-    let third = u16::from(*bytes.get(2)?);
-    if first / 16 == 14 && third / 64 == 2 {
-        return Some((first % 16 * 4096 + second % 64 * 64 + third % 64, 3));
-    }
-    None
+    1
 }
 
 /// A text of a class file. Of a long one the front is shown.
-pub fn put_text(text: &mut String, bytes: &[u8]) -> Result<(), AllocError> {
+pub fn put_text(text: &mut Text, bytes: &[u8]) {
     let shown = bytes.len().min(SHOWN);
     let mut at = 0usize;
     for _ in 0..shown {
         if at >= shown {
             break;
         }
-        match unit_of(&bytes[at..]) {
-            Some((unit, takes)) => {
-                put_unit(text, unit)?;
-                at = at.saturating_add(takes.max(1));
-            }
-            None => {
-                put_byte(text, bytes[at])?;
-                at += 1;
-            }
-        }
+        at = at.saturating_add(put_front(text, &bytes[at..]));
     }
     if at < bytes.len() {
-        text.push_str("..")?;
+        text.put("..");
     }
-    Ok(())
 }

@@ -1,74 +1,80 @@
 //! Constants of the pool, by what they name.
 
 use crate::bytes::put_text;
+use crate::writer::Text;
 use constpool::{Constant, Pool};
-use std::alloc::{AllocError, Global};
 
-fn put_utf8(text: &mut String, pool: &Pool, i: u16) -> Result<(), AllocError> {
-    put_text(text, pool.utf8(i).unwrap_or(&[]))
+/// How a constant is written.
+#[derive(Clone, Copy)]
+enum Shown {
+    Word(&'static str),
+    /// A number, behind this word.
+    Number(&'static str, i64),
+    Utf8(u16),
+    Quoted(u16),
+    /// A name and a descriptor.
+    Pair(u16),
+    /// A member of a class, with this between its name and its descriptor.
+    Member(u16, u16, &'static str),
+}
+
+fn put_utf8(text: &mut Text, pool: &Pool, i: u16) {
+    put_text(text, pool.utf8(i).unwrap_or(&[]));
 }
 
 /// The name of a class or an array type, in its internal form.
-fn put_class(text: &mut String, pool: &Pool, i: u16) -> Result<(), AllocError> {
-    put_text(text, pool.class(i).unwrap_or(&[]))
+pub fn put_class(text: &mut Text, pool: &Pool, i: u16) {
+    put_text(text, pool.class(i).unwrap_or(&[]));
 }
 
 /// A name and a descriptor, with this between them.
-fn put_pair(text: &mut String, pool: &Pool, i: u16, between: &str) -> Result<(), AllocError> {
-    match pool.constant(i) {
-        Some(Constant::NameAndType(name, descriptor)) => {
-            put_utf8(text, pool, *name)?;
-            text.push_str(between)?;
-            put_utf8(text, pool, *descriptor)
-        }
-        _ => Ok(()),
+fn put_pair(text: &mut Text, pool: &Pool, i: u16, between: &str) {
+    if let Some(Constant::NameAndType(name, descriptor)) = pool.constant(i) {
+        put_utf8(text, pool, *name);
+        text.put(between);
+        put_utf8(text, pool, *descriptor);
     }
 }
 
-fn put_member(
-    text: &mut String,
-    pool: &Pool,
-    class: u16,
-    pair: u16,
-    between: &str,
-) -> Result<(), AllocError> {
-    put_class(text, pool, class)?;
-    text.push_str(".")?;
-    put_pair(text, pool, pair, between)
-}
-
-fn put_quoted(text: &mut String, pool: &Pool, i: u16) -> Result<(), AllocError> {
-    text.push_str("\"")?;
-    put_utf8(text, pool, i)?;
-    text.push_str("\"")
+/// How that is written which an index of the pool names.
+fn shown_at(pool: &Pool, i: u16) -> Shown {
+    let Some(constant) = pool.constant(i) else {
+        return Shown::Number("#", i64::from(i));
+    };
+    match constant {
+        Constant::Utf8(_) => Shown::Quoted(i),
+        Constant::Integer(n) => Shown::Number("", i64::from(*n)),
+        Constant::Long(n) => Shown::Number("", *n),
+        Constant::Float(_) => Shown::Word("a float"),
+        Constant::Double(_) => Shown::Word("a double"),
+        Constant::Class(text) | Constant::MethodType(text) => Shown::Utf8(*text),
+        Constant::String(content) => Shown::Quoted(*content),
+        Constant::Fieldref(class, pair) => Shown::Member(*class, *pair, " "),
+        Constant::Methodref(class, pair) | Constant::InterfaceMethodref(class, pair) => {
+            Shown::Member(*class, *pair, "")
+        }
+        Constant::NameAndType(..) => Shown::Pair(i),
+        Constant::MethodHandle(_, member) => Shown::Number("a handle of #", i64::from(*member)),
+        Constant::InvokeDynamic(_, pair) => Shown::Pair(*pair),
+    }
 }
 
 /// What an index of the pool names.
-pub fn put_constant(
-    alloc: Global,
-    text: &mut String,
-    pool: &Pool,
-    i: u16,
-) -> Result<(), AllocError> {
-    match pool.constant(i) {
-        Some(Constant::Utf8(_)) => put_quoted(text, pool, i),
-        Some(Constant::Integer(n)) => text.push_str(format!(in alloc; "{n}")?.as_str()),
-        Some(Constant::Long(n)) => text.push_str(format!(in alloc; "{n}")?.as_str()),
-        Some(Constant::Float(_)) => text.push_str("a float"),
-        Some(Constant::Double(_)) => text.push_str("a double"),
-        Some(Constant::Class(name)) => put_utf8(text, pool, *name),
-        Some(Constant::String(content)) => put_quoted(text, pool, *content),
-        Some(Constant::Fieldref(class, pair)) => put_member(text, pool, *class, *pair, " "),
-        Some(Constant::Methodref(class, pair)) => put_member(text, pool, *class, *pair, ""),
-        Some(Constant::InterfaceMethodref(class, pair)) => {
-            put_member(text, pool, *class, *pair, "")
+pub fn put_constant(text: &mut Text, pool: &Pool, i: u16) {
+    match shown_at(pool, i) {
+        Shown::Word(word) => text.put(word),
+        Shown::Number(before, n) => text.put_value(before, n),
+        Shown::Utf8(i) => put_utf8(text, pool, i),
+        Shown::Quoted(i) => {
+            text.put("\"");
+            put_utf8(text, pool, i);
+            text.put("\"");
         }
-        Some(Constant::NameAndType(..)) => put_pair(text, pool, i, ""),
-        Some(Constant::MethodHandle(_, member)) => {
-            text.push_str(format!(in alloc; "a handle of #{member}")?.as_str())
+        Shown::Pair(i) => put_pair(text, pool, i, ""),
+        Shown::Member(class, pair, between) => {
+            put_class(text, pool, class);
+            text.put(".");
+            put_pair(text, pool, pair, between);
         }
-        Some(Constant::MethodType(descriptor)) => put_utf8(text, pool, *descriptor),
-        Some(Constant::InvokeDynamic(_, pair)) => put_pair(text, pool, *pair, ""),
-        None => text.push_str(format!(in alloc; "#{i}")?.as_str()),
     }
 }

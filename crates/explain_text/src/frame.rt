@@ -3,12 +3,13 @@
 ghost use Rattle.std.specs.Prelude.{IfOk};
 ghost use Rattle.transfer.specs.Transfer.{IsCalleeOf};
 
+use crate::writer::Text;
 use classfile::{ClassFile, CodeParts, contents_named};
 use constpool::names;
-use decode::{Instruction, decode};
+use decode::{Code, Instruction, Placed, decode};
 use frames::{
-    Callee, Environment, Flow, Frames, MemberView, MethodStart, callee_at, method_signature,
-    read_frames,
+    Callee, Declared, Environment, Flow, Frames, MemberView, MethodStart, callee_at,
+    method_signature, read_frames,
 };
 use jtypes::{JType, RefType, Refusal};
 use std::alloc::{AllocError, Global};
@@ -45,11 +46,11 @@ fn type_name(t: JType) -> &'static str {
 }
 
 /// A type behind those that are shown already.
-fn put_next(text: &mut String, count: usize, t: JType) -> Result<(), AllocError> {
+fn put_next(text: &mut Text, count: usize, t: JType) {
     if count > 0 {
-        text.push_str(", ")?;
+        text.put(", ");
     }
-    text.push_str(if count < SHOWN { type_name(t) } else { ".." })
+    text.put(if count < SHOWN { type_name(t) } else { ".." });
 }
 
 /// One more than the number of the last local that has a type.
@@ -65,34 +66,32 @@ fn used_locals(flow: &Flow, max: usize) -> usize {
 }
 
 /// The locals, of which a long is one.
-fn put_locals(text: &mut String, flow: &Flow, max: usize) -> Result<(), AllocError> {
+fn put_locals(text: &mut Text, flow: &Flow, max: usize) {
     let mut is_second = false;
     let mut count = 0usize;
     for n in 0..used_locals(flow, max) {
         let t = flow.locals.get(n).unwrap_or(JType::Top);
         if !is_second && count <= SHOWN {
-            put_next(text, count, t)?;
+            put_next(text, count, t);
             count += 1;
         }
         is_second = !is_second && t == JType::Long;
     }
     if count == 0 {
-        text.push_str("none")?;
+        text.put("none");
     }
-    Ok(())
 }
 
 /// The operands, the top last.
-fn put_operands(text: &mut String, flow: &Flow) -> Result<(), AllocError> {
+fn put_operands(text: &mut Text, flow: &Flow) {
     let count = flow.stack.len();
     if count == 0 {
-        return text.push_str("none");
+        text.put("none");
     }
     for i in 0..count.min(SHOWN + 1) {
         let t = flow.stack.peek(count - 1 - i).unwrap_or(JType::Top);
-        put_next(text, i, t)?;
+        put_next(text, i, t);
     }
-    Ok(())
 }
 
 /// The start of a method with these parts; none where its descriptor isn't of the profile, or its parameters have no room.
@@ -130,74 +129,120 @@ fn callee_of(
     }
 }
 
-/// The flow into the instruction at a place of a method; none where none leads there.
-fn flow_at(
+/// The frames that a method's tables declare, and its first.
+fn frames_of(
     alloc: Global,
     class: &ClassFile,
-    number: usize,
     parts: &CodeParts,
+    start: &MethodStart,
+    code: &Code,
+) -> Result<Frames, Refusal> {
+    let attributes = parts.attributes.as_slice();
+    let tables = contents_named(alloc, &class.pool, names::STACK_MAP_TABLE, attributes)?;
+    read_frames(alloc, start, &tables, code, &class.view())
+}
+
+/// Makes the flow what is declared, if it is declared for this place; answers whether it is.
+fn enter(
+    alloc: Global,
+    flow: &mut Flow,
+    declared: Option<&Declared>,
     place: usize,
-) -> Result<Option<Flow>, Refusal> {
-    let Some(start) = start_of(alloc, class, number, parts)? else {
-        return Ok(None);
+) -> Result<bool, AllocError> {
+    let Some(d) = declared else {
+        return Ok(false);
     };
+    if d.place != place || d.row >= flow.locals.kept_len() {
+        return Ok(false);
+    }
+    flow.stack = d.stack.copy(alloc)?;
+    flow.locals.enter(d.row);
+    Ok(true)
+}
+
+/// Makes the flow into an instruction that out of it; false where none leads on.
+fn step(
+    alloc: Global,
+    start: &MethodStart,
+    members: &MemberView<'_>,
+    instruction: &Instruction,
+    flow: &mut Flow,
+) -> Result<bool, AllocError> {
+    let callee = callee_of(alloc, members, instruction)?;
+    apply(
+        instruction,
+        start.environment(),
+        members,
+        callee.as_ref(),
+        flow,
+    )
+}
+
+/// Makes a method's first flow that into the instruction at a place; false where none leads there.
+fn advance(
+    alloc: Global,
+    class: &ClassFile,
+    start: &MethodStart,
+    code: &[Placed],
+    frames: &mut Frames,
+    place: usize,
+) -> Result<bool, AllocError> {
     let members = MemberView::new(alloc, class)?;
-    let tables = contents_named(
-        alloc,
-        &class.pool,
-        names::STACK_MAP_TABLE,
-        parts.attributes.as_slice(),
-    )?;
-    let code = decode(alloc, parts.code.as_slice(), &class.pool)?;
-    let frames = read_frames(alloc, &start, &tables, &code, &class.view())?;
-    let Frames {
-        declared,
-        first: mut flow,
-    } = frames;
     let mut next = 0usize;
-    for p in code.as_slice() {
-        if let Some(d) = declared.get(next) {
-            if d.place == p.place && d.row < flow.locals.kept_len() {
-                flow.stack = d.stack.copy(alloc)?;
-                flow.locals.enter(d.row);
-                next += 1;
-            }
+    for p in code {
+        if enter(alloc, &mut frames.first, frames.declared.get(next), p.place)? {
+            next = next.saturating_add(1);
         }
         if p.place == place {
-            return Ok(Some(flow));
+            return Ok(true);
         }
-        let callee = callee_of(alloc, &members, &p.instruction)?;
-        if !apply(
-            &p.instruction,
-            start.environment(),
-            &members,
-            callee.as_ref(),
-            &mut flow,
-        )? {
-            return Ok(None);
+        if !step(alloc, start, &members, &p.instruction, &mut frames.first)? {
+            return Ok(false);
         }
     }
-    Ok(None)
+    Ok(false)
+}
+
+/// Two lines: the locals and the operands of a flow.
+fn put_flow(text: &mut Text, flow: &Flow, max_locals: u16) {
+    text.put("locals ");
+    put_locals(text, flow, usize::from(max_locals));
+    text.put("\noperands ");
+    put_operands(text, flow);
+    text.put("\n");
+}
+
+/// The lines of the flow into the instruction at a place of a method with this start, where one leads there.
+fn put_flow_at(
+    alloc: Global,
+    text: &mut Text,
+    class: &ClassFile,
+    parts: &CodeParts,
+    start: &MethodStart,
+    place: usize,
+) {
+    let Some(code) = text.accepted(decode(alloc, parts.code.as_slice(), &class.pool)) else {
+        return;
+    };
+    let Some(mut frames) = text.accepted(frames_of(alloc, class, parts, start, &code)) else {
+        return;
+    };
+    let leads = advance(alloc, class, start, code.as_slice(), &mut frames, place);
+    if let Some(true) = text.known(leads) {
+        put_flow(text, &frames.first, parts.max_locals);
+    }
 }
 
 /// Two lines: the locals and the operands before the instruction at a place, where a flow leads there.
 pub fn put_frame(
     alloc: Global,
-    text: &mut String,
+    text: &mut Text,
     class: &ClassFile,
     number: usize,
     parts: &CodeParts,
     place: usize,
-) -> Result<(), AllocError> {
-    match flow_at(alloc, class, number, parts, place) {
-        Ok(Some(flow)) => {
-            text.push_str("locals ")?;
-            put_locals(text, &flow, usize::from(parts.max_locals))?;
-            text.push_str("\noperands ")?;
-            put_operands(text, &flow)?;
-            text.push_str("\n")
-        }
-        Err(Refusal::NoMemory) => Err(AllocError),
-        _ => Ok(()),
+) {
+    if let Some(Some(start)) = text.known(start_of(alloc, class, number, parts)) {
+        put_flow_at(alloc, text, class, parts, &start, place);
     }
 }

@@ -1,9 +1,9 @@
 //! Types and methods as Java's source has them.
 
 use crate::bytes::put_text;
+use crate::writer::Text;
 use classfile::{ClassFile, Member};
 use constpool::{names, same_bytes};
-use std::alloc::AllocError;
 
 /// ACC_VARARGS (JVMS §4.6).
 const VARARGS: u16 = 0x0080;
@@ -22,19 +22,30 @@ fn behind_last(name: &[u8], byte: u8) -> &[u8] {
     rest
 }
 
+/// What stands before the first of these bytes, and what stands behind it; none where there is none.
+fn parted(bytes: &[u8], byte: u8) -> Option<(&[u8], &[u8])> {
+    for (at, b) in bytes.iter().enumerate() {
+        if *b == byte {
+            return Some((&bytes[..at], &bytes[at + 1..]));
+        }
+    }
+    None
+}
+
 /// The simple name of a class, with those of the classes around it.
-pub fn put_simple(text: &mut String, name: &[u8]) -> Result<(), AllocError> {
+pub fn put_simple(text: &mut Text, name: &[u8]) {
     let mut rest = behind_last(name, b'/');
     for _ in 0..name.len() {
-        let at = match rest.iter().position(|b| *b == b'$') {
-            Some(at) if at > 0 && at < rest.len() && at + 1 < rest.len() => at,
+        match parted(rest, b'$') {
+            Some((front, behind)) if !front.is_empty() && !behind.is_empty() => {
+                put_text(text, front);
+                text.put(".");
+                rest = behind;
+            }
             _ => break,
-        };
-        put_text(text, &rest[..at])?;
-        text.push_str(".")?;
-        rest = &rest[at + 1..];
+        }
     }
-    put_text(text, rest)
+    put_text(text, rest);
 }
 
 fn primitive(tag: u8) -> Option<&'static str> {
@@ -53,127 +64,130 @@ fn primitive(tag: u8) -> Option<&'static str> {
 }
 
 /// A type that is no array at the front of a descriptor, and what stands behind it; none where the bytes begin otherwise.
-fn put_element<'a>(text: &mut String, bytes: &'a [u8]) -> Result<Option<&'a [u8]>, AllocError> {
-    let Some((tag, behind)) = bytes.split_first() else {
-        return Ok(None);
+fn put_element<'a>(text: &mut Text, bytes: &'a [u8]) -> Option<&'a [u8]> {
+    let [tag, behind @ ..] = bytes else {
+        return None;
     };
     if let Some(name) = primitive(*tag) {
-        text.push_str(name)?;
-        return Ok(Some(behind));
+        text.put(name);
+        return Some(behind);
     }
     if *tag != b'L' {
-        return Ok(None);
+        return None;
     }
-    match behind.iter().position(|b| *b == b';') {
-        Some(end) if end < behind.len() => {
-            put_simple(text, &behind[..end])?;
-            Ok(Some(&behind[end + 1..]))
+    match parted(behind, b';') {
+        Some((name, rest)) => {
+            put_simple(text, name);
+            Some(rest)
         }
-        _ => Ok(None),
+        None => None,
     }
 }
 
-/// How many bytes of `[` stand in front.
-fn dimensions(bytes: &[u8]) -> usize {
-    match bytes.iter().position(|b| *b != b'[') {
-        Some(count) => count,
-        None => bytes.len(),
+/// How many bytes of `[` stand in front, and what stands behind them.
+fn dimensions(bytes: &[u8]) -> (usize, &[u8]) {
+    for (at, b) in bytes.iter().enumerate() {
+        if *b != b'[' {
+            return (at, &bytes[at..]);
+        }
     }
+    (bytes.len(), &[])
 }
 
 /// A type at the front of a descriptor (JVMS §4.3.2), and what stands behind it. The last brackets are dots where `dots` says so.
-fn put_type<'a>(
-    text: &mut String,
-    bytes: &'a [u8],
-    dots: bool,
-) -> Result<Option<&'a [u8]>, AllocError> {
-    let count = dimensions(bytes).min(bytes.len());
-    let Some(behind) = put_element(text, &bytes[count..])? else {
-        return Ok(None);
+fn put_type<'a>(text: &mut Text, bytes: &'a [u8], dots: bool) -> Option<&'a [u8]> {
+    let (count, element) = dimensions(bytes);
+    let Some(behind) = put_element(text, element) else {
+        return None;
     };
-    for i in 0..count {
-        let is_last = i + 1 == count;
-        text.push_str(if dots && is_last { "..." } else { "[]" })?;
+    for _ in 1..count {
+        text.put("[]");
     }
-    Ok(Some(behind))
+    if count > 0 {
+        text.put(if dots { "..." } else { "[]" });
+    }
+    Some(behind)
 }
 
 /// Whether what stands behind the first type of these is the end of the parameters.
 fn is_last(bytes: &[u8]) -> bool {
-    let rest = &bytes[dimensions(bytes).min(bytes.len())..];
-    let end = if rest.first() == Some(&b'L') {
-        rest.iter().position(|b| *b == b';')
-    } else {
-        Some(0)
-    };
-    match end {
-        Some(at) => at + 1 < rest.len() && rest[at + 1] == b')',
-        None => false,
+    match dimensions(bytes).1 {
+        [b'L', name @ ..] => matches!(parted(name, b';'), Some((_, [b')', ..]))),
+        [_, b')', ..] => true,
+        _ => false,
     }
+}
+
+/// A parameter behind so many others, and what stands behind it; none where the bytes begin otherwise.
+fn put_parameter<'a>(
+    text: &mut Text,
+    bytes: &'a [u8],
+    others: u32,
+    has_dots: bool,
+) -> Option<&'a [u8]> {
+    if others > 0 {
+        text.put(", ");
+    }
+    put_type(text, bytes, has_dots && is_last(bytes))
+}
+
+/// The parameters of a method's descriptor behind their opening parenthesis; false where it is none.
+fn put_list(text: &mut Text, bytes: &[u8], has_dots: bool) -> bool {
+    let mut rest = bytes;
+    for count in 0..SHOWN {
+        if let [b')', ..] = rest {
+            text.put(")");
+            return true;
+        }
+        match put_parameter(text, rest, count, has_dots) {
+            Some(next) => rest = next,
+            None => return false,
+        }
+    }
+    text.put(if let [b')', ..] = rest { ")" } else { ", ..)" });
+    true
 }
 
 /// The parameters of a method's descriptor (JVMS §4.3.3), in their parentheses; false where it is none.
-fn put_parameters(
-    text: &mut String,
-    descriptor: &[u8],
-    has_dots: bool,
-) -> Result<bool, AllocError> {
-    let Some((open, behind)) = descriptor.split_first() else {
-        return Ok(false);
-    };
-    if *open != b'(' {
-        return Ok(false);
+fn put_parameters(text: &mut Text, descriptor: &[u8], has_dots: bool) -> bool {
+    match descriptor {
+        [b'(', behind @ ..] => {
+            text.put("(");
+            put_list(text, behind, has_dots)
+        }
+        _ => false,
     }
-    text.push_str("(")?;
-    let mut rest = behind;
-    let mut count = 0u32;
-    for _ in 0..descriptor.len() {
-        if rest.first() == Some(&b')') {
-            text.push_str(")")?;
-            return Ok(true);
-        }
-        if count > 0 {
-            text.push_str(", ")?;
-        }
-        if count >= SHOWN {
-            text.push_str("..)")?;
-            return Ok(true);
-        }
-        count = count.saturating_add(1);
-        match put_type(text, rest, has_dots && is_last(rest))? {
-            Some(next) => rest = next,
-            None => return Ok(false),
-        }
-    }
-    Ok(false)
 }
 
 /// The result of a method's descriptor, and a space.
-fn put_result(text: &mut String, descriptor: &[u8]) -> Result<(), AllocError> {
+fn put_result(text: &mut Text, descriptor: &[u8]) {
     let result = behind_last(descriptor, b')');
-    if result.len() < descriptor.len() && put_type(text, result, false)?.is_some() {
-        text.push_str(" ")?;
+    if result.len() < descriptor.len() && put_type(text, result, false).is_some() {
+        text.put(" ");
     }
-    Ok(())
+}
+
+/// A method's result and its name, and of a constructor the name of its class.
+fn put_head(text: &mut Text, class: &ClassFile, name: &[u8], descriptor: &[u8]) {
+    if same_bytes(name, names::INIT) {
+        put_simple(text, class.view().name());
+    } else {
+        put_result(text, descriptor);
+        put_text(text, name);
+    }
 }
 
 /// A method's result, its name and its parameters. A descriptor that is none is shown as it is.
-pub fn put_method(text: &mut String, class: &ClassFile, method: &Member) -> Result<(), AllocError> {
+pub fn put_method(text: &mut Text, class: &ClassFile, method: &Member) {
     let name = class.method_name(method);
-    let descriptor = class.method_descriptor(method);
     if same_bytes(name, names::CLINIT) {
-        return text.push_str("static {}");
+        text.put("static {}");
+        return;
     }
-    if same_bytes(name, names::INIT) {
-        put_simple(text, class.view().name())?;
-    } else {
-        put_result(text, descriptor)?;
-        put_text(text, name)?;
+    let descriptor = class.method_descriptor(method);
+    put_head(text, class, name, descriptor);
+    if !put_parameters(text, descriptor, method.flags / VARARGS % 2 == 1) {
+        text.put(" ");
+        put_text(text, descriptor);
     }
-    let has_dots = method.flags / VARARGS % 2 == 1;
-    if !put_parameters(text, descriptor, has_dots)? {
-        text.push_str(" ")?;
-        put_text(text, descriptor)?;
-    }
-    Ok(())
 }

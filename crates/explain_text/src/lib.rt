@@ -14,6 +14,7 @@ mod spots;
 mod switches;
 mod table;
 mod text;
+mod writer;
 
 pub use page::{refusal_of, report};
 pub use text::{explanation, write_explanation};

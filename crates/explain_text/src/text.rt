@@ -3,7 +3,8 @@
 ghost use Rattle.std.specs.Prelude.{◌≡◌, IfOk, string_bytes};
 ghost use Rattle.explain_text.specs.Texts.{IsText, IsWritten, first_word};
 
-use crate::page::{refusal_of, report};
+use crate::page::{put_report, put_takes, refusal_of};
+use crate::writer::Text;
 use explain::{Explained, explain};
 use std::alloc::{AllocError, Global};
 
@@ -18,19 +19,22 @@ fn first_word(explained: &Explained) -> &'static str
 }
 
 /// The rest of the verdict's line.
-fn verdict_line(alloc: Global, explained: &Explained) -> Result<String, AllocError> {
+fn put_verdict(text: &mut Text, explained: &Explained) {
     if let Explained::Accepted { bounds, methods: _ } = explained {
-        let (steps, words) = (bounds.steps, bounds.words);
-        let (slots, depth) = (bounds.slots, bounds.depth);
-        return format!(in alloc; "steps={steps} words={words} slots={slots} depth={depth}\n");
+        put_takes(text, bounds.steps, bounds.words, bounds.slots, bounds.depth);
+    } else if let Some(refusal) = refusal_of(explained) {
+        text.put_value("", refusal.number());
+        text.put_value(" ", refusal);
+        text.put("\n");
     }
-    match refusal_of(explained) {
-        Some(refusal) => {
-            let number = refusal.number();
-            format!(in alloc; "{number} {refusal}\n")
-        }
-        None => Err(AllocError),
-    }
+}
+
+/// What is printed behind the first word.
+fn behind_word(alloc: Global, bytes: &[u8], explained: &Explained) -> Result<String, AllocError> {
+    let mut text = Text::new(alloc);
+    put_verdict(&mut text, explained);
+    put_report(alloc, &mut text, bytes, explained);
+    text.finish()
 }
 
 /// What `jentry explain` prints of the bytes of a class: the line of its verdict, and the report behind it.
@@ -38,9 +42,9 @@ pub fn explanation(alloc: Global, bytes: &[u8]) -> Result<String, AllocError>
     ensures { IfOk result (λ text. IsText bytes.now (string_bytes text)) }
 {
     let explained = explain(alloc, bytes)?;
+    let behind = behind_word(alloc, bytes, &explained)?;
     let mut text = String::from_str(alloc, first_word(&explained))?;
-    text.push_str(verdict_line(alloc, &explained)?.as_str())?;
-    text.push_str(report(alloc, bytes, &explained)?.as_str())?;
+    text.push_str(behind.as_str())?;
     Ok(text)
 }
 
