@@ -12,6 +12,9 @@ from xml.etree import ElementTree
 
 from page import TOP, text_of
 
+sys.path.insert(0, os.path.join(TOP, "bench"))
+import measure
+
 FIGURES = "series\tx\tmedian\tleast\tgreatest\nfirst\t1\t2.5\t2\t3\nfirst\t4\t1.5\t1\t2\nsecond\t1\t7\t6\t8\nsecond\t4\t5\t4\t6\n"
 BENCH = os.environ.get("BENCH_PROGRAM", "")
 
@@ -45,12 +48,15 @@ class Plots(unittest.TestCase):
                 self.assertLessEqual({"first", "second"}, set(texts_of(path.replace(".tsv", ".svg"))), name)
 
     def test_tables_of_the_page_are_the_figures(self):
-        """Each figure of clients.tsv is in a cell of the page."""
+        """Each figure of the files beside the plots is in a cell of the page."""
         page = text_of("docs/PERFORMANCE.md")
-        for line in text_of("docs/plots/clients.tsv").strip().split("\n")[1:]:
-            _, _, *figures = line.split("\t")
-            median, least, greatest = (f"{float(it):,.0f}" for it in figures)
-            self.assertIn(f"{median} ({least} to {greatest})", page)
+        for path in glob.glob(os.path.join(TOP, "docs/plots/*.tsv")):
+            with open(path, encoding="utf-8") as it:
+                rows = [line.split("\t") for line in it.read().strip().split("\n")[1:]]
+            self.assertTrue(rows)
+            for series, x, *figures in rows:
+                with self.subTest(figures=os.path.basename(path), series=series, x=x):
+                    self.assertIn(f"| {measure.cell((series, x, *map(float, figures)))} |", page)
 
     @unittest.skipUnless(os.access(BENCH, os.X_OK), "BENCH_PROGRAM names no bench (bin/bench makes one)")
     def test_measures_are_written(self):
