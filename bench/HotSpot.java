@@ -4,8 +4,9 @@ import javax.cache.processor.EntryProcessor;
 import javax.cache.processor.MutableEntry;
 
 /**
- * Nanoseconds of one call of a processor on a JVM, in the fastest of many short rounds. The words are those of `bench run`: the class
- * file, the number of calls in a round, the key, the value (`none`: there is none) and the arguments.
+ * Measures the nanoseconds of one call of a processor on a JVM, in the fastest of many short rounds. The arguments are those of
+ * `bench run`: the class file, the number of calls in a round, the key, the value (`none` for no entry) and the arguments of the
+ * processor.
  */
 public class HotSpot {
     private static final int ROUNDS = 41;

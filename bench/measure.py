@@ -1,12 +1,12 @@
 #!/usr/bin/env python3
-"""Measures the built programs: runs beside HotSpot, verdicts, calls on a cache, rounds by workers.
+"""Measures the built programs: runs compared with HotSpot, verdicts, calls on a cache, rounds by workers.
 
 usage: measure.py PROGRAM [--tries N] [--out FOLDER] [WORD..]
 
-PROGRAM is the built `bench`. WORDs are runs, verdicts, calls and rounds; without any all four are measured. What is compared is measured by turns, N
-times each (5 where it isn't given). A table in Markdown is printed for each, with the median of the tries and, in brackets, the least and the greatest;
-the same goes into FOLDER (bench/out) as NAME.tsv, from which bench/plot.py makes plots. machine.tsv there says on what. With 5 tries it takes some ten
-minutes. HotSpot is measured where there are java and javac.
+PROGRAM is the built `bench`. WORDs are runs, verdicts, calls and rounds; by default all four are measured. The figures of a WORD are measured in
+turn, N times each (by default 5). For each WORD a table in Markdown is printed, with the median of the tries and, in brackets, the minimum and the
+maximum. The same figures go into FOLDER (bench/out) as NAME.tsv, from which bench/plot.py makes plots. machine.tsv there describes the machine. 5
+tries take some ten minutes. HotSpot is measured if java and javac are installed.
 """
 import argparse
 import datetime
@@ -25,7 +25,7 @@ import row_classes
 QUIET, EXCLUDE = "-XX:CompileCommand=quiet", "-XX:CompileCommand=exclude,"
 HEAD = ("series", "x", "median", "least", "greatest")
 
-# The class file, and the key, the value and the arguments of its runs.
+# The class files, and the key, the value and the arguments of their runs.
 PROCESSORS = [
     ("examples/Plus.class", ["7", "41"]),
     ("examples/Add.class", ["7", "41", "1"]),
@@ -56,17 +56,17 @@ def name_of(file):
 
 
 class Measure:
-    """Figures by series and x, each measured several times by turns."""
+    """Figures by series and x, all of them measured in turn and several times."""
 
     def __init__(self, tries):
         self.tries, self.asked = tries, []
 
     def ask(self, series, x, figure):
-        """Has a figure, which is a function, measured for this series at this x."""
+        """Adds a figure for this series at this x. `figure` is the function that measures it."""
         self.asked.append((series, x, figure))
 
     def rows(self):
-        """The median, the least and the greatest of the tries, in the order in which they were asked for."""
+        """Measures all figures. Returns the median, the minimum and the maximum of the tries, in the order in which the figures were added."""
         seen = {(series, x): [] for series, x, _ in self.asked}
         for _ in range(self.tries):
             for series, x, figure in self.asked:
@@ -75,7 +75,7 @@ class Measure:
 
 
 def compile_for_java(folder):
-    """Whether the harness for HotSpot could be compiled into a folder."""
+    """Compiles the harness for HotSpot into a folder. Returns whether that succeeded."""
     if not (shutil.which("java") and shutil.which("javac")):
         return False
     words = ["javac", "-nowarn", "-Xlint:-options", "-sourcepath", "examples/api", "-d", folder, "bench/HotSpot.java"]
@@ -83,7 +83,7 @@ def compile_for_java(folder):
 
 
 def on_hotspot(folder, file, words, excluded):
-    """Nanoseconds of a call on HotSpot, with the class excluded from compilation or not."""
+    """Returns the nanoseconds of a call on HotSpot, with the class excluded from compilation or not."""
     options = [QUIET, f"{EXCLUDE}*.process", f"{EXCLUDE}{name_of(file)}.*"] if excluded else []
     count = "2000" if excluded else "50000"
     return number(r"at least ([\d.]+) ns", printed(["java", *options, "-cp", folder, "HotSpot", file, count, *words]))
@@ -109,7 +109,7 @@ def measure_runs(program, folder, measure):
 
 
 def straight(size):
-    """A class of about so many bytes: a row of additions."""
+    """Returns a class of about `size` bytes: a sequence of additions."""
     code = b"\x04" + b"\x04\x60" * ((size - 700) // 2) + b"\x85\xb8\0\x29\xb0"
     return row_classes.class_of(row_classes.process(2, 3, code))
 
@@ -185,7 +185,7 @@ def write(path, rows):
 
 
 def machine(tries):
-    """On what is measured, and when."""
+    """Returns the machine, the commit and the date of a measurement."""
     with open("/proc/cpuinfo", encoding="utf-8") as it:
         names = re.findall(r"model name\s*: (.*)", it.read())
     commit = subprocess.run(

@@ -1,10 +1,10 @@
 #!/usr/bin/env python3
-"""Makes plots of the figures that bench/measure.py wrote, by gnuplot (apt-get install gnuplot-nox).
+"""Makes plots of the figures that bench/measure.py wrote, with gnuplot (apt-get install gnuplot-nox).
 
 usage: plot.py [--out FOLDER] FIGURES.tsv..
 
-FIGURES.tsv are files named runs, verdicts, calls, rounds or clients, with the columns series, x, median, least and greatest. Each makes FOLDER/NAME.svg
-(docs/plots). The plot has the checksum of its figures, which a test compares.
+FIGURES.tsv are files named runs, verdicts, calls, rounds or clients, with the columns series, x, median, least and greatest. Each makes a plot
+FOLDER/NAME.svg, by default in docs/plots. The plot contains the checksum of its figures, which a test compares.
 """
 import argparse
 import hashlib
@@ -17,7 +17,7 @@ import sys
 TOP = os.path.dirname(os.path.dirname(os.path.abspath(__file__)))
 COLOURS = ("#0072b2", "#d55e00", "#009e73", "#cc79a7", "#e69f00", "#56b4e9", "#000000", "#999999")
 
-# The title, what the axes say, and gnuplot's settings.
+# The title of each plot, the labels of its axes, and gnuplot's settings.
 PLOTS = {
     "runs": ("A run beside HotSpot", "processor (instructions of a run)", "ns an instruction", "set logscale y"),
     "verdicts": ("A verdict by the size of the class", "bytes of the class file", "us", "set logscale xy"),
@@ -43,7 +43,7 @@ PLOTS = {
 
 
 def read(path):
-    """The rows of a file of figures: series, x, median, least, greatest."""
+    """Returns the rows of a file of figures: series, x, median, least, greatest."""
     with open(path, encoding="utf-8") as it:
         lines = [line.rstrip("\n").split("\t") for line in it if line.strip()]
     if lines[0] != ["series", "x", "median", "least", "greatest"]:
@@ -64,7 +64,7 @@ def block(name, rows):
 
 
 def bars(rows):
-    """Bars side by side for each x, with their spread."""
+    """Returns gnuplot's commands for bars side by side at each x, with their spread."""
     xs, names = list(dict.fromkeys(it[1] for it in rows)), list(dict.fromkeys(it[0] for it in rows))
     width = 0.8 / len(names)
     text, parts = "", []
@@ -86,7 +86,7 @@ def bars(rows):
 
 
 def lines(rows):
-    """A line for each series, with the spread of each point."""
+    """Returns gnuplot's commands for a line for each series, with the spread of each point."""
     text, parts = "", []
     for at, name in enumerate(dict.fromkeys(it[0] for it in rows)):
         text += block(f"d{at}", [(float(x), *rest) for series, x, *rest in rows if series == name])
@@ -98,7 +98,7 @@ def lines(rows):
 
 
 def plot(path, folder):
-    """Makes the plot of a file of figures, and answers its path."""
+    """Makes the plot of a file of figures. Returns its path."""
     name = os.path.basename(path).rpartition(".")[0]
     if name not in PLOTS:
         sys.exit(f"plot: no plot is called {name}")

@@ -1,22 +1,23 @@
-"""How far a build is: the crates that are proved, and an estimate of the time that is left."""
+"""The progress of a build: the crates that are proved, and an estimate of the time left."""
 import sys
 import threading
 import time
 
 BUSY = 0.72
-"""The part of the processors that a build from nothing keeps busy, as seen on four."""
+"""The part of the processors that a build from nothing keeps busy, measured on four."""
 SPEED = 1.5
-"""The processors that one crate's proof uses, as seen with four jobs."""
+"""The number of processors that one crate's proof uses, measured with four jobs."""
 CREDIT = 0.9
-"""The most of a crate's weight that counts as done while it runs."""
+"""The maximum part of a crate's weight that counts as done while its proof runs."""
 SETTLING = 60
-"""Seconds for which the measured seconds count as seen, so that one quick crate doesn't set the pace."""
+"""Seconds at the estimated pace that count as passed from the start, so that one quick crate doesn't set the pace."""
 TICK = 2
-"""Seconds between two lines on a terminal."""
+"""Seconds between two updates of the line on a terminal."""
 
 
 def chains(below, weights):
-    """For each crate, what the longest chain takes that begins with it and goes on with crates above. `below` names all crates below each."""
+    """Returns for each crate the weight of the longest chain that begins with it and goes up. `below` has the names of all crates below each
+    crate."""
     longest = {}
     for name in sorted(below, key=lambda it: -len(below[it])):
         above = [longest[it] for it in longest if name in below[it]]
@@ -25,19 +26,20 @@ def chains(below, weights):
 
 
 class Estimate:
-    """The time that proofs are likely to take: by measured seconds at first, and then by the pace of this run."""
+    """Estimates the time of the proofs: first by measured seconds, and then by the pace of this run."""
 
     def __init__(self, below, weights, processors):
         self.below, self.weights, self.processors = below, weights, processors
         self.whole = self.least(weights)
 
     def least(self, weights):
-        """Seconds by the clock for these processor seconds, as all processors allow and as the longest chain does."""
+        """Returns the elapsed seconds for these processor seconds: the larger of the time for all processors and the time for the longest chain."""
         chain = max(chains(self.below, weights).values(), default=0)
         return max(sum(weights.values()) / (BUSY * self.processors), chain / SPEED)
 
     def left(self, passed, done, running):
-        """Seconds that are left after some have passed, by the names of the crates that are done, and of those that run with the seconds for which they do."""
+        """Returns the seconds left after `passed` seconds. `done` has the names of the finished crates, and `running` the seconds of each one that
+        runs."""
         weights = {name: 0 if name in done else weight for name, weight in self.weights.items()}
         for name, since in running.items():
             weights[name] -= min(since * SPEED, CREDIT * weights[name])
@@ -57,7 +59,7 @@ def in_words(seconds):
 
 
 class Progress:
-    """Lines on standard error: on a terminal one line that moves on, elsewhere a line for each crate that is proved."""
+    """Shows the progress on standard error: on a terminal in one line that is updated, else in a line for each proved crate."""
 
     def __init__(self, name, estimate):
         self.name, self.estimate, self.done, self.running = name, estimate, set(), {}

@@ -1,4 +1,4 @@
-"""What several of the commands beside it share: the repository's places, its scripts as modules, and the releases that CHANGELOG.md lists."""
+"""Shared by several commands in this folder: the repository's paths, its scripts as modules, and the releases in CHANGELOG.md."""
 import hashlib
 import importlib.machinery
 import importlib.util
@@ -21,7 +21,7 @@ sys.dont_write_bytecode = True
 
 
 def load_script(name):
-    """A command beside this file as a module."""
+    """Loads a command in this folder as a module."""
     loader = importlib.machinery.SourceFileLoader(f"repository_{name}", f"{TOP}/bin/{name}")
     made = importlib.util.module_from_spec(importlib.util.spec_from_loader(loader.name, loader))
     loader.exec_module(made)
@@ -29,7 +29,7 @@ def load_script(name):
 
 
 def kit_folder():
-    """The folder of the kit on PATH, or None where there is none."""
+    """Returns the folder of the kit on PATH, or None."""
     ours = os.path.realpath(f"{TOP}/bin/rt")
     for folder in os.environ.get("PATH", "").split(os.pathsep):
         found = shutil.which("rt", path=folder)
@@ -39,7 +39,7 @@ def kit_folder():
 
 
 def text_of(file):
-    """The text of a file, empty where there is no such file."""
+    """Returns the text of a file, empty if there is no such file."""
     try:
         with open(file, encoding="utf-8", errors="replace") as it:
             return it.read()
@@ -48,13 +48,13 @@ def text_of(file):
 
 
 def sum_of(file):
-    """The sha256 of a file, in hexadecimal digits."""
+    """Returns the sha256 of a file in hexadecimal."""
     with open(file, "rb") as it:
         return hashlib.sha256(it.read()).hexdigest()
 
 
 def newest_release(changelog):
-    """The version of the newest release in the text of a changelog and the sha256 of its program, or None where it lists no release that was built."""
+    """Returns the version of the newest built release in the text of a changelog and the sha256 of its program, or None."""
     for version, section in RELEASE.findall(changelog):
         found = SUM.search(section)
         if found:
@@ -63,7 +63,7 @@ def newest_release(changelog):
 
 
 def compare_with_release(program, changelog):
-    """Words that say whether a program is that of the newest release."""
+    """Returns words that say whether a program is that of the newest release."""
     newest = newest_release(changelog)
     if newest is None:
         return "CHANGELOG.md lists no built release to compare it with"

@@ -1,4 +1,4 @@
-/* For bin/starve: refuses one growth of memory, the one whose number STARVE says, and tells how many there were. */
+/* For bin/starve: refuses one growth of memory, the one whose number is in STARVE, and prints the number of growths at the end. */
 #define _GNU_SOURCE
 #include <dlfcn.h>
 #include <errno.h>

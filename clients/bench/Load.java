@@ -13,10 +13,10 @@ import javax.cache.Caching;
 import javax.cache.configuration.MutableConfiguration;
 
 /**
- * How many calls a second the threads of one JVM make, each of which adds 1 to one of 1,024 keys.
+ * Measures how many calls a second the threads of one JVM make. Each call adds 1 to one of 1,024 keys.
  *
- * Load THREADS SECONDS jentry URI: by the provider. Load THREADS SECONDS incrby|script PLACE: by Redis at a unix socket or
- * at HOST:PORT, with a connection for each thread.
+ * Load THREADS SECONDS jentry URI measures the provider. Load THREADS SECONDS incrby|script PLACE measures Redis at a unix
+ * socket or at HOST:PORT, with a connection for each thread.
  */
 public class Load {
     private static final int KEYS = 1024;
@@ -27,7 +27,7 @@ public class Load {
         void on(long key) throws Exception;
     }
 
-    /** What makes the calls of a thread. */
+    /** Makes the calls of one thread. */
     interface Maker {
         Call make() throws Exception;
     }
@@ -70,7 +70,7 @@ public class Load {
         return key -> ask(line, in, "EVALSHA", sum, "1", "k" + key, "1");
     }
 
-    /** Sends a command and waits for its reply: a line, or two where it is a text of 40 characters. */
+    /** Sends a command and returns its reply: one line, or two lines for a string of 40 characters. */
     private static String ask(SocketChannel line, ByteBuffer in, String... words) throws Exception {
         StringBuilder text = new StringBuilder("*" + words.length + "\r\n");
         for (String word : words) {
@@ -91,7 +91,7 @@ public class Load {
         return reply;
     }
 
-    /** The calls that were made in so many seconds. */
+    /** Runs the calls on all threads for this time, and returns their number. */
     private static long run(Maker maker, int threads, double seconds) throws Exception {
         AtomicLong made = new AtomicLong();
         Thread[] team = new Thread[threads];

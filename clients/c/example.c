@@ -1,4 +1,4 @@
-/* Judges a class file and runs it on one entry: `example examples/Add.class 7 41 1` for the key 7, the value 41 and the argument 1. */
+/* Verifies a class file and runs it on one entry: `example examples/Add.class 7 41 1` for the key 7, the value 41 and the argument 1. */
 #include <inttypes.h>
 #include <stdio.h>
 #include <stdlib.h>

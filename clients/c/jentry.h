@@ -1,20 +1,20 @@
 /* jentry.h: verified entry processors inside a program, without a server.
  *
- * An engine holds the classes that it accepted and the room that one run takes. The caller keeps it by a handle.
+ * An engine holds the accepted classes and the buffers that a run needs. The caller refers to it by a handle.
  *
  *   struct jentry_handle handle = {0};
- *   jentry_open(&handle);                                   an engine without classes
- *   jentry_define(&handle, bytes, length, &verdict);        judges a class file; verdict.number is its number from then on
- *   jentry_invoke(&handle, &call, args, count, &done);      runs it on an entry; done says what has to be done to the entry
+ *   jentry_open(&handle);                                   creates an engine without classes
+ *   jentry_define(&handle, bytes, length, &verdict);        verifies a class file; verdict.number identifies the class from then on
+ *   jentry_invoke(&handle, &call, args, count, &done);      runs the class on an entry; done says how to change the entry
  *   jentry_close(&handle);
  *
- * The caller keeps the entries: the engine is given the entry before, and answers what the processor leaves.
+ * The caller stores the entries. It passes an entry as it is before a run, and gets the change that the processor makes.
  *
- * What a caller has to uphold:
- *   - one call at a time on a handle; different handles are independent, on any threads;
- *   - the bytes of a handle are written by these functions alone, and it is zeroes before jentry_open;
- *   - pointers aim at as much as their types and lengths say, and are not null where a length is 0.
- * Each struct that a function answers by is written as a whole, whatever happens. No function prints, blocks, or starts a thread.
+ * A caller has to follow these rules:
+ *   - There is one call at a time on a handle. Different handles are independent, and may be used by any threads.
+ *   - Only these functions write the bytes of a handle. All of its bytes are zero before jentry_open.
+ *   - A pointer refers to as many elements as its type and length say, and isn't null even if the length is 0.
+ * A function writes all fields of its result struct, in every case. No function prints, blocks, or starts a thread.
  */
 #ifndef JENTRY_H
 #define JENTRY_H
@@ -27,54 +27,56 @@
 extern "C" {
 #endif
 
-/* What the program keeps of an engine: zeroes before jentry_open and after jentry_close. */
+/* The caller's reference to an engine. All bytes are zero before jentry_open and after jentry_close. */
 struct jentry_handle {
     void *at;
     bool open;
     uint8_t unused[7];
 };
 
-/* A verdict. refusal 0: the class is accepted, `number` is its number, and the bounds of its runs follow: instructions, words of
- * arrays, slots of locals and operands, nested calls. Else `refusal` is the refusal's number, 1 to 30, and `detail` the opcode of
- * refusal 17 or the place of refusal 22; number and bounds are 0. `id` is the SHA-1 of the class file either way. */
+/* The result of jentry_define. If `refusal` is 0, the class is accepted: `number` identifies it, and `steps`, `words`, `slots` and
+ * `depth` limit its runs, as numbers of instructions, of array words, of slots for locals and operands, and of nested calls.
+ * Otherwise `refusal` is the reason, 1 to 30, `detail` is the opcode for refusal 17 and the index in the code for refusal 22, and the
+ * number and the limits are 0. `id` is always the SHA-1 of the class file. */
 struct jentry_verdict {
     uint32_t refusal, detail, number, steps, words, slots, depth;
     uint8_t id[20];
 };
 
-/* Kinds of an argument, and the outcomes of a run that returned. */
+/* The kinds of an argument, and the outcomes of a run that returned. */
 enum { JENTRY_NULL = 0, JENTRY_LONG = 1, JENTRY_INTEGER = 2 };
 
-/* An argument of a run. An Integer outside of 32 bits is denied, and so is another kind. */
+/* An argument of a run. An Integer outside of 32 bits and any other kind are denied with JENTRY_NO_ARGUMENT. */
 struct jentry_arg {
     uint32_t kind, unused;
     int64_t value;
 };
 
-/* A call of the class with a number, on an entry. `present` is 1 where the entry exists, with the value `before`, and else 0. */
+/* A call of the class `number` on the entry of `key`. `present` is 1 if the entry exists and has the value `before`, else 0. */
 struct jentry_call {
     uint32_t number, present;
     int64_t key, before;
 };
 
-/* The other outcomes of a call. From 4 on nothing was run, and the fields behind `outcome` are 0. */
+/* The other outcomes of a call. For 4 and above nothing was run, and all fields after `outcome` are 0. */
 enum {
     JENTRY_THREW = 3,          /* `value` is the number of the exception, 1 to 6; the effect is JENTRY_KEEP */
     JENTRY_NO_CLASS = 4,       /* no class has the number, or the handle isn't open */
-    JENTRY_MANY_ARGUMENTS = 5, /* more than eight */
-    JENTRY_NO_ARGUMENT = 6     /* one of them is no argument */
+    JENTRY_MANY_ARGUMENTS = 5, /* more than eight arguments */
+    JENTRY_NO_ARGUMENT = 6     /* an argument is invalid */
 };
 
-/* What is to be done to the entry: nothing, set it to `put`, remove it. It is JENTRY_KEEP just where the entry is to be as before, also
- * where the processor set the value that was there. */
+/* How to change the entry: not at all, set it to `put`, or remove it. The effect is JENTRY_KEEP whenever the entry stays as it was,
+ * also if the processor set the value that the entry already had. */
 enum { JENTRY_KEEP = 0, JENTRY_PUT = 1, JENTRY_DELETE = 2 };
 
-/* How the processor left the entry: it called neither setValue nor remove, or threw; it called them, and left a value; it called them,
- * and left none. It tells a setValue of the value that was there from no call at all. */
+/* What the processor did to the entry. JENTRY_UNTOUCHED: it called neither setValue nor remove, or it threw. JENTRY_SET: it called
+ * them, and left a value. JENTRY_REMOVED: it called them, and left none. Unlike the effect, this distinguishes a setValue of the same
+ * value from no call. */
 enum { JENTRY_UNTOUCHED = 0, JENTRY_SET = 1, JENTRY_REMOVED = 2 };
 
-/* The end of a call: what was returned, in `outcome` and `value`; the effect; the instructions and array words that the run took; how
- * the entry was left. */
+/* The result of a call: the returned value in `outcome` and `value`, or the exception; the effect on the entry; the instructions and
+ * array words that the run took; and in `left` what the processor did to the entry. */
 struct jentry_done {
     uint32_t outcome, effect;
     int64_t value, put;
@@ -82,33 +84,33 @@ struct jentry_done {
     uint32_t left, unused;
 };
 
-/* Makes an engine: 0, or 1 where memory lacks, or 2 where the handle is open already, which changes nothing. */
+/* Creates an engine. Returns 0, or 1 if memory is exhausted, or 2 if the handle is open already, which changes nothing. */
 uint32_t jentry_open(struct jentry_handle *handle);
 
-/* Ends an engine, if there is one. */
+/* Frees the engine of a handle, if there is one. */
 void jentry_close(struct jentry_handle *handle);
 
-/* Judges the bytes of a class file, and keeps the class where it is accepted. Refusal 30, NoMemory, is also that of a handle that
- * isn't open. A refusal changes nothing. Equal bytes get a number of their own each time. */
+/* Verifies the bytes of a class file, keeps the class if it is accepted, and writes the result to `verdict`. Refusal 30, NoMemory, is
+ * also the result for a handle that isn't open. A refusal changes nothing. Equal bytes get a new number each time. */
 void jentry_define(struct jentry_handle *handle, const uint8_t *bytes, size_t length, struct jentry_verdict *verdict);
 
-/* Forgets the class with a number: 1, or 0 where there is none. A number is never given again. */
+/* Removes the class with this number. Returns 1, or 0 if there is none. A number isn't used again. */
 uint32_t jentry_forget(struct jentry_handle *handle, uint32_t number);
 
-/* Runs a class on an entry, with up to eight arguments. */
+/* Runs a class on an entry, with up to eight arguments, and writes the result to `done`. */
 void jentry_invoke(struct jentry_handle *handle, const struct jentry_call *call, const struct jentry_arg *args, size_t count,
                    struct jentry_done *done);
 
-/* Writes what `jentry explain` prints of a class file, as much of it as `room` bytes take, without a zero behind it. Answers the
- * length of the whole text; 0 where memory lacks. */
+/* Writes the output of `jentry explain` for a class file to `text`, at most `room` bytes of it and without a terminating zero.
+ * Returns the length of the whole output, or 0 if memory is exhausted. */
 size_t jentry_explain(const uint8_t *bytes, size_t length, uint8_t *text, size_t room);
 
-/* The name of a refusal, as BackwardBranch, and that of an exception, as ClassCastException; empty for other numbers. These two aren't
- * the core's: libjentry has them. */
+/* Returns the name of a refusal, such as BackwardBranch, or of an exception, such as ClassCastException; an empty string for any
+ * other number. These two functions are in libjentry, not in the core. */
 const char *jentry_refusal_name(uint32_t refusal);
 const char *jentry_exception_name(int64_t exception);
 
-/* What the core was built with. */
+/* The layouts with which the core was built. */
 #ifdef __cplusplus
 #define JENTRY_ASSERT static_assert
 #else

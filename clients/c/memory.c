@@ -1,10 +1,11 @@
-/* The core's way to memory, over malloc. A program that wants another allocator links libembed.a with its own three functions. */
+/* The memory functions that the core calls, over malloc. A program that wants another allocator links libembed.a with its own three
+ * functions. */
 #include <stdbool.h>
 #include <stdint.h>
 #include <stdlib.h>
 
-/* Whether there is a block, and the block; where there is none, a pointer that is aligned and isn't null. malloc aligns to 16, and the
- * core asks for no more. */
+/* The result of an allocation: whether it succeeded, and the block. After a failure `block` is an aligned pointer that isn't null.
+ * malloc aligns to 16 bytes, and the core needs no larger alignment. */
 struct tried {
     bool ok;
     void *block;

@@ -1,4 +1,4 @@
-/* The names behind the numbers of refusals and exceptions. */
+/* The names of the refusals and exceptions, by their numbers. */
 #include "jentry.h"
 
 static const char *const refusals[] = {

@@ -1,6 +1,6 @@
-"""jentry: a client of `jentry serve`, for Python 3.9 and later. It needs nothing but the standard library.
+"""jentry: a client of `jentry serve`, for Python 3.9 and later. It uses only the standard library.
 
-    with jentry.Cache.start("jentry", "serve") as cache:         # a server of its own
+    with jentry.Cache.start("jentry", "serve") as cache:         # a private server
         cache.put(7, 41)
         cache.get(7)                                           # 41
         cache.put_if_absent(7, 1)                              # False
@@ -8,14 +8,14 @@
             add = cache.define(file.read())
         cache.invoke(7, add, 1)                                # 42
         cache.invoke_all([7, 8], add, 1)                       # {7: 43, 8: 1}
-        with cache.round() as r:                               # many requests at once, in any order
+        with cache.round() as r:                               # a batch of requests, run in any order
             answers = [r.get(key) for key in range(100)]
         answers[7].result()                                    # 43
 
-`Cache.connect` takes a shared server in place of one's own. Many threads may share a Cache: calls that wait are gathered into a round.
-Keys and values are numbers that a Java long holds. An argument is such a number (a Long), `jentry.Int(n)` (an Integer) or None.
+`Cache.connect` connects to a shared server in place of a private one. A Cache may be used by many threads: concurrent calls are combined into one
+round. Keys and values are numbers in the range of a Java long. An argument is such a number (a Long), `jentry.Int(n)` (an Integer) or None (null).
 
-This client is outside of what is proved about the server: an error in it can tell a caller anything.
+This client isn't part of what is proved about the server: a bug in it can return wrong results.
 """
 import os
 import socket
@@ -31,7 +31,8 @@ from jentry_errors import Denied, Error, ProcessorThrew, Refused, StreamEnded
 MOST_JOBS = 4_096
 LONGEST = 131_072
 PROGRAM = ("jentry", "serve")
-# What a round of the server frees stays for its next one, where its C library is glibc: memory that is new each time costs as much as the calls.
+# With glibc these settings keep the memory that a round of the server frees for its next round. Fresh memory for each round costs as much as the
+# calls.
 KEEPS_MEMORY = {"MALLOC_MMAP_THRESHOLD_": "33554432", "MALLOC_TRIM_THRESHOLD_": "67108864"}
 END = b"\0\0\0\1\x08"
 ENDED = b"\x09"
@@ -46,8 +47,8 @@ class Int(int):
 
 
 class Class:
-    """A class that the server has accepted, by its number on this stream. A run of it takes `steps` instructions and `words` array
-    words at most."""
+    """A class that the server has accepted. `number` identifies it on this stream. A run takes at most `steps` instructions and `words` array
+    words."""
 
     def __init__(self, number, steps, words):
         self.number, self.steps, self.words = number, steps, words
@@ -68,7 +69,7 @@ def _arguments(arguments):
 
 
 def _argument(text, at):
-    """The argument that begins here, and where it ends."""
+    """Returns the argument encoded at offset `at`, and the offset after it."""
     if text[at] == 0:
         return None, at + 1
     if text[at] == 1:
@@ -79,7 +80,7 @@ def _argument(text, at):
 
 
 def _outcome(text, at):
-    """What an outcome says, an exception where it says one, and where it ends."""
+    """Returns the outcome encoded at offset `at`, as a result or an exception object, and the offset after it."""
     if text[at] == 0:
         return _argument(text, at + 1)
     if text[at] in (1, 2):
@@ -88,7 +89,7 @@ def _outcome(text, at):
 
 
 def _results(text):
-    """What is told of each key."""
+    """Returns the outcomes in an invoke_all reply by key, and the offset after them."""
     told, at = {}, 3
     for _ in range(*struct.unpack_from(">H", text, 1)):
         (key,) = struct.unpack_from(">q", text, at)
@@ -96,7 +97,7 @@ def _results(text):
     return told, at
 
 
-# The kinds of reply to each kind of request, beside Denied.
+# The kinds of reply to each kind of request, besides DENIED.
 _REPLIES = {
     DEFINE: (DEFINED, REFUSED),
     PUT: (DONE,),
@@ -119,8 +120,9 @@ _READERS = {
 
 
 def read_answer(request, text):
-    """What a reply tells to a request of this kind: an exception where the call is to raise one. StreamEnded is raised where it is no
-    reply to such a request."""
+    """Decodes the reply to a request of this kind. Returns the result, or the exception object that the call has to raise.
+
+    Raises StreamEnded if the text isn't a valid reply to such a request."""
     try:
         if text[0] != DENIED and text[0] not in _REPLIES[request]:
             raise ValueError("another kind")
@@ -135,7 +137,7 @@ def read_answer(request, text):
 
 
 class Answer:
-    """The answer to a request of a round."""
+    """The pending result of a request in a round."""
 
     __slots__ = ("_kind", "_convert", "_told", "_is_told")
 
@@ -146,8 +148,10 @@ class Answer:
         self._told, self._is_told = told, True
 
     def result(self):
-        """What the server answered. What the request is denied or refused for is raised. Before the round's end there is no answer: an
-        Error is raised."""
+        """Returns the result of the request.
+
+        Raises Denied, Refused or ProcessorThrew if the server replied so, StreamEnded if the stream broke, and Error before the end of the
+        round."""
         if not self._is_told:
             raise Error("the round has not been sent")
         if isinstance(self._told, Exception):
@@ -156,35 +160,38 @@ class Answer:
 
 
 class Requests:
-    """Requests, as methods. Each hands its text to `_ask`, which says what a caller gets of it."""
+    """The requests as methods. Each encodes its request and returns what `_ask` of the subclass makes of it: a result, an Answer or an awaitable."""
 
     def define(self, file):
-        """Has the server judge a class file, given as bytes. Gives a Class, for `invoke` and `invoke_all`."""
+        """Has the server verify a class file, given as bytes, and returns a Class for `invoke` and `invoke_all`. Raises Refused if it isn't
+        accepted."""
         return self._ask(DEFINE, b"\1" + file, 0)
 
     def put(self, key, value):
-        """Sets the entry of a key."""
+        """Sets the value of a key."""
         return self._ask(PUT, struct.pack(">Bqq", PUT, key, value), 1)
 
     def get(self, key):
-        """The value of a key, or None."""
+        """Returns the value of a key, or None if it has no entry. Raises ProcessorThrew if the server's loader fails."""
         return self._ask(GET, struct.pack(">Bq", GET, key), 1)
 
     def remove(self, key):
-        """Removes the entry of a key. Gives whether there was one."""
+        """Removes the entry of a key. Returns whether there was one."""
         return self._ask(REMOVE, struct.pack(">Bq", REMOVE, key), 1)
 
     def contains(self, key):
-        """Whether a key has an entry."""
+        """Returns whether a key has an entry."""
         return self._ask(CONTAINS, struct.pack(">Bq", CONTAINS, key), 1)
 
     def invoke(self, key, processor, *arguments):
-        """Runs a processor, a Class of this stream, on the entry of a key. Gives what it returns."""
+        """Runs a processor, a Class of this stream, on the entry of a key. Returns its result, or raises ProcessorThrew if it threw."""
         return self._invoke(key, processor, arguments, None)
 
     def invoke_all(self, keys, processor, *arguments):
-        """Runs a processor on the entry of each different key, 4,096 at most. Gives a dict of what it returned; keys for which that is
-        null are left out, and where it threw the value is that ProcessorThrew."""
+        """Runs a processor once on the entry of each distinct key, of at most 4,096.
+
+        Returns a dict of the results by key. It leaves out the keys whose result is null. For a key on which the processor threw or wasn't run, the
+        value is the ProcessorThrew or Denied object."""
         keys = list(dict.fromkeys(keys))
         if len(keys) > MOST_JOBS:
             raise ValueError(f"more than {MOST_JOBS} keys")
@@ -197,41 +204,42 @@ class Requests:
 
 
 class Processors:
-    """The built-in processors, as methods. Each is a call of its own on its entry: nothing comes between its halves. A class is defined
-    at its first use on a stream."""
+    """The built-in processors as methods. Each call is atomic on its entry. A class is defined at its first use on a stream."""
 
     def get_and_put(self, key, value):
-        """Sets the entry of a key. Gives the value before, or None."""
+        """Sets the value of a key. Returns the previous value, or None."""
         return self._run("GetAndPut", key, value)
 
     def put_if_absent(self, key, value):
-        """Sets the entry of a key that has none. Gives whether it did."""
+        """Sets the value of a key that has no entry. Returns whether it did."""
         return self._run("PutIfAbsent", key, value, convert=bool)
 
     def remove_if(self, key, old):
-        """Removes the entry of a key if its value is `old`. Gives whether it did."""
+        """Removes the entry of a key if its value is `old`. Returns whether it did."""
         return self._run("RemoveIf", key, old, convert=bool)
 
     def get_and_remove(self, key):
-        """Removes the entry of a key. Gives the value before, or None."""
+        """Removes the entry of a key. Returns the previous value, or None."""
         return self._run("GetAndRemove", key)
 
     def replace_if(self, key, old, value):
-        """Sets the entry of a key if its value is `old`. Gives whether it did."""
+        """Sets the value of a key if its current value is `old`. Returns whether it did."""
         return self._run("ReplaceIf", key, old, value, convert=bool)
 
     def replace(self, key, value):
-        """Sets the entry of a key that has one. Gives whether it did."""
+        """Sets the value of a key that has an entry. Returns whether it did."""
         return self._run("Replace", key, value, convert=bool)
 
     def get_and_replace(self, key, value):
-        """Sets the entry of a key that has one. Gives the value before, or None."""
+        """Sets the value of a key that has an entry. Returns the previous value, or None."""
         return self._run("GetAndReplace", key, value)
 
 
 class Round(Requests, Processors):
-    """Requests that are sent together at the end of the `with`, and run in any order. Each method gives an Answer, whose `result()` is
-    there behind the `with`."""
+    """Requests that are sent together at the end of the `with` block, and run in any order. If the block raises, none is sent.
+
+    Each method returns an Answer, whose `result()` is available after the block. A round has at most 4,096 jobs, where a define counts as none, an
+    invoke_all as one for each key, and any other request as one. A method raises ValueError for more."""
 
     def __init__(self, cache):
         self._cache, self._texts, self._answers, self.jobs = cache, [], [], 0
@@ -259,7 +267,8 @@ class Round(Requests, Processors):
 
 
 class _Call:
-    """A round that waits: what wakes its thread, and whether that thread is to lead or has gone away."""
+    """A round in the queue. `bell` is released to wake its thread; `leads` says that this thread has to send the next batch, and `is_left` that it
+    stopped waiting."""
 
     __slots__ = ("asked", "bell", "leads", "is_left")
 
@@ -269,18 +278,18 @@ class _Call:
 
 
 class Cache(Requests, Processors):
-    """A stream to a server. Its methods wait for their answers, and may be called by many threads."""
+    """A connection to a server. Its methods block until the reply arrives, and may be called by many threads."""
 
     def __init__(self, reader, writer, close):
-        """A stream by two binary files; `close` is called to end it."""
+        """Makes a cache over two binary files, one to read from and one to write to. `close` is called to end the stream."""
         self._in, self._out, self._close = reader, writer, close
         self._lock, self._waiting, self._is_led, self._broken = threading.Lock(), deque(), False, None
         self._defining, self._processors = threading.Lock(), {}
 
     @classmethod
     def start(cls, *command):
-        """A server of one's own, by its command (`jentry serve` where none is given). Its entries are gone when this is
-        closed."""
+        """Starts a private server by its command, `jentry serve` by default, and returns a Cache of it. Closing the Cache ends the server, and its
+        entries are lost."""
         child = subprocess.Popen(
             command or PROGRAM, stdin=subprocess.PIPE, stdout=subprocess.PIPE, env={**KEEPS_MEMORY, **os.environ}
         )
@@ -301,7 +310,7 @@ class Cache(Requests, Processors):
 
     @classmethod
     def connect(cls, address):
-        """A shared server: the path of a unix socket, or (host, port)."""
+        """Connects to a shared server at the path of a unix socket or at (host, port), and returns a Cache of it. Raises OSError on failure."""
         if isinstance(address, tuple):
             line = socket.create_connection(address)
             line.setsockopt(socket.IPPROTO_TCP, socket.TCP_NODELAY, 1)
@@ -325,7 +334,7 @@ class Cache(Requests, Processors):
         return cls(reader, _Whole(writer), close)
 
     def close(self):
-        """Ends the stream. Calls that wait raise StreamEnded, and so do later ones. Twice is once."""
+        """Ends the stream. Waiting calls and later ones raise StreamEnded. A second call does nothing."""
         with self._lock:
             is_open, self._broken = not isinstance(self._broken, _Closed), _Closed("the stream is closed")
         if is_open:
@@ -338,11 +347,11 @@ class Cache(Requests, Processors):
         self.close()
 
     def round(self):
-        """Many requests at once: `with cache.round() as r: ..`."""
+        """Returns a Round, a batch of requests: `with cache.round() as r: ..`."""
         return Round(self)
 
     def processor(self, name):
-        """The Class of a built-in processor, such as "GetAndPut". It is defined where this stream hasn't used it before."""
+        """Returns the Class of a built-in processor, such as "GetAndPut". Defines it at its first use on this stream."""
         with self._defining:
             if name not in self._processors:
                 self._processors[name] = self.define(jentry_processors.file(name))
@@ -357,7 +366,7 @@ class Cache(Requests, Processors):
         return self._invoke(key, self.processor(name), arguments, convert)
 
     def _make(self, asked):
-        """Waits until a round is answered. The first that waits leads: it sends what waits as one round, and deals the replies."""
+        """Sends a round and waits for its replies. The first waiting call leads: it sends the queue as one round, and distributes the replies."""
         call = _Call(asked)
         with self._lock:
             if self._broken:
@@ -370,7 +379,7 @@ class Cache(Requests, Processors):
             self._lead()
 
     def _wait(self, call):
-        """Waits until a call is answered or has to lead. Where that is interrupted, its place is given up."""
+        """Waits until a call has its replies or has to lead. If the wait is interrupted, the call leaves the queue."""
         try:
             call.bell.acquire()
         except BaseException:
@@ -383,7 +392,7 @@ class Cache(Requests, Processors):
             raise
 
     def _hand_on(self):
-        """Lets the next call that waits lead. The lock is held."""
+        """Makes the next waiting call the leader. The caller holds the lock."""
         if self._waiting:
             self._waiting[0].leads = True
             self._waiting[0].bell.release()
@@ -407,7 +416,7 @@ class Cache(Requests, Processors):
         self._end_round(taken)
 
     def _end_round(self, taken):
-        """Lets the next call lead, and wakes those whose round is over. The leader is one of them and is awake."""
+        """Makes the next waiting call the leader, and wakes the threads of the finished round. The current leader is one of them and is awake."""
         with self._lock:
             self._hand_on()
         for call in taken:
@@ -415,7 +424,7 @@ class Cache(Requests, Processors):
                 call.bell.release()
 
     def _exchange(self, rounds):
-        """Sends rounds as one, and reads the replies. They are dealt once the end of the round is there."""
+        """Sends several rounds as one, and reads the replies. They are distributed only after the end of the round was read."""
         self._out.write(b"".join([text for asked in rounds for text in asked._texts]) + END)
         self._out.flush()
         answers = [answer for asked in rounds for answer in asked._answers]
@@ -436,7 +445,7 @@ class Cache(Requests, Processors):
         return text
 
     def _fail(self, taken, why):
-        """Nothing is answered any more: all calls that were out or wait are told so."""
+        """Breaks the stream: all calls in flight and in the queue get the error."""
         with self._lock:
             self._broken = self._broken or why
             for call in list(taken) + list(self._waiting):
@@ -448,11 +457,11 @@ class Cache(Requests, Processors):
 
 
 class _Closed(StreamEnded):
-    """The stream was closed on this side."""
+    """The stream was closed by this client."""
 
 
 class _Whole:
-    """Writes a text whole to a file that takes as much as it likes."""
+    """A writer that writes all bytes to a raw file, whose `write` may take only a part of them."""
 
     def __init__(self, file):
         self._file = file
@@ -463,4 +472,4 @@ class _Whole:
             rest = rest[self._file.write(rest) :]
 
     def flush(self):
-        """Nothing is kept back."""
+        """Does nothing, since nothing is buffered."""

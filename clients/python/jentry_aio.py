@@ -5,10 +5,10 @@
         await cache.put_if_absent(7, 1)                        # False
         await asyncio.gather(*(cache.get(key) for key in range(1000)))      # one round
 
-Calls that are made in one turn of the loop, or while rounds are out, go together as one round, in which they are run in any order. So a
-task's calls keep their order where it awaits each. Errors, arguments and classes are those of `jentry`.
+Calls made in one iteration of the event loop, or while two rounds are in flight, are sent together as one round and run in any order. A task that
+awaits each of its calls keeps their order. Errors, arguments and classes are those of `jentry`.
 
-This client is outside of what is proved about the server: an error in it can tell a caller anything.
+This client isn't part of what is proved about the server: a bug in it can return wrong results.
 """
 import asyncio
 import os
@@ -21,7 +21,7 @@ MOST_OUT = 2
 
 
 class Cache(jentry.Requests, jentry.Processors):
-    """A stream to a server. Each method gives what is to be awaited. It belongs to the loop that it was made in."""
+    """A connection to a server. Each method returns an awaitable. A Cache belongs to the event loop in which it was made."""
 
     def __init__(self, reader, writer, child=None):
         self._in, self._out, self._child = reader, writer, child
@@ -41,13 +41,13 @@ class Cache(jentry.Requests, jentry.Processors):
         return future
 
     async def processor(self, name):
-        """The Class of a built-in processor. Tasks that use it at once wait for one definition."""
+        """Returns the Class of a built-in processor. Tasks that use it concurrently wait for one definition."""
         if name not in self._processors:
             self._processors[name] = self.define(jentry_processors.file(name))
         try:
             return await asyncio.shield(self._processors[name])
         except jentry.Error:
-            # The next use tries again: a want of memory may be over.
+            # The next use tries again: memory may be available then.
             self._processors.pop(name, None)
             raise
 
@@ -55,7 +55,8 @@ class Cache(jentry.Requests, jentry.Processors):
         return await self._invoke(key, await self.processor(name), arguments, convert)
 
     def _plan(self):
-        """Sends at the end of this turn of the loop, so that calls made together go together."""
+        """Schedules a send for the end of this loop iteration, so that calls made together are sent together. At most MOST_OUT rounds are in
+        flight."""
         if not self._is_due and self._waiting and len(self._sent) < MOST_OUT:
             self._is_due = True
             asyncio.get_running_loop().call_soon(self._send)
@@ -80,8 +81,8 @@ class Cache(jentry.Requests, jentry.Processors):
         return await self._in.readexactly(length)
 
     async def _read(self):
-        """Reads round after round. Answers are told once the end of their round is there; whoever is cancelled gets none, and no other
-        gets it."""
+        """Reads the replies, round by round. Futures are resolved after the end of their round was read. The reply to a cancelled call is dropped,
+        and no other call gets it."""
         try:
             while True:
                 text = await self._frame()
@@ -109,7 +110,7 @@ class Cache(jentry.Requests, jentry.Processors):
         self._waiting.clear()
 
     async def close(self):
-        """Ends the stream. Calls that wait raise StreamEnded, and so do later ones."""
+        """Ends the stream. Waiting calls and later ones raise StreamEnded."""
         self._fail(jentry.StreamEnded("the stream is closed"))
         self._reading.cancel()
         await asyncio.gather(self._reading, return_exceptions=True)
@@ -122,7 +123,7 @@ class Cache(jentry.Requests, jentry.Processors):
             await self._end_child()
 
     async def _end_child(self):
-        """Waits for the child's end. What it still tells is read on: asyncio doesn't see the end of a child before that of its output."""
+        """Waits until the child exits, and reads its output to the end: asyncio doesn't report an exit before the end of the output."""
         rest = asyncio.ensure_future(self._read_on())
         try:
             await asyncio.wait_for(self._child.wait(), 5)
@@ -144,7 +145,7 @@ class Cache(jentry.Requests, jentry.Processors):
 
 
 def _settle(answer, future):
-    """Tells a future its answer, if it still waits."""
+    """Resolves a future with its answer, unless it is done."""
     if future.done():
         return
     try:
@@ -154,13 +155,13 @@ def _settle(answer, future):
 
 
 async def connect(address):
-    """A shared server: the path of a unix socket, or (host, port)."""
+    """Connects to a shared server at the path of a unix socket or at (host, port), and returns a Cache of it. Raises OSError on failure."""
     opened = asyncio.open_connection(*address) if isinstance(address, tuple) else asyncio.open_unix_connection(address)
     return Cache(*await opened)
 
 
 async def start(*command):
-    """A server of one's own, by its command (`jentry serve` where none is given)."""
+    """Starts a private server by its command, `jentry serve` by default, and returns a Cache of it."""
     pipe = asyncio.subprocess.PIPE
     child = await asyncio.create_subprocess_exec(
         *(command or jentry.PROGRAM), stdin=pipe, stdout=pipe, env={**jentry.KEEPS_MEMORY, **os.environ}

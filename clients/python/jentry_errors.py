@@ -1,5 +1,5 @@
-"""jentry_errors: what the clients of `jentry serve` raise, and the names of the numbers that the server gives for it. Users find all of it in
-`jentry`, and each exception calls itself by that name in a traceback: that is what one writes to catch it."""
+"""jentry_errors: the exceptions of the clients of `jentry serve`, and the names of the server's numbers. Users import them from `jentry`, which is
+also the module that a traceback shows."""
 REFUSALS = (
     None,
     "TooLarge",
@@ -46,24 +46,24 @@ DENIALS = (None, "UnknownClass", "JournalFull", "NoMemory", "TooManyClasses", "T
 
 
 def _name(names, number):
-    """The name of a number, which a later server may know and this client not."""
+    """Returns the name of a number, or "unknown" for a number that only a later server has."""
     return names[number] if 0 < number < len(names) else "unknown"
 
 
 class Error(Exception):
-    """What this module raises."""
+    """The base class of the client's exceptions."""
 
     __module__ = "jentry"
 
 
 class StreamEnded(Error):
-    """The stream is broken. Whether calls that were out have run is not known."""
+    """The stream is broken. Whether the calls in flight were run is unknown."""
 
     __module__ = "jentry"
 
 
 class Denied(Error):
-    """A request that the server didn't run; it changed nothing. `number` and `name` say why."""
+    """The server didn't run a request, and changed nothing. `number` and `name` give the reason."""
 
     __module__ = "jentry"
 
@@ -73,7 +73,7 @@ class Denied(Error):
 
 
 class Refused(Error):
-    """A class that the server doesn't take. `number` and `name` say why, `detail` is the opcode for 17 and the place for 22."""
+    """The server didn't accept a class. `number` and `name` give the reason. `detail` is the opcode for 17, and the index in the code for 22."""
 
     __module__ = "jentry"
 
@@ -84,7 +84,7 @@ class Refused(Error):
 
 
 class ProcessorThrew(Error):
-    """A processor, or the server's loader in a get, ended by a Java exception, which `number` and `name` say. The entry is as before."""
+    """A processor, or the server's loader in a get, threw the Java exception in `number` and `name`. The entry is unchanged."""
 
     __module__ = "jentry"
 

@@ -1,4 +1,4 @@
-"""Puts the class files of the built-in processors, which have their place beside their sources, into what is built of the package."""
+"""Builds the package with the class files of the built-in processors, which the repository keeps next to their sources."""
 import glob
 import os
 import shutil
@@ -9,12 +9,12 @@ from setuptools.command.sdist import sdist
 
 HERE = os.path.dirname(os.path.abspath(__file__))
 PACKAGE = "jentry_processors"
-# In a source distribution, and in the repository.
+# The folder of the class files in a source distribution, and in the repository.
 PLACES = (os.path.join(HERE, PACKAGE), os.path.join(HERE, "../processors"))
 
 
 def copy_processors(folder):
-    """Copies the class files into the package below a folder."""
+    """Copies the class files into the package in a folder."""
     for place in PLACES:
         files = glob.glob(os.path.join(place, "*.class"))
         if files:
@@ -25,7 +25,7 @@ def copy_processors(folder):
 
 
 class BuildWithProcessors(build_py):
-    """Builds the modules, and copies the class files beside them."""
+    """Builds the modules, and copies the class files next to them."""
 
     def run(self):
         super().run()
@@ -33,7 +33,7 @@ class BuildWithProcessors(build_py):
 
 
 class SourcesWithProcessors(sdist):
-    """Gathers the sources, and the class files with them, so that a package can be built far from the repository."""
+    """Makes a source distribution with the class files, so that the package can be built outside the repository."""
 
     def make_release_tree(self, base_dir, files):
         super().make_release_tree(base_dir, files)

@@ -1,5 +1,5 @@
 #!/usr/bin/env python3
-"""test_jentry: the client for threads, before the stand-in and before the built program, which JENTRY_PROGRAM names where it is there."""
+"""test_jentry: the client for threads, on the fake server and on the built program, which JENTRY_PROGRAM names if there is one."""
 import io
 import os
 import signal
@@ -39,7 +39,8 @@ with jentry.Cache.start(*sys.argv[2:]) as cache:
 
 
 class Interrupted:
-    """What a server answers to a get and to the end of its round, once it goes on; whoever reads further is interrupted."""
+    """A reader with the replies to a get and to its round's end. It blocks until `goes_on` is set, and raises KeyboardInterrupt when read past the
+    end."""
 
     def __init__(self):
         self.goes_on, self._replies = threading.Event(), io.BytesIO(b"\0\0\0\2\4\0" + b"\0\0\0\1\x09")

@@ -1,5 +1,5 @@
 #!/usr/bin/env python3
-"""test_jentry_aio: the client for asyncio, before the stand-in and before the built program, which JENTRY_PROGRAM names where it is there."""
+"""test_jentry_aio: the client for asyncio, on the fake server and on the built program, which JENTRY_PROGRAM names if there is one."""
 import asyncio
 import os
 import sys
@@ -15,7 +15,7 @@ from running import PATIENCE, PROGRAM, SERVER, STAND_IN
 
 
 class Loop(unittest.TestCase, Endings):
-    """The client for asyncio."""
+    """Tests of the client for asyncio."""
 
     def run_in_loop(self, work, server=SERVER):
         async def limited():

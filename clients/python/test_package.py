@@ -1,5 +1,5 @@
 #!/usr/bin/env python3
-"""test_package: the package as pip builds and installs it, with the class files of the built-in processors."""
+"""test_package: builds and installs the package with pip, with the class files of the built-in processors."""
 import glob
 import os
 import shutil
@@ -58,7 +58,7 @@ class Package(unittest.TestCase):
             self.installs(python, *glob.glob(os.path.join(sent, "*.tar.gz")), os.path.join(folder, "other"))
 
     def installs(self, python, sources, target):
-        """Installs these sources without a net, and uses what was installed, away from the repository."""
+        """Installs these sources without a network, and uses the installed package outside the repository."""
         self.run_quietly(
             python, "-m", "pip", "install", "-q", "--no-index", "--no-build-isolation", "--target", target, sources
         )
@@ -83,7 +83,7 @@ class Package(unittest.TestCase):
 
 
 def python_that_builds():
-    """A Python with what pip needs to build a package without a net, if there is one."""
+    """Returns a Python that can build a package without a network, or None."""
     for python in (sys.executable, "/usr/bin/python3"):
         if os.path.exists(python) and subprocess.run([python, "-c", BUILDS], stderr=subprocess.DEVNULL).returncode == 0:
             return python

@@ -1,6 +1,6 @@
 #!/usr/bin/env python3
-"""test_shared: threads, tasks and lines on one cache, by the front. JENTRY_FRONT names the front, and JENTRY_PROGRAM the built program, where they
-are there."""
+"""test_shared: threads, tasks and connections that share a cache through the front. JENTRY_FRONT names the front and JENTRY_PROGRAM the built
+program, if they are there."""
 import asyncio
 import os
 import subprocess
@@ -18,7 +18,7 @@ from running import FRONT, PATIENCE, STAND_IN, Running
 
 @unittest.skipUnless(FRONT, "the front isn't built")
 class Shared(Threaded):
-    """Python's threads, asyncio and examples/frames.py on one cache, by the front."""
+    """Python threads, asyncio and examples/frames.py share a cache through the front."""
 
     def test_all_on_one_cache(self):
         with Running() as front, jentry.Cache.connect(front.place) as cache:
@@ -41,7 +41,7 @@ class Shared(Threaded):
             await asyncio.gather(*(cache.invoke(1, processor) for _ in range(400)))
 
     def lines(self, front, text):
-        """What examples/frames.py makes of these lines, and of the front's replies to them."""
+        """Sends these lines through examples/frames.py to the front. Returns the replies as examples/frames.py prints them."""
         frames = [sys.executable, os.path.join(EXAMPLES, "frames.py")]
         sent = subprocess.run(frames, input=text, stdout=subprocess.PIPE, timeout=PATIENCE, check=True).stdout
         with front.open() as line:

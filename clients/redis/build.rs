@@ -1,4 +1,4 @@
-//! Links the proved core, a static library: the file that JENTRY_EMBED names, else crates/embed/out/libembed.a of this repository.
+//! Links the verified core, a static library: the file that JENTRY_EMBED names, else crates/embed/out/libembed.a of this repository.
 use std::env;
 use std::path::PathBuf;
 

@@ -1,7 +1,7 @@
 #!/usr/bin/env python3
-"""chromium_test: the operator's page in Debian's headless Chromium, under load and after the server's end. running.py says what it needs.
+"""chromium_test: the operator's page in Debian's headless Chromium, under load and after the server's end. running.py has the requirements.
 
-Pictures are kept in the folder that JENTRY_OUT names, clients/tests/out where it names none.
+Pictures are written to the folder that JENTRY_OUT names, by default clients/tests/out.
 """
 import base64
 import json
@@ -26,7 +26,7 @@ TAB = "\ue004"
 
 
 class Browser:
-    """A headless Chromium, by chromedriver's WebDriver."""
+    """A headless Chromium, controlled by chromedriver over WebDriver."""
 
     def __init__(self):
         with socket.socket() as it:
@@ -88,11 +88,11 @@ class Browser:
         self.ask("/url", {"url": url})
 
     def run(self, script, *words):
-        """What a script's `return` gives."""
+        """Runs a script, and returns what it returns."""
         return self.ask("/execute/sync", {"script": script, "args": list(words)})
 
     def wait_for(self, script):
-        """Waits until a script gives something true, and gives that."""
+        """Waits until a script returns a true value, and returns it."""
         end = time.monotonic() + PATIENCE
         while time.monotonic() < end:
             found = self.run(script)
@@ -112,7 +112,7 @@ class Browser:
         return self.ask("/se/log", {"type": kind})
 
     def picture(self, name):
-        """Keeps a picture of the whole page, and gives its size in bytes."""
+        """Saves a picture of the whole page, and returns its size in bytes."""
         os.makedirs(OUT, exist_ok=True)
         size = self.run("return [document.documentElement.scrollWidth, document.documentElement.scrollHeight]")
         clip = {"x": 0, "y": 0, "width": size[0], "height": size[1], "scale": 1}
@@ -131,7 +131,7 @@ class OperatorsPage(FrontTest):
         need(chromium="chromium", chromedriver="chromium-driver")
 
     def load(self, front, going):
-        """Calls of all kinds, until it is over."""
+        """Makes calls of all kinds until `going` is set."""
         with front.open() as a:
             self.define(a, plus(), 0)
             while not going.is_set():
@@ -141,14 +141,14 @@ class OperatorsPage(FrontTest):
                 self.ask(a, invoke(0, 99) + invoke(7, 1) + END, THREW + denied(1) + ENDED)
 
     def sums(self, front):
-        """The metrics without labels: what those with labels are together."""
+        """Returns the metrics summed over their labels."""
         sums = {}
         for name, number in front.metrics().items():
             sums[name.split("{")[0]] = sums.get(name.split("{")[0], 0) + number
         return sums
 
     def compare_numbers(self, browser, front):
-        """The page's numbers are those of /metrics, once nobody calls."""
+        """Checks that the page shows the numbers of /metrics once there are no calls. Returns how many numbers were compared."""
         moving = ("memory", "_cpu_", "counts_age")
         wanted = {name: value for name, value in self.sums(front).items() if not any(word in name for word in moving)}
         browser.wait_for(
@@ -174,7 +174,7 @@ class OperatorsPage(FrontTest):
         return len(compared)
 
     def keyboard(self, browser):
-        """Each part that scrolls, and each link, is reached by the keyboard."""
+        """Checks that the keyboard reaches each part that scrolls, and each link."""
         reached = set()
         for _ in range(12):
             browser.press(TAB)
@@ -186,7 +186,7 @@ class OperatorsPage(FrontTest):
         self.assertLessEqual({"A", "h-classes", "h-no", "h-connections"}, reached)
 
     def looks(self, browser):
-        """Light and dark, wide and narrow, each a picture."""
+        """Takes pictures in light and dark mode, and in a narrow window."""
         backs = []
         for scheme in ("light", "dark"):
             browser.devtools("Emulation.setEmulatedMedia", features=[{"name": "prefers-color-scheme", "value": scheme}])
@@ -200,7 +200,7 @@ class OperatorsPage(FrontTest):
         browser.devtools("Emulation.setEmulatedMedia", features=[])
 
     def steady(self, browser):
-        """Values change while nothing moves, and rows stay the same nodes."""
+        """Checks that values change while no element moves, and that rows stay the same nodes."""
         browser.devtools(
             "Emulation.setDeviceMetricsOverride", width=1280, height=500, deviceScaleFactor=1, mobile=False
         )
@@ -217,7 +217,7 @@ class OperatorsPage(FrontTest):
         browser.devtools("Emulation.clearDeviceMetricsOverride")
 
     def only_this_front(self, browser, origin):
-        """All requests went to the front, and the console has nothing."""
+        """Checks that all requests went to the front, and that the console is empty."""
         messages = [json.loads(it["message"])["message"] for it in browser.log("performance")]
         urls = {it["params"]["request"]["url"] for it in messages if it["method"] == "Network.requestWillBeSent"}
         self.assertIn(origin + "/events", urls)
@@ -264,7 +264,7 @@ class OperatorsPage(FrontTest):
             print(f"{compared} numbers of the page are those of /metrics; pictures in {OUT}")
 
     def test_a_class_of_a_stranger_is_text(self):
-        """Nothing that a client sends becomes HTML: the page shows hashes and numbers alone."""
+        """Nothing that a client sends becomes HTML: the page shows only hashes and numbers."""
         with Running("--http", "0") as front, front.open() as a, Browser() as browser:
             self.define(a, another(7), 0)
             a.sendall(define(b"<script>alert(1)</script>") + END)

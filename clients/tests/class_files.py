@@ -13,13 +13,13 @@ def plus():
 
 
 def ratio():
-    """A class that divides 1 by its entry, and returns null where that is 1."""
+    """A class that divides 1 by its entry, and returns null if the entry is 1."""
     with open(os.path.join(EXAMPLES, "Ratio.class"), "rb") as file:
         return file.read()
 
 
 def another(number):
-    """The same as `plus` by another name, one for each number below 10,000."""
+    """The class of `plus` under another name, one for each number below 10,000."""
     file = plus()
     if file.count(NAME) != 1:
         raise ValueError("the class has another name")
@@ -27,7 +27,7 @@ def another(number):
 
 
 class Pool:
-    """A constant pool that is built up: each method adds a constant and tells its number."""
+    """Builds a constant pool. Each method adds a constant and returns its index."""
 
     def __init__(self):
         self.constants = []
@@ -48,13 +48,13 @@ class Pool:
 
 
 def method(pool, code_name, flags, name, descriptor, slots, code):
-    """A method with nothing but its code; `slots` are the most of its stack and of its locals."""
+    """A method without attributes but its code. `slots` are its max_stack and max_locals."""
     body = struct.pack(">HHI", *slots, len(code)) + code + struct.pack(">HH", 0, 0)
     return struct.pack(">HHHHHI", flags, pool.text(name), pool.text(descriptor), 1, code_name, len(body)) + body
 
 
 def heavy():
-    """A class that takes some 240,000 instructions and returns the same number each time: methods that call the next one eight times."""
+    """A class that takes some 240,000 instructions and returns the same number each time. Each of its methods calls the next one eight times."""
     pool = Pool()
     this, above, processor, code = (
         pool.type("Heavy"),

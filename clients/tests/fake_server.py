@@ -1,12 +1,12 @@
 #!/usr/bin/env python3
-"""fake_server: speaks the frames of `jentry serve` without a machine, for tests of clients where the program isn't built, and of what a
-client does where a server fails. Every class is accepted and adds one to its entry.
+"""fake_server: speaks the protocol of `jentry serve` without running classes, for tests of clients where the program isn't built, and of
+clients whose server fails. It accepts every class, and each class adds one to its entry.
 
     fake_server.py [--die N] [--wrong N] [--short N] [--other N] [--huge N] [--empty N] [--slow SECONDS]
 
---die N ends it in its round N, before the replies to that round; --wrong N puts a reply more than there are requests into round N;
---short N leaves the last reply of round N out. In place of that reply --other N tells one that answers no request, --huge N one of
-1 MB, --empty N one of no length. --slow makes each round take so long.
+--die N exits in round N, before the replies to that round; --wrong N sends one reply too many in round N; --short N leaves out the last
+reply of round N. The other options replace that reply: --other N by one of an unknown kind, --huge N by a frame of 1 MB, --empty N by a
+frame of length 0. With --slow each round takes SECONDS.
 """
 import argparse
 import struct
@@ -24,7 +24,7 @@ def long(it):
 
 
 class Server:
-    """The entries of a cache, and what is told to each request of a round."""
+    """The entries of a cache, and the replies to the requests of a round."""
 
     def __init__(self):
         self.entries, self.classes, self.jobs = {}, 0, 0
@@ -36,7 +36,7 @@ class Server:
         return b"\0" + long(self.entries[key])
 
     def reply(self, text):
-        """The reply to a request, or nothing where it is none."""
+        """Returns the reply to a request, or None for an unknown kind of request."""
         kind = text[0]
         if kind == 1:
             self.classes += 1

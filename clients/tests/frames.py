@@ -1,4 +1,4 @@
-"""Frames for the tests, as bytes: requests as they are sent, replies as they are told."""
+"""Frames for the tests, as bytes: requests as a client sends them, and replies as a server sends them."""
 import struct
 
 END = b"\0\0\0\1\x08"

@@ -1,5 +1,5 @@
 #!/usr/bin/env python3
-"""front_ends_test: how a front begins and ends, and what happens at its limits. running.py says what it needs."""
+"""front_ends_test: how a front starts and exits, and what happens at its limits. running.py has the requirements."""
 import os
 import signal
 import socket
@@ -57,8 +57,8 @@ class ClassesRunOut(FrontTest):
 
 @unittest.skipUnless(PROGRAM, "the stand-in runs no classes")
 class Heavy(FrontTest):
-    """A light call goes between the pieces of heavy rounds: it is answered while nearly all of their work is still to come. That work
-    takes many seconds, and the front is ended before it is done."""
+    """A light call is run between the batches of heavy rounds: its reply comes while nearly all of their work is still to be done. That
+    work takes many seconds, and the front is stopped before its end."""
 
     def light_calls(self, line, heavy_lines):
         for n in range(5):
@@ -140,7 +140,7 @@ class Ends(FrontTest):
 
     @unittest.skipUnless(PROGRAM, "the stand-in runs no classes")
     def test_the_server_is_killed_in_mid_round(self):
-        """Nothing of the round is told, neither of the one that waits; all connections end, and so does the front."""
+        """No reply to the round in flight or to the waiting one is sent. All connections are closed, and the front exits."""
         with Running("--steps", "1000000000") as front, front.open() as a, front.open() as b, front.open() as c:
             self.define(a, heavy(), 0)
             self.ask(b, put(1, 1) + END, DONE + ENDED)

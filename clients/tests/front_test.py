@@ -1,5 +1,5 @@
 #!/usr/bin/env python3
-"""front_test: what a front has to hold, with one connection and with many. running.py says what it needs."""
+"""front_test: a front with one connection and with many. running.py has the requirements."""
 import os
 import random
 import resource
@@ -101,7 +101,7 @@ class OneConnection(FrontTest):
 
 
 class InvokeAll(FrontTest):
-    """With one instruction for a piece, each key goes out alone."""
+    """With --steps 1 the front sends each key to the server in its own batch."""
 
     def test_keys_that_stand_twice_run_once(self):
         for options in ((), ("--steps", "1")):
@@ -250,7 +250,7 @@ class ManyConnections(FrontTest):
             resource.setrlimit(resource.RLIMIT_NOFILE, (soft, hard))
 
     def gets_in(self, front):
-        """Whether a connection gets in once a place is free."""
+        """Returns whether a new connection is accepted within PATIENCE seconds."""
         end = time.monotonic() + PATIENCE
         while time.monotonic() < end:
             with front.open() as line:
@@ -332,7 +332,7 @@ class ManyConnections(FrontTest):
 
         def send_all(line):
             for _ in range(0, count, 1_000):
-                line.sendall(1_000 * (put(1, 1) + END))  # its timeout is that of the whole call
+                line.sendall(1_000 * (put(1, 1) + END))  # the socket's timeout applies to the whole call of sendall
 
         with Running() as front, front.open() as b, front.open() as a:
             taker = threading.Thread(target=take_all, args=(a,))
@@ -349,7 +349,7 @@ class ManyConnections(FrontTest):
 
 
 class Waits(FrontTest):
-    """What happens while a connection's round is at the server, which takes its time."""
+    """What happens while a connection's round is at a slow server."""
 
     def slow(self, seconds):
         return Running(server=STAND_IN + ["--slow", str(seconds)])
@@ -396,7 +396,7 @@ class Waits(FrontTest):
 
 
 def has_several():
-    """Whether there are several processors, and processes may be moved from one to another."""
+    """Returns whether there are several processors, and this process may set its affinity."""
     mine = os.sched_getaffinity(0)
     try:
         os.sched_setaffinity(0, mine)
@@ -407,7 +407,7 @@ def has_several():
 
 @unittest.skipUnless(has_several(), "processes can't be moved between processors")
 class Processors(FrontTest):
-    """Where the front's thread and the server's may run."""
+    """The processors that the front's thread and the server's may run on."""
 
     def places(self, front):
         return os.sched_getaffinity(front.process.pid), os.sched_getaffinity(front.server())
@@ -417,7 +417,7 @@ class Processors(FrontTest):
             self.ask(line, get(1) + END, value(None) + ENDED)
 
     def call_until(self, line, front, meant):
-        """Calls in a row until they may run where it is meant, and tells whether they did."""
+        """Makes calls until `meant` holds of these processors, or PATIENCE seconds have passed. Returns whether it holds."""
         until = time.monotonic() + PATIENCE
         while time.monotonic() < until:
             self.call(line, 100)

@@ -1,5 +1,5 @@
 #!/usr/bin/env python3
-"""http_test: metrics, health and the events of the page, and HTTP clients that are slow or hostile. running.py says what it needs."""
+"""http_test: metrics, health and the events of the page, and HTTP clients that are slow or hostile. running.py has the requirements."""
 import json
 import multiprocessing
 import os
@@ -30,7 +30,7 @@ GOOD = [
 
 
 def increase(before, after):
-    """The metrics that rose between two moments, by how much."""
+    """Returns the metrics that rose between two moments, and their increase."""
     return {name: after[name] - before.get(name, 0) for name in after if after[name] != before.get(name, 0)}
 
 
@@ -41,7 +41,7 @@ def connect(address):
 
 
 def read_all(line):
-    """What a connection sends until its end."""
+    """Returns all bytes that a connection sends until it is closed."""
     parts = []
     try:
         while part := line.recv(65_536):
@@ -52,7 +52,7 @@ def read_all(line):
 
 
 def drip(address, count, seconds):
-    """Sends a byte a second on each of so many connections. One that is closed is opened anew."""
+    """Sends one byte a second on each of `count` connections. A connection that is closed is opened again."""
     lines, end = {}, time.monotonic() + seconds
     text = b"GET /metrics HTTP/1.1\r\nX: " + b"a" * 4_096
     while time.monotonic() < end:
@@ -275,10 +275,10 @@ class Answers(FrontTest):
 
 
 class Hostile(FrontTest):
-    """HTTP clients that do their worst hold up neither calls nor memory."""
+    """Hostile HTTP clients neither slow down calls nor make the front's memory grow."""
 
     def rate(self, line, seconds):
-        """Calls a second by one connection, each a round."""
+        """Returns calls a second over one connection, in rounds of one call."""
         count, begun = 0, time.monotonic()
         while time.monotonic() - begun < seconds:
             for _ in range(20):

@@ -1,4 +1,4 @@
-"""Programs of Debian packages that tests need: installed where this process may, else the test is skipped."""
+"""Debian packages that tests need. They are installed if this process may install them, else the test is skipped."""
 import os
 import shutil
 import subprocess
@@ -8,8 +8,8 @@ LIMIT = 600
 
 
 def need(**programs):
-    """Skips the calling test unless each program is there: `need(promtool="prometheus")` names its package. Where this process is root
-    and there is apt-get, a missing package is installed, without starting its service."""
+    """Skips the calling test unless each program is installed: `need(promtool="prometheus")` names its package. If this process is root and
+    there is apt-get, the missing packages are installed, without starting their services."""
     missing = sorted({package for program, package in programs.items() if not shutil.which(program)})
     if missing and os.geteuid() == 0 and shutil.which("apt-get"):
         for words in (["update", "-q"], ["install", "-y", "-q", "--no-install-recommends", *missing]):

@@ -1,6 +1,7 @@
 #!/usr/bin/env python3
 """prometheus_test: Debian's Prometheus scrapes a front under load; promtool checks its metrics, and the configuration and the alerts of
-docs/OPERATIONS.md. running.py says what it needs; JENTRY_LOAD names the built examples/load, JENTRY_LOAD_SECONDS how long it runs (60)."""
+docs/OPERATIONS.md. running.py has the requirements. JENTRY_LOAD names the built examples/load, and JENTRY_LOAD_SECONDS its duration (60
+s)."""
 import json
 import os
 import re
@@ -25,7 +26,7 @@ ALERTS = ("JentryDown", "JentrySlow", "JentryClassesNearLimit")
 
 
 def blocks(language):
-    """The blocks of this language on the page for operators."""
+    """Returns the code blocks of this language in docs/OPERATIONS.md."""
     with open(PAGE, encoding="utf-8") as page:
         return re.findall(rf"```{language}\n(.*?)```", page.read(), re.DOTALL)
 
@@ -49,7 +50,7 @@ def free_port():
 
 
 class Prometheus:
-    """A Prometheus of the test's own, in a folder of its own, that scrapes a front each second."""
+    """A Prometheus in its own folder that scrapes a front each second."""
 
     def __init__(self, front):
         self.folder = tempfile.TemporaryDirectory()
@@ -93,12 +94,12 @@ class Prometheus:
             return json.load(answer)["data"]
 
     def value(self, query):
-        """The value of a query with one series, or None."""
+        """Returns the value of a query with one series, or None."""
         found = self.ask("/api/v1/query", query=query)["result"]
         return float(found[0]["value"][1]) if len(found) == 1 else None
 
     def wait_for(self, query, wanted):
-        """Waits until a query has this value, and gives the last that it had."""
+        """Waits until a query has this value, for PATIENCE seconds at most. Returns its last value."""
         end, found = time.monotonic() + PATIENCE, None
         while time.monotonic() < end:
             try:
@@ -125,7 +126,7 @@ class Scraped(FrontTest):
     def test_counters_equal_what_the_load_counted(self):
         with Running("--http", "0") as front, Prometheus(front) as prometheus:
             self.assertEqual(prometheus.wait_for('up{job="jentry"}', 1), 1)
-            with front.open() as a:  # the load's class throws on keys that aren't there
+            with front.open() as a:  # the load's class throws on absent keys
                 self.ask(a, b"".join(put(key, 0) for key in range(1_024)) + END, 1_024 * DONE + ENDED)
             load = subprocess.run(
                 [LOAD, front.place, "16", str(SECONDS), CLASS, "4", "4"],
@@ -164,7 +165,7 @@ class Scraped(FrontTest):
 
 
 class Page(unittest.TestCase):
-    """The configuration and the alerts of docs/OPERATIONS.md."""
+    """Tests of the configuration and the alerts in docs/OPERATIONS.md."""
 
     def setUp(self):
         need(promtool="prometheus")

@@ -1,4 +1,4 @@
-"""What the tests of the Python clients share."""
+"""Cases that the tests of the Python clients share."""
 import os
 import threading
 import unittest
@@ -9,10 +9,10 @@ HAS_PROCESSORS = os.path.exists(os.path.join(HERE, "../processors/GetAndPut.clas
 
 
 class Threaded(unittest.TestCase):
-    """Tests that have threads."""
+    """Tests with threads."""
 
     def run_threads(self, count, work, meanwhile=lambda: None):
-        """Runs `work(n)` on so many threads, each of which has to end without an error."""
+        """Runs `work(n)` on `count` threads, each of which has to end without an error."""
         wrong = []
 
         def guarded(n):
@@ -32,7 +32,7 @@ class Threaded(unittest.TestCase):
 
 
 class Endings:
-    """What ends a stream, by the stand-in's options. `ends_for_all` sees that each call is told so."""
+    """Failures of a server that end a stream, by the options of fake_server.py. `ends_for_all` checks that each call raises StreamEnded."""
 
     def test_the_server_ends(self):
         self.ends_for_all("--die")

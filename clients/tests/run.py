@@ -1,12 +1,12 @@
 #!/usr/bin/env python3
-"""run: runs modules of tests and tells their sum in one line. `run.py NAME MODULE..`; the last line is `NAME: N passed`, then `, M failed`
-where tests failed, and `, K skipped: WHY` where tests were skipped."""
+"""run: runs test modules and prints their counts in one line. `run.py NAME MODULE..`; the last line is `NAME: N passed`, then `, M failed`
+if tests failed, and `, K skipped: WHY` if tests were skipped."""
 import sys
 import unittest
 
 
 class Counting(unittest.TextTestResult):
-    """Counts what passed. A test that failed in several of its parts has failed once."""
+    """Counts the tests that passed. A test that failed in several of its parts has failed once."""
 
     def __init__(self, *words):
         super().__init__(*words)

@@ -1,7 +1,7 @@
-"""A front that runs for a test, before the program or before its stand-in.
+"""A front that runs for a test, on the built program or on fake_server.py.
 
-JENTRY_FRONT names the front, JENTRY_PROGRAM the built program, if it is there, JENTRY_OUT a folder for what tests keep,
-JENTRY_PATIENCE the seconds that a test waits for an answer, 60 where it names none.
+JENTRY_FRONT names the front, JENTRY_PROGRAM the built program, if it is there, JENTRY_OUT a folder for the files that tests keep, and
+JENTRY_PATIENCE the seconds that a test waits for a reply, 60 by default.
 """
 import http.client
 import os
@@ -27,7 +27,8 @@ PATIENCE = int(os.environ.get("JENTRY_PATIENCE", "60"))
 
 
 class Running:
-    """A front on a unix socket, in a folder of its own. Behind the `with` it is gone, and so is the folder."""
+    """A front on a unix socket, or on a TCP port, with its own folder. The end of the `with` block stops the front and removes the
+    folder."""
 
     def __init__(self, *options, server=None, tcp=False, **started):
         self.folder = tempfile.TemporaryDirectory()
@@ -59,14 +60,14 @@ class Running:
         self.folder.cleanup()
 
     def end(self):
-        """Waits for the front's end, and gives its status."""
+        """Waits until the front exits, and returns its status."""
         status = self.process.wait(PATIENCE)
         self._listener.join(PATIENCE)
         self.process.stderr.close()
         return status
 
     def http(self, path, method="GET", timeout=PATIENCE):
-        """The answer of the front's HTTP side: status, headers, and body."""
+        """Sends an HTTP request to the front. Returns the status, the headers and the body."""
         host, port = self.http_address()
         connection = http.client.HTTPConnection(host, port, timeout=timeout)
         try:
@@ -77,7 +78,7 @@ class Running:
             connection.close()
 
     def http_address(self):
-        """Host and port that `--http` has told."""
+        """Returns the host and the port that the front logged for `--http`."""
         for line in self.words:
             found = re.search(r" http on (.*):(\d+)$", line)
             if found:
@@ -85,14 +86,14 @@ class Running:
         raise ValueError("the front has no --http")
 
     def metrics(self):
-        """The metrics, by name with labels."""
+        """Returns the metrics, by name with labels."""
         status, _, text = self.http("/metrics")
         if status != 200:
             raise ValueError(text)
         return parse_metrics(text)
 
     def logged(self, pattern):
-        """The lines of the log that have this pattern, once there is one."""
+        """Waits until a line of the log matches this pattern, and returns all such lines."""
         end = time.monotonic() + PATIENCE
         while time.monotonic() < end:
             lines = [line for line in self.words if re.search(pattern, line)]
@@ -102,30 +103,30 @@ class Running:
         raise TimeoutError("\n".join(self.words))
 
     def memory(self):
-        """The front's resident memory in bytes."""
+        """Returns the front's resident memory in bytes."""
         with open(f"/proc/{self.process.pid}/statm") as statm:
             return int(statm.read().split()[1]) * os.sysconf("SC_PAGE_SIZE")
 
     def open(self):
         line = socket.socket(socket.AF_INET if isinstance(self.place, tuple) else socket.AF_UNIX)
-        line.connect(self.place)  # it waits where many connect at once
+        line.connect(self.place)  # blocks while the queue of new connections is full
         line.settimeout(PATIENCE)
         return line
 
     def server(self):
-        """The number of the server's process."""
+        """Returns the process id of the server."""
         with open(f"/proc/{self.process.pid}/task/{self.process.pid}/children") as children:
             return int(children.read().split()[0])
 
 
 def parse_metrics(text):
-    """Prometheus's text form, as values by name with labels."""
+    """Parses Prometheus's text format. Returns the values, by name with labels."""
     lines = [line.rsplit(" ", 1) for line in text.splitlines() if not line.startswith("#")]
     return {name: float(value) for name, value in lines}
 
 
 def take(line, count):
-    """So many bytes of a connection."""
+    """Reads this number of bytes from a connection."""
     parts = []
     while count > 0:
         part = line.recv(min(count, 65_536))
@@ -137,12 +138,12 @@ def take(line, count):
 
 
 def take_frame(line):
-    """The next reply, without its length."""
+    """Reads the next frame, and returns it without its length."""
     return take(line, int.from_bytes(take(line, 4), "big"))
 
 
 def is_ended(line):
-    """Whether a connection ends without a further byte."""
+    """Returns whether a connection ends without another byte."""
     try:
         return line.recv(1) == b""
     except ConnectionError:
@@ -150,12 +151,12 @@ def is_ended(line):
 
 
 def has_more(line):
-    """Whether a connection has bytes to take, or has ended, at this moment."""
+    """Returns whether a connection has bytes to read, or has ended, at this moment."""
     return bool(select.select([line], [], [], 0)[0])
 
 
 class FrontTest(unittest.TestCase):
-    """A test of a front, with what most of them do."""
+    """A test of a front, with the steps that most of them share."""
 
     def ask(self, line, text, wanted):
         line.sendall(text)
@@ -165,7 +166,7 @@ class FrontTest(unittest.TestCase):
         self.assertEqual(take(line, len(wanted)), wanted)
 
     def define(self, line, file, number=None):
-        """Defines a class, which has to be accepted, by this number if one is given, and tells its steps."""
+        """Defines a class, which has to be accepted, and with this number if one is given. Returns its limit of instructions."""
         line.sendall(define(file) + END)
         told = take_frame(line)
         self.assertEqual(told[0], 1, told)
@@ -175,7 +176,7 @@ class FrontTest(unittest.TestCase):
         return struct.unpack_from(">I", told, 5)[0]
 
     def send_all(self, line, text):
-        """Sends what may end its connection, and waits for that end."""
+        """Sends bytes that may make the front end the connection, and waits for its end."""
         try:
             line.sendall(text)
             line.shutdown(socket.SHUT_WR)

@@ -9,14 +9,14 @@ from shared import sum_of
 
 
 def without_kept(output):
-    """An output without the lines in which rt says what it begins with, where another checkout of this machine kept a crate of the same name."""
+    """Returns the output without rt's lines on what it begins with, if another checkout on this machine kept a crate of the same name."""
     return "".join(line for line in output.splitlines(True) if not re.match(r"rt: \w+: begins with ", line))
 
 
 @unittest.skipIf(os.environ.get("JENTRY_TRIAL"), "it proves a crate")
 class Builds(unittest.TestCase):
     def test_a_fresh_clone_is_built_whatever_crates_txt_counts(self):
-        """The counts of the small repository's crates.txt are wrong for both crates. The build says how far it is, and compares the program."""
+        """The counts in the small repository's crates.txt are wrong for both crates. The build shows its progress, and compares the program."""
         self.assertEqual(re.findall(r"may_wait=(\d)", tiny.CRATES), ["3", "2"])
         with tempfile.TemporaryDirectory() as room:
             folder = f"{room}/tiny"
@@ -33,7 +33,7 @@ class Builds(unittest.TestCase):
                 last,
                 f"jentry: crates/jentry/out/jentry is proved; it is not the program of release 1.2.3 (sha256 {sum_of(program)} here, {64 * '0'} there)",
             )
-            # The proved program answers now, without a word on standard error.
+            # Now the proved program runs, without a message on standard error.
             self.assertEqual(tiny.run(folder, "bin/jentry", "check", "examples/Plus.class"), ("accepted 727\n", "", 0))
 
     def test_what_is_not_proved_is_not_built(self):

@@ -7,7 +7,7 @@ import tiny
 
 
 def keep(folder, name, at, text=""):
-    """A kept file of this name that was written at this second."""
+    """Writes a kept file of this name, with this time in seconds."""
     path = f"{folder}/crates/low/out/incremental/{name}"
     tiny.write(path, text)
     os.utime(path, (at, at))
@@ -16,7 +16,7 @@ def keep(folder, name, at, text=""):
 class Costs(unittest.TestCase):
     @unittest.skipIf(os.environ.get("JENTRY_TRIAL"), "it proves a crate")
     def test_a_proved_function_is_listed(self):
-        """By what a real check keeps: where the toolchain's files have another form, nothing is found in them."""
+        """Reads the files of a real check: nothing is found in them if the toolchain's files have another form."""
         with tempfile.TemporaryDirectory() as room:
             folder = f"{room}/tiny"
             tiny.make(folder)
@@ -29,7 +29,7 @@ class Costs(unittest.TestCase):
             self.assertRegex(output, r"\n +\d+\.\d\d M  \S+  proofs\.least\.")
 
     def test_seconds_are_those_between_files_by_function_and_part(self):
-        """A pause between two checks doesn't count, and a type that is named as a part is none."""
+        """A pause between two checks doesn't count, and a type with the name of a part is no part."""
         with tempfile.TemporaryDirectory() as room:
             folder = f"{room}/tiny"
             tiny.make(folder)

@@ -1,4 +1,4 @@
-"""bin/test: its sums, what it says of crates that weren't proved, and what it installs."""
+"""bin/test: its counts, what it prints about crates that weren't proved, and what it installs."""
 import contextlib
 import io
 import os
@@ -65,7 +65,7 @@ class Gate(unittest.TestCase):
         self.assertFalse(self.test.is_there("no-such-command /no/such/file"))
 
     def test_what_may_not_be_installed_is_told_with_the_command(self):
-        """As another user than root. Nothing is installed, and nothing fails."""
+        """The user isn't root: nothing is installed, and nothing fails."""
         rows = [["no-such-package", "/no/such/file", "clients/java"], ["there", "sh", "all"]]
         with mock.patch.object(self.test, "packages", lambda: rows), mock.patch.object(
             os, "geteuid", lambda: 1000
@@ -80,7 +80,7 @@ class Gate(unittest.TestCase):
 
     @unittest.skipUnless(os.geteuid() == 0 and os.path.exists("/usr/bin/apt-get"), "it needs root and apt-get")
     def test_a_package_that_cannot_be_installed_fails_nothing(self):
-        """By a real apt-get, of a package that Debian hasn't."""
+        """A real apt-get is called for a package that Debian doesn't have."""
         with mock.patch.object(
             self.test, "packages", lambda: [["no-such-package-of-debian", "/no/such/file", "clients/java"]]
         ), contextlib.redirect_stdout(io.StringIO()) as printed:

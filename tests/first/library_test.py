@@ -28,7 +28,7 @@ class Makes(unittest.TestCase):
         tiny.write(f"{self.folder}/crates/embed/src/lib.rt", EXPORTS)
 
     def rt_ci(self):
-        """Proves the library. `rt ci` takes no names where CI says that the merge gate runs, and the repository here is another one."""
+        """Proves the library. CI is emptied: in the merge gate, which sets it, `rt ci` takes no names, and this repository is another one."""
         output, errors, status = tiny.run(self.folder, f"{self.folder}/bin/rt", "ci", "embed", CI="")
         self.assertEqual(status, 0, output + errors)
 
@@ -39,7 +39,7 @@ class Makes(unittest.TestCase):
         self.exports()
 
     def exports(self):
-        """The library that was made has the function."""
+        """Checks that the library has the function."""
         path = f"{self.folder}/crates/embed/out/libembed.a"
         told = subprocess.run(["nm", path], stdout=subprocess.PIPE, text=True, check=True).stdout
         self.assertIn(" T tiny_least\n", told)
@@ -51,7 +51,7 @@ class Makes(unittest.TestCase):
         self.exports()
 
     def test_nothing_is_made_over_what_was_not_proved(self):
-        """The function below has a name that no run has proved."""
+        """The function has a name that no run has proved."""
         library = tiny.LIBRARY.replace("(x: usize)", f"(number_{os.getpid()}_{os.urandom(4).hex()}: usize)")
         library = library.replace("    x\n", "    0\n")
         tiny.write(f"{self.folder}/crates/low/src/lib.rt", library)

@@ -1,4 +1,4 @@
-"""The gate's beginning: a newcomer's first command, and that the gate ends where it fails."""
+"""The start of the gate: a newcomer's first command. The gate ends if it fails."""
 import os
 import shutil
 import subprocess
@@ -12,7 +12,7 @@ README = (
     "# tiny\n\n```\ngit clone it\nbin/jentry check examples/Plus.class\n```\n\nThis prints\n\n```\naccepted {}\n```\n"
 )
 GATE_LIMIT = 300
-"""The most seconds in which the gate has to fail."""
+"""The seconds within which the gate has to fail."""
 
 
 def commit(folder):

@@ -1,4 +1,4 @@
-"""Estimates of the time that a build takes, and the order of its proofs."""
+"""Estimates of the time of a build, and the order of its proofs."""
 import unittest
 
 from progress import BUSY, SPEED, Estimate, chains, in_words
@@ -61,7 +61,7 @@ class Weights(unittest.TestCase):
         self.assertAlmostEqual(weights["bench"], 1 + weights["machine"] * lines["bench"] / lines["machine"])
 
     def test_memory_is_what_was_measured_with_a_margin(self):
-        """A crate without a measure needs what rt reckons."""
+        """A crate that wasn't measured needs what rt estimates."""
         bench = self.rt.rtlib.Crate(f"{TOP}/crates/bench", TOP, {})
         needs = self.build.needs_of(self.rt, [self.crates["verify"], bench])
         took = self.build.measured()["verify"][1]
@@ -69,7 +69,7 @@ class Weights(unittest.TestCase):
         self.assertEqual(needs, {"verify": self.build.MARGIN * took, "bench": self.rt.need(bench)})
 
     def test_slots_is_urgent_beside_what_runs_when_it_can_begin(self):
-        """slots can begin once verdict is proved, beside soundness and vmcode: the machine waits for all of them."""
+        """slots can start once verdict is proved, together with soundness and vmcode; machine needs all of them."""
         weights = self.build.weights_of(self.rt, self.crates.values())
         longest = chains({name: {it.name for it in crate.below()} for name, crate in self.crates.items()}, weights)
         beside = max(longest[it] for it in ("slots", "soundness", "vmcode", "explain"))

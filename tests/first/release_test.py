@@ -1,4 +1,4 @@
-"""bin/release: what it refuses, that whoever builds gets the same bytes, and that the Debian package runs in an empty root."""
+"""bin/release: what it refuses, that all builds give the same bytes, and that the Debian package runs in an empty root."""
 import glob
 import os
 import shutil
@@ -20,7 +20,7 @@ NOTE = (
 
 
 def program():
-    """The built program that the tests run on, or None. A trial build is twenty times as large, and packs as slowly."""
+    """Returns the built program that the tests run on, or None. A trial build isn't used: it is twenty times as large, and slow to pack."""
     found = os.path.abspath(os.environ.get("JENTRY_PROGRAM", f"{tiny.TOP}/crates/jentry/out/jentry"))
     return found if os.access(found, os.X_OK) and not os.environ.get("JENTRY_TRIAL") else None
 
@@ -47,7 +47,7 @@ class Refusals(unittest.TestCase):
         built = f"{self.folder}/crates/jentry/out/jentry"
         tiny.write(built, "a program")
         subprocess.run(["python3", "-B", "-c", NOTE], cwd=self.folder, check=True)
-        # What bin/test noted is enough, except the versions of the parts.
+        # With the note of bin/test, the next reason is the versions of the parts.
         self.refused("clients/front/Cargo.toml has version None, and not 0.1.0")
         for file, text in (
             ("front/Cargo.toml", f'version = "{VERSION}"\n'),
@@ -78,7 +78,7 @@ class Refusals(unittest.TestCase):
 class Releases(unittest.TestCase):
     @classmethod
     def setUpClass(cls):
-        """Two releases of one commit, each in a clone of its own, with another mask of modes and another time zone."""
+        """Makes two releases of one commit, each in its own clone, with different umasks and time zones."""
         cls.room = tempfile.TemporaryDirectory()
         cls.addClassCleanup(cls.room.cleanup)
         cls.folders = []
@@ -134,7 +134,7 @@ class Releases(unittest.TestCase):
         with tempfile.TemporaryDirectory() as room:
             subprocess.run(["tar", "-C", room, "-xf", f"{self.folders[0]}/{NAMES[0]}"], check=True)
             (top,) = glob.glob(f"{room}/*")
-            # Also by a link from elsewhere, as from /usr/local/bin.
+            # A link from elsewhere, such as /usr/local/bin, works, too.
             os.symlink(f"{top}/bin/jentry", f"{room}/link")
             for command in (f"{top}/bin/jentry", f"{room}/link"):
                 self.assertEqual(
@@ -147,7 +147,7 @@ class Releases(unittest.TestCase):
         "it needs root and apt-get, to fill an empty root with Debian's libc6 and dash",
     )
     def test_the_package_runs_in_an_empty_root(self):
-        """A root with Debian's libc6, libgcc-s1 and dash alone, and the package."""
+        """The root has only Debian's libc6, libgcc-s1 and dash, and the package."""
         with tempfile.TemporaryDirectory() as room:
             os.chmod(room, 0o755)
             got = subprocess.run(

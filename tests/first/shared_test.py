@@ -1,4 +1,4 @@
-"""What CHANGELOG.md says of releases, and how a program is compared with the newest."""
+"""The releases in CHANGELOG.md, and the comparison of a program with the newest one."""
 import hashlib
 import os
 import re
@@ -52,7 +52,7 @@ class Releases(unittest.TestCase):
 
 class Parts(unittest.TestCase):
     def test_all_parts_have_one_version(self):
-        """The front, the Python package and the Java jar, whose version has -SNAPSHOT behind it until it is released."""
+        """The parts are the front, the Python package and the Java jar. The jar's version ends in -SNAPSHOT until it is released."""
         found = [
             re.search(pattern, text_of(os.path.join(TOP, "clients", file)), re.MULTILINE)[1]
             for file, pattern in (

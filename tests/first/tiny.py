@@ -1,4 +1,4 @@
-"""A small repository with this one's commands: a library that waits for nothing, and a program `jentry` above it that answers `check FILE`."""
+"""A small repository with the commands of this one: a library that doesn't wait, and above it a program `jentry` with the command `check FILE`."""
 import os
 import shutil
 import signal
@@ -61,7 +61,8 @@ def make(folder):
 
 
 def run(folder, *words, limit=900, **variables):
-    """What a command prints on standard output and on standard error, and its status. Where it takes more seconds, it and all that it started are ended."""
+    """Runs a command. Returns its standard output, its standard error and its status. After `limit` seconds it kills the command and all processes
+    that it started, and raises TimeoutExpired."""
     how = {
         "stdin": subprocess.DEVNULL,
         "stdout": subprocess.PIPE,

@@ -1,4 +1,4 @@
-"""bin/jentry and bin/try in a small repository: when a trial build is made, and by whom."""
+"""bin/jentry and bin/try in a small repository: when a trial build is made, and by which command."""
 import os
 import subprocess
 import tempfile
@@ -25,7 +25,7 @@ class Trials(unittest.TestCase):
         return tiny.run(self.folder, *words, **variables)
 
     def at_once(self, count):
-        """What commands that are started at once write on standard error, in the order of their lengths. Each has to answer."""
+        """Runs `count` commands at the same time, which have to succeed. Returns their standard errors, sorted by length."""
         how = {
             "cwd": self.folder,
             "stdin": subprocess.DEVNULL,
@@ -41,10 +41,10 @@ class Trials(unittest.TestCase):
         return sorted((errors for _, errors in outputs), key=len)
 
     def test_a_trial_is_made_once_and_anew_for_other_sources(self):
-        # Of two at once one makes it, and both answer.
+        # One of two concurrent commands makes it, and both succeed.
         self.assertEqual(self.at_once(2), sorted([MAKING + NOT_PROVED, WAITING + NOT_PROVED], key=len))
         self.assertEqual(self.run_here(*CHECK), ("accepted 727\n", NOT_PROVED, 0))
-        # Without a kit the trial that is there answers.
+        # Without a kit the kept trial build runs.
         self.assertEqual(self.run_here(*CHECK, PATH="/usr/bin:/bin"), ("accepted 727\n", NOT_PROVED, 0))
         made = os.stat(f"{self.folder}/crates/jentry/out/trial/jentry").st_ino
         tiny.write(
@@ -78,7 +78,7 @@ class Trials(unittest.TestCase):
         self.assertFalse(os.path.exists(f"{self.folder}/crates/jentry/out"))
 
     def test_a_proved_program_answers_where_there_is_one(self):
-        """Whatever file is crates/jentry/out/jentry runs, with the words, the status and the standard input."""
+        """Any file at crates/jentry/out/jentry is run, with the arguments and the standard input, and its status is returned."""
         program = f"{self.folder}/crates/jentry/out/jentry"
         tiny.write(program, "#!/bin/sh\necho \"$@\"\ncat\nexit 4\n")
         os.chmod(program, 0o755)

@@ -1,4 +1,4 @@
-"""docs/ARCHITECTURE.md and README.md beside the repository: crates, files and names that they mention are there."""
+"""docs/ARCHITECTURE.md against the repository: the crates, files and names that it mentions exist."""
 import os
 import re
 import unittest
@@ -14,7 +14,7 @@ def crates():
 
 
 def diagrams():
-    """The lines of the diagrams."""
+    """Yields the lines of the diagrams."""
     inside = False
     for line in text_of(PAGE).split("\n"):
         if line.startswith(FENCE):
@@ -50,7 +50,7 @@ class Architecture(unittest.TestCase):
         self.assertEqual(sorted(named - known - set(crates())), [])
 
     def test_functions_of_the_diagrams_are_there(self):
-        """The first word of each line is a function or a method of the crates that the line or one above it names, or says what a part is for."""
+        """Each name in the diagrams with an underscore or a capital letter at its start is in the crates' sources, or is a crate."""
         known = words_of_code()
         words = [it for line in diagrams() for it in re.findall(r"\b[a-z]+(?:_[a-z]+)+\b|\b[A-Z]\w+(?:::\w+)?", line)]
         self.assertGreater(len(words), 60)

@@ -1,4 +1,4 @@
-"""docs/ASSURANCE.md beside the crates: each call, clause, definition, edit and test that it names is there, and no clause of a listed call is left out."""
+"""docs/ASSURANCE.md against the crates: the calls, clauses, definitions, edits and tests that it names exist, with all clauses of a listed call."""
 import glob
 import os
 import re
@@ -12,12 +12,12 @@ DEFINITION = re.compile(r"`(\w+)` ([a-z_]+/[A-Z]\w+)")
 
 
 def table(first):
-    """The rows of all tables whose head begins with a word."""
+    """Returns the rows of all tables whose head begins with this word."""
     return [row for head, rows in tables_of(PAGE) if head[0].startswith(first) for row in rows]
 
 
 def calls():
-    """Each call with its file and the clauses that its rows name."""
+    """Returns the clauses that the page names for each call and its file."""
     found, current = {}, None
     for row in table("Call"):
         call = CALL.fullmatch(row[0])
@@ -99,7 +99,7 @@ class Assurance(unittest.TestCase):
         )
 
     def test_worked_examples_are_counted(self):
-        """As many verdicts and ends are computed as the page says."""
+        """The page says how many verdicts and ends are computed."""
         verdicts, calls = (text_of(f"crates/spec_examples/specs/{it}.antt") for it in ("Verdicts", "Rows"))
         first = len(re.findall(r"^pub \w+ : judge_by First", verdicts, re.M))
         second = len(re.findall(r"^pub \w+ : judge ", verdicts, re.M))

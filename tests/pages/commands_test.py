@@ -1,4 +1,4 @@
-"""The commands that the pages show print what the pages say."""
+"""The commands on the pages print what the pages say."""
 import os
 import sys
 import unittest

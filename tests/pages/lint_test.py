@@ -1,4 +1,4 @@
-"""bin/lint finds what it is there to find."""
+"""bin/lint finds the faults that it checks for."""
 import contextlib
 import importlib.machinery
 import importlib.util
@@ -59,7 +59,7 @@ class Lines(unittest.TestCase):
 
 
 def linted(folder, files, *checks):
-    """Writes these files and what bin/lint goes by into a folder that is a repository, and runs checks there. Gives the status and the lines."""
+    """Writes these files and what bin/lint needs into a folder, makes it a repository, and runs checks there. Returns the status and the lines."""
     by = {path: text_of(path) for path in ("bin/lint", "lint/checkstyle.xml", "pyproject.toml")}
     for path, text in {**by, **files}.items():
         os.makedirs(os.path.dirname(os.path.join(folder, path)), exist_ok=True)
@@ -72,7 +72,7 @@ def linted(folder, files, *checks):
 
 
 class Planted(unittest.TestCase):
-    """Each check passes files as they have to be, and fails by one fault in one of them. None changes a file without --fix."""
+    """Each check passes correct files, and fails for one fault in one of them. None changes a file without --fix."""
 
     def hold(self, check, files, path, *faults):
         with tempfile.TemporaryDirectory() as folder:

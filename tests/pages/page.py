@@ -1,4 +1,4 @@
-"""What the tests of the pages read: tables and code blocks of a page, and contracts and definitions of the crates."""
+"""Reads tables and code blocks of a page, and contracts and definitions of the crates, for the tests of the pages."""
 import functools
 import os
 import re
@@ -15,7 +15,7 @@ def text_of(path):
 
 
 def lines_of(page):
-    """The lines of a page outside its code blocks, each with its number from 1."""
+    """Yields the lines of a page outside its code blocks, each with its number from 1."""
     inside = False
     for number, line in enumerate(text_of(page).split("\n"), 1):
         if line.startswith(FENCE):
@@ -25,7 +25,7 @@ def lines_of(page):
 
 
 def tables_of(page):
-    """The tables of a page: the cells of the head, and those of each row."""
+    """Returns the tables of a page, each as the cells of its head and those of its rows."""
     tables, rows = [], None
     for _, line in lines_of(page):
         if not line.startswith("|"):
@@ -41,8 +41,8 @@ def tables_of(page):
 
 
 def contract_of(name, path):
-    """The names of the clauses of a function, `(unnamed)` for one without a name; None where the file has no such function. `A::b` is b of an impl
-    of A."""
+    """Returns the names of the clauses of a function, `(unnamed)` for one without a name; None if the file has no such function. `A::b` is b of an
+    impl of A."""
     kind, _, function = name.rpartition("::")
     inside, found = "", None
     for line in text_of(path).split("\n"):
@@ -64,7 +64,7 @@ def contract_of(name, path):
 
 
 def is_defined(word, spec):
-    """Whether a file of definitions, as `verdict/Verdict`, defines or declares a word."""
+    """Returns whether a file of definitions, such as `verdict/Verdict`, defines or declares a word."""
     crate, _, file = spec.partition("/")
     path = f"crates/{crate}/specs/{file}.antt"
     if not os.path.exists(os.path.join(TOP, path)):
@@ -81,7 +81,7 @@ def is_defined(word, spec):
 
 @functools.lru_cache(maxsize=None)
 def words_of_code():
-    """All words of the crates' sources and definitions."""
+    """Returns all words in the crates' sources, definitions and edits."""
     found = set()
     for folder, folders, files in os.walk(os.path.join(TOP, "crates")):
         folders[:] = [it for it in folders if it not in ("out", "proofs")]
@@ -93,6 +93,6 @@ def words_of_code():
 
 
 def rows_of(table):
-    """The rows of a table of clients/tables: its cells by the names of the first line."""
+    """Returns the rows of a table in clients/tables: their cells by the names in the first line."""
     lines = [line.split("\t") for line in text_of(f"clients/tables/{table}.tsv").rstrip("\n").split("\n")]
     return [dict(zip(lines[0], line)) for line in lines[1:]]

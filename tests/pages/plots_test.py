@@ -1,4 +1,4 @@
-"""The plots of docs/plots are of the figures beside them, bench/plot.py makes plots, and bench/measure.py figures for it."""
+"""The plots in docs/plots show the figures next to them, bench/plot.py makes plots, and bench/measure.py makes figures for them."""
 import glob
 import hashlib
 import os
@@ -48,7 +48,7 @@ class Plots(unittest.TestCase):
                 self.assertLessEqual({"first", "second"}, set(texts_of(path.replace(".tsv", ".svg"))), name)
 
     def test_tables_of_the_page_are_the_figures(self):
-        """Each figure of the files beside the plots is in a cell of the page."""
+        """Each figure in the files next to the plots is in a cell of the page."""
         page = text_of("docs/PERFORMANCE.md")
         for path in glob.glob(os.path.join(TOP, "docs/plots/*.tsv")):
             with open(path, encoding="utf-8") as it:

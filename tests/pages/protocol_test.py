@@ -1,4 +1,4 @@
-"""The session in bytes of docs/PROTOCOL.md, through the built program."""
+"""The session in bytes in docs/PROTOCOL.md, run by the built program."""
 import os
 import re
 import subprocess
@@ -10,7 +10,7 @@ PROGRAM = os.environ.get("JENTRY_PROGRAM")
 
 
 def session():
-    """What the client sends and the server answers, as the page has it: bytes in pairs of digits, and files by their names."""
+    """Returns the bytes that the client sends and those that the server sends. The page has them as pairs of digits, and files by their names."""
     block = re.search(r"```\n(> 00 00 .*?)```", text_of("docs/PROTOCOL.md"), re.S)[1]
     sides = {">": b"", "<": b""}
     for line in block.rstrip("\n").split("\n"):

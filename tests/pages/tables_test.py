@@ -1,4 +1,4 @@
-"""clients/tables beside what has a copy of it: the server, the clients of each language, the example client, and the pages."""
+"""clients/tables against its copies: in the server, in the clients of each language, in the example client, and on the pages."""
 import ast
 import glob
 import os
@@ -20,7 +20,7 @@ def numbers(table):
 
 
 def sources(folder, kind):
-    """The sources of a client, tests aside, by their paths."""
+    """Returns the sources of a client without its tests, by their paths."""
     paths = glob.glob(os.path.join(TOP, folder, "**", f"*.{kind}"), recursive=True)
     return {
         it: text_of(os.path.relpath(it, TOP))
@@ -30,14 +30,14 @@ def sources(folder, kind):
 
 
 def listed(text, table):
-    """The names that a source lists from the first name of a table on, as many as the table has."""
+    """Returns the names in a source from the first name of a table on, as many as the table has."""
     found = NAME.findall(text)
     at = found.index(names(table)[0])
     return found[at : at + len(names(table))]
 
 
 def constants_of(path):
-    """The constants of a Python module, by their names."""
+    """Returns the constants of a Python module, by their names."""
     found = {}
     for it in ast.parse(text_of(path)).body:
         if isinstance(it, ast.Assign) and isinstance(it.targets[0], ast.Name):
@@ -67,7 +67,7 @@ class Tables(unittest.TestCase):
         self.assertEqual([(int(number), it) for it, number in denials], list(zip(numbers("denials"), names("denials"))))
 
     def test_levels_are_those_of_the_verdict(self):
-        """The refusals of types and bounds are those that the definitions of their levels name."""
+        """The refusals of types and bounds are those in the definitions of their levels."""
         text = text_of("crates/verdict/specs/Verdict.antt")
         types = re.findall(r"^BodyStands v e code tables \(?(\w+)", text, re.M)
         bounds = re.findall(r"^BoundStands profile c j (\w+)", text, re.M) + re.findall(
@@ -126,7 +126,7 @@ class Tables(unittest.TestCase):
         self.assertEqual([(row[1], row[0]) for row in page["Fault"]], faults)
 
     def test_the_page_for_authors_has_each_refusal(self):
-        """By a heading, or by a row of a table with one number or several, and their names in that order."""
+        """A refusal has a heading, or is in a table's row with one or more numbers and their names in the same order."""
         page = "docs/PROCESSORS.md"
         found = dict(re.findall(r"^### (\d+) (\w+)", text_of(page), re.M))
         for _, rows in tables_of(page):

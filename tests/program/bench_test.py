@@ -1,4 +1,4 @@
-"""The measuring program `bench`: its lines, refusals and statuses, and that what it tells of is done."""
+"""The measuring program `bench`: its output, refusals and statuses, and that it does the work that it reports."""
 import re
 import time
 
@@ -12,7 +12,7 @@ USAGE = (
 REFUSED, UNREAD = "error: the class is refused\n", "error: cannot read the file\n"
 PLUS = rows.plus()
 ROUNDS, CACHE_CALLS, OF_ROUNDS = 9, 65_536, 201
-"""How many rounds there are, how many calls on a cache are in each, and how many rounds of jobs."""
+"""The number of rounds, of calls on a cache in each of them, and of rounds of jobs."""
 
 TENTHS = r"(\d+)\.(\d)"
 LINES = {
@@ -30,14 +30,14 @@ GET_KEY = [rows.utf8(b"getKey"), rows.name_and_type(rows.FURTHER, 24), rows.inte
 KEY = b"\x2b\xb9" + rows.u2(rows.FURTHER + 2) + b"\1\0\xc0\0\x12\xb6\0\x25"
 """aload_1, getKey, checkcast Long, longValue"""
 IS_NULL = b"\x5c\x75\x81\x10\x3f\x7d"
-"""From a long to 0 where it is 0, and to 1 where it is another: dup2, lneg, lor, bipush 63, lushr."""
+"""Replaces a long by 0 if it is 0, and else by 1: dup2, lneg, lor, bipush 63, lushr."""
 THROW_IF_ONE = b"\x75\x0a\x61\x6d"
-"""lneg, lconst_1, ladd, ldiv: under the 0 or 1 stands a 1, which is divided by 1 or 0."""
+"""lneg, lconst_1, ladd, ldiv: divides the 1 below the 0 or 1 on the stack by 1 less that number, which throws for 1."""
 
 
 def expecting():
-    """A processor that ends in 48 steps on the key -7, without an entry and with the first argument 5. On another key it throws in step 17, with
-    another argument in step 36, and where there is an entry in step 45."""
+    """A processor that ends in 48 steps for the key -7 without an entry and with the first argument 5. It throws in step 17 for another key, in step
+    36 for another argument, and in step 45 if there is an entry."""
     key = b"\x0a" + KEY + b"\x10\x07\x85\x61" + IS_NULL + THROW_IF_ONE + b"\x58"
     argument = b"\x0a\x2c\x03\x32\xc0\0\x12\xb6\0\x25\x08\x85\x65" + IS_NULL + THROW_IF_ONE + b"\x58"
     entry = b"\x0a\x2b\xb9\0\x16\1\0\x85" + THROW_IF_ONE + b"\x58"
@@ -45,7 +45,7 @@ def expecting():
 
 
 def adding_below_96():
-    """A processor that adds one to the entry on a key below 96, and throws on another: the one is divided by 1 less the sign of 95 - key."""
+    """A processor that adds one to the entry of a key below 96, and throws for another key: it divides the one by 1 less the sign bit of 95 - key."""
     value = b"\x2b\xb9\0\x1a\1\0\xc0\0\x12\xb6\0\x25"
     one = b"\x0a\x10\x5f\x85" + KEY + b"\x65\x10\x3f\x7d" + THROW_IF_ONE
     code = value + one + b"\x61\x42\x2b\x21\xb8\0\x29\xb9\0\x1e\2\0\x01\xb0"
@@ -57,7 +57,8 @@ class Bench(Runs):
     variable = "BENCH_PROGRAM"
 
     def numbers(self, words, file=PLUS):
-        """The numbers of the line that a measure prints, which ends well, has its form, and tells no median below the least. Times are in tenths."""
+        """Runs a measure, which has to end well and to print a line of its form with no median below the minimum. Returns the times in tenths, the
+        other numbers, and the seconds that the run took."""
         began = time.monotonic()
         it = told(self.program, words, file)
         passed = time.monotonic() - began
@@ -116,7 +117,7 @@ class Bench(Runs):
     def test_files_outputs_and_classes_fail(self):
         lines = ["run {} 0 7 41", "verify {} 2", "calls {} 1000 1", "rounds {} 8 1", "stripe {} 5"]
         self.hold(Row(line.format(name).split(), 3, errors=UNREAD) for line in lines for name in ("D", "."))
-        # No bytes are no class; that a class is refused is what `verify` measures.
+        # An empty file is no class. `verify` is left out, since it also measures classes that are refused.
         self.hold(Row(line.format("C").split(), 2, errors=REFUSED) for line in lines if not line.startswith("verify"))
         with open("/dev/full", "wb") as full:
             self.assertEqual(told(self.program, ["run", "C", "0", "7", "41"], PLUS, stdout=full), Told(3, None, b""))
@@ -133,7 +134,8 @@ class Bench(Runs):
         self.assertEqual(accepted, 0)
 
     def test_seats_put_and_invoke(self):
-        """On 100 keys the calls go to the 96 that are the same number on each stripe: each has 7 before, one more for each invocation, and 7 again."""
+        """With 100 keys the calls use 96, as many on each stripe. An entry is 7 at first, each invocation adds one, and the puts set it to 7
+        again."""
         for seats in (1, 2, 3, 16):
             times, (by, invoked, put), passed = self.numbers(["calls", "C", "100", str(seats)], adding_below_96())
             self.assertEqual((by, invoked, put), (seats, 7 * 100 + ROUNDS * CACHE_CALLS, 7 * 100))
@@ -143,7 +145,7 @@ class Bench(Runs):
         for jobs, seats in ((1, 1), (2, 2), (8, 4), (40, 16)):
             (median, least), (each_second, entries), passed = self.numbers(["rounds", "C", str(jobs), str(seats)])
             self.assertEqual(entries, (7 + OF_ROUNDS) * jobs)
-            # (the median is told in whole tenths of a microsecond)
+            # The median is printed in whole tenths of a microsecond.
             self.assertGreaterEqual(each_second, jobs * 10**7 // (median + 1))
             self.assertLessEqual(each_second, jobs * 10**7 // median)
             self.assertLessEqual(OF_ROUNDS * least, passed * 1e7)

@@ -1,4 +1,4 @@
-"""Commands of `jentry`, with their lines and statuses."""
+"""The commands of `jentry`: their output and statuses."""
 import os
 import resource
 import tempfile
@@ -15,7 +15,7 @@ GREATEST, LEAST = "9223372036854775807", "-9223372036854775808"
 
 
 def changed(at, *given):
-    """Plus with other bytes from a place on."""
+    """Returns Plus with these bytes from offset `at` on."""
     return PLUS[:at] + bytes(given) + PLUS[at + len(given) :]
 
 
@@ -88,21 +88,21 @@ class Commands(Runs):
         self.hold(
             refused(rows.plus(rows.Frames(count, bytes(entries))), output)
             for count, entries, output in [
-                # The long is chopped with the arguments, or the stack's order is turned.
+                # The frame omits the long and the arguments, or its operands are in the reverse order.
                 (1, [250, 0, 15], operand),
                 (1, [255, 0, 17, 0, 4, 7, 0, 2, 7, 0, 16, 7, 0, 4, 4, 0, 2, 4, 7, 0, 16], operand),
-                # The bytes are more or fewer than the entries, or there is no such entry or type.
+                # There are too many or too few bytes for the entries, or no such entry or type exists.
                 (1, [252, 0, 15, 4, 9], table),
                 (2, [252, 0, 15, 4], table),
                 (1, [128, 0, 15], table),
                 (1, [252, 0, 15, 3], table),
                 (1, [252, 0, 15, 7, 0, 1], table),
                 (1, [76, 0], table),
-                # No instruction stands there.
+                # No instruction begins there.
                 (1, [2], table),
                 (1, [251, 255, 255], table),
                 (2, [252, 0, 15, 4, 8], table),
-                # There are no four locals to chop, or there is no room.
+                # There are no four locals to chop, or the frame exceeds the method's limits.
                 (2, [248, 0, 15, 250, 0, 0], table),
                 (1, [254, 0, 15, 4, 4, 4], table),
                 (1, [255, 0, 17, 0, 0, 0, 3, 4, 4, 4], table),
@@ -111,7 +111,7 @@ class Commands(Runs):
 
     def test_layouts_and_shapes_are_refused(self):
         self.assertEqual(len(PLUS), 727)
-        # Behind the header stand 14 bytes of it, the constructor of 31, `process` of 56 and a count.
+        # The last 14 bytes of the header are followed by the constructor of 31, `process` of 56 and a count.
         header = len(PLUS) - 2 - 56 - 31 - 14
         self.hold(
             refused(changed(at, *given), output)
@@ -144,7 +144,7 @@ class Commands(Runs):
         )
 
     def test_long_lengths_are_refused(self):
-        # Of the method `process`: the length of its Code attribute, and of the code in it.
+        # These are the lengths of the Code attribute of the method `process`, and of the code in it.
         process = 727 - 2 - 56
         self.hold(
             refused(changed(at, 0xFF, 0xFF, 0xFF, 0xFF), output)
@@ -182,7 +182,7 @@ class Commands(Runs):
         )
 
     def test_every_tag_is_read(self):
-        """A constant of each tag that Plus has not, the first at index 55."""
+        """A constant of each tag that Plus doesn't have, the first at index 55."""
         further = [
             rows.float_(0x7FC0_0000),
             rows.double(1),
@@ -224,14 +224,14 @@ class Commands(Runs):
                 ([0xCA], "refused 16 UnknownOpcode\n"),
                 ([0xBA, 0, 0, 0, 0], "refused 17 OutsideProfile opcode 186\n"),
                 ([0x2B, 0xC0, 0], "refused 18 BadOperand\n"),
-                # A branch behind the code, one into an instruction, one to itself.
+                # A branch goes past the end of the code, into an instruction, or to itself.
                 ([0xA7, 0, 4, 0xB0], "refused 19 BadTarget\n"),
                 ([0xA7, 0, 4, 0x10, 1, 0x01, 0xB0], "refused 19 BadTarget\n"),
                 ([0xA7, 0, 0], "refused 20 BackwardBranch\n"),
-                # A call of a method that the class lacks, and one of a constructor.
+                # The called method isn't in the class, or is a constructor.
                 ([0x0A, 0xB8, 0, 45, 0x2B, 0xB0], "refused 24 UnknownMember\n"),
                 ([0x2A, 0xB7, 0, 10, 0x2B, 0xB0], "refused 24 UnknownMember\n"),
-                # What follows a return, and a target, have no frame.
+                # The instruction after a return, and the target of a branch, have no frame.
                 ([0x2B, 0xB0, 0x2B, 0xB0], "refused 21 BadStackMap\n"),
                 ([0xA7, 0, 3, 0x2B, 0xB0], "refused 21 BadStackMap\n"),
                 ([0xB0], "refused 22 TypeMismatch at 0\n"),
@@ -265,7 +265,7 @@ class Commands(Runs):
                 (["run", "C", "7", "1", "2147483648i"], argument),
                 (["run", "C", "7", "1", "none"], argument),
                 (["run", "C", "7", "1", "1", "2", "3", "4", "5", "6", "7", "8", "9"], argument),
-                # The form and the values are judged before the file is read.
+                # The form and the values are checked before the file is read.
                 (["run", "D", "7", "x"], argument),
             ]
         )
@@ -281,7 +281,7 @@ class Commands(Runs):
         )
 
     def test_files_and_outputs_fail(self):
-        """Files that can't be read, and outputs that are full, closed, or take no more than ten bytes."""
+        """Files that can't be read, and outputs that are full, closed, or take ten bytes at most."""
         self.hold(Row(["check", name], 3, errors=f"error: cannot read {name}\n", file=PLUS) for name in ["D", "-", ""])
         failed = Told(3, None, b"error: cannot write\n")
         with open("/dev/full", "wb") as full:
@@ -292,7 +292,7 @@ class Commands(Runs):
             self.assertEqual(told(self.program, ["check", "C"], PLUS, stdout=closed), failed)
         few = partial(resource.setrlimit, resource.RLIMIT_FSIZE, (10, 10))
         with tempfile.TemporaryFile() as short:
-            # (a child of Python ignores SIGXFSZ where its signals aren't restored, so that the write itself fails)
+            # A child of Python ignores SIGXFSZ if its signals aren't restored, so the write itself fails.
             self.assertEqual(
                 told(self.program, ["check", "C"], PLUS, stdout=short, restore_signals=False, preexec_fn=few), failed
             )

@@ -1,4 +1,4 @@
-"""What `jentry explain` tells of classes."""
+"""The output of `jentry explain`."""
 import glob
 import os
 import random
@@ -15,7 +15,7 @@ from running import Runs, proved_only, side_by_side, told
 TOP = os.path.dirname(os.path.dirname(os.path.dirname(os.path.abspath(__file__))))
 REFUSED = os.path.join(TOP, "examples", "refused")
 MARK = "// refused"
-"""Stands at the end of the line of source that is named."""
+"""Marks, at its end, the line of source that is named."""
 
 
 def bytes_of(path):
@@ -24,7 +24,7 @@ def bytes_of(path):
 
 
 def marked(source):
-    """The number of the line that a comment marks, or none."""
+    """Returns the number of the line that a comment marks, or None."""
     with open(source, encoding="utf-8") as it:
         found = [at for at, line in enumerate(it, 1) if line.rstrip().endswith(MARK)]
     assert len(found) <= 1, source
@@ -32,7 +32,7 @@ def marked(source):
 
 
 def named(output):
-    """The first line of source that an explanation names, or none."""
+    """Returns the first line of source that an explanation names, or None."""
     found = re.search(rb"^line (\d+)$", output, re.MULTILINE)
     return int(found.group(1)) if found else None
 
@@ -42,7 +42,7 @@ def sources():
 
 
 def compiled(source, *options):
-    """The bytes of the class of a source by javac."""
+    """Returns the bytes of the class that javac makes of a source."""
     with tempfile.TemporaryDirectory() as folder:
         words = [
             "javac",
@@ -60,13 +60,13 @@ def compiled(source, *options):
 
 
 def spent():
-    """The processor time of all programs that were run, in seconds."""
+    """Returns the processor time of all programs that have ended, in seconds."""
     used = resource.getrusage(resource.RUSAGE_CHILDREN)
     return used.ru_utime + used.ru_stime
 
 
 def many_methods():
-    """A class of some 60 KB with 250 methods beside `process`."""
+    """A class of some 60 KB with 250 methods besides `process`."""
     names = [rows.utf8(b"m%d" % number) for number in range(250)]
     methods = [
         rows.Method(0x0008, rows.FURTHER + number, 8, 0, 0, 215 * b"\0" + b"\xb1", b"", None) for number in range(250)

@@ -7,7 +7,7 @@ def long(number):
 
 
 def frame(kind, *parts):
-    """A frame of this kind; behind each request of these streams its round ends."""
+    """Returns a frame of this kind. In these streams the end of a round follows each request."""
     body = bytes([kind]) + b"".join(parts)
     return len(body).to_bytes(4, "big") + body
 
@@ -49,7 +49,7 @@ BAD = "error: bad load file\n"
 
 
 def loaded(file, given=b"", output=b"", status=0, errors="", words=()):
-    """A line over an input, with the file `C` as a loader."""
+    """A run of `serve` on this input, with the file `C` as a loader, and its result."""
     return Row(["serve", *words, "--load", "C"], status, output, errors, file, given)
 
 

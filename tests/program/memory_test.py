@@ -1,4 +1,4 @@
-"""Want of memory in `jentry` and in the library behind it: each growth refused in turn, by the library that bin/starve makes. It needs a C
+"""Lack of memory in `jentry` and in its library: each growth is refused in turn, by the library that bin/starve makes. The tests need a C
 compiler."""
 import itertools
 import os
@@ -18,7 +18,7 @@ LACKING = [
     Told(3, b"", b"error: no memory\n"),
     Told(3, b"", b"serve fault 5 NoMemory\n"),
 ]
-"""What a command may tell of want of memory."""
+"""The results that a command may have when memory is exhausted."""
 
 
 ENDED = bytes([0, 0, 0, 1, 9])
@@ -39,16 +39,16 @@ SCRIPT = (
     + bytes([0, 0, 0, 0, 0, 0, 0, 8, 0])
     + bytes([0, 0, 0, 1, 8])
 )
-"""Plus is class 0 and key 7 is put to 41; in a second round Plus is invoked on it, and beside that on the keys 7 and 8 by one request."""
+"""Plus is class 0, and 41 is put on key 7. A second round invokes Plus on key 7, and by another request on the keys 7 and 8."""
 
 
 def outcome(job):
-    """How a job ended, as replies have it: by a Long, by the null pointer's exception, or for want of memory."""
+    """Returns the result of a job as replies encode it: a Long, the null pointer's exception, or the lack of memory."""
     return {"threw": bytes([1, 3]), "lacked": bytes([2, 3])}.get(job) or bytes([0, 1, 0, 0, 0, 0, 0, 0, 0, job])
 
 
 def second_round(one, other, absent):
-    """The replies to the second round, by how the jobs on the keys 7, 7 and 8 ended."""
+    """Returns the replies to the second round for these results of the jobs on the keys 7, 7 and 8."""
     result = bytes([6]) + outcome(one)
     results = bytes([7, 0, 2]) + LONG_ON_7 + outcome(other) + bytes([0, 0, 0, 0, 0, 0, 0, 8]) + outcome(absent)
     framed = [len(it).to_bytes(4, "big") + it for it in (result, results)]
@@ -56,14 +56,14 @@ def second_round(one, other, absent):
 
 
 def first_rounds():
-    """Whether Plus is class 0, whether key 7 is put, and the replies to the first round."""
+    """Yields for each case whether Plus is class 0, whether key 7 is put, and the replies to the first round."""
     for is_defined, is_put in itertools.product([True, False], repeat=2):
         define = bytes.fromhex("0000000d01000000000000000e00000000" if is_defined else "00000006021e00000000")
         yield is_defined, is_put, define + (bytes([0, 0, 0, 1, 3]) if is_put else LACKED) + ENDED
 
 
 def replies_to_script():
-    """All that the script may be told where a growth is refused, and the stream ends well."""
+    """Yields all replies that the script may get when a growth is refused and the stream ends well."""
     put = [(42, 43), (43, 42), (42, "lacked"), ("lacked", 42), ("lacked", "lacked")]
     for is_defined, is_put, first in first_rounds():
         if not is_defined:
@@ -75,7 +75,7 @@ def replies_to_script():
 
 
 def starved(program, library, words, file, number, given=b""):
-    """What a command tells whose growth with this number is refused, and how many growths it asked for."""
+    """Runs a command whose growth with this number is refused. Returns its result, and the number of its growths."""
     it = told(program, words, file, given, env={**os.environ, "LD_PRELOAD": library, "STARVE": str(number)})
     growths = GROWTHS.findall(it.errors)
     return it._replace(errors=GROWTHS.sub(b"", it.errors)), int(growths[-1]) if growths else None
@@ -94,7 +94,7 @@ class Lacking(Runs):
         subprocess.run(["cc", "-O1", "-shared", "-fPIC", "-o", self.library, SOURCE, "-ldl"], check=True)
 
     def test_commands_answer_or_lack_memory(self):
-        """Whichever growth is refused, a command tells that or what it tells with ample memory."""
+        """Whichever growth is refused, the result of a command is a lack of memory, or its result with ample memory."""
         for words, file, ample in [
             (["check", "C"], PLUS, Told(0, ACCEPTED.encode(), b"")),
             (["run", "C", "7", "41", "1", "2i"], PLUS, Told(0, ANSWER.encode(), b"")),
@@ -109,7 +109,7 @@ class Lacking(Runs):
     def command_answers_or_lacks_memory(self, words, file, ample):
         was, growths = starved(self.program, self.library, words, file, 0)
         self.assertEqual(was, ample)
-        # Each growth is one of those that the whole command asks for: they are the same until the refused one.
+        # All growths up to the refused one are those of the whole command, so a run has a growth with each of their numbers.
         self.assertTrue(growths)
         numbers = range(1, growths + 1)
         all_told = side_by_side(lambda number: starved(self.program, self.library, words, file, number), numbers)
@@ -120,7 +120,7 @@ class Lacking(Runs):
         self.assertTrue(any(was in LACKING for was, _asked in all_told))
 
     def test_a_script_is_served_or_lacks_memory(self):
-        """The script's growths are refused one after the other, until there are no more of them."""
+        """Each growth of the script is refused in a run of its own."""
         ends = {Told(0, output, b"") for output in replies_to_script()}
         ends |= {
             Told(3, output, b"serve fault 5 NoMemory\n") for output in [b"", *(first for _, _, first in first_rounds())]

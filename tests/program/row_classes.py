@@ -1,10 +1,10 @@
-"""Class files for the tests: one constructor, one pool, and the methods that a test wants (JVMS 4.1). The crate rowclasses has the same classes."""
+"""Class files for the tests: one constructor, one constant pool, and a test's own methods (JVMS 4.1). The crate rowclasses has the same classes."""
 import struct
 from collections import namedtuple
 
 Method = namedtuple("Method", "flags name descriptor max_stack max_locals code exceptions frames")
-"""A method with the one attribute Code, by the pool's indexes. `exceptions` is its exception table, of 8 bytes an entry, `frames` its declared
-frames or none."""
+"""A method whose only attribute is Code, by indexes into the pool. `exceptions` is its exception table, 8 bytes per entry; `frames` are its declared
+frames, or None."""
 Frames = namedtuple("Frames", "count entries")
 """The entries of a StackMapTable, and their count (JVMS 4.7.4)."""
 
@@ -133,15 +133,15 @@ POOL = [
     name_and_type(12, 52),
     methodref(2, 53),
 ]
-"""The constants of the indexes from 1 on; the long takes two."""
+"""The constants from index 1 on; the long takes two indexes."""
 FURTHER = 55
-"""The index of the first constant behind them."""
+"""The index of the first constant after them."""
 HELP, OTHER = 42, 46
 """The indexes of two names of methods."""
 
 
 def indexes_of(constants):
-    """The indexes that constants take: a long and a double take two (JVMS 4.4.5)."""
+    """Returns the number of indexes that constants take: a long and a double take two (JVMS 4.4.5)."""
     return sum(2 if constant[0] in (5, 6) else 1 for constant in constants)
 
 
@@ -151,7 +151,7 @@ def process(max_stack, max_locals, code, frames=None, **other):
 
 
 def static(max_stack, max_locals, code, name=HELP):
-    """A static method from long to long, `help` where no other name is said."""
+    """A static method from long to long, by default `help`."""
     return Method(0x0008, name, 43, max_stack, max_locals, bytes(code), b"", None)
 
 
@@ -171,7 +171,7 @@ def method_of(method):
 
 
 def class_of(*methods, further=(), constructor=CONSTRUCTOR):
-    """The bytes of a class with these methods: its pool has these further constants behind those of all classes."""
+    """Returns the bytes of a class with these methods. The further constants follow those that are in the pool of each class."""
     head = b"\xca\xfe\xba\xbe" + u2(0, 52, FURTHER + indexes_of(further)) + b"".join([*POOL, *further])
     body = u2(0x0021, 2, 4, 1, 6, 0, len(methods) + 1) + method_of(constructor)
     return head + body + b"".join(method_of(method) for method in methods) + u2(0)
@@ -194,13 +194,13 @@ def give_entry(max_stack=1):
 
 
 def main(max_stack, max_locals, code, count=0, entries="", **other):
-    """`process` by the digits of its code, and of its declared frames where it has some."""
+    """`process` from the digits of its code, and from those of its declared frames if it has some."""
     frames = Frames(count, bytes.fromhex(entries)) if count else None
     return process(max_stack, max_locals, bytes.fromhex(code), frames, **other)
 
 
 def own(max_stack, max_locals, code, name=HELP):
-    """A static method from long to long by the digits of its code."""
+    """A static method from long to long, from the digits of its code."""
     return static(max_stack, max_locals, bytes.fromhex(code), name)
 
 
@@ -210,7 +210,7 @@ COUNTER = (
 )
 SET_REMOVE = "2bb9001601002b0ab80029b9001e02002bb9001601002bb9002101002bb90016010004788004788085b80029b0"
 GET_INT = "2bb9001a0100c00012b6002588"
-"""The entry's value, as an int."""
+"""Pushes the entry's value as an int."""
 CLASSES = {
     "Counter": [main(4, 7, COUNTER, 2, "184004")],
     "Unbox": [main(2, 3, "2bb9001a0100c00012b60025b80029b0")],
@@ -274,8 +274,8 @@ def named(name):
 
 
 def chain_of(count, calls):
-    """So many static methods, of which each calls the next one so many times, and their constants. The method `number` has the index
-    FURTHER + 2 + 3 * number."""
+    """Returns `count` static methods, each of which calls the next one `calls` times, and their constants. The method `number` has the index FURTHER
+    + 2 + 3 * number."""
     further, methods = [], []
     for number in range(count):
         reference_of = FURTHER + 2 + 3 * number
@@ -286,14 +286,14 @@ def chain_of(count, calls):
 
 
 def line_of(count, calls):
-    """So many static methods, of which each calls the next one so many times, behind a `process` that calls the first one."""
+    """A class whose `process` calls the first of `count` static methods, each of which calls the next one `calls` times."""
     further, methods = chain_of(count, calls)
     return class_of(process(1, 3, b"\xb8" + u2(FURTHER + 2) + b"\x01\xb0"), *methods, further=further)
 
 
 def costly_counter():
-    """A processor that does what Counter does in 26 instructions at most, and states 900,000 as its bound: a branch that is always taken
-    leaves out calls of methods each of which calls the next one twice."""
+    """A processor that does what Counter does in 26 instructions at most, but has a bound of 900,000: a branch that is always taken skips calls of
+    methods, each of which calls the next one twice."""
     first = FURTHER + 2
     calls = b"".join(b"\xb8" + u2(first + 3 * number) for number in [0, 1, 3, 4, 6, 7, 8, 10, 11, 12, 15, 16, 16])
     skip = b"\x03\x99" + u2(3 + len(calls)) + calls
@@ -303,6 +303,6 @@ def costly_counter():
 
 
 def diamond(count):
-    """A `process` of so many branches, of which each may leave out a nop."""
+    """A `process` of `count` branches, each of which may skip a nop."""
     entries = bytes([5] + (count - 1) * [4])
     return class_of(process(1, 3, count * b"\x03\x99\0\4\0" + b"\x01\xb0", Frames(count, entries)))

@@ -1,4 +1,4 @@
-"""Commands of `jentry` over the row classes: their verdicts, bounds and runs."""
+"""Commands of `jentry` on the row classes: their verdicts, bounds and runs."""
 import row_classes as rows
 from running import Row, Runs
 
@@ -35,7 +35,7 @@ CHECKED = [
     ("Inc", 0, "accepted steps=7 words=0 slots=6 depth=1\n"),
     ("Jump", 0, "accepted steps=3 words=0 slots=4 depth=1\n"),
 ]
-"""What `check` tells of a class, with its status."""
+"""What `check` prints for a class, with its status."""
 
 RAN = [
     ("Counter", "41 1", 0, "result 42\nvalue 42\nsteps 24 words 0\n"),
@@ -85,7 +85,7 @@ RAN = [
     ("Inc", "none", 0, "result -301\nvalue none\nsteps 7 words 0\n"),
     ("Jump", "none", 0, "result null\nvalue none\nsteps 3 words 0\n"),
 ]
-"""What a run of a class on key 7 tells, of these words behind the key, with its status."""
+"""What a run of a class on key 7 prints, with the words after the key and its status."""
 
 
 def check_tells(file, status, output):

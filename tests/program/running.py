@@ -1,4 +1,4 @@
-"""Runs of the built programs, each in a folder of its own."""
+"""Runs of the built programs, each in its own folder."""
 import os
 import subprocess
 import tempfile
@@ -7,22 +7,22 @@ from collections import namedtuple
 from concurrent.futures import ThreadPoolExecutor
 
 LIMIT = 60
-"""The most seconds of a run."""
+"""The time limit of a run, in seconds."""
 
 proved_only = unittest.skipIf(
     os.environ.get("JENTRY_TRIAL"),
     "a trial build is slow, and checks its memory itself: only the proved program shows this",
 )
-"""Marks tests of the time that the program takes, and of the memory that it asks for."""
+"""Marks tests of the program's time and of its allocations."""
 
 Told = namedtuple("Told", "status output errors")
-"""What a run told: its status, and the bytes of its standard output and of its standard error."""
+"""The result of a run: its status, and the bytes of its standard output and of its standard error."""
 Row = namedtuple("Row", "words status output errors file given", defaults=("", "", b"", b""))
-"""The words of a run, what it must tell, the bytes of the file `C` that it may read, and those of its standard input."""
+"""The arguments of a run, its required result, the bytes of the file `C` that it may read, and those of its standard input."""
 
 
 def told(program, words, file=b"", given=b"", **how):
-    """Runs a program in a new folder, in which the file `C` has these bytes."""
+    """Runs a program in a new folder with a file `C` of these bytes, and returns the result."""
     with tempfile.TemporaryDirectory() as folder:
         with open(os.path.join(folder, "C"), "wb") as it:
             it.write(file)
@@ -32,7 +32,7 @@ def told(program, words, file=b"", given=b"", **how):
 
 
 def side_by_side(call, rows):
-    """What a call answers for each row, in order, several at a time."""
+    """Returns the results of a call for each row, in order. Several calls run at the same time."""
     with ThreadPoolExecutor(os.cpu_count() or 1) as pool:
         return list(pool.map(call, rows))
 
@@ -42,7 +42,7 @@ def as_bytes(text):
 
 
 class Runs(unittest.TestCase):
-    """Tests of a program: the variable that `variable` names says where it is."""
+    """Tests of a program, whose path is in the environment variable that `variable` names."""
 
     variable = None
 
@@ -50,7 +50,7 @@ class Runs(unittest.TestCase):
         self.program = os.environ[self.variable]
 
     def hold(self, rows):
-        """Each row's run tells all that the row says, and nothing else."""
+        """Checks that the run of each row has exactly the row's result."""
         rows = list(rows)
         self.assertTrue(rows)
         for row, was in zip(rows, side_by_side(lambda row: told(self.program, row.words, row.file, row.given), rows)):

@@ -8,13 +8,13 @@ ROUNDS = bytes.fromhex(
 """A put of 1 on key 5 and the end of its round, a get of it and the end of its round."""
 
 REPLIES = bytes.fromhex("00 00 00 01 03  00 00 00 01 09  00 00 00 0a 04 01 00 00 00 00 00 00 00 01  " "00 00 00 01 09")
-"""What is told of them."""
+"""The replies to them."""
 
 WORKERS = ["0", "1", "4", "16"]
 
 
 def served(words, given, output, status=0, errors=""):
-    """A line over an input, and what it must write and tell."""
+    """A run of `serve` on this input, and its result."""
     return Row(["serve", *words], status, output, errors, given=given)
 
 

@@ -1,5 +1,5 @@
-"""Rounds that the built program shares among threads: their replies are searched for a legal order of the calls on each key, and the
-program's threads are counted meanwhile."""
+"""Rounds that the built program distributes among threads. A legal order of the calls on each key is searched for the replies, and the program's
+threads are counted meanwhile."""
 import os
 import random
 import struct
@@ -13,18 +13,18 @@ from running import LIMIT, Row, Runs
 
 ROUND_END = bytes([0, 0, 0, 1, 8])
 JOBS, ROUNDS, KEYS = 48, 150, 24
-"""How many requests a round has, how many rounds a stream, and over how many keys they go."""
+"""The number of requests in a round, of rounds in a stream, and of keys."""
 
 Call = namedtuple("Call", "kind key number")
 """A call on a key: its kind, and the number that it puts or adds."""
 Request = namedtuple("Request", "kind keys number")
-"""The same of a request, which is of several keys where it is an `invokeAll`."""
+"""The same for a request, which has several keys if it is an `invokeAll`."""
 
 PUT, GET, REMOVE, CONTAINS, INVOKE, INVOKE_ALL = range(2, 8)
 
 
 def frame_of(request):
-    """The bytes of a request; invocations are of class 0, with one argument."""
+    """Returns the frame of a request. Invocations are of class 0, with one argument."""
     keys = b"".join(struct.pack(">q", key) for key in request.keys)
     body = {
         PUT: keys + struct.pack(">q", request.number),
@@ -39,20 +39,21 @@ def frame_of(request):
 
 
 def any_request(chance):
-    """Half of the requests invoke the class on one key, and the others do it on several, put, get, remove and ask."""
+    """Returns a random request. Half of them invoke the class on one key; the others invoke it on several keys, put, get, remove, or test for an
+    entry."""
     kind = chance.choice([INVOKE] * 6 + [INVOKE_ALL, PUT, PUT, GET, REMOVE, CONTAINS])
     keys = chance.sample(range(KEYS), 4 if kind == INVOKE_ALL else 1)
     return Request(kind, keys, chance.randrange(1, 1000))
 
 
 class Replies:
-    """Replies that are read from their front."""
+    """Replies that are read in order."""
 
     def __init__(self, data):
         self.data, self.at = data, 0
 
     def next(self):
-        """The kind of the next reply, and its body."""
+        """Returns the kind and the body of the next reply."""
         (length,) = struct.unpack_from(">I", self.data, self.at)
         body = self.data[self.at + 4 : self.at + 4 + length]
         if not 0 < length == len(body):
@@ -62,7 +63,7 @@ class Replies:
 
 
 def number_in(argument):
-    """The number in an argument: none where it is null."""
+    """Returns the number in an argument, or None for null."""
     if argument == b"\0":
         return None
     tag, number = struct.unpack(">Bq", argument)
@@ -72,7 +73,7 @@ def number_in(argument):
 
 
 def answers_in(request, kind, body):
-    """The calls of a request, each with its answer as the reply tells it."""
+    """Returns the calls of a request, each with its result in the reply."""
     calls = [Call(INVOKE if request.kind == INVOKE_ALL else request.kind, key, request.number) for key in request.keys]
     if kind != {PUT: 3, GET: 4, REMOVE: 5, CONTAINS: 5, INVOKE: 6, INVOKE_ALL: 7}[request.kind]:
         raise ValueError(f"a reply of the kind {kind} to {request}")
@@ -84,7 +85,7 @@ def answers_in(request, kind, body):
         return [(calls[0], bool(body[0]))]
     if request.kind == INVOKE:
         return [(calls[0], number_in(body[1:]))]
-    # A count, and for each key its number, a 0 and the result as a Long.
+    # The body is a count, and for each key its number, a 0 and the result as a Long.
     if body[:2] != struct.pack(">H", len(calls)) or len(body) != 2 + 18 * len(calls):
         raise ValueError(f"no results of {request}: {body}")
     parts = [body[at : at + 18] for at in range(2, len(body), 18)]
@@ -94,7 +95,7 @@ def answers_in(request, kind, body):
 
 
 def after(call, answer, entry):
-    """The entry that a call with this answer leaves, in a list; none where it can't have this answer on that entry."""
+    """Returns a list with the entry that a call leaves, given its result and the entry before; an empty list if it can't have this result."""
     if call.kind == PUT:
         return [call.number]
     if call.kind == GET:
@@ -108,7 +109,7 @@ def after(call, answer, entry):
 
 
 def left_by(calls, entries):
-    """The entries that these calls with their answers may leave on a key with one of these entries, by some order of them."""
+    """Returns the entries that these calls with their results may leave, in any order, on a key with one of these entries."""
     reached = {(frozenset(range(len(calls))), entry) for entry in entries}
     for _ in calls:
         reached = {
@@ -118,7 +119,7 @@ def left_by(calls, entries):
 
 
 def illegal_keys(rounds, replies):
-    """The keys and rounds, from 0, in which no order of the calls has their answers."""
+    """Returns the keys and the rounds, from 0, for which no order of the calls gives their results."""
     entries, illegal = {key: {None} for key in range(KEYS)}, []
     for number, requests in enumerate(rounds):
         of_key = {key: [] for key in range(KEYS)}
@@ -136,7 +137,7 @@ def illegal_keys(rounds, replies):
 
 
 def threads_of(process):
-    """How many threads a process has, none where it has ended."""
+    """Returns the number of threads of a process, 0 if it has ended."""
     try:
         return len(os.listdir(f"/proc/{process}/task"))
     except OSError:
@@ -147,7 +148,7 @@ class Shared(Runs):
     variable = "JENTRY_PROGRAM"
 
     def served(self, given, words):
-        """What a stream is answered, and the most threads that the program was seen to have meanwhile."""
+        """Serves a stream. Returns the output, and the highest number of threads that was seen meanwhile."""
         with tempfile.TemporaryFile() as source, tempfile.TemporaryFile() as output:
             source.write(given)
             source.seek(0)
@@ -172,7 +173,7 @@ class Shared(Runs):
         )
 
     def test_replies_of_shared_rounds_have_a_legal_order(self):
-        """Beside two workers or more there is a thread that waits for them; a single one is the only thread."""
+        """With two workers or more there is another thread, which waits for them; a single worker is the only thread."""
         counter = rows.costly_counter()
         define = struct.pack(">IB", 1 + len(counter), 1) + counter + ROUND_END
         for workers, stripes in [(1, 4), (2, 2), (4, 4), (16, 4), (16, 16)]:

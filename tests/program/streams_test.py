@@ -1,4 +1,4 @@
-"""Streams through `jentry serve`, byte by byte: classes, jobs of each kind, what a client can be denied, and streams that break off."""
+"""Streams through `jentry serve`, byte by byte: classes, jobs of each kind, denials, and streams that break off."""
 import os
 import struct
 import subprocess
@@ -17,12 +17,12 @@ GET_5 = bytes([0, 0, 0, 9, 3, 0, 0, 0, 0, 0, 0, 0, 5])
 
 
 def define(file):
-    """The frame that defines a class."""
+    """Returns the frame that defines a class."""
     return struct.pack(">IB", 1 + len(file), 1) + file
 
 
 def serve(given, output, workers=WORKERS, fault=None):
-    """A row for each count of workers: what this input comes to."""
+    """Returns a row for each number of workers, with this input and its result."""
     status, errors = (3, f"serve fault {fault}\n") if fault else (0, "")
     return [Row(["serve", "--workers", count], status, output, errors, given=given) for count in workers]
 
@@ -32,7 +32,7 @@ def returned(number):
 
 
 def beside_a_put(key):
-    """A round of a put of 1 on a key and two invocations of class 0 beside it, with the argument 1, and a round that gets what they leave."""
+    """Returns a round with a put of 1 on a key and two invocations of class 0 with the argument 1, and a round that gets the entry after them."""
     put = bytes([0, 0, 0, 0x11, 2]) + struct.pack(">qq", key, 1)
     invoke = bytes([0, 0, 0, 0x17, 6, 0, 0, 0, 0]) + struct.pack(">qBBq", key, 1, 1, 1)
     get = bytes([0, 0, 0, 9, 3]) + struct.pack(">q", key)
@@ -40,16 +40,16 @@ def beside_a_put(key):
 
 
 REPLIES_BESIDE = 5 + 15 + 15 + 5 + 14 + 5
-"""The bytes of the replies to them."""
+"""The number of bytes in the replies to them."""
 IN_SOME_ORDER = [(2, 3, 3), (3, 2, 3), (1, 2, 2), (2, 1, 2), (1, 2, 1), (2, 1, 1)]
-"""What the two invocations return and leave, by the orders of the three calls."""
+"""The results of the two invocations and the entry after them, for each order of the three calls."""
 
 
 class Requests(Runs):
     variable = "JENTRY_PROGRAM"
 
     def served(self, given, count):
-        """The output of a stream that ends well."""
+        """Serves a stream that has to end well, and returns the output."""
         it = told(self.program, ["serve", "--workers", count], given=given)
         self.assertEqual((it.status, it.errors), (0, b""))
         return it.output
@@ -76,7 +76,7 @@ class Requests(Runs):
         )
 
     def test_a_class_that_was_not_accepted_before_is_denied(self):
-        """A round that invokes Plus before it is defined, and behind it."""
+        """A round invokes Plus before and after it defines it."""
         invoke = bytes([0, 0, 0, 14, 6, 0, 0, 0, 5, 0, 0, 0, 0, 0, 0, 0, 5, 0])
         invoke_all = bytes([0, 0, 0, 8, 7, 0, 0, 0, 0, 0, 0, 0])
         self.hold(
@@ -99,7 +99,7 @@ class Requests(Runs):
         self.hold(serve(given, ACCEPTED_PLUS + bytes([0, 0, 0, 2, 8, 5]) + ENDED, ["4"]))
 
     def test_more_classes_than_a_stream_may_have_are_denied(self):
-        """A class 4,096 times, a class of no bytes, and the class once more."""
+        """A class 4,096 times, a class of no bytes, and the first class again."""
         unbox = define(rows.named("Unbox"))
         output = self.served(4096 * unbox + define(b"") + unbox + ROUND_END, "4")
         self.assertEqual(len(output), 4096 * 17 + 17)
@@ -120,7 +120,7 @@ class Requests(Runs):
         )
 
     def test_a_round_that_is_cut_is_not_answered(self):
-        """Two rounds of one invocation each, cut at each place, are answered as far as they are whole."""
+        """Two rounds of one invocation each are cut after each byte. The rounds that are whole are answered."""
         one = bytes([0, 0, 0, 14, 6, 0, 0, 0, 5, 0, 0, 0, 0, 0, 0, 0, 5, 0, 0, 0, 0, 1, 8])
         reply = bytes([0, 0, 0, 2, 8, 1, 0, 0, 0, 1, 9])
         for end in range(47):
@@ -142,7 +142,7 @@ class Requests(Runs):
                 words = [self.program, "serve", "--workers", str(workers), "--stripes", str(stripes)]
                 ran = subprocess.run(words, stdin=given, capture_output=True, timeout=LIMIT)
                 self.assertEqual(Told(ran.returncode, ran.stdout, ran.stderr), Told(status, output, errors))
-                # The place in the file is shared: nothing was read of it where the counts can't be.
+                # The offset in the file is shared: nothing is read if the counts are out of range.
                 self.assertEqual(os.lseek(given.fileno(), 0, os.SEEK_CUR), 0 if status else len(ROUND_END))
 
     def test_a_reader_and_a_writer_that_fail_are_told(self):
@@ -208,7 +208,7 @@ class Requests(Runs):
         )
         for count in WORKERS:
             output = self.served(given, count)
-            # A class with its bounds, three puts and a round's end come first.
+            # The replies to the class and to three puts, and the end of a round, come first.
             self.assertEqual(len(output), 77)
             self.assertEqual(
                 output[17 + 3 * 5 + 5 :],
@@ -229,7 +229,7 @@ class Requests(Runs):
         self.hold(serve(given, bytes([0, 0, 0, 1, 3, 0, 0, 0, 1, 9]), fault="2 Truncated"))
 
     def test_more_jobs_than_a_round_may_have_are_denied(self):
-        """A round of 4,097 jobs, of which the last alone is denied."""
+        """Of a round of 4,097 jobs only the last one is denied."""
         jobs = b"".join(bytes([0, 0, 0, 9, 5, 0, 0, 0, 0, 0, 0]) + struct.pack(">H", key) for key in range(4097))
         for count in ("0", "4"):
             output = self.served(jobs + ROUND_END, count)
@@ -237,7 +237,7 @@ class Requests(Runs):
             self.assertEqual(output[4095 * 6 :], bytes([0, 0, 0, 2, 5, 0, 0, 0, 0, 2, 8, 5, 0, 0, 0, 1, 9]))
 
     def are_in_some_order(self, replies):
-        """The replies say that the put and the two invocations were done in some order."""
+        """Checks that the replies are those of the put and the two invocations in some order."""
         one, other, after = replies[19], replies[34], replies[53]
         between = bytes([0, 0, 0, 1, 9, 0, 0, 0, 0x0A, 4, 1, 0, 0, 0, 0, 0, 0, 0])
         wanted = bytes([0, 0, 0, 1, 3]) + returned(one) + returned(other) + between + bytes([after]) + ENDED
@@ -245,15 +245,15 @@ class Requests(Runs):
         self.assertIn((one, other, after), IN_SOME_ORDER)
 
     def test_jobs_on_one_key_come_one_after_the_other(self):
-        """The class states so many steps that the round is worth several workers."""
+        """The bound of the class is so high that the round is worth several workers."""
         given = define(rows.costly_counter()) + ROUND_END + beside_a_put(5)
         for output in side_by_side(lambda count: self.served(given, count), WORKERS):
-            # The class and its round come first.
+            # The reply to the class and the end of its round come first.
             self.assertEqual(len(output), 17 + 5 + REPLIES_BESIDE)
             self.are_in_some_order(output[22:])
 
     def test_a_thousand_rounds_are_each_in_some_order(self):
-        """Each pair of rounds is on a key of its own, and each first one is worth several workers."""
+        """Each pair of rounds has its own key, and each first round is worth several workers."""
         keys = [256 * high + low for high in range(4) for low in range(250)]
         given = define(rows.costly_counter()) + ROUND_END + b"".join(beside_a_put(key) for key in keys)
         output = self.served(given, "4")
@@ -262,7 +262,7 @@ class Requests(Runs):
             self.are_in_some_order(output[at : at + REPLIES_BESIDE])
 
     def most_threads(self, given, count):
-        """The most threads that the program was seen to have while it served this input, with so many workers."""
+        """Returns the highest number of threads that was seen while the program served this input with `count` workers."""
         with subprocess.Popen(
             [self.program, "serve", "--workers", count], stdin=subprocess.PIPE, stdout=subprocess.DEVNULL
         ) as it:
@@ -277,8 +277,8 @@ class Requests(Runs):
 
     @proved_only
     def test_a_round_has_the_workers_that_it_is_worth(self):
-        """A round of 512 invocations that take 131,072 instructions each, and one of a single such invocation. The first thread waits
-        for several workers, and is itself a single one."""
+        """There is a round of 512 invocations that take 131,072 instructions each, and a round of one such invocation. The first thread waits for
+        several workers, and is itself a single one."""
         long = define(rows.line_of(16, 2)) + ROUND_END
         jobs = b"".join(bytes([0, 0, 0, 14, 6, 0, 0, 0, 0]) + struct.pack(">qB", key, 0) for key in range(512))
         for count in WORKERS[1:]:
@@ -289,7 +289,7 @@ class Requests(Runs):
 
 
 def threads_of(process):
-    """How many threads a process has, none where it has ended."""
+    """Returns the number of threads of a process, 0 if it has ended."""
     try:
         return len(os.listdir(f"/proc/{process}/task"))
     except OSError:

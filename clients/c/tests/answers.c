@@ -1,8 +1,8 @@
-/* The core by its C interface, for tests: answers what `jentry` answers, and holds the interface to its edges.
+/* The core through its C interface, for tests: prints what `jentry` prints, and tests the limits of the interface.
  *
  *   answers check FILE | explain FILE | run FILE KEY VALUE [ARG ..]     prints what the program prints, with its status
- *   answers calls                                                       a line `FILE KEY VALUE [ARG ..]` of the input is a run
- *   answers edges FILE OTHER                                            calls that are denied, handles that aren't open, numbers that are forgotten
+ *   answers calls                                                       runs each line `FILE KEY VALUE [ARG ..]` of the input
+ *   answers edges FILE OTHER                                            tests denied calls, handles that aren't open, and removed classes
  */
 #include <errno.h>
 #include <inttypes.h>
@@ -14,8 +14,8 @@
 enum { OK = 0, USAGE = 1, REFUSED = 2, OTHER = 3, THREW = 4 };
 enum { MOST_BYTES = 65537, MOST_WORDS = 16, MOST_FILES = 256 };
 
-/* The bytes of a class file, one more than a class may have at most. Each file is a block of just its length, so that reading past its end
- * is seen. */
+/* Reads a class file, up to one byte more than a class may have. The block has exactly the length of the file, so that the sanitizer
+ * reports a read past its end. */
 static uint8_t *read_file(const char *name, size_t *length) {
     static uint8_t bytes[MOST_BYTES];
     FILE *file = fopen(name, "rb");
@@ -64,7 +64,7 @@ static int explain(const char *name) {
     uint8_t *text = malloc(count + 8);
     if (!text || count == 0) return OTHER;
     memset(text, 'x', count + 8);
-    /* A room that is too small takes as much as it has, and no more. */
+    /* A buffer that is too small gets the first `room` bytes, and nothing is written past it. */
     if (jentry_explain(bytes, length, text, count / 2) != count || text[count / 2] != 'x') return OTHER;
     if (jentry_explain(bytes, length, text, count + 8) != count || memcmp(text + count, "xxxxxxxx", 8) != 0) return OTHER;
     fwrite(text, 1, count, stdout);
@@ -74,7 +74,7 @@ static int explain(const char *name) {
     return status;
 }
 
-/* An argument: a Long, an Integer (with `i` behind it), or `null`. */
+/* Parses an argument: a Long, an Integer (with the suffix `i`), or `null`. */
 static struct jentry_arg arg_of(const char *word) {
     if (strcmp(word, "null") == 0) return (struct jentry_arg){ .kind = JENTRY_NULL };
     char *end;
@@ -99,7 +99,7 @@ static int print_run(const struct jentry_call *call, const struct jentry_done *d
     return done->outcome == JENTRY_THREW ? THREW : OK;
 }
 
-/* The words KEY VALUE [ARG ..] run on the class with a number. The arguments are a block of just their length. */
+/* Runs the class with this number for the words KEY VALUE [ARG ..]. The block of the arguments has exactly their length. */
 static int run_words(struct jentry_handle *engine, uint32_t number, char **words, int count) {
     size_t args = (size_t)count - 2;
     struct jentry_arg *given = malloc((args ? args : 1) * sizeof *given);
@@ -129,7 +129,7 @@ static int run(char **words, int count) {
     return status;
 }
 
-/* The number of a file's class, which is defined at its first call. */
+/* Returns the number of the class in a file, which is defined at its first use. */
 static uint32_t number_of(struct jentry_handle *engine, const char *name) {
     static struct { char name[256]; uint32_t number; } known[MOST_FILES];
     static size_t count;
@@ -168,7 +168,8 @@ static int failures;
         if (!(what)) failures++, printf("line %d: %s\n", __LINE__, #what); \
     } while (0)
 
-/* The outcome of a call on key 7 with the value 41. Before it the answer is full of ones, so that what isn't written is seen. */
+/* Returns the result of a call on key 7 with the value 41. All bytes of the result are 0xff before the call, which shows a field that
+ * isn't written. */
 static struct jentry_done on_41(struct jentry_handle *engine, uint32_t number, const struct jentry_arg *args, size_t count) {
     struct jentry_call call = { .number = number, .present = 1, .key = 7, .before = 41 };
     struct jentry_done done;
@@ -231,7 +232,7 @@ static void arguments(struct jentry_handle *engine, uint32_t add) {
     HOLDS(done.outcome == JENTRY_THREW && done.value == 2);
 }
 
-/* What a run leaves: a put of another value, of the same one, nothing behind an exception. */
+/* Tests how a run leaves the entry: after a put of another value, after a put of the same value, and after an exception. */
 static void ends(struct jentry_handle *engine, uint32_t add, uint32_t plus) {
     struct jentry_arg one = { .kind = JENTRY_LONG, .value = 1 }, zero = { .kind = JENTRY_LONG };
     struct jentry_done done = on_41(engine, add, &one, 1);

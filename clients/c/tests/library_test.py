@@ -1,4 +1,5 @@
-"""libjentry: its exports, its example, and its answers beside those of the program. JENTRY_PROGRAM names the built `jentry`, if it is there."""
+"""libjentry: its exports, its example, and its results compared with those of the program. JENTRY_PROGRAM names the built `jentry`, if it is
+there."""
 import os
 import random
 import shutil
@@ -26,12 +27,12 @@ SANITIZED = [
 ]
 EMBED = os.environ.get("JENTRY_EMBED", os.path.join(TOP, "crates/embed/out/libembed.a"))
 PROGRAM = os.environ.get("JENTRY_PROGRAM")
-# Before clients/tests, which has another module `running`.
+# This goes before clients/tests, which has another module `running`.
 sys.path.insert(0, os.path.join(TOP, "tests/program"))
 
 
 def run(*words, given=None, status=None, **how):
-    """What a command prints; the status, if one is wanted, has to be this one."""
+    """Runs a command, and returns its output and its status. It fails if the status isn't `status`, where one is given."""
     done = subprocess.run(
         [str(word) for word in words],
         input=given,
@@ -74,7 +75,7 @@ class Built(unittest.TestCase):
         return path
 
     def same(self, *words):
-        """Whether the C program and `jentry` print the same, with the same status."""
+        """Checks that the C program and `jentry` print the same, with the same status."""
         self.assertEqual(run(self.answers, *words), run(PROGRAM, *words), words)
 
 
@@ -210,7 +211,7 @@ class Answers(Built):
 
 
 def random_call(chosen):
-    """A key, an entry, and arguments, none of them negative: `jentry run` takes no other."""
+    """Returns the words of a key, an entry and arguments. None is negative, since `jentry run` takes no negative number."""
 
     def number():
         return chosen.choice([0, 1, 5, 41, 2**31, MOST, chosen.randrange(10**6), chosen.getrandbits(63)])

@@ -10,7 +10,7 @@ import org.objectweb.asm.ClassWriter;
 import org.objectweb.asm.commons.ClassRemapper;
 import org.objectweb.asm.commons.Remapper;
 
-/** Copies the classes of folders and jars into one folder, with ASM under a package of the compiler's own: a program may have another ASM beside it. */
+/** Copies the classes of folders and jars into one folder, and moves ASM to a package of the compiler: a program may use another ASM. */
 public final class Relocate {
     private static final String FROM = "org/objectweb/asm/";
     private static final String TO = "jentry/compiler/asm/";
@@ -52,7 +52,7 @@ public final class Relocate {
     }
 
     private void copy(String name, byte[] bytes) throws IOException {
-        // the stubs and the methods of the JDK that are copied into processors name no class of ASM
+        // the stubs and the library methods, which are copied into processors, don't refer to ASM
         boolean remaps = name.endsWith(".class") && !name.startsWith("jentry/compiler/api/") && !name.startsWith("jentry/compiler/library/");
         Path file = out.resolve(moved(name));
         Files.createDirectories(file.getParent());

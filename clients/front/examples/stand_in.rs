@@ -1,5 +1,5 @@
-//! stand_in: speaks the server's frames on its standard streams without a machine. Every class is accepted and adds one to its entry. It is for measuring
-//! what clients and the front take by themselves; its words are ignored, so that it can stand where `jentry serve` does.
+//! stand_in: speaks the server's protocol on standard input and output without a machine. Every class is accepted and adds one to its entry. It is for
+//! measuring the cost of the clients and the front alone. It ignores its arguments, so it can replace `jentry serve`.
 
 use std::collections::HashMap;
 use std::io::{stdin, stdout, BufReader, Read, Write};
@@ -42,7 +42,7 @@ impl Server {
         self.tell(&[&[7], &count, &told]);
     }
 
-    /// Takes a request, or a round's end. Tells whether it was the end.
+    /// Takes a request or the end of a round. Returns whether it was the end.
     fn take(&mut self, text: &[u8]) -> bool {
         match text[0] {
             1 => {

@@ -1,62 +1,62 @@
-//! Processor affinity of the front's thread and the server's.
+//! CPU affinity of the front's thread and the server's.
 //!
-//! Where one connection alone calls in a row, both threads are pinned to one processor: a call
-//! passes from one to the other and back, and a processor that switches between them is sooner
-//! there than one that sleeps and has to be woken. Otherwise both run wherever they may.
+//! If only one connection sends rounds, both threads are pinned to one CPU. A call passes from one
+//! to the other and back, and a context switch is faster than waking a CPU that sleeps. Otherwise
+//! the threads may run on any CPU.
 
 use nix::sched::{sched_getaffinity, sched_getcpu, sched_setaffinity, CpuSet};
 use nix::unistd::Pid;
 use std::time::{Duration, Instant};
 
-/// After so many rounds of one connection in a row the threads are pinned.
+/// The number of consecutive rounds of one connection after which the threads are pinned.
 const ROUNDS_BEFORE_PIN: u32 = 64;
 
-/// A round of more requests may be worth further threads of the server, which begin on the
-/// processor of the one that starts them.
+/// A round with more requests may need further threads of the server, which start on the CPU of the
+/// thread that creates them.
 const SMALL_ROUND: usize = 8;
 
-/// Replies after this time mean a long round, or that others had the processor meanwhile.
+/// If the replies take longer than this, the round was long or another process used the CPU.
 const LATE: Duration = Duration::from_millis(1);
 
-/// A late round weighs as much as so many rounds in time: these gain less by one processor than
-/// it loses. The threads are unpinned where late rounds outweigh the others by three.
+/// A late round counts as much as this many rounds in time, because these gain less from a single
+/// CPU than it loses. The threads are unpinned when late rounds outweigh the others by three.
 const LATE_WEIGHT: u32 = 256;
 
-/// How long the threads stay unpinned then: at first, and at most. Each rest is twice as long as
-/// the one before, until `ROUNDS_TO_RECOVER` rounds in a row were in time.
+/// The first and the maximum time for which the threads then stay unpinned. Each rest is twice as
+/// long as the one before, until `ROUNDS_TO_RECOVER` consecutive rounds were in time.
 const SHORT_REST: Duration = Duration::from_millis(100);
 const LONG_REST: Duration = Duration::from_secs(4);
 const ROUNDS_TO_RECOVER: u32 = 4_096;
 
-/// The processors on which a thread may run, where that is known.
+/// Returns the CPUs on which a thread may run, if they are known.
 fn allowed(thread: Pid) -> Option<CpuSet> {
     sched_getaffinity(thread).ok()
 }
 
-/// The calling thread.
+/// Returns the id of the calling thread.
 fn this_thread() -> Pid {
     Pid::from_raw(0)
 }
 
-/// The processor on which this thread runs, alone.
+/// Returns a set with only the CPU on which this thread runs.
 fn this_processor() -> Option<CpuSet> {
     let mut set = CpuSet::new();
     set.set(sched_getcpu().ok()?).ok()?;
     Some(set)
 }
 
-/// Whether the two threads are pinned, and the rounds that decide it.
+/// Whether the two threads are pinned, and the history that decides it.
 pub struct Affinity {
     server: Pid,
-    /// The original sets of the front's thread and the server's. None where they aren't known, or
-    /// this process may not change them.
+    /// The original CPU sets of the front's thread and the server's. `None` if they aren't known,
+    /// or if this process may not change them.
     original: Option<(CpuSet, CpuSet)>,
     is_pinned: bool,
-    /// The connection that called last, and its rounds in a row.
+    /// The connection that sent the last round, and the number of its consecutive rounds.
     caller: u64,
     rounds: u32,
     sent: Instant,
-    /// The weight of late rounds less the others, and how many rounds in a row were in time.
+    /// The weight of late rounds minus the others, and the number of consecutive rounds in time.
     late: u32,
     in_time: u32,
     rest: Duration,
@@ -64,7 +64,7 @@ pub struct Affinity {
 }
 
 impl Affinity {
-    /// The calling thread and the server's process, not pinned.
+    /// Manages the calling thread and the server's process. They aren't pinned yet.
     pub fn new(server: u32) -> Affinity {
         let server = Pid::from_raw(server as i32);
         let now = Instant::now();
@@ -82,13 +82,13 @@ impl Affinity {
         }
     }
 
-    /// Whether both run on one processor. Who waits for the server should sleep then.
+    /// Returns whether both run on one CPU. A thread that waits for the server should sleep then.
     pub fn is_pinned(&self) -> bool {
         self.is_pinned
     }
 
-    /// A batch of so many requests goes to the server. `only` is the connection where the batch is
-    /// a round of that one alone.
+    /// Call this when a batch with this number of requests is sent to the server. `only` is the
+    /// connection if the batch has a single sub-batch.
     pub fn on_send(&mut self, only: Option<u64>, requests: usize) {
         match only.filter(|_| requests <= SMALL_ROUND) {
             Some(caller) if caller == self.caller => self.rounds = self.rounds.saturating_add(1),
@@ -106,7 +106,7 @@ impl Affinity {
         }
     }
 
-    /// The replies to the batch have arrived.
+    /// Call this when the replies to the batch have arrived.
     pub fn on_replies(&mut self) {
         if !self.is_pinned {
             return;
@@ -146,7 +146,7 @@ impl Affinity {
 
     fn unpin(&mut self) {
         if let (true, Some((front, server))) = (self.is_pinned, &self.original) {
-            // A server that has ended has no affinity any more.
+            // This fails for a server that has ended, which doesn't matter.
             let _ = sched_setaffinity(this_thread(), front);
             let _ = sched_setaffinity(self.server, server);
         }
@@ -166,7 +166,7 @@ mod tests {
         }
     }
 
-    /// How many processors a set has.
+    /// Returns the number of CPUs in a set.
     fn size(set: Option<CpuSet>) -> usize {
         let is_set = |it: &CpuSet, n| it.is_set(n).unwrap_or(false);
         set.map_or(0, |set| (0..CpuSet::count()).filter(|n| is_set(&set, *n)).count())

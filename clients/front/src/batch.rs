@@ -1,41 +1,41 @@
-//! A batch: what is sent to the server as one of its rounds. It is gathered from the sub-batches
-//! that wait, and its replies are dealt back to them by position. Nothing here does I/O.
+//! A batch: what is sent to the server as one round. It is gathered from the waiting sub-batches,
+//! and its replies are distributed to them by position. Nothing here does I/O.
 
 use crate::request::MOST_JOBS;
 use crate::sub_batch::{Next, Sent, SubBatch};
 use crate::tally::Tally;
 
-/// A request of a round's end.
+/// The request that ends a round.
 pub const END: [u8; 5] = [0, 0, 0, 1, 8];
 
-/// The most bytes of a batch that are allocated before they are needed.
+/// The maximum number of bytes of a batch that are allocated in advance.
 const RESERVED: usize = 65_536;
 
-/// A sub-batch that waits for the server, with what its owner is found by.
+/// A sub-batch that waits for the server, with its owner.
 pub struct Queued<T> {
     pub owner: T,
     pub sub_batch: SubBatch,
 }
 
-/// What a position in a batch is.
+/// The content of a position in a batch.
 enum Kind {
-    /// Replies that the front knows by itself.
+    /// Replies that the front creates itself.
     Known(Vec<u8>),
-    /// A request that the server answers.
+    /// A request that the server replies to.
     Sent(Sent),
 }
 
-/// A position in a batch: its sub-batch, by the position among those that waited, and what it is.
+/// A position in a batch: the index of its sub-batch among those that waited, and its content.
 struct Position {
     queued: u32,
     kind: Kind,
 }
 
-/// A batch of the sub-batches that waited.
+/// A batch made from the sub-batches that waited.
 pub struct Batch {
     text: Vec<u8>,
     positions: Vec<Position>,
-    /// For each sub-batch that waited, whether nothing of it fitted.
+    /// For each sub-batch that waited, whether no part of it fitted.
     left_out: Vec<bool>,
 }
 
@@ -44,12 +44,12 @@ struct Budget {
     steps: u64,
     jobs_each: usize,
     steps_each: u64,
-    /// Instructions of the jobs that exceed their share.
+    /// The instructions of the jobs that exceed their share.
     expensive: u64,
     has_class: bool,
 }
 
-/// What of a sub-batch is in this batch already.
+/// The part of a sub-batch that is already in this batch.
 #[derive(Default)]
 struct Share {
     jobs: usize,
@@ -57,16 +57,16 @@ struct Share {
 }
 
 impl Batch {
-    /// Gathers a batch, from each sub-batch as much as its share allows.
+    /// Gathers a batch. Each sub-batch contributes as much as its share allows.
     ///
-    /// Half of `steps` is divided equally for jobs that fit into their share, so that a cheap job
-    /// is always in the next batch. The other half is for jobs that don't fit, one of each
-    /// sub-batch, the first of them whatever it costs. A batch has one class at most.
+    /// Half of `steps` is divided equally for jobs that fit into their share, so a cheap job is
+    /// always in the next batch. The other half is for jobs that don't fit, one from each
+    /// sub-batch; the first of them is accepted at any cost. A batch has at most one class.
     pub fn gather<T>(queued: &mut [Queued<T>], steps: u64) -> Batch {
         let mut budget = Budget::new(queued.len().max(1), steps);
         let unsent = queued.iter().map(|it| it.sub_batch.unsent());
         let (requests, bytes) = unsent.fold((0, 0), |all, it| (all.0 + it.0, all.1 + it.1));
-        // One allocation each is enough for most batches.
+        // One allocation for each is enough for most batches.
         let mut batch = Batch {
             text: Vec::with_capacity(bytes.min(RESERVED) + END.len()),
             positions: Vec::with_capacity(requests.min(MOST_JOBS)),
@@ -103,23 +103,23 @@ impl Batch {
         }
     }
 
-    /// The batch's text: requests and their end.
+    /// Returns the batch's text: the requests, and the end of the round.
     pub fn text(&self) -> &[u8] {
         &self.text
     }
 
-    /// How many replies the server has to send, without the end.
+    /// Returns the number of replies that the server has to send, without the end of the round.
     pub fn replies(&self) -> usize {
         self.positions.iter().filter(|it| matches!(it.kind, Kind::Sent(_))).count()
     }
 
-    /// Whether nothing of this sub-batch fitted.
+    /// Returns whether no part of this sub-batch fitted.
     pub fn left_out(&self, queued: usize) -> bool {
         self.left_out.get(queued).copied().unwrap_or(true)
     }
 
-    /// Deals the server's replies, frames one after the other, with where each ends, and counts
-    /// them. False where one of them is no reply to its request.
+    /// Distributes the server's replies, which are consecutive frames with these ends, and counts
+    /// them. Returns false if one of them isn't a valid reply to its request.
     pub fn deal<T>(
         &self,
         queued: &mut [Queued<T>],
@@ -162,7 +162,7 @@ impl Batch {
 }
 
 impl Budget {
-    /// The budget of a batch of so many sub-batches.
+    /// Creates the budget of a batch with `count` sub-batches.
     fn new(count: usize, steps: u64) -> Budget {
         let steps = steps / 2;
         Budget {
@@ -174,7 +174,8 @@ impl Budget {
         }
     }
 
-    /// How many of `most` jobs, each of this cost, a sub-batch may send beyond its share so far.
+    /// Returns how many of `most` jobs, each of this cost, a sub-batch may send in addition to its
+    /// share so far.
     fn grant(&mut self, most: usize, cost: u64, share: &mut Share) -> usize {
         let steps_left = self.steps_each.saturating_sub(share.steps);
         let fit = (steps_left / cost.max(1)).min(most as u64) as usize;
@@ -190,10 +191,10 @@ impl Budget {
     }
 }
 
-/// Which sub-batches of a batch are done, and which wait on.
+/// The sub-batches of a batch: those that are done, and those that continue to wait.
 pub struct Dealt<T> {
     pub done: Vec<Queued<T>>,
-    /// Those of which nothing fitted. They go first next time.
+    /// Those of which no part fitted. They come first in the next batch.
     pub left_out: Vec<Queued<T>>,
     pub unfinished: Vec<Queued<T>>,
 }

@@ -1,4 +1,4 @@
-//! Batches of made-up rounds, and replies that are dealt to them.
+//! Tests batches of made-up rounds, and the distribution of replies to them.
 
 use super::*;
 use crate::tally::NO_CLASS;
@@ -23,14 +23,14 @@ fn queued(owner: u8, sub_batch: SubBatch) -> Queued<u8> {
     Queued { owner, sub_batch }
 }
 
-/// A round of so many requests, each of this cost.
+/// Creates a round of `jobs` requests, each of this cost.
 fn round(owner: u8, jobs: usize, cost: u64) -> Queued<u8> {
     let mut sub_batch = SubBatch::default();
     (0..jobs).for_each(|_| sub_batch.add_job(&get(owner), cost, NO_CLASS));
     queued(owner, sub_batch)
 }
 
-/// The last key byte of each frame in a batch, in order, and 0 for a round's end.
+/// Returns the last key byte of each frame in a batch, in order, and 0 for the end of a round.
 fn last_bytes(batch: &Batch) -> Vec<u8> {
     let (mut rest, mut bytes) = (batch.text(), Vec::new());
     while !rest.is_empty() {
@@ -41,7 +41,7 @@ fn last_bytes(batch: &Batch) -> Vec<u8> {
     bytes
 }
 
-/// Deals the same reply to all.
+/// Distributes the same reply to all requests.
 fn deal_to_all(batch: &Batch, queued: &mut [Queued<u8>], reply: &[u8]) -> bool {
     let count = batch.replies();
     let text = reply.repeat(count);

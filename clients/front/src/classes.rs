@@ -1,5 +1,5 @@
-//! The classes of the server, by their files. Equal files are one class of the server, however
-//! many connections bring them.
+//! The classes of the server, by class file. Equal files are one class of the server, no matter how
+//! many connections define them.
 
 use crate::request::number_at;
 use sha1::{Digest, Sha1};
@@ -10,32 +10,33 @@ use std::collections::HashMap;
 pub struct Class {
     /// Its number at the server.
     pub number: u32,
-    /// The most instructions of a run, as the server proved.
+    /// The maximum instructions of a run, as the server computed.
     pub steps: u32,
-    /// The most array words of a run.
+    /// The maximum array words of a run.
     pub words: u32,
 }
 
-/// The state of a file: at the server, with the connections that wait for the verdict, or a class.
+/// The state of a file: sent to the server, with the connections that wait for the verdict; or a
+/// class.
 enum State {
     Pending(Vec<u64>),
     Accepted(Class),
 }
 
-/// What a file is for a connection that brings it.
+/// The result of looking up a file for a connection.
 pub enum Lookup {
     /// The server has it.
     Class(Class),
-    /// It is new: the connection has to bring it to the server, and then to call
-    /// [`Classes::resolve`].
+    /// It is new: the connection must send it to the server, and then call [`Classes::resolve`].
     New,
-    /// Another connection asks the server for it; [`Classes::resolve`] gives who waits.
+    /// Another connection has sent it to the server; [`Classes::resolve`] returns the connections
+    /// that wait.
     Pending,
-    /// It is new, and the connection may bring no more.
+    /// It is new, and the connection may send no more classes.
     TooMany,
 }
 
-/// A class that the server has accepted, for whoever watches it.
+/// A class that the server has accepted, with details for the page.
 #[derive(Clone, Debug)]
 pub struct Accepted {
     pub class: Class,
@@ -43,12 +44,12 @@ pub struct Accepted {
     pub hash: String,
     /// The length of its file.
     pub bytes: usize,
-    /// The connection that brought it, and that connection's other end.
+    /// The connection that sent it, and that connection's peer.
     pub connection: u64,
     pub peer: String,
 }
 
-/// The files that the server has or is asked for.
+/// The files that the server has or is verifying.
 #[derive(Default)]
 pub struct Classes {
     states: HashMap<Vec<u8>, State>,
@@ -57,7 +58,8 @@ pub struct Classes {
 }
 
 impl Classes {
-    /// Looks a file up for a connection. With `may_bring` false a new file isn't marked as pending.
+    /// Looks up a file for a connection. If `may_bring` is false, a new file isn't marked as
+    /// pending.
     pub fn find(&mut self, file: &[u8], connection: u64, may_bring: bool) -> Lookup {
         match self.states.get_mut(file) {
             Some(State::Accepted(class)) => Lookup::Class(*class),
@@ -73,25 +75,25 @@ impl Classes {
         }
     }
 
-    /// The classes that the server has accepted, in that order.
+    /// Returns the classes in the order in which the server accepted them.
     pub fn accepted(&self) -> &[Accepted] {
         &self.accepted
     }
 
-    /// The length of all their files.
+    /// Returns the total length of their files.
     pub fn bytes(&self) -> usize {
         self.bytes
     }
 
-    /// Notes a class that the server has accepted.
+    /// Records a class that the server has accepted.
     pub fn note(&mut self, class: Class, file: &[u8], connection: u64, peer: String) {
         let bytes = file.len();
         self.bytes += bytes;
         self.accepted.push(Accepted { class, hash: hash(file), bytes, connection, peer });
     }
 
-    /// Stores the verdict on a file that was new: a class, or none. Gives the connections that
-    /// waited for it.
+    /// Stores the verdict on a new file: a class, or `None`. Returns the connections that waited
+    /// for it.
     pub fn resolve(&mut self, file: &[u8], class: Option<Class>) -> Vec<u64> {
         let before = match class {
             Some(class) => self.states.insert(file.to_vec(), State::Accepted(class)),
@@ -104,12 +106,12 @@ impl Classes {
     }
 }
 
-/// The SHA-1 of a class file in hexadecimal.
+/// Returns the SHA-1 of a class file in hexadecimal.
 pub fn hash(file: &[u8]) -> String {
     Sha1::digest(file).iter().map(|byte| format!("{:02x}", byte)).collect()
 }
 
-/// The class in a reply, its length in front, where the reply is Defined.
+/// Returns the class in a reply, which starts with its length, if the reply is Defined.
 pub fn class_of(reply: &[u8]) -> Option<Class> {
     if reply.len() == 17 && reply[4] == 1 {
         let (number, steps) = (number_at(reply, 5), number_at(reply, 9));

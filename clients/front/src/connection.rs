@@ -1,5 +1,5 @@
-//! One connection, from its first byte to its last: the frames that arrived, the open round, and
-//! the replies on their way out. It never blocks; the event loop says when its socket is ready.
+//! One connection: the frames that arrived, the open round, and the replies on their way out. It
+//! never blocks; the event loop calls it when its socket is ready.
 
 use crate::classes::{class_of, Class, Classes, Lookup};
 use crate::listen::Stream;
@@ -10,14 +10,14 @@ use std::io::{self, Read, Write};
 use std::mem::take;
 use std::time::Instant;
 
-/// The instructions that a request costs beside those of its class.
+/// The instructions that a request costs in addition to those of its class.
 const REQUEST_COST: u64 = 64;
 
-/// Above this capacity a buffer shrinks after a round, and replies of this size that the front
-/// knows by itself are written before more frames are taken.
+/// If a buffer is larger than this after a round, it shrinks. If the front's own replies reach this
+/// size, they are written before more frames are taken.
 const KEPT: usize = 16_384;
 
-/// The most bytes of one read, so that no connection holds up the others.
+/// The maximum number of bytes of one read, so that no connection delays the others.
 pub const READ_SIZE: usize = 16_384;
 
 const UNKNOWN_CLASS: [u8; 6] = [0, 0, 0, 2, 8, 1];
@@ -26,22 +26,22 @@ const TOO_MANY_JOBS: [u8; 6] = [0, 0, 0, 2, 8, 5];
 const NO_RESULTS: [u8; 7] = [0, 0, 0, 3, 7, 0, 0];
 const ENDED: [u8; 5] = [0, 0, 0, 1, 9];
 
-/// What all connections share.
+/// The state that all connections share.
 pub struct Shared {
     /// The classes of the server.
     pub classes: Classes,
-    /// What is counted of all connections.
+    /// The counts of all connections.
     pub tally: Tally,
-    /// The most new classes of a connection.
+    /// The maximum number of new classes of a connection.
     pub most_classes: usize,
-    /// The most requests of a round.
+    /// The maximum number of requests of a round.
     pub most_requests: usize,
-    /// Where bytes are read to.
+    /// The buffer for reads.
     buffer: Vec<u8>,
 }
 
 impl Shared {
-    /// No class yet, and these limits.
+    /// Creates the state, without classes and with these limits.
     pub fn new(most_classes: usize, most_requests: usize) -> Shared {
         let buffer = vec![0; READ_SIZE];
         let (classes, tally) = (Classes::default(), Tally::default());
@@ -53,29 +53,29 @@ impl Shared {
 pub enum Step {
     /// Its socket.
     Socket,
-    /// The server's replies to a round of so many requests.
+    /// The server's replies to a round with this number of requests.
     Round { sub_batch: SubBatch, requests: usize },
-    /// The server's verdict on a class, by its frame.
+    /// The server's verdict on a class, given by its frame.
     Class(Vec<u8>),
-    /// The verdict on a class that another connection brings.
+    /// The verdict on a class that another connection has sent to the server.
     OthersClass,
 }
 
-/// How much a read found.
+/// The amount that a read found.
 #[derive(Clone, Copy, PartialEq, Eq)]
 enum Input {
     /// Nothing has arrived.
     Nothing,
-    /// All that had arrived.
+    /// All bytes that had arrived.
     All,
     /// As much as one read takes; there may be more.
     Full,
 }
 
-/// What is counted of a connection.
+/// The counts of a connection.
 #[derive(Clone, Debug)]
 pub struct Traffic {
-    /// The other end.
+    /// The peer's address.
     pub peer: String,
     pub opened: Instant,
     pub rounds: u64,
@@ -84,25 +84,25 @@ pub struct Traffic {
     pub sent_bytes: u64,
 }
 
-/// A connection, and the round that it has open.
+/// A connection and its open round.
 pub struct Connection {
     number: u64,
     stream: Stream,
     traffic: Traffic,
-    /// Bytes that arrived, of which those before `taken` are done with.
+    /// Bytes that arrived, of which those before `taken` have been processed.
     input: Vec<u8>,
     taken: usize,
-    /// Whether the socket may have more bytes than were read.
+    /// Whether the socket may have more bytes to read.
     may_have_input: bool,
-    /// Whether the other end sends no more.
+    /// Whether the peer has closed its sending side.
     peer_closed: bool,
-    /// Replies, of which those before `written` are sent.
+    /// Replies, of which those before `written` have been sent.
     output: Vec<u8>,
     written: usize,
     /// Whether its next frame waits for the server.
     is_waiting: bool,
     classes: Vec<Class>,
-    /// How many classes it brought that the server didn't have.
+    /// The number of new classes that it brought to the server.
     brought: usize,
     sub_batch: SubBatch,
     jobs: usize,
@@ -110,7 +110,7 @@ pub struct Connection {
 }
 
 impl Connection {
-    /// A connection that has sent nothing yet, by its number.
+    /// Creates a connection with this number, which has sent nothing yet.
     pub fn new(number: u64, stream: Stream) -> Connection {
         let traffic = Traffic {
             peer: stream.peer(),
@@ -139,17 +139,17 @@ impl Connection {
         }
     }
 
-    /// Its socket.
+    /// Returns its socket.
     pub fn stream(&mut self) -> &mut Stream {
         &mut self.stream
     }
 
-    /// What is counted of it.
+    /// Returns its counts.
     pub fn traffic(&self) -> &Traffic {
         &self.traffic
     }
 
-    /// What it does, in a word.
+    /// Returns what it is doing, in a few words.
     pub fn state(&self) -> &'static str {
         match (self.is_writing(), self.is_waiting) {
             (true, _) => "takes no replies",
@@ -159,35 +159,35 @@ impl Connection {
         }
     }
 
-    /// How many requests its open round has.
+    /// Returns the number of requests in its open round.
     pub fn open_requests(&self) -> usize {
         self.requests
     }
 
-    /// Whether it waits for its socket to take replies.
+    /// Returns whether it waits for its socket to accept replies.
     pub fn is_writing(&self) -> bool {
         self.written < self.output.len()
     }
 
-    /// Whether its next frame waits for the server.
+    /// Returns whether its next frame waits for the server.
     pub fn is_waiting(&self) -> bool {
         self.is_waiting
     }
 
-    /// Whether the socket may have more bytes than were read.
+    /// Returns whether the socket may have more bytes to read.
     pub fn may_have_input(&self) -> bool {
         self.may_have_input
     }
 
-    /// The socket is readable, which an edge-triggered event says once. With `is_closed` it has to
-    /// be read to its end, since no further event comes.
+    /// Marks the socket as readable, which an edge-triggered event reports only once. With
+    /// `is_closed` it must be read to its end, because no further event comes.
     pub fn set_readable(&mut self, is_closed: bool) {
         self.may_have_input = true;
         self.peer_closed |= is_closed;
     }
 
-    /// Reads what arrived, or writes what waits, and continues as far as that goes. An error ends
-    /// the connection, and drops what it had sent of an open round.
+    /// Reads what arrived or writes what waits, and continues as far as possible. An error ends the
+    /// connection, and drops what it had sent of an open round.
     pub fn continue_io(&mut self, shared: &mut Shared) -> io::Result<Step> {
         if !self.is_writing() {
             self.read(shared)?;
@@ -195,7 +195,7 @@ impl Connection {
         self.advance(shared)
     }
 
-    /// The same for a connection that isn't writing and may have sent nothing, which is None.
+    /// Does the same for a connection that isn't writing. Returns `None` if nothing has arrived.
     pub fn try_read(&mut self, shared: &mut Shared) -> io::Result<Option<Step>> {
         match self.read(shared)? {
             Input::Nothing => Ok(None),
@@ -210,7 +210,7 @@ impl Connection {
         self.is_waiting = false;
     }
 
-    /// Takes the verdict on a class that it brought.
+    /// Takes the verdict on a class that it sent.
     pub fn take_verdict(&mut self, reply: &[u8], tally: &mut Tally) {
         match class_of(reply) {
             None => self.add_known(reply, tally),
@@ -222,7 +222,7 @@ impl Connection {
         self.is_waiting = false;
     }
 
-    /// Looks at its next frame again, a class on which there is a verdict now.
+    /// Processes its next frame again: a class that now has a verdict.
     pub fn retry(&mut self) {
         self.is_waiting = false;
     }
@@ -257,7 +257,7 @@ impl Connection {
         Ok(input)
     }
 
-    /// Writes replies as far as the socket takes them.
+    /// Writes as many replies as the socket accepts.
     fn write(&mut self, tally: &mut Tally) -> io::Result<()> {
         while self.is_writing() {
             match self.stream.write(&self.output[self.written..]) {
@@ -278,15 +278,15 @@ impl Connection {
         Ok(())
     }
 
-    /// Writes the replies that are there, and takes the frames that are there until one waits.
-    /// While replies wait for the socket no frame is taken.
+    /// Writes the replies that are ready, and processes frames until one has to wait. While replies
+    /// wait for the socket, no frame is processed.
     pub fn advance(&mut self, shared: &mut Shared) -> io::Result<Step> {
         self.write(&mut shared.tally)?;
         while !self.is_writing() && !self.is_waiting {
             let step = self.take_frames(shared);
             if self.is_waiting {
-                // The server has to be asked even if this connection is gone: others may wait for
-                // the same class.
+                // The server must be asked even if this connection is closed, because others may
+                // wait for the same class.
                 let _ = self.write(&mut shared.tally);
                 return step;
             }
@@ -298,7 +298,7 @@ impl Connection {
         Ok(Step::Socket)
     }
 
-    /// Takes frames until one waits, none is there, or many replies are known.
+    /// Processes frames until one has to wait, none is left, or many replies are ready.
     fn take_frames(&mut self, shared: &mut Shared) -> io::Result<Step> {
         let input = take(&mut self.input);
         let step = self.take_frames_of(&input, shared);
@@ -333,7 +333,7 @@ impl Connection {
         Ok(Step::Socket)
     }
 
-    /// Ends the open round. Where the server has nothing to answer, its replies are complete.
+    /// Ends the open round. If no request waits for the server, its replies are complete.
     fn end_round(&mut self) -> Step {
         self.traffic.rounds += 1;
         self.traffic.requests += self.requests as u64;
@@ -357,7 +357,7 @@ impl Connection {
         Ok(())
     }
 
-    /// Adds a reply that the front knows by itself.
+    /// Adds a reply that the front creates itself.
     fn add_known(&mut self, reply: &[u8], tally: &mut Tally) {
         tally.own_reply(reply);
         self.sub_batch.add_known(reply);
@@ -384,7 +384,7 @@ impl Connection {
         Ok(Step::Socket)
     }
 
-    /// The class that has this number on this connection.
+    /// Returns the class with this number on this connection.
     fn class(&self, number: u32) -> Option<Class> {
         self.classes.get(number as usize).copied()
     }
@@ -412,10 +412,10 @@ impl Connection {
         }
     }
 
-    /// Looks a class up, or brings it.
+    /// Looks up a class, or sends it to the server.
     fn define(&mut self, text: &[u8], shared: &mut Shared) -> io::Result<Step> {
         if self.requests >= shared.most_requests {
-            // Before the lookup, which marks a new class as on its way to the server.
+            // This comes before the lookup, which marks a new class as sent to the server.
             return Err(io::ErrorKind::InvalidData.into());
         }
         let may_number = self.classes.len() < MOST_CLASSES;
@@ -437,7 +437,7 @@ impl Connection {
         Ok(Step::Socket)
     }
 
-    /// Gives a class its number on this connection, and replies with it.
+    /// Gives a class a number on this connection, and replies with it.
     fn number_class(&mut self, class: Class, tally: &mut Tally) {
         let mut reply = vec![0, 0, 0, 13, 1];
         reply.extend_from_slice(&(self.classes.len() as u32).to_be_bytes());
@@ -448,7 +448,7 @@ impl Connection {
     }
 }
 
-/// Whether a socket isn't ready at this moment.
+/// Returns whether the error means that the socket isn't ready now.
 fn is_temporary(e: &io::Error) -> bool {
     matches!(e.kind(), io::ErrorKind::WouldBlock | io::ErrorKind::Interrupted)
 }

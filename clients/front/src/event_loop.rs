@@ -1,9 +1,9 @@
-//! The event loop, one thread for all connections: it reads what they send as it comes, keeps the
-//! server at work, and writes the replies. It never waits for a single socket, so nobody who is
-//! slow holds up another.
+//! The event loop, one thread for all connections: it reads what they send, keeps the server busy,
+//! and writes the replies. It never waits for a single socket, so a slow client doesn't delay the
+//! others.
 //!
-//! Events are edge-triggered: each says once that a socket became ready. A connection that wasn't
-//! read to its end is in the backlog, and continues after others had their turn.
+//! Events are edge-triggered: each reports only once that a socket became ready. A connection that
+//! wasn't read to its end is put in the backlog, and continues after the others.
 
 use crate::batch::Queued;
 use crate::classes::class_of;
@@ -25,21 +25,23 @@ use std::io;
 use std::sync::Arc;
 use std::time::{Duration, Instant};
 
-/// The tokens of the server's replies and of the waker. Those of connections are above.
+/// The tokens of the server's replies and of the waker. Connections have higher ones.
 const SERVER: Token = Token(0);
 pub const WAKER: Token = Token(1);
 const FIRST_CONNECTION: u64 = 2;
 
-/// The most events of a poll.
+/// The maximum number of events of a poll.
 const MOST_EVENTS: usize = 256;
 
-/// How many times in a row only the likeliest socket is read, before all are polled.
+/// The maximum number of consecutive reads of only the likeliest socket, before all sockets are
+/// polled.
 const MOST_DIRECT_READS: u32 = 8;
 
-/// How often the event loop looks for connections without progress.
+/// How often the event loop checks for connections without progress.
 const SWEEP: Duration = Duration::from_millis(250);
 
-/// A connection, the interest that its socket is registered with, and its last progress.
+/// A connection, the interest with which its socket is registered, and the time of its last
+/// progress.
 struct Entry {
     connection: Connection,
     interest: Interest,
@@ -53,42 +55,42 @@ pub struct EventLoop {
     poll: Poll,
     acceptor: Arc<Acceptor>,
     events: Events,
-    /// What the last poll found: tokens, and whether the other end has closed.
+    /// The events of the last poll: tokens, and whether the peer has closed the connection.
     ready: Vec<(Token, bool)>,
     /// Connections whose sockets may have more input.
     backlog: VecDeque<u64>,
-    /// Whether the server has closed its replies, the last of which may still have to be read.
+    /// Whether the server has closed its replies; the last ones may not have been read yet.
     server_closed: bool,
     spin: SpinWait,
     scheduler: Scheduler,
     shared: Shared,
     connections: HashMap<u64, Entry>,
     next: u64,
-    /// The connection that was answered last: the likeliest to call next.
+    /// The connection that was last sent replies: the likeliest to call next.
     answered: u64,
-    /// How many times in a row the likeliest socket was ready.
+    /// The number of consecutive reads of only the likeliest socket.
     direct_reads: u32,
     idle: Option<Duration>,
     swept: Instant,
-    /// When the last wait ended.
+    /// The time when the last wait ended.
     now: Instant,
     publisher: Option<Publisher>,
     log_limit: LogLimit,
 }
 
-/// Why a wait ended.
+/// The reason why a wait ended.
 enum Woken {
     /// All replies to the batch at the server have arrived.
     Replies(Vec<Queued<Owner>>),
     /// The connection that was read directly had sent something.
     Connection,
-    /// There are events, or a backlog.
+    /// There are events, or there is a backlog.
     Events,
 }
 
 impl EventLoop {
-    /// An event loop on this poll, of which [`WAKER`] is the acceptor's. A connection without
-    /// progress for `idle` is closed.
+    /// Creates an event loop on this poll; its [`WAKER`] belongs to the acceptor. A connection
+    /// without progress for the time `idle` is closed.
     pub fn new(
         poll: Poll,
         acceptor: Arc<Acceptor>,
@@ -120,8 +122,8 @@ impl EventLoop {
         })
     }
 
-    /// Serves until the server ends or its replies are invalid. Then its input ends, and all
-    /// connections are closed, those too that come before the process ends.
+    /// Serves until the server ends or its replies are invalid. Then it closes the server's input
+    /// and all connections, including those that arrive before the process ends.
     pub fn run(mut self) -> ! {
         while self.turn().is_ok() {}
         self.publish();
@@ -134,8 +136,8 @@ impl EventLoop {
         }
     }
 
-    /// Waits until there is something to do, and does it. The next batch is sent before the
-    /// replies to the last are delivered. An error is the server's end.
+    /// Waits until there is something to do, and does it. The next batch is sent before the replies
+    /// to the last one are delivered. An error means that the server has ended.
     fn turn(&mut self) -> io::Result<()> {
         let woken = self.wait()?;
         if !matches!(woken, Woken::Connection) {
@@ -153,8 +155,8 @@ impl EventLoop {
         self.scheduler.send(self.now)
     }
 
-    /// Waits until there is something to do. It polls for some time before it sleeps, except where
-    /// the server runs on this processor.
+    /// Waits until there is something to do. It polls for some time before it sleeps, unless the
+    /// server needs this CPU.
     fn wait(&mut self) -> io::Result<Woken> {
         if self.scheduler.wants_sleep() {
             return self.sleep();
@@ -189,9 +191,8 @@ impl EventLoop {
         self.server_closed || !self.backlog.is_empty()
     }
 
-    /// Looks for something to do. Where one connection alone calls, it reads directly where
-    /// something is likeliest to come: from the server while that has a batch, else from that
-    /// connection.
+    /// Looks for something to do. If a single connection makes calls, it reads directly from the
+    /// likeliest source: the server while a batch is there, else that connection.
     fn look(&mut self) -> io::Result<Option<Woken>> {
         if self.direct_reads < MOST_DIRECT_READS && self.scheduler.has_single_caller() {
             self.direct_reads += 1;
@@ -209,7 +210,7 @@ impl EventLoop {
         Ok(if found { Some(Woken::Events) } else { None })
     }
 
-    /// Polls for so long, for ever without a timeout.
+    /// Polls with a timeout; without one it waits indefinitely.
     fn poll_events(&mut self, timeout: Option<Duration>) -> io::Result<()> {
         self.ready.clear();
         match self.poll.poll(&mut self.events, timeout) {
@@ -221,7 +222,7 @@ impl EventLoop {
         Ok(())
     }
 
-    /// Reads what a connection has sent, if it waits for input and has sent something.
+    /// Reads from a connection. Returns false if it doesn't wait for input or has sent nothing.
     fn read_directly(&mut self, number: u64) -> bool {
         let entry = match self.connections.get_mut(&number) {
             Some(it) if !it.connection.is_writing() && !it.connection.is_waiting() => it,
@@ -238,7 +239,7 @@ impl EventLoop {
         true
     }
 
-    /// Handles the events of the last poll and the backlog as it was before. Gives the sub-batches
+    /// Handles the events of the last poll and the backlog from before. Returns the sub-batches
     /// that are done.
     fn handle_events(&mut self) -> io::Result<Vec<Queued<Owner>>> {
         let mut done = Vec::new();
@@ -266,7 +267,7 @@ impl EventLoop {
         Ok(done)
     }
 
-    /// Connections have arrived, or somebody wants to know the counts.
+    /// Handles new connections and requests for the counts.
     fn on_wake(&mut self) {
         for stream in self.acceptor.take_arrived() {
             self.open(stream);
@@ -340,8 +341,8 @@ impl EventLoop {
         self.connections.insert(number, entry);
     }
 
-    /// The socket of a connection is ready, or its other end has closed. A connection that waits
-    /// for the server isn't read meanwhile.
+    /// Handles a connection whose socket is ready or whose peer has closed. A connection that waits
+    /// for the server isn't read.
     fn on_ready(&mut self, number: u64, is_closed: bool) {
         if let Some(entry) = self.connections.get_mut(&number) {
             entry.connection.set_readable(is_closed);
@@ -363,7 +364,7 @@ impl EventLoop {
         }
     }
 
-    /// Does what a connection needs next. An error is its end.
+    /// Does what a connection needs next. An error ends the connection.
     fn follow(&mut self, number: u64, step: io::Result<Step>) {
         let result = step.and_then(|step| {
             match step {
@@ -388,7 +389,7 @@ impl EventLoop {
         }
     }
 
-    /// Waits for what a connection needs of its socket.
+    /// Registers for the events that a connection needs.
     fn listen(&mut self, number: u64) -> io::Result<()> {
         let entry = match self.connections.get_mut(&number) {
             Some(entry) => entry,
@@ -447,7 +448,7 @@ impl EventLoop {
         }
     }
 
-    /// Delivers the verdict on a class to the connection that brought it and those that wait.
+    /// Delivers the verdict on a class to the connection that sent it and to those that wait.
     fn deliver_verdict(&mut self, connection: u64, file: &[u8], reply: &[u8]) {
         let class = class_of(reply);
         let entry = self.connections.get(&connection);
@@ -474,7 +475,7 @@ impl EventLoop {
         }
     }
 
-    /// Closes the connections without progress, if that is wanted, and at most once a `SWEEP`.
+    /// Closes the connections without progress, if that is enabled, at most once in each `SWEEP`.
     fn sweep(&mut self) {
         let idle = match self.idle {
             Some(idle) if self.swept.elapsed() >= SWEEP => idle,

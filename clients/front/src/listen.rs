@@ -18,10 +18,11 @@ use std::sync::{Arc, Mutex};
 use std::thread;
 use std::time::Duration;
 
-/// How many files the front needs beside its connections.
+/// The number of file descriptors that the front needs in addition to its connections.
 const OTHER_FILES: usize = 16;
 
-/// How long a thread waits after it couldn't accept, for example without free file descriptors.
+/// How long a thread waits after it couldn't accept, for example because there are no free file
+/// descriptors.
 const PAUSE: Duration = Duration::from_millis(50);
 
 /// A listening socket.
@@ -30,14 +31,14 @@ pub enum Listener {
     Tcp(TcpListener),
 }
 
-/// A connection's socket, which doesn't block.
+/// A connection's non-blocking socket.
 pub enum Stream {
     Unix(UnixStream),
     Tcp(TcpStream),
 }
 
 impl Stream {
-    /// Its other end: process and user of a unix socket, the address of a TCP one.
+    /// Returns the peer: process and user for a unix socket, the address for a TCP one.
     pub fn peer(&self) -> String {
         match self {
             Stream::Unix(it) => match getsockopt(it.as_raw_fd(), PeerCredentials) {
@@ -104,8 +105,7 @@ impl Source for Stream {
     }
 }
 
-/// Where the accepting threads leave connections for the event loop. It also limits how many
-/// there are.
+/// Passes connections from the accepting threads to the event loop, and limits their number.
 pub struct Acceptor {
     limit: usize,
     count: AtomicUsize,
@@ -115,13 +115,14 @@ pub struct Acceptor {
 }
 
 impl Acceptor {
-    /// Accepts at most `limit` connections at a time, and wakes the event loop for each.
+    /// Creates an acceptor that allows at most `limit` connections at a time, and wakes the event
+    /// loop for each.
     pub fn new(limit: usize, waker: Arc<Waker>) -> Acceptor {
         let (count, rejected) = (AtomicUsize::new(0), AtomicU64::new(0));
         Acceptor { limit, count, rejected, arrived: Mutex::default(), waker }
     }
 
-    /// Hands a connection to the event loop, or closes it where there are as many as may be.
+    /// Passes a connection to the event loop, or closes it if the limit is reached.
     fn hand_over(&self, stream: Stream) {
         if self.count.fetch_add(1, Ordering::SeqCst) >= self.limit {
             self.release();
@@ -131,16 +132,16 @@ impl Acceptor {
         if let Ok(mut arrived) = self.arrived.lock() {
             arrived.push(stream);
         }
-        // It fails only where the event loop is gone, and then the process ends.
+        // It only fails if the event loop has ended, and then the process ends.
         let _ = self.waker.wake();
     }
 
-    /// The most connections at a time.
+    /// Returns the maximum number of connections at a time.
     pub fn limit(&self) -> usize {
         self.limit
     }
 
-    /// How many connections were closed at once, since there were as many as may be.
+    /// Returns the number of connections that were closed at once because the limit was reached.
     pub fn rejected(&self) -> u64 {
         self.rejected.load(Ordering::Relaxed)
     }
@@ -150,13 +151,13 @@ impl Acceptor {
         self.arrived.lock().map_or_else(|_| Vec::new(), |mut arrived| take(&mut *arrived))
     }
 
-    /// Counts a connection that is closed.
+    /// Must be called when a connection is closed.
     pub fn release(&self) {
         self.count.fetch_sub(1, Ordering::SeqCst);
     }
 }
 
-/// Opens a listening socket, and gives its name for the log.
+/// Opens a listening socket. Returns it with its name for the log.
 pub fn open(address: &Address) -> io::Result<(Listener, String)> {
     match address {
         Address::Unix(path) => Ok((Listener::Unix(bind_unix(path)?), path.clone())),
@@ -169,7 +170,7 @@ pub fn open(address: &Address) -> io::Result<(Listener, String)> {
     }
 }
 
-/// Binds a unix socket. One that nobody listens on any more is replaced.
+/// Binds a unix socket. One that no process listens on is replaced.
 fn bind_unix(path: &str) -> io::Result<UnixListener> {
     match UnixListener::bind(path) {
         Err(e) if e.kind() == io::ErrorKind::AddrInUse => match StdUnixStream::connect(path) {
@@ -183,7 +184,7 @@ fn bind_unix(path: &str) -> io::Result<UnixListener> {
     }
 }
 
-/// The listening socket that is the standard input, as systemd passes it.
+/// Returns standard input as a listening socket, as systemd passes it.
 fn inherited() -> io::Result<Listener> {
     let socket: OwnedFd = io::stdin().as_fd().try_clone_to_owned()?;
     let listener = TcpListener::from(socket);
@@ -195,15 +196,15 @@ fn inherited() -> io::Result<Listener> {
     Ok(Listener::Unix(listener))
 }
 
-/// How many connections this process may have by its limit of open files, where that is known, if
-/// it needs so many files for others.
+/// Returns the number of connections that this process may have by its limit of open files, if it
+/// is known, given that it needs `others` files for other purposes.
 pub fn connections_by_files(others: usize) -> Option<usize> {
     let (files, _) = getrlimit(Resource::RLIMIT_NOFILE).ok()?;
     let files = usize::try_from(files).unwrap_or(usize::MAX);
     Some(files.saturating_sub(OTHER_FILES + others))
 }
 
-/// Accepts the connections of a listener, for ever.
+/// Accepts the connections of a listener, without end.
 pub fn run(listener: &Listener, acceptor: &Acceptor) {
     loop {
         match accept(listener) {
@@ -214,7 +215,7 @@ pub fn run(listener: &Listener, acceptor: &Acceptor) {
     }
 }
 
-/// Accepts the next connection. None where it has been reset already.
+/// Accepts the next connection. Returns `None` if it has already been reset.
 fn accept(listener: &Listener) -> io::Result<Option<Stream>> {
     Ok(match listener {
         Listener::Unix(it) => {

@@ -1,7 +1,7 @@
 //! The log: one line for each event on standard error, with time and level.
 //!
-//! A thread of its own writes the lines, so that a reader of standard error who is slow never holds
-//! up calls. Where too many lines wait, further ones are dropped, and their number is logged.
+//! A separate thread writes the lines, so a slow reader of standard error never delays calls. If
+//! too many lines wait, further ones are dropped, and their number is logged.
 
 use env_logger::{Builder, Target};
 use log::{warn, LevelFilter};
@@ -12,27 +12,27 @@ use std::sync::Mutex;
 use std::thread;
 use std::time::{Duration, Instant};
 
-/// The most lines that wait to be written.
+/// The maximum number of lines that wait to be written.
 const QUEUE: usize = 1_024;
 
-/// The most lines a second that strangers can cause.
+/// The maximum number of lines per second that clients can cause.
 const LINES_A_SECOND: usize = 20;
 const SECOND: Duration = Duration::from_secs(1);
 
-/// How long the end of the process waits for lines to be written.
+/// How long the process waits at its end for lines to be written.
 const PATIENCE: Duration = Duration::from_secs(1);
 
 static QUEUE_INPUT: Mutex<Option<SyncSender<Entry>>> = Mutex::new(None);
 static DROPPED: AtomicUsize = AtomicUsize::new(0);
 
-/// What the writing thread gets.
+/// A message to the writer thread.
 enum Entry {
     Line(Vec<u8>),
-    /// All lines before it have been written once this is answered.
+    /// A request for a reply after all lines before it have been written.
     Flush(SyncSender<()>),
 }
 
-/// Puts lines into the queue, or drops them where it is full.
+/// Puts lines into the queue, or drops them if it is full.
 struct QueueWriter(SyncSender<Entry>);
 
 impl Write for QueueWriter {
@@ -48,7 +48,7 @@ impl Write for QueueWriter {
     }
 }
 
-/// Begins to log events of this level and more important ones.
+/// Starts to log events of this level and more important ones.
 pub fn start(level: LevelFilter) {
     let (input, output) = sync_channel(QUEUE);
     thread::spawn(move || write_lines(&output, &mut io::stderr()));
@@ -65,7 +65,7 @@ pub fn start(level: LevelFilter) {
         .init();
 }
 
-/// Waits until all lines so far have been written, for a second at most.
+/// Waits until all lines so far have been written, for at most a second.
 pub fn flush() {
     let input = QUEUE_INPUT.lock().ok().and_then(|it| it.clone());
     let (done, is_done) = sync_channel(1);
@@ -74,17 +74,18 @@ pub fn flush() {
     }
 }
 
-/// Limits the lines that strangers can cause, so that they don't fill a disk.
+/// Limits the lines that clients can cause, so that they don't fill a disk.
 #[derive(Default)]
 pub struct LogLimit {
-    /// When the current second began, and how many lines were in it.
+    /// The start of the current second, and the number of lines in it.
     begun: Option<Instant>,
     lines: usize,
     suppressed: usize,
 }
 
 impl LogLimit {
-    /// Whether one more line is allowed. How many weren't is logged with the next that is.
+    /// Returns whether another line is allowed. The next allowed line is preceded by the number of
+    /// dropped ones.
     pub fn allows(&mut self, now: Instant) -> bool {
         let is_new = self.begun.map_or(true, |it| now.saturating_duration_since(it) >= SECOND);
         if is_new {

@@ -1,8 +1,8 @@
 //! jentry-front: lets many connections share one jentry cache.
 //!
-//! It starts one server (`jentry serve`), listens, and speaks the server's own frames with each
-//! connection. A connection's round is taken once its end has arrived. The front is outside of
-//! what is proved about the server.
+//! It starts one server (`jentry serve`), listens, and speaks the server's protocol with each
+//! connection. A connection's round is processed after its end has arrived. The front isn't part of
+//! the verified server.
 #![forbid(unsafe_code)]
 
 mod affinity;
@@ -43,16 +43,18 @@ use std::sync::{Arc, Mutex, PoisonError};
 use std::thread;
 use std::time::Duration;
 
-/// The exit status for a command line that makes no sense, as `jentry` has it.
+/// The exit status for an invalid command line, the same as `jentry`'s.
 const USAGE_STATUS: i32 = 1;
 
-/// The exit status where the front can't begin.
+/// The exit status if the front can't start.
 const START_STATUS: i32 = 3;
 
-/// How long the front's end waits until those who watch the page know of the server's.
+/// How long the front waits at its end until the viewers of the page have been told that the server
+/// ended.
 const FAREWELL: Duration = Duration::from_millis(500);
 
-/// The most connections, as far as this process may open files.
+/// Returns the maximum number of connections, limited by the number of files that this process may
+/// open.
 fn connection_limit(options: &Options) -> usize {
     let http = if options.http.is_some() { http::MOST_CONNECTIONS } else { 0 };
     match listen::connections_by_files(http) {
@@ -67,7 +69,7 @@ fn connection_limit(options: &Options) -> usize {
     }
 }
 
-/// Removes the unix sockets that the front made.
+/// Removes the unix sockets that the front created.
 fn remove_sockets(addresses: &[Address]) {
     for address in addresses {
         if let Address::Unix(path) = address {
@@ -76,7 +78,7 @@ fn remove_sockets(addresses: &[Address]) {
     }
 }
 
-/// Removes the sockets where a signal ends the front, which then ends by that signal.
+/// Removes the sockets when a signal ends the front, and then ends by that signal.
 fn end_on_signals(addresses: Vec<Address>) -> io::Result<()> {
     let mut signals = Signals::new([SIGINT, SIGTERM])?;
     thread::spawn(move || {
@@ -90,9 +92,9 @@ fn end_on_signals(addresses: Vec<Address>) -> io::Result<()> {
     Ok(())
 }
 
-/// Sockets that listen.
+/// The listening sockets.
 struct Listeners {
-    /// For connections, each with its name.
+    /// The sockets for connections, each with its name.
     front: Vec<(Listener, String)>,
     http: Option<TcpListener>,
 }
@@ -109,7 +111,7 @@ fn open_listeners(options: &Options) -> Result<Listeners, String> {
     Ok(Listeners { front, http: http.transpose()? })
 }
 
-/// Listens, starts the server, and serves until it ends. The error says what failed before that.
+/// Listens, starts the server, and serves until it ends. Returns an error if it fails before that.
 fn run(options: Options) -> Result<(), String> {
     let limit = connection_limit(&options);
     let Listeners { front, http } = open_listeners(&options)?;
@@ -144,7 +146,7 @@ fn run(options: Options) -> Result<(), String> {
     event_loop.run()
 }
 
-/// Has the HTTP thread, if there is one, say how the server has ended.
+/// Has the HTTP thread, if there is one, report how the server ended.
 fn say_ended(board: &Board, waker: &Mutex<Option<Waker>>, how: String) {
     if let Some(waker) = &*waker.lock().unwrap_or_else(PoisonError::into_inner) {
         board.set_ended(how, FAREWELL, || waker.wake().is_ok());

@@ -1,5 +1,5 @@
-//! The metrics of the event loop, by the prometheus crate. Counters take over what the event loop
-//! has counted in its [`Tally`] each time they are published, so between that they cost nothing.
+//! The metrics of the event loop, with the prometheus crate. When they are published, the counters
+//! take over the counts of the event loop's [`Tally`]; between publications they cost nothing.
 
 use crate::tally::{Tally, CLOSED, DENIALS, EXCEPTIONS, REFUSALS, REPLIES, REQUESTS};
 use prometheus::local::LocalHistogram;
@@ -8,19 +8,19 @@ use prometheus::{
 };
 use std::time::Duration;
 
-/// The label value of numbers without a name.
+/// The label value for numbers without a name.
 const OTHER: &str = "other";
 
-/// Upper bounds of times, in seconds.
+/// The upper bounds of times, in seconds.
 const SECONDS: [f64; 22] = [
     1e-5, 2e-5, 5e-5, 1e-4, 2e-4, 5e-4, 1e-3, 2e-3, 5e-3, 0.01, 0.02, 0.05, 0.1, 0.2, 0.5, 1.0,
     2.0, 5.0, 10.0, 20.0, 50.0, 100.0,
 ];
 
-/// Upper bounds of the requests of a round or a batch.
+/// The upper bounds of the number of requests of a round or a batch.
 const SIZES: [f64; 9] = [1.0, 2.0, 4.0, 8.0, 16.0, 64.0, 256.0, 1_024.0, 4_096.0];
 
-/// Picks a count, or a value of a moment.
+/// Selects a count.
 type OfTally = fn(&Tally) -> u64;
 type OfGauges = fn(&Gauges) -> usize;
 
@@ -94,7 +94,7 @@ const BY_NUMBER: [Labelled; 3] = [
     ),
 ];
 
-/// What is true at a moment.
+/// The current values.
 #[derive(Clone, Copy, Debug, Default)]
 pub struct Gauges {
     pub waiting_rounds: usize,
@@ -103,13 +103,13 @@ pub struct Gauges {
     pub connections_limit: usize,
     pub classes: usize,
     pub class_bytes: usize,
-    /// Connections that were rejected, since the process began.
+    /// The number of rejected connections since the start of the process.
     pub rejected: u64,
 }
 
 /// Counters with one label.
 struct Family {
-    /// Each with its index in the counts.
+    /// The counters, each with its index in the counts.
     counters: Vec<(usize, IntCounter)>,
     counts: fn(&Tally) -> &[u64],
 }
@@ -150,7 +150,7 @@ fn histogram(
     Ok(histogram.local())
 }
 
-/// Counters whose label is a name, or with `by_number` the number of that name.
+/// Creates counters whose label is a name, or with `by_number` the number of that name.
 fn family(registry: &Registry, of: Labelled, by_number: bool) -> Result<Family> {
     let (name, help, label, names, counts) = of;
     let vec = IntCounterVec::new(Opts::new(name, help), &[label])?;
@@ -168,13 +168,13 @@ fn family(registry: &Registry, of: Labelled, by_number: bool) -> Result<Family> 
     Ok(Family { counters, counts })
 }
 
-/// Raises a counter to a value that is at least its own.
+/// Raises a counter to a value, which is at least its own.
 fn raise(counter: &IntCounter, value: u64) {
     counter.inc_by(value - counter.get());
 }
 
 impl Metrics {
-    /// Metrics in this registry, all of which are 0.
+    /// Creates metrics in this registry, all with value 0.
     pub fn new(registry: &Registry) -> Result<Metrics> {
         let mut singles = Vec::new();
         for (name, help, value) in SINGLES {
@@ -211,19 +211,19 @@ impl Metrics {
         })
     }
 
-    /// Counts a round that the server has answered.
+    /// Counts a round to which the server has replied.
     pub fn round(&self, time: Duration, requests: usize) {
         self.round_seconds.observe(time.as_secs_f64());
         self.round_requests.observe(requests as f64);
     }
 
-    /// Counts a batch that the server has answered.
+    /// Counts a batch to which the server has replied.
     pub fn batch(&self, time: Duration, requests: usize) {
         self.batch_seconds.observe(time.as_secs_f64());
         self.batch_requests.observe(requests as f64);
     }
 
-    /// Makes the registry have all that was counted.
+    /// Updates the registry from the counts.
     pub fn publish(&self, tally: &Tally, now: &Gauges) {
         for (counter, value) in &self.singles {
             raise(counter, value(tally));

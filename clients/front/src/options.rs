@@ -21,7 +21,7 @@ pub enum Address {
     Unix(String),
     /// A TCP address, `HOST:PORT`.
     Tcp(String),
-    /// The standard input, which is a listening socket.
+    /// Standard input, which is a listening socket.
     Stdin,
 }
 
@@ -29,17 +29,17 @@ pub enum Address {
 #[derive(Debug, PartialEq, Eq)]
 pub struct Options {
     pub addresses: Vec<Address>,
-    /// The most connections at a time.
+    /// The maximum number of connections at a time.
     pub connections: usize,
-    /// The most new classes of a connection.
+    /// The maximum number of new classes of a connection.
     pub classes: usize,
-    /// The most requests of a round.
+    /// The maximum number of requests of a round.
     pub requests: usize,
-    /// The most instructions of a batch.
+    /// The maximum number of instructions of a batch.
     pub steps: u64,
     /// Seconds after which a connection without progress is closed, 0 for never.
     pub idle: u64,
-    /// The address of `/metrics`, `/healthz` and the page, if they are wanted.
+    /// The address for `/metrics`, `/healthz` and the page, if they are enabled.
     pub http: Option<String>,
     /// The least important level that is logged.
     pub log: LevelFilter,
@@ -47,9 +47,9 @@ pub struct Options {
     pub program: Vec<OsString>,
 }
 
-/// Reads the command line, the front's own name first.
+/// Parses the command line, which starts with the front's own name.
 ///
-/// The error is clap's, which is also how `--help` and `--version` come back.
+/// The error is clap's, which is also returned for `--help` and `--version`.
 pub fn parse(words: impl IntoIterator<Item = OsString>) -> Result<Options, clap::Error> {
     command().try_get_matches_from(words).map(|matches| options(&matches))
 }
@@ -136,7 +136,7 @@ fn limit_args() -> [Arg; 5] {
     ]
 }
 
-/// A TCP address with its port; the host is the loopback where none is given.
+/// Returns a TCP address with its port; the host defaults to the loopback address.
 fn tcp_address(text: &str) -> Result<String, String> {
     let (host, port) = text.rsplit_once(':').unwrap_or(("127.0.0.1", text));
     match port.parse::<u16>() {

@@ -5,8 +5,8 @@ use crate::request::number_at;
 use crate::tally::{name, REFUSALS};
 use log::warn;
 
-/// Logs a class that the server refused. Its reply is a number and a detail: the opcode for
-/// refusal 17, the position in the code for 22.
+/// Logs a class that the server refused. Its reply is a number and a detail: the opcode for refusal
+/// 17, the offset in the code for refusal 22.
 pub fn log_refusal(connection: u64, peer: &str, file: &[u8], reply: &[u8]) {
     let (number, detail) = match reply {
         [_, _, _, _, 2, number, detail @ ..] if detail.len() == 4 => {

@@ -1,24 +1,24 @@
-//! The frames of a connection: which are requests, and what they ask for.
+//! The frames of a connection: which are valid requests, and what they ask for.
 //!
-//! The server answers an invalid frame by ending its stream, which all connections share. So each
-//! frame is validated here to the byte before it goes to the server.
+//! The server ends its stream after an invalid frame, and all connections share that stream. So
+//! each frame is fully validated here before it goes to the server.
 
 use std::collections::HashSet;
 use std::io;
 
-/// The longest frame, in bytes after its length.
+/// The maximum length of a frame, in bytes after the length field.
 pub const LONGEST: usize = 131_072;
 
-/// The most jobs of a round of the server.
+/// The maximum number of jobs in a round of the server.
 pub const MOST_JOBS: usize = 4_096;
 
-/// The most classes of a server.
+/// The maximum number of classes of a server.
 pub const MOST_CLASSES: usize = 4_096;
 
-/// Where the keys of an invokeAll begin: after length, kind, class number and count.
+/// The offset of the keys in an invokeAll: after length, kind, class number and count.
 pub const KEYS_AT: usize = 11;
 
-/// What a frame asks for.
+/// The request in a frame.
 #[derive(Debug, PartialEq, Eq)]
 pub enum Frame {
     /// A class.
@@ -29,12 +29,12 @@ pub enum Frame {
     Plain,
     /// An invocation of the class with this number.
     Invoke(u32),
-    /// An invocation of the class with this number on so many keys.
+    /// An invocation of the class with this number on several keys.
     InvokeAll { class: u32, keys: usize },
 }
 
-/// The bytes of the frame that begins here, with its length in front. None where it hasn't arrived
-/// to its end; an error where its length is 0 or too long.
+/// Returns the length in bytes of the frame that begins here, including the length field. Returns
+/// `None` if it hasn't fully arrived, and an error if its length is 0 or too large.
 pub fn frame_length(input: &[u8]) -> io::Result<Option<usize>> {
     if input.len() < 4 {
         return Ok(None);
@@ -46,12 +46,12 @@ pub fn frame_length(input: &[u8]) -> io::Result<Option<usize>> {
     Ok(if input.len() < 4 + length { None } else { Some(4 + length) })
 }
 
-/// The number in the four bytes from here on, which have to be there.
+/// Returns the number in the four bytes at this offset, which must exist.
 pub fn number_at(text: &[u8], at: usize) -> u32 {
     u32::from_be_bytes([text[at], text[at + 1], text[at + 2], text[at + 3]])
 }
 
-/// Where the arguments that begin here end. None where they aren't valid.
+/// Returns the end of the arguments that begin here, or `None` if they are invalid.
 fn arguments_end(text: &[u8], at: usize) -> Option<usize> {
     let count = *text.get(at)?;
     if count > 8 {
@@ -69,7 +69,7 @@ fn arguments_end(text: &[u8], at: usize) -> Option<usize> {
     Some(at)
 }
 
-/// Validates a whole frame. None is no request.
+/// Validates a whole frame. Returns `None` if it isn't a valid request.
 pub fn judge(text: &[u8]) -> Option<Frame> {
     let length = text.len();
     match (*text.get(4)?, length) {
@@ -88,8 +88,8 @@ pub fn judge(text: &[u8]) -> Option<Frame> {
     }
 }
 
-/// Removes the duplicate keys of an invokeAll, and gives how many are left: the server runs each key
-/// once, and answers it in its first position.
+/// Removes the duplicate keys of an invokeAll, and returns the number of the remaining ones: the
+/// server runs each key once, and replies to it at its first position.
 pub fn remove_duplicates(text: &mut Vec<u8>, count: usize) -> usize {
     let end = KEYS_AT + 8 * count;
     let mut seen = HashSet::with_capacity(count);
@@ -105,7 +105,7 @@ pub fn remove_duplicates(text: &mut Vec<u8>, count: usize) -> usize {
     keys
 }
 
-/// Replaces the connection's number of a class by the server's.
+/// Replaces the connection's class number by the server's.
 pub fn set_class(text: &mut [u8], number: u32) {
     text[5..9].copy_from_slice(&number.to_be_bytes());
 }

@@ -1,5 +1,6 @@
 //! The scheduler: the rounds of all connections wait here, are sent to the server in batches, and
-//! get their replies. One batch is at the server at most. What comes meanwhile waits for the next.
+//! get their replies. At most one batch is at the server; rounds that come meanwhile wait for the
+//! next.
 
 use crate::affinity::Affinity;
 use crate::batch::{Batch, Dealt, Queued};
@@ -16,17 +17,17 @@ use std::time::Instant;
 const ROUND_ENDED: u8 = 9;
 const LAST_REPLY: u8 = 8;
 
-/// The most bytes of one read.
+/// The maximum number of bytes of one read.
 const READ_SIZE: usize = 65_536;
 
-/// Above this capacity the buffer of replies shrinks after a batch.
+/// If the reply buffer is larger than this after a batch, it shrinks.
 const KEPT: usize = 1_048_576;
 
-/// Who owns a sub-batch: a connection, and the class's frame where the sub-batch is a class.
+/// The owner of a sub-batch: a connection, and the class's frame if the sub-batch is a class.
 pub struct Owner {
     pub connection: u64,
     pub class: Option<Vec<u8>>,
-    /// When the sub-batch was queued, and how many requests its round has.
+    /// The time when the sub-batch was queued, and the number of requests in its round.
     pub queued: Instant,
     pub requests: usize,
 }
@@ -44,32 +45,31 @@ struct InFlight {
     sent: Instant,
 }
 
-/// The server's replies to a batch as far as they have arrived: frames one after the other, and
-/// where each ends.
+/// The replies to a batch that have arrived so far: consecutive frames, and the end of each.
 #[derive(Default)]
 struct Replies {
     text: Vec<u8>,
     ends: Vec<usize>,
 }
 
-/// The server's two streams, the batch that it has, and who waits.
+/// The server's two streams, the batch at the server, and the waiting sub-batches.
 pub struct Scheduler {
     input: ChildStdin,
     output: Receiver,
     buffer: Vec<u8>,
     replies: Replies,
     in_flight: Option<InFlight>,
-    /// Whether the last batch was of one sub-batch.
+    /// Whether the last batch had a single sub-batch.
     was_single: bool,
     waiting: VecDeque<Queued<Owner>>,
     steps: u64,
     affinity: Affinity,
-    /// The batch that was completed last, until it is counted.
+    /// The last completed batch, until it is counted.
     completed: Option<Completed>,
 }
 
 impl Scheduler {
-    /// A scheduler for this server, with so many instructions for a batch.
+    /// Creates a scheduler for this server, with a limit on the instructions of a batch.
     pub fn new(server: Server, steps: u64) -> io::Result<Scheduler> {
         let Server { input, output, process } = server;
         let output = Receiver::from(output);
@@ -88,23 +88,23 @@ impl Scheduler {
         })
     }
 
-    /// Where the replies come from.
+    /// Returns the stream of replies.
     pub fn output(&mut self) -> &mut Receiver {
         &mut self.output
     }
 
-    /// Whether the server has a batch.
+    /// Returns whether a batch is at the server.
     pub fn is_in_flight(&self) -> bool {
         self.in_flight.is_some()
     }
 
-    /// Whether the last batch was of one sub-batch, and none waits.
+    /// Returns whether the last batch had a single sub-batch, and none waits.
     pub fn has_single_caller(&self) -> bool {
         self.was_single && self.waiting.is_empty()
     }
 
-    /// Whether the server has a batch and runs on this thread's processor: it continues once this
-    /// thread sleeps.
+    /// Returns whether a batch is at the server and the server runs on this thread's CPU: it
+    /// continues once this thread sleeps.
     pub fn wants_sleep(&self) -> bool {
         self.is_in_flight() && self.affinity.is_pinned()
     }
@@ -114,21 +114,21 @@ impl Scheduler {
         self.waiting.push_back(Queued { owner, sub_batch });
     }
 
-    /// How many sub-batches wait for the server or are there, and how many of their requests are in
-    /// no batch yet.
+    /// Returns the number of sub-batches that wait or are at the server, and the number of their
+    /// requests that aren't in a batch yet.
     pub fn waiting(&self) -> (usize, usize) {
         let in_flight = self.in_flight.iter().flat_map(|it| &it.queued);
         let all = in_flight.chain(&self.waiting);
         all.fold((0, 0), |(count, requests), it| (count + 1, requests + it.sub_batch.len()))
     }
 
-    /// The batch that was completed since the last call.
+    /// Takes the batch that was completed since the last call.
     pub fn take_completed(&mut self) -> Option<Completed> {
         self.completed.take()
     }
 
-    /// Sends a batch of what waits, if anything waits and the server has no batch. An error is the
-    /// server's end.
+    /// Sends a batch of the waiting sub-batches, if there are any and no batch is at the server. An
+    /// error means that the server has ended.
     pub fn send(&mut self, now: Instant) -> io::Result<()> {
         if self.in_flight.is_some() || self.waiting.is_empty() {
             return Ok(());
@@ -146,12 +146,12 @@ impl Scheduler {
         Ok(())
     }
 
-    /// Reads the replies that have arrived. Once all are there and their end, it deals them, and
-    /// gives the sub-batches that are done; before that, None.
+    /// Reads the replies that have arrived. After all replies and their end it distributes them,
+    /// and returns the sub-batches that are done; before that it returns `None`.
     ///
-    /// Of the others those are first in the next batch that had nothing in this one; those that
-    /// had are after those that came meanwhile. An error is the server's end, or that its replies
-    /// are invalid.
+    /// Unfinished sub-batches that had no part in this batch come first in the next one. Those that
+    /// had a part come after those that arrived meanwhile. An error means that the server has
+    /// ended, or that its replies are invalid.
     pub fn receive(&mut self, tally: &mut Tally) -> io::Result<Option<Vec<Queued<Owner>>>> {
         loop {
             let count = match self.output.read(&mut self.buffer) {
@@ -168,7 +168,7 @@ impl Scheduler {
             }
             self.in_flight = Some(in_flight);
             if count < READ_SIZE {
-                // The pipe was empty then, and what comes now is another event.
+                // The pipe is empty now, and later data causes another event.
                 return Ok(None);
             }
         }
@@ -190,7 +190,8 @@ impl Scheduler {
 }
 
 impl Replies {
-    /// Whether so many replies have arrived, and their end, and nothing after it.
+    /// Returns whether `wanted` replies and their end have arrived. It is an error if anything
+    /// follows them.
     fn are_complete(&mut self, wanted: usize) -> io::Result<bool> {
         loop {
             let begin = self.ends.last().copied().unwrap_or(0);
@@ -221,8 +222,8 @@ impl Replies {
 mod tests {
     use super::*;
 
-    /// Whether a batch of so many replies is complete where these bytes arrive one by one, and
-    /// where they arrive at once. None is an error.
+    /// Returns whether a batch with this number of replies is complete, if these bytes arrive one
+    /// by one, and if they arrive at once. `None` is an error.
     fn are_complete(wanted: usize, bytes: &[u8]) -> (Option<bool>, Option<bool>) {
         let (mut slow, mut at_once) = (Replies::default(), Replies::default());
         let mut answer = Some(false);

@@ -1,5 +1,5 @@
-//! The server's process: its start, its messages on standard error, and its end, which ends the
-//! front too.
+//! The server's process: its start, its messages on standard error, and its end, which also ends
+//! the front.
 
 use crate::logging;
 use log::{error, warn};
@@ -11,15 +11,15 @@ use std::sync::mpsc::{channel, Receiver};
 use std::thread;
 use std::time::Duration;
 
-/// The front's exit status once the server has ended.
+/// The front's exit status after the server has ended.
 const STATUS: i32 = 3;
 
-/// How long the front waits for the server's end after the end of its replies, and for its last
+/// How long the front waits for the server to end after the end of its replies, and for its last
 /// message after its end.
 const PATIENCE: Duration = Duration::from_secs(5);
 
-/// Keeps glibc from returning a round's memory to the system, since to get it anew page by page
-/// costs as much as the calls of the round.
+/// Keeps glibc from returning a round's memory to the system, because allocating it again page by
+/// page costs as much as the calls of the round.
 const MALLOC_SETTINGS: [(&str, &str); 2] =
     [("MALLOC_MMAP_THRESHOLD_", "33554432"), ("MALLOC_TRIM_THRESHOLD_", "67108864")];
 
@@ -30,8 +30,8 @@ pub struct Server {
     pub process: u32,
 }
 
-/// Starts the server, and a thread that ends the front after it. `before_exit` runs right
-/// before, with the server's status and last message.
+/// Starts the server, and a thread that ends the front when the server ends. `before_exit` is
+/// called right before that, with the server's status and last message.
 pub fn start(
     program: &[OsString],
     before_exit: impl Fn(String) + Send + 'static,
@@ -52,8 +52,8 @@ pub fn start(
     }
 }
 
-/// Logs what the server writes on its standard error, line by line. The receiver gets the last
-/// line once there are no more.
+/// Logs what the server writes to standard error, line by line. The receiver gets the last line at
+/// the end of the stream.
 fn log_messages(messages: ChildStderr) -> Receiver<String> {
     let (sender, receiver) = channel();
     thread::spawn(move || {
@@ -67,7 +67,7 @@ fn log_messages(messages: ChildStderr) -> Receiver<String> {
     receiver
 }
 
-/// Waits for the server's end, and ends the front, which closes all connections.
+/// Waits for the server to end, then ends the front, which closes all connections.
 fn wait_for_end(mut child: Child, last_message: &Receiver<String>, before_exit: impl Fn(String)) {
     let status = match child.wait() {
         Ok(status) => status.to_string(),
@@ -84,8 +84,8 @@ fn wait_for_end(mut child: Child, last_message: &Receiver<String>, before_exit: 
     exit(STATUS);
 }
 
-/// Ends the front where the server's replies have ended or are invalid, and the server itself
-/// doesn't end soon after.
+/// Ends the front after the server's replies have ended or are invalid, if the server itself
+/// doesn't end soon.
 pub fn end_soon() {
     thread::spawn(|| {
         thread::sleep(PATIENCE);

@@ -1,36 +1,37 @@
-//! How long a thread that has nothing to do polls before it sleeps. The server, and a client that
-//! calls in a row, mostly answer within this time; where they do, nobody had to be woken.
+//! Decides how long an idle thread polls before it sleeps. Most replies of the server, and most
+//! calls of a client that calls continuously, arrive within this time, so that no thread has to be
+//! woken.
 
 use std::time::{Duration, Instant};
 
 /// How long a wait polls.
 const SPIN: Duration = Duration::from_micros(30);
 
-/// The most waits in a row that don't poll, after others that polled in vain.
+/// The maximum number of consecutive waits that don't poll, after others that polled in vain.
 const MOST_SKIPPED: u32 = 255;
 
-/// A wait that polled for so long was preempted: other threads want the processor.
+/// A wait that polled for this long was preempted: other threads need the CPU.
 const PREEMPTED: Duration = Duration::from_millis(1);
 
-/// How long no wait polls then.
+/// How long no wait polls after that.
 const REST: Duration = Duration::from_secs(1);
 
 /// The outcome of earlier waits, which decides whether the next one polls.
 pub struct SpinWait {
-    /// How many waits still don't poll, and how many didn't before the last one that did.
+    /// The number of waits that still won't poll, and how many didn't before the last one that did.
     skip: u32,
     skipped: u32,
     rests_until: Instant,
 }
 
 impl SpinWait {
-    /// No wait has polled in vain yet.
+    /// Creates the state before any wait has polled in vain.
     pub fn new() -> SpinWait {
         SpinWait { skip: 0, skipped: 0, rests_until: Instant::now() }
     }
 
-    /// Begins a wait. None is that it should sleep at once, since polling was in vain lately, or
-    /// other threads want the processor.
+    /// Starts a wait. Returns `None` if it should sleep at once, because polling was in vain
+    /// recently or other threads need the CPU.
     pub fn begin(&mut self) -> Option<Instant> {
         if self.skip > 0 {
             self.skip -= 1;
@@ -44,7 +45,8 @@ impl SpinWait {
         }
     }
 
-    /// Whether a wait that began then should poll once more. `found` is that it found something.
+    /// Returns whether a wait that began at this time should poll again. `found` says that it found
+    /// something.
     pub fn continues(&mut self, begun: Instant, found: bool) -> bool {
         let spun = begun.elapsed();
         if spun >= PREEMPTED {

@@ -1,5 +1,5 @@
-//! What the event loop publishes for whoever watches it: metrics, and tables for the page. It does
-//! so only when the HTTP thread asks, which wakes it.
+//! The data that the event loop publishes: metrics, and tables for the page. It only publishes when
+//! the HTTP thread wakes it for that.
 
 use crate::classes::Accepted;
 use crate::connection::Traffic;
@@ -12,7 +12,7 @@ use std::sync::atomic::{AtomicBool, Ordering};
 use std::sync::{Arc, Condvar, Mutex, MutexGuard, PoisonError};
 use std::time::{Duration, Instant};
 
-/// The most rows of a table. Those with the most runs or requests are in it.
+/// The maximum number of rows of a table, which has those with the most runs or requests.
 pub const MOST_ROWS: usize = 100;
 
 /// A row of the table of classes.
@@ -39,18 +39,18 @@ pub struct Tables {
 
 #[derive(Default)]
 struct State {
-    /// How often the event loop has published, and when it did last.
+    /// How often the event loop has published, and the time of the last publication.
     published: u64,
     at: Option<Instant>,
     wants_tables: bool,
     tables: Tables,
-    /// How the server has ended.
+    /// How the server ended.
     ended: Option<String>,
-    /// Whether the HTTP thread has said so to those who watch.
+    /// Whether the HTTP thread has reported that to the viewers of the page.
     ended_told: bool,
 }
 
-/// Where the event loop publishes and the HTTP thread reads.
+/// The data that the event loop publishes and the HTTP thread reads.
 pub struct Board {
     registry: Registry,
     state: Mutex<State>,
@@ -60,13 +60,13 @@ pub struct Board {
 }
 
 impl Board {
-    /// A board for the metrics of this registry. The waker is the event loop's.
+    /// Creates a board for the metrics of this registry, with the waker of the event loop.
     pub fn new(registry: Registry, waker: Arc<Waker>) -> Board {
         let (state, changed) = (Mutex::default(), Condvar::new());
         Board { registry, state, changed, wanted: AtomicBool::new(false), waker }
     }
 
-    /// The metrics.
+    /// Returns the metrics.
     pub fn registry(&self) -> &Registry {
         &self.registry
     }
@@ -75,8 +75,8 @@ impl Board {
         self.state.lock().unwrap_or_else(PoisonError::into_inner)
     }
 
-    /// Asks the event loop to publish, and waits for that, but not longer than `patience`. True
-    /// where it did.
+    /// Asks the event loop to publish, and waits for it, but at most for `patience`. Returns
+    /// whether it has published.
     pub fn refresh(&self, wants_tables: bool, patience: Duration) -> bool {
         let mut state = self.lock();
         if state.ended.is_some() {
@@ -94,23 +94,23 @@ impl Board {
         state.published > before
     }
 
-    /// The tables as they were published last.
+    /// Returns the tables that were last published.
     pub fn tables(&self) -> Tables {
         self.lock().tables.clone()
     }
 
-    /// How the server has ended, if it has.
+    /// Returns how the server ended, if it has.
     pub fn ended(&self) -> Option<String> {
         self.lock().ended.clone()
     }
 
-    /// How long ago the event loop published last.
+    /// Returns the time since the event loop last published.
     pub fn age(&self) -> Option<Duration> {
         self.lock().at.map(|at| at.elapsed())
     }
 
-    /// The server has ended. Waits until the HTTP thread, once it is woken, has said so to those
-    /// who watch, but not longer than `patience`.
+    /// Records that the server has ended. If `wake` wakes the HTTP thread, this waits until that
+    /// thread has reported the end to the viewers of the page, but at most for `patience`.
     pub fn set_ended(&self, how: String, patience: Duration, wake: impl FnOnce() -> bool) {
         let mut state = self.lock();
         state.ended = Some(how);
@@ -121,13 +121,13 @@ impl Board {
         drop(self.changed.wait_timeout_while(state, patience, |it| !it.ended_told));
     }
 
-    /// Those who watch know that the server has ended.
+    /// Records that the viewers of the page know that the server has ended.
     pub fn set_ended_told(&self) {
         self.lock().ended_told = true;
         self.changed.notify_all();
     }
 
-    /// Whether the HTTP thread has asked since the last call.
+    /// Returns whether the HTTP thread has asked since the last call.
     fn take_wanted(&self) -> bool {
         self.wanted.swap(false, Ordering::SeqCst)
     }
@@ -151,35 +151,35 @@ pub struct Publisher {
 }
 
 impl Publisher {
-    /// Metrics on this board.
+    /// Creates the metrics on this board.
     pub fn new(board: Arc<Board>) -> prometheus::Result<Publisher> {
         Ok(Publisher { metrics: Metrics::new(board.registry())?, board })
     }
 
-    /// Whether somebody waits for [`Publisher::publish`].
+    /// Returns whether a thread waits for [`Publisher::publish`].
     pub fn is_wanted(&self) -> bool {
         self.board.take_wanted()
     }
 
-    /// Publishes the counts, and where they are wanted the tables.
+    /// Publishes the counts, and the tables if they were requested.
     pub fn publish(&self, tally: &Tally, gauges: &Gauges, tables: impl FnOnce() -> Tables) {
         self.metrics.publish(tally, gauges);
         self.board.publish(tables);
     }
 
-    /// Counts a round that the server has answered.
+    /// Counts a round to which the server has replied.
     pub fn round(&self, time: Duration, requests: usize) {
         self.metrics.round(time, requests);
     }
 
-    /// Counts a batch that the server has answered.
+    /// Counts a batch to which the server has replied.
     pub fn batch(&self, completed: &Completed, now: Instant) {
         let time = now.saturating_duration_since(completed.sent);
         self.metrics.batch(time, completed.requests);
     }
 }
 
-/// The rows with the most of something, in the order of their numbers.
+/// Returns the rows with the largest amounts, sorted by number.
 pub fn top<T>(mut rows: Vec<T>, amount: impl Fn(&T) -> u64, number: impl Fn(&T) -> u64) -> Vec<T> {
     if rows.len() > MOST_ROWS {
         rows.sort_by_key(|it| std::cmp::Reverse(amount(it)));

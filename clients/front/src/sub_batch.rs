@@ -1,5 +1,5 @@
-//! A connection's round, or a class that it brings, on its way through the server. It may take
-//! several batches; its replies are put together again in the order of its requests.
+//! A round of a connection, or a class that it defines, on its way through the server. It may need
+//! several batches; its replies are put back in the order of its requests.
 
 use crate::request::{set_class, KEYS_AT};
 use crate::tally::{Asked, NO_CLASS};
@@ -10,55 +10,55 @@ const INVOKE_ALL: u8 = 7;
 const RESULTS: u8 = 7;
 const DENIED: u8 = 8;
 
-/// A request of a sub-batch. There are many, so their numbers are as small as frames allow.
+/// A request of a sub-batch. There are many of them, so the numbers are as small as frames allow.
 #[derive(Debug)]
 enum Request {
-    /// A frame that is one job, its length in bytes, and the most instructions that it takes.
+    /// A frame that is one job: its length in bytes, and the maximum instructions that it takes.
     Job { bytes: u32, class: u32, cost: u64, kind: u8 },
-    /// An invokeAll with this many keys, of which the first `sent` are in batches already. Each
-    /// key takes `cost` instructions at most.
+    /// An invokeAll with `keys` keys, of which the first `sent` are already in batches. Each key
+    /// takes at most `cost` instructions.
     InvokeAll { bytes: u32, class: u32, cost: u64, keys: u16, sent: u16 },
-    /// A class, which may take long to judge.
+    /// A class, whose verification may take long.
     Class { bytes: u32 },
-    /// Replies that the front knows by itself.
+    /// Replies that the front creates itself.
     Known(Vec<u8>),
 }
 
-/// The next request that has to go to the server.
+/// The next request that must go to the server.
 #[derive(Clone, Copy)]
 pub enum Next {
     Class,
-    /// This many jobs of equal cost in instructions.
+    /// A number of jobs, each with this cost in instructions.
     Jobs {
         count: usize,
         cost: u64,
     },
-    /// There is none.
+    /// There is no request.
     Nothing,
 }
 
-/// What a part of a batch belongs to.
+/// The request that a part of a batch belongs to.
 pub enum Sent {
     /// A whole request.
     Whole(Asked),
-    /// Some keys of an invokeAll, by their position in the sub-batch's text.
+    /// Some keys of an invokeAll, which is at this position in the sub-batch's text.
     Keys { position: u32, is_last: bool, asked: Asked },
 }
 
-/// A round of a connection, or a class of it, on its way through the server.
+/// A round of a connection, or one of its classes, on its way through the server.
 #[derive(Debug, Default)]
 pub struct SubBatch {
     requests: VecDeque<Request>,
     text: Vec<u8>,
-    /// How many bytes of the text are in batches already.
+    /// The number of bytes of the text that are already in batches.
     sent: usize,
     replies: Vec<u8>,
-    /// Where the reply begins that is put together of several.
+    /// The start of a reply that is being joined from several.
     joined: Option<usize>,
 }
 
 impl SubBatch {
-    /// A class alone, by its frame.
+    /// Creates a sub-batch of a single class from its frame.
     pub fn of_class(text: Vec<u8>) -> SubBatch {
         let requests = VecDeque::from(vec![Request::Class { bytes: text.len() as u32 }]);
         SubBatch { requests, text, ..SubBatch::default() }
@@ -71,14 +71,14 @@ impl SubBatch {
         self.requests.push_back(Request::Job { bytes, class, cost, kind });
     }
 
-    /// Adds an invokeAll of this many different keys, at least one.
+    /// Adds an invokeAll with this number of distinct keys, at least one.
     pub fn add_invoke_all(&mut self, text: &[u8], keys: usize, cost: u64, class: u32) {
         self.add_text(text, class);
         let (bytes, keys) = (text.len() as u32, keys as u16);
         self.requests.push_back(Request::InvokeAll { bytes, class, cost, keys, sent: 0 });
     }
 
-    /// Adds a frame, with the server's number of its class in place of the connection's.
+    /// Adds a frame, and replaces the connection's class number by the server's.
     fn add_text(&mut self, text: &[u8], class: u32) {
         let begin = self.text.len();
         self.text.extend_from_slice(text);
@@ -87,12 +87,12 @@ impl SubBatch {
         }
     }
 
-    /// How many requests and bytes are not in a batch yet.
+    /// Returns the number of requests and of bytes that aren't in a batch yet.
     pub fn unsent(&self) -> (usize, usize) {
         (self.requests.len(), self.text.len() - self.sent)
     }
 
-    /// Adds a reply that is known already.
+    /// Adds a reply that is already known.
     pub fn add_known(&mut self, reply: &[u8]) {
         if let Some(Request::Known(replies)) = self.requests.back_mut() {
             replies.extend_from_slice(reply);
@@ -101,22 +101,22 @@ impl SubBatch {
         }
     }
 
-    /// How many requests wait for the server.
+    /// Returns the number of requests that wait for the server.
     pub fn len(&self) -> usize {
         self.requests.iter().filter(|it| !matches!(it, Request::Known(_))).count()
     }
 
-    /// The replies, in the order of the requests, once the sub-batch is done.
+    /// Returns the replies in the order of the requests, once the sub-batch is done.
     pub fn into_replies(self) -> Vec<u8> {
         self.replies
     }
 
-    /// Adds a reply of the server, its length in front.
+    /// Adds a reply of the server, with its length at the start.
     pub fn add_reply(&mut self, reply: &[u8]) {
         self.replies.extend_from_slice(reply);
     }
 
-    /// Whether all replies have arrived, so that the server has nothing to answer.
+    /// Returns whether all replies have arrived, so that no request waits for the server.
     pub fn is_done(&mut self) -> bool {
         if let Some(replies) = self.take_known() {
             self.replies.extend_from_slice(&replies);
@@ -124,7 +124,7 @@ impl SubBatch {
         self.requests.is_empty()
     }
 
-    /// Takes the replies that come next, if they are known. Two of them never follow each other.
+    /// Takes the next replies if they are known. Two known ones never follow each other.
     pub fn take_known(&mut self) -> Option<Vec<u8>> {
         if !matches!(self.requests.front(), Some(Request::Known(_))) {
             return None;
@@ -135,7 +135,7 @@ impl SubBatch {
         }
     }
 
-    /// The next request for the server. Known replies have been taken before.
+    /// Returns the next request for the server. Known replies must have been taken before.
     pub fn next(&self) -> Next {
         match self.requests.front() {
             Some(Request::Job { cost, .. }) => Next::Jobs { count: 1, cost: *cost },
@@ -147,7 +147,8 @@ impl SubBatch {
         }
     }
 
-    /// Moves the next class, job, or this many keys of the next invokeAll into a batch's text.
+    /// Moves the next class, the next job, or `count` keys of the next invokeAll into a batch's
+    /// text.
     pub fn send(&mut self, count: usize, text: &mut Vec<u8>) -> Sent {
         match self.requests.front() {
             Some(Request::InvokeAll { keys, sent, .. })
@@ -205,8 +206,8 @@ impl SubBatch {
         Sent::Keys { position, is_last: sent == keys, asked }
     }
 
-    /// Joins a reply, without its length, to `count` keys of an invokeAll, at this position of the
-    /// text, with those before it. None where it is no such reply.
+    /// Joins a reply, without its length, to `count` keys of the invokeAll at this position of the
+    /// text with the replies before it. Returns `None` if it isn't a valid reply.
     pub fn join(&mut self, position: u32, count: u16, is_last: bool, reply: &[u8]) -> Option<()> {
         let replies = &mut self.replies;
         let begin = *self.joined.get_or_insert_with(|| {
@@ -219,8 +220,8 @@ impl SubBatch {
                 replies.extend_from_slice(&reply[3..]);
                 u16::from_be_bytes([reply[1], reply[2]])
             }
-            // A denial of the whole request becomes one of each key, since other keys of the
-            // client's request have results.
+            // A denial of the whole request becomes a denial for each key, because other keys of
+            // the client's request have results.
             (DENIED, 2) => {
                 let keys = &self.text[position as usize..][..8 * usize::from(count)];
                 for key in keys.chunks(8) {

@@ -1,21 +1,21 @@
-//! What the event loop counts: plain numbers without locks or atomics, so that counting costs the
-//! calls nothing that can be measured. [`crate::metrics`] publishes them when somebody asks.
+//! The counts of the event loop: plain numbers without locks or atomics, so that counting has no
+//! measurable cost for calls. [`crate::metrics`] publishes them on request.
 
 use crate::request;
 
-/// Request kinds, by their number in a frame.
+/// The kinds of requests, by their number in a frame.
 pub const REQUESTS: [&str; 8] =
     ["", "define", "put", "get", "remove", "contains", "invoke", "invoke_all"];
 
-/// Reply kinds, by their number in a frame.
+/// The kinds of replies, by their number in a frame.
 pub const REPLIES: [&str; 9] =
     ["", "defined", "refused", "done", "value", "flag", "result", "results", "denied"];
 
-/// Why the server or the front doesn't run a request, by number.
+/// The reasons for which the server or the front doesn't run a request, by number.
 pub const DENIALS: [&str; 6] =
     ["", "UnknownClass", "JournalFull", "NoMemory", "TooManyClasses", "TooManyJobs"];
 
-/// How a processor ends without a result, by number.
+/// The ways in which a processor ends without a result, by number.
 pub const EXCEPTIONS: [&str; 7] = [
     "",
     "ArithmeticException",
@@ -26,7 +26,7 @@ pub const EXCEPTIONS: [&str; 7] = [
     "CacheLoaderException",
 ];
 
-/// Why the server refuses a class, by number.
+/// The reasons for which the server refuses a class, by number.
 pub const REFUSALS: [&str; 31] = [
     "",
     "TooLarge",
@@ -61,14 +61,14 @@ pub const REFUSALS: [&str; 31] = [
     "NoMemory",
 ];
 
-/// Why a connection was closed.
+/// The reasons for which a connection was closed.
 #[derive(Clone, Copy, Debug)]
 pub enum Closed {
-    /// Its other end closed it, or it broke.
+    /// The peer closed it, or it broke.
     Ended = 0,
-    /// It sent what is no request, or a round of too many requests.
+    /// It sent an invalid request, or a round with too many requests.
     Invalid = 1,
-    /// It made no progress for as long as `--idle` says.
+    /// It made no progress for the time of `--idle`.
     Idle = 2,
 }
 
@@ -84,51 +84,51 @@ const RESULTS: u8 = 7;
 const REFUSED: u8 = 2;
 const DENIED: u8 = 8;
 
-/// A class number that no class has, for requests that run none.
+/// The class number of requests that run no class.
 pub const NO_CLASS: u32 = u32::MAX;
 
-/// What a reply answers.
+/// The request that a reply belongs to.
 #[derive(Clone, Copy, Debug)]
 pub struct Asked {
     /// The kind of the request.
     pub kind: u8,
     /// The server's number of its class, or [`NO_CLASS`].
     pub class: u32,
-    /// How many keys it has, for an invokeAll.
+    /// The number of its keys, for an invokeAll.
     pub keys: u16,
 }
 
-/// What is counted of a class.
+/// The counts of a class.
 #[derive(Clone, Copy, Debug, Default, PartialEq, Eq)]
 pub struct ClassTally {
-    /// The most instructions of a run.
+    /// The maximum instructions of a run.
     pub steps: u32,
     pub runs: u64,
     pub exceptions: u64,
 }
 
-/// Counts since the process began.
+/// Counts since the start of the process.
 #[derive(Clone, Debug, Default)]
 pub struct Tally {
     pub requests: [u64; REQUESTS.len()],
     pub replies: [u64; REPLIES.len()],
-    /// By number; what has no name is counted at 0.
+    /// By number; denials without a name are counted at 0.
     pub denials: [u64; DENIALS.len()],
     pub exceptions: [u64; EXCEPTIONS.len()],
     pub refusals: [u64; REFUSALS.len()],
-    /// Gets that found no entry, and those that found one.
+    /// Gets that found no entry, and gets that found one.
     pub gets: [u64; 2],
-    /// Removes that found no entry, and those that found one.
+    /// Removes that found no entry, and removes that found one.
     pub removes: [u64; 2],
     pub runs: u64,
-    /// The most instructions that all runs together took, by their classes' bounds.
+    /// An upper bound on the instructions of all runs together, from the bounds of their classes.
     pub steps: u64,
     pub rounds: u64,
     pub opened: u64,
     pub closed: [u64; CLOSED.len()],
     pub received_bytes: u64,
     pub sent_bytes: u64,
-    /// By the server's class numbers.
+    /// By the server's class number.
     pub classes: Vec<ClassTally>,
 }
 
@@ -155,12 +155,12 @@ impl Tally {
         }
     }
 
-    /// What was counted of a class.
+    /// Returns the counts of a class.
     pub fn class_tally(&self, number: u32) -> ClassTally {
         self.classes.get(number as usize).copied().unwrap_or_default()
     }
 
-    /// Counts a reply that the front makes itself, or passes on without a request of its own: its
+    /// Counts a reply that the front creates itself, or forwards without a request of its own: its
     /// length, kind and body.
     pub fn own_reply(&mut self, reply: &[u8]) {
         let kind = reply[4];
@@ -172,12 +172,12 @@ impl Tally {
         }
     }
 
-    /// Counts a reply of the server, its kind and body. Verdicts on classes are counted by
-    /// [`Tally::own_reply`] for each connection that gets them.
+    /// Counts a reply of the server, given its kind and body. Verdicts on classes are counted by
+    /// [`Tally::own_reply`] for each connection that receives them.
     pub fn reply(&mut self, asked: Asked, reply: &[u8]) {
         let kind = reply[0];
         if let (RESULT, Some(0), true) = (kind, reply.get(1), asked.class != NO_CLASS) {
-            // By far the most frequent reply.
+            // This is by far the most frequent reply.
             self.replies[usize::from(RESULT)] += 1;
             return self.runs(asked.class, 1, 0);
         }
@@ -197,14 +197,14 @@ impl Tally {
         }
     }
 
-    /// Counts a reply to some keys of an invokeAll. Only the last makes the client's reply.
+    /// Counts a reply to some keys of an invokeAll. Only the last one completes the client's reply.
     pub fn partial_reply(&mut self, asked: Asked, is_last: bool, reply: &[u8]) {
         if is_last {
             count(&mut self.replies, RESULTS);
         }
         match reply {
             [RESULTS, _, _, results @ ..] => self.results(asked, results),
-            // The front makes it a denial of each key.
+            // The front converts it to a denial for each key.
             [DENIED, number] => {
                 (0..asked.keys).for_each(|_| count(&mut self.denials, *number));
             }
@@ -263,7 +263,7 @@ impl Tally {
     }
 }
 
-/// The name of a number in one of the tables above.
+/// Returns the name of a number in one of the tables above.
 pub fn name(names: &[&'static str], number: u8) -> &'static str {
     names.get(usize::from(number)).copied().filter(|it| !it.is_empty()).unwrap_or("unknown")
 }

@@ -6,7 +6,7 @@ import javax.cache.configuration.MutableConfiguration;
 import javax.cache.processor.EntryProcessor;
 import javax.cache.processor.MutableEntry;
 
-/** Counts visits of pages, by javax.cache alone. The processor runs at the server. */
+/** Counts page visits with javax.cache alone. The processor runs at the server. */
 public class Visits {
     static class Visit implements EntryProcessor<Long, Long, Long> {
         @Override public Long process(MutableEntry<Long, Long> page, Object... arguments) {

@@ -1,6 +1,6 @@
 """The class files of the built-in processors.
 
-An installed package holds them beside this file. In the repository they are in clients/processors, where their sources are.
+An installed package contains them. In the repository they are in clients/processors, next to their sources.
 """
 import os
 
@@ -10,7 +10,7 @@ NAMES = ("GetAndPut", "GetAndRemove", "GetAndReplace", "PutIfAbsent", "RemoveIf"
 
 
 def file(name):
-    """The bytes of a processor's class file. FileNotFoundError is raised where it isn't there."""
+    """Returns the bytes of a processor's class file. Raises FileNotFoundError if there is none."""
     for place in _PLACES:
         path = os.path.join(place, name + ".class")
         if os.path.exists(path):

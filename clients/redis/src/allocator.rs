@@ -1,4 +1,4 @@
-//! Memory from Redis's allocator, for the module and for the core, so that `used_memory` counts it and `maxmemory` sees it.
+//! Allocates the memory of the module and of the core from Redis's allocator, so that `used_memory` and `maxmemory` include it.
 use crate::api::Api;
 use std::alloc::{GlobalAlloc, Layout};
 use std::ffi::c_void;
@@ -6,35 +6,35 @@ use std::mem::transmute;
 use std::ptr::{copy_nonoverlapping, null_mut};
 use std::sync::atomic::{AtomicPtr, Ordering};
 
-/// What Redis's blocks are aligned to.
+/// The alignment of Redis's blocks.
 const ALIGNMENT: usize = 16;
 
 static TRY_ALLOC: AtomicPtr<c_void> = AtomicPtr::new(null_mut());
 static FREE: AtomicPtr<c_void> = AtomicPtr::new(null_mut());
 
-/// Takes memory from Redis from now on. Nothing may have been allocated before.
+/// Starts to allocate from Redis. Nothing may have been allocated before.
 pub fn begin(api: &Api) {
     TRY_ALLOC.store(api.try_alloc as *mut c_void, Ordering::Relaxed);
     FREE.store(api.free as *mut c_void, Ordering::Relaxed);
 }
 
-/// A block of this many bytes, or null. Redis's allocator may give null for none, so a block has one at least.
+/// Returns a block of this many bytes, or null. Redis's allocator may return null for size 0, so a block has at least one byte.
 fn take(size: usize) -> *mut u8 {
     let function = TRY_ALLOC.load(Ordering::Relaxed);
     if function.is_null() {
         return null_mut();
     }
-    // SAFETY: `begin` alone writes the pointer, and Redis's function keeps its address.
+    // SAFETY: only `begin` writes the pointer, and Redis's function keeps its address.
     unsafe {
         let try_alloc: unsafe extern "C" fn(usize) -> *mut c_void = transmute(function);
         try_alloc(size.max(1)).cast()
     }
 }
 
-/// Gives a block back.
+/// Frees a block.
 ///
 /// # Safety
-/// `take` gave it, and nobody uses it.
+/// The block must come from `take` and be unused.
 unsafe fn give_back(block: *mut u8) {
     let function = FREE.load(Ordering::Relaxed);
     if !function.is_null() {
@@ -43,7 +43,7 @@ unsafe fn give_back(block: *mut u8) {
     }
 }
 
-/// Redis's allocator as Rust's. Where it has to move a block it copies it, since Redis's own realloc ends the server where memory lacks.
+/// Redis's allocator as Rust's. To grow a block it copies it, because Redis's own realloc ends the server when memory runs out.
 struct FromRedis;
 
 unsafe impl GlobalAlloc for FromRedis {
@@ -62,10 +62,10 @@ unsafe impl GlobalAlloc for FromRedis {
 #[global_allocator]
 static GLOBAL: FromRedis = FromRedis;
 
-// The core alone calls these three: hidden, they are none of the module's exported names.
+// Only the core calls these three. They are hidden, so the module doesn't export them.
 std::arch::global_asm!(".hidden rattle_alloc", ".hidden rattle_realloc", ".hidden rattle_dealloc");
 
-/// What the core is answered: whether there is a block, and the block.
+/// The reply to the core: whether there is a block, and the block.
 #[repr(C)]
 pub struct Tried {
     ok: bool,
@@ -74,7 +74,7 @@ pub struct Tried {
 
 impl Tried {
     fn of(block: *mut u8, alignment: usize) -> Tried {
-        // The core wants an aligned pointer that isn't null in either case.
+        // The core needs an aligned pointer that isn't null in either case.
         Tried {
             ok: !block.is_null(),
             block: if block.is_null() { alignment as *mut u8 } else { block },
@@ -82,16 +82,16 @@ impl Tried {
     }
 }
 
-/// The core's way to memory: a block of `size` bytes.
+/// Allocates a block of `size` bytes for the core.
 #[no_mangle]
 pub extern "C" fn rattle_alloc(size: usize, alignment: usize) -> Tried {
     Tried::of(if alignment > ALIGNMENT { null_mut() } else { take(size) }, alignment)
 }
 
-/// The block at `block` as one of `size` bytes, of which the first `kept` are as they were; where memory lacks it stays as it was.
+/// Resizes a block to `size` bytes and keeps its first `kept` bytes. If memory runs out, the block is unchanged.
 ///
 /// # Safety
-/// `rattle_alloc` or this function gave the block; it has `kept` bytes, which are no more than `size`.
+/// The block must come from `rattle_alloc` or this function and have `kept` bytes; `kept` is at most `size`.
 #[no_mangle]
 pub unsafe extern "C" fn rattle_realloc(
     block: *mut u8,
@@ -110,7 +110,7 @@ pub unsafe extern "C" fn rattle_realloc(
 /// Frees a block.
 ///
 /// # Safety
-/// `rattle_alloc` or `rattle_realloc` gave it, and nobody uses it.
+/// The block must come from `rattle_alloc` or `rattle_realloc` and be unused.
 #[no_mangle]
 pub unsafe extern "C" fn rattle_dealloc(block: *mut u8) {
     give_back(block);

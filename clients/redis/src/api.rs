@@ -1,32 +1,32 @@
-//! The part of Redis's module interface that the module uses, by the names and C types of Redis 7.0.
+//! The part of the Redis module API that the module uses, with the names and C types of Redis 7.0.
 //!
-//! No header is read: a module finds each function by its name, through the pointer at the head of the context of its load.
+//! No header is needed: a module looks up each function by name, through the pointer at the start of the context of its load.
 use std::ffi::c_void;
 use std::mem::{size_of, transmute_copy};
 use std::os::raw::{c_char, c_int, c_long, c_longlong, c_ulonglong};
 use std::ptr::null_mut;
 
-/// What a command or an event is called with.
+/// The context of a command or an event (`RedisModuleCtx`).
 pub enum Context {}
-/// A string that Redis counts references to.
+/// A reference-counted string (`RedisModuleString`).
 pub enum Text {}
-/// The reply of a command that the module called.
+/// The reply to a command that the module called.
 pub enum Reply {}
-/// A key that is open.
+/// An open key.
 pub enum Key {}
-/// An RDB file that is read or written.
+/// An RDB file that is being read or written.
 pub enum Io {}
 /// A registered data type.
 pub enum Type {}
 /// A registered command.
 pub enum CommandObject {}
-/// The answer to INFO that is being made.
+/// The reply to INFO that is being built.
 pub enum InfoContext {}
 
 pub const OK: c_int = 0;
 pub const ERR: c_int = 1;
 pub const API_VERSION: c_int = 1;
-/// `aux_save` before the keys.
+/// Calls `aux_save` before the keys are saved.
 pub const BEFORE_RDB: c_int = 1;
 pub const HANDLE_IO_ERRORS: c_int = 1;
 pub const CONFIG_DEFAULT: u32 = 0;
@@ -37,7 +37,7 @@ pub const IS_CLUSTER: c_int = 1 << 5;
 pub const IS_REPLICATED: c_int = 1 << 12;
 pub const IS_LOADING: c_int = 1 << 13;
 
-/// Kinds of a reply.
+/// The types of a reply.
 pub const REPLY_TEXT: c_int = 0;
 pub const REPLY_NULL: c_int = 4;
 
@@ -50,7 +50,7 @@ pub type GetNumber = unsafe extern "C" fn(*const c_char, *mut c_void) -> c_longl
 pub type SetNumber =
     unsafe extern "C" fn(*const c_char, c_longlong, *mut c_void, *mut *mut Text) -> c_int;
 
-/// What a data type does; version 2 has these members, and later versions begin with them.
+/// The methods of a data type. These are the members of version 2; later versions begin with them.
 #[repr(C)]
 pub struct TypeMethods {
     pub version: u64,
@@ -65,16 +65,16 @@ pub struct TypeMethods {
     pub aux_save_triggers: c_int,
 }
 
-/// How the search for a command's keys begins: at the word with this place.
+/// The search for a command's keys starts at the argument with this index.
 pub const BEGIN_INDEX: c_int = 2;
-/// The keys are a range from there, or behind a word that is their count.
+/// The keys are a range from there, or follow an argument with their number.
 pub const FIND_RANGE: c_int = 2;
 pub const FIND_COUNT: c_int = 3;
-/// Read alone; or read, then written.
+/// The command reads the key; or it reads and then writes it.
 pub const KEY_READ: u64 = 1 | 1 << 4;
 pub const KEY_WRITTEN: u64 = 1 << 1 | 1 << 4 | 1 << 5;
 
-/// How a client and an ACL find the keys of a command. The unions of the interface are laid out as their greatest member.
+/// How clients and ACLs find the keys of a command. The unions of the API have the layout of their largest member.
 #[repr(C)]
 pub struct KeySpec {
     pub notes: *const c_char,
@@ -84,7 +84,8 @@ pub struct KeySpec {
     pub place: c_int,
     pub begin_rest: [c_int; 3],
     pub find: c_int,
-    /// Of a range: the last key behind the first, the step, a limit. Of a count: the place of the count, of the first key, the step.
+    /// For a range: the last key relative to the first, the step, a limit. For a count: the index of the count, the index of the first key,
+    /// the step.
     pub find_by: [c_int; 3],
 }
 
@@ -103,7 +104,7 @@ impl KeySpec {
 
 const _: [(); 56] = [(); size_of::<KeySpec>()];
 
-/// The sizes of the parts of `CommandInfo`, by which a server knows a module's version of them.
+/// The sizes of the parts of `CommandInfo`, from which a server knows the module's version of them.
 #[repr(C)]
 pub struct InfoVersion {
     pub version: c_int,
@@ -112,7 +113,7 @@ pub struct InfoVersion {
     pub argument: usize,
 }
 
-/// What COMMAND INFO and the rights on keys are made of.
+/// The data for COMMAND INFO and for access rights on keys.
 #[repr(C)]
 pub struct CommandInfo {
     pub version: *const InfoVersion,
@@ -128,10 +129,10 @@ pub struct CommandInfo {
 
 type GetApi = unsafe extern "C" fn(*const c_char, *mut *mut c_void) -> c_int;
 
-/// The server's function of this name, or null.
+/// Returns the server's function of this name, or null.
 ///
 /// # Safety
-/// `context` is that of a module's load.
+/// `context` must be the one of the module's load.
 unsafe fn find(context: *mut Context, name: &'static str) -> *mut c_void {
     let get = *(context as *const GetApi);
     let mut found = null_mut();
@@ -141,10 +142,10 @@ unsafe fn find(context: *mut Context, name: &'static str) -> *mut c_void {
 
 type Log = unsafe extern "C" fn(*mut Context, *const c_char, *const c_char, ...);
 
-/// Logs that the server lacks a function, where it has the one that logs.
+/// Logs that the server lacks a function, if the server has the function that logs.
 ///
 /// # Safety
-/// `context` is that of a module's load, and `name` ends with a zero.
+/// `context` must be the one of the module's load, and `name` must end with a zero byte.
 pub unsafe fn log_lack(context: *mut Context, name: &'static str) {
     let found = find(context, "RedisModule_Log\0");
     if !found.is_null() {
@@ -161,10 +162,13 @@ macro_rules! interface {
         pub struct Api { $(pub $field: $kind,)* }
 
         impl Api {
-            /// Asks the server for each function; the name of the first one that it lacks, with a zero behind it, where it lacks one.
+            /// Looks up each function.
+            ///
+            /// # Errors
+            /// Returns the name of the first function that the server lacks, with a zero byte at its end.
             ///
             /// # Safety
-            /// `context` is that of a module's load.
+            /// `context` must be the one of the module's load.
             pub unsafe fn of(context: *mut Context) -> Result<Api, &'static str> {
                 Ok(Api { $($field: {
                     let found = find(context, concat!("RedisModule_", $name, "\0"));

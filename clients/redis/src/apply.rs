@@ -1,4 +1,4 @@
-//! JENTRY.APPLY: a run as a JCache provider needs it, with times to live and the entry before and after.
+//! JENTRY.APPLY: runs a class as a JCache provider needs it, with times to live and the entry before and after.
 use crate::api::Text;
 use crate::engine::{Done, KEEP, PUT, SET, UNTOUCHED};
 use crate::entry::{self, Entry, Lifetime};
@@ -6,7 +6,7 @@ use crate::run::{number_of, reply_type, reply_value, Plan};
 use crate::server::{Answer, Failure, Server, Words};
 use crate::words::long_of;
 
-/// What a time says of an entry.
+/// The effect of a time argument on an entry.
 #[derive(Clone, Copy, PartialEq, Eq)]
 enum Time {
     Delete,
@@ -14,7 +14,7 @@ enum Time {
 }
 
 impl Time {
-    /// Milliseconds; 0 deletes, -1 leaves the time to live as it is, -2 ends it.
+    /// Parses a time: milliseconds; 0 deletes the entry, -1 keeps its time to live, -2 removes its time to live.
     fn of(word: &[u8]) -> Result<Time, Failure> {
         match long_of(word) {
             Some(0) => Ok(Time::Delete),
@@ -26,7 +26,7 @@ impl Time {
     }
 }
 
-/// What is to be done to an entry.
+/// The change to an entry.
 enum Change {
     None,
     Set(i64, Lifetime),
@@ -34,7 +34,7 @@ enum Change {
     Delete,
 }
 
-/// The change that a run makes, with the times of a created, an updated and an accessed entry.
+/// Returns the change that a run makes, given the times for a created, an updated and an accessed entry.
 fn change_of(done: &Done, before: Option<i64>, times: [Time; 3]) -> Change {
     let [created, updated, accessed] = times;
     let after = match done.effect {
@@ -58,7 +58,7 @@ fn change_of(done: &Done, before: Option<i64>, times: [Time; 3]) -> Change {
 
 impl Change {
     /// # Safety
-    /// `key` is a string of the server's.
+    /// `key` must be a string of the server.
     unsafe fn make(&self, server: Server, words: Words, key: *mut Text, before: Entry) -> Answer {
         match *self {
             Change::None => Ok(()),
@@ -68,7 +68,7 @@ impl Change {
         }
     }
 
-    /// The entry behind it.
+    /// Returns the entry after the change.
     fn after(&self, before: Option<i64>) -> Option<i64> {
         match *self {
             Change::None => before,
@@ -86,8 +86,8 @@ fn reply_entry(server: Server, entry: Option<i64>) {
     }
 }
 
-/// Replies how the run left the entry: it called neither setValue nor remove, it set a value, also the one that was there, or it
-/// removed the entry.
+/// Replies what the run did to the entry: `keep` if it called neither setValue nor remove, `put` if it set a value, even the same one,
+/// `delete` if it removed the entry.
 fn reply_left(server: Server, done: &Done, before: Option<i64>) {
     server.reply_text(match (done.left, before) {
         (SET, _) => b"put",
@@ -96,8 +96,9 @@ fn reply_left(server: Server, done: &Done, before: Option<i64>) {
     });
 }
 
-/// JENTRY.APPLY CREATED UPDATED ACCESSED MODE ID KEY [ARG ..]: what the run returned, its type, how it left the entry, the entry before
-/// and after, the instructions and the array words. The mode `dry` leaves the entry as it is, and replies what `do` would.
+/// JENTRY.APPLY CREATED UPDATED ACCESSED MODE ID KEY [ARG ..]: runs a class, and replies its result, the type of the result, what it did to
+/// the entry, the entry before and after, the instructions and the array words. Mode `dry` doesn't change the entry, and replies what `do`
+/// would reply.
 pub fn apply(server: Server, words: Words) -> Answer {
     let times =
         [Time::of(words.bytes(1)?)?, Time::of(words.bytes(2)?)?, Time::of(words.bytes(3)?)?];
@@ -110,7 +111,7 @@ pub fn apply(server: Server, words: Words) -> Answer {
     let plan = Plan::of_class(words, 5)?;
     let number = number_of(name)?;
     let plan = plan.with_args(words.from(7))?;
-    // SAFETY: the key is a word of the command.
+    // SAFETY: the key is an argument of the command.
     let entry = unsafe { entry::read(server, key)? };
     let before = entry.value;
     let done = plan.run(number, before)?;

@@ -1,39 +1,39 @@
-//! The classes that this server knows, each by its id.
+//! The classes that this server has, by id.
 use crate::engine::{explain, refusal_name, Arg, Call, Done, Engine, Verdict};
 use crate::server::Failure;
 use crate::words::{digits_of, id_of, Id};
 
-/// The most classes of a server.
+/// The maximum number of classes.
 const MOST_CLASSES: usize = 4096;
 
 pub struct Class {
-    /// The digits of its id.
+    /// The hexadecimal digits of its id.
     digits: [u8; 40],
     pub bytes: Vec<u8>,
-    /// Accepted: its id, its number and its bounds.
+    /// The verdict of an accepted class: its id, its number and its bounds.
     pub verdict: Verdict,
 }
 
-/// Why a class is not taken.
+/// The reasons for which a class isn't accepted.
 pub enum Denial {
-    /// The core refuses it.
+    /// The core refuses the class.
     Refused(Verdict),
-    /// A run of it may take this many instructions, which are more than this server allows.
+    /// A run may take `steps` instructions, more than the `most` that this server allows.
     Costly {
         steps: u32,
         most: u32,
     },
-    /// Another class file has the same SHA-1.
+    /// A different class file has the same SHA-1.
     SameId(Id),
     TooMany,
     NoMemory,
 }
 
-/// The classes in the order of their ids, and the engine that holds them.
+/// The classes, sorted by id, and the engine that holds them.
 pub struct Classes {
     engine: Engine,
     known: Vec<Class>,
-    /// The place of the class that was found last.
+    /// The index of the class that was last found.
     last: usize,
 }
 
@@ -46,7 +46,7 @@ impl Classes {
         &self.known
     }
 
-    /// The class whose id has these digits.
+    /// Returns the class with this id in hexadecimal digits.
     pub fn find(&mut self, digits: &[u8]) -> Option<&Class> {
         if self.known.get(self.last).map_or(true, |class| class.digits != *digits) {
             self.last = self.place_of(&id_of(digits)?).ok()?;
@@ -58,12 +58,12 @@ impl Classes {
         self.known.binary_search_by(|class| class.verdict.id.cmp(id))
     }
 
-    /// The class of a file that is known already.
+    /// Returns the class of a class file, if it is already defined.
     pub fn of_file(&self, bytes: &[u8]) -> Option<&Class> {
         self.known.iter().find(|class| class.bytes == bytes)
     }
 
-    /// Judges a class that isn't known yet and keeps it, where it takes no more than `most` instructions.
+    /// Verifies a new class, and keeps it if a run takes at most `most` instructions.
     pub fn define(&mut self, bytes: &[u8], most: u32) -> Result<Verdict, Denial> {
         if self.known.len() >= MOST_CLASSES {
             return Err(Denial::TooMany);
@@ -89,7 +89,7 @@ impl Classes {
         Err(denial)
     }
 
-    /// Forgets the class whose id has these digits: whether there was one.
+    /// Removes the class with this id in hexadecimal digits. Returns whether there was one.
     pub fn forget(&mut self, digits: &[u8]) -> bool {
         match id_of(digits).map(|id| self.place_of(&id)) {
             Some(Ok(place)) => {
@@ -101,7 +101,7 @@ impl Classes {
         }
     }
 
-    /// Takes other classes in place of all that are known.
+    /// Replaces all classes. Calls `denied` for each class that isn't accepted.
     pub fn replace(&mut self, files: &[Vec<u8>], mut denied: impl FnMut(Denial)) {
         for class in self.known.drain(..) {
             self.engine.forget(class.verdict.number);
@@ -113,20 +113,20 @@ impl Classes {
         }
     }
 
-    /// Runs the class with a number.
+    /// Runs the class that the call names by its number.
     pub fn invoke(&mut self, call: &Call, args: &[Arg]) -> Done {
         self.engine.invoke(call, args)
     }
 }
 
-/// What `explain` says of a refused class: ` in METHOD line L: REMEDY`, as far as it says each.
+/// Returns the parts of ` in METHOD line L: REMEDY` that `explain` reports for a refused class.
 fn reason_of(bytes: &[u8]) -> String {
     let text = explain(bytes);
     let text = String::from_utf8_lossy(&text);
     let mut method = String::new();
     let mut line = String::new();
     let mut remedy = String::new();
-    // The first line is the verdict. A method with its bounds behind it is part of a table of all methods, and isn't where the fault is.
+    // The first line is the verdict. A method line with bounds belongs to a table of all methods, and doesn't show where the fault is.
     for told in text.lines().skip(1) {
         if let Some(name) = told.strip_prefix("method ") {
             if !name.contains(" steps=") {
@@ -141,7 +141,7 @@ fn reason_of(bytes: &[u8]) -> String {
     method + &line + &remedy
 }
 
-/// A refusal: its number and its name, with the opcode or the place of those that have one.
+/// Returns the text of a refusal: its number and its name, with the opcode or the offset for those that have one.
 fn verdict_text(verdict: &Verdict) -> String {
     let name = refusal_name(verdict.refusal);
     match verdict.refusal {
@@ -152,7 +152,7 @@ fn verdict_text(verdict: &Verdict) -> String {
 }
 
 impl Denial {
-    /// The text of a denial alone.
+    /// Returns the text of the denial alone.
     pub fn text(&self) -> String {
         match self {
             Denial::Refused(verdict) => verdict_text(verdict),
@@ -167,7 +167,7 @@ impl Denial {
         }
     }
 
-    /// The error for whoever sent the class: where it is refused, also why, and what to write instead.
+    /// Returns the error for the client that sent the class; for a refusal it also says why, and what to write instead.
     pub fn failure(&self, bytes: &[u8]) -> Failure {
         match self {
             Denial::Refused(_) => (self.text() + &reason_of(bytes)).into(),

@@ -1,4 +1,4 @@
-//! The table of commands: their names, what Redis knows of them, and the places of their keys.
+//! The table of commands: their names, the properties that Redis needs, and the positions of their keys.
 use crate::api::{
     Command, CommandInfo, Context, InfoVersion, KeySpec, Text, BEGIN_INDEX, FIND_COUNT, FIND_RANGE,
     KEY_READ, KEY_WRITTEN, OK,
@@ -12,12 +12,12 @@ use std::mem::size_of;
 use std::os::raw::c_int;
 use std::ptr::null;
 
-/// The places of a command's keys.
+/// The positions of a command's keys.
 enum Keys {
     None,
-    /// One, at this place.
+    /// One key, at this index.
     At(c_int),
-    /// Behind a word that is their count, at this place.
+    /// Several keys, after an argument at this index with their number.
     Counted(c_int),
 }
 
@@ -25,14 +25,14 @@ struct Row {
     name: &'static [u8],
     command: Command,
     flags: &'static [u8],
-    /// How many words there are, with the name; or, negative, how many at least.
+    /// The number of arguments, including the name; if negative, the minimum number.
     arity: c_int,
     keys: Keys,
     access: u64,
     summary: &'static [u8],
 }
 
-/// A command's function as Redis calls it.
+/// Wraps a command as a function that Redis can call.
 macro_rules! exported {
     ($function:ident) => {{
         unsafe extern "C" fn call(
@@ -46,8 +46,8 @@ macro_rules! exported {
     }};
 }
 
-/// Tells the server the places of the keys behind a count, where it asks: 7.0 sends a command of a cluster's to its node by this, and
-/// reads the key specs for rights alone.
+/// Reports the positions of counted keys to the server. Redis 7.0 routes a cluster command to its node by these, and uses the key specs
+/// only for access rights.
 unsafe fn tell_keys(context: *mut Context, words: Words) {
     let count = words
         .bytes(2)
@@ -61,7 +61,7 @@ unsafe fn tell_keys(context: *mut Context, words: Words) {
     }
 }
 
-/// Runs a command, and replies its error where it has one.
+/// Runs a command. If it fails, replies its error.
 unsafe fn run(
     command: fn(Server, Words) -> Answer,
     context: *mut Context,
@@ -162,7 +162,7 @@ fn rows() -> [Row; 10] {
     ]
 }
 
-/// How clients and ACLs find the keys of a command. The list ends with none.
+/// Returns how clients and ACLs find the keys of a command. An empty spec ends the list.
 fn key_specs(row: &Row) -> [KeySpec; 2] {
     let begin = |place| KeySpec { flags: row.access, begin: BEGIN_INDEX, place, ..KeySpec::NONE };
     let spec = match row.keys {
@@ -193,7 +193,7 @@ unsafe fn register_row(context: *mut Context, row: &Row) -> bool {
     }
     let object = (api().get_command)(context, name);
     let specs = key_specs(row);
-    // The history's and the arguments' sizes are those of Redis 7.0, and there are none of them.
+    // The sizes for history and arguments are those of Redis 7.0; the module has neither.
     let version =
         InfoVersion { version: 1, history: 16, key_spec: size_of::<KeySpec>(), argument: 64 };
     let info = CommandInfo {
@@ -210,10 +210,10 @@ unsafe fn register_row(context: *mut Context, row: &Row) -> bool {
     !object.is_null() && (api().set_command_info)(object, &info) == OK
 }
 
-/// Registers all commands, and the receiver of other nodes' classes.
+/// Registers all commands, and the receiver for classes from other nodes. Returns whether that succeeded.
 ///
 /// # Safety
-/// `context` is that of the module's load.
+/// `context` must be the one of the module's load.
 pub unsafe fn register(context: *mut Context) -> bool {
     (api().register_receiver)(context, 1, receive);
     rows().iter().all(|row| register_row(context, row))

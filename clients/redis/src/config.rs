@@ -1,4 +1,4 @@
-//! What an operator sets: `max-steps`, the most instructions that a run of a class may take here.
+//! The configuration: `max-steps`, the maximum number of instructions that a run of a class may take on this server.
 use crate::api::{Context, Text, CONFIG_DEFAULT, OK};
 use crate::server::{Called, Server, Words};
 use crate::words::long_of;
@@ -7,14 +7,14 @@ use std::os::raw::{c_char, c_int, c_longlong};
 use std::ptr::null_mut;
 use std::sync::atomic::{AtomicU32, Ordering};
 
-/// Where neither the module's words nor the configuration say it.
+/// The value if neither the module's arguments nor the configuration set it.
 const DEFAULT_STEPS: u32 = 200_000;
-/// What no accepted class takes more than.
+/// No accepted class takes more instructions than this.
 const MOST_STEPS: u32 = 4_000_000;
 
 static MAX_STEPS: AtomicU32 = AtomicU32::new(DEFAULT_STEPS);
 
-/// The most instructions of a run that a class may have at its definition.
+/// Returns the maximum number of instructions that a class may have when it is defined.
 pub fn most_steps() -> u32 {
     MAX_STEPS.load(Ordering::Relaxed)
 }
@@ -23,7 +23,7 @@ unsafe extern "C" fn get(_name: *const c_char, _data: *mut c_void) -> c_longlong
     most_steps().into()
 }
 
-/// Redis has held the number to its bounds.
+/// Sets the value. Redis has checked its range.
 unsafe extern "C" fn set(
     _name: *const c_char,
     number: c_longlong,
@@ -34,7 +34,7 @@ unsafe extern "C" fn set(
     OK
 }
 
-/// Reads the module's words, `max-steps N`: what is wrong with them, if anything is.
+/// Parses the module's arguments, `max-steps N`. Returns a message if they are invalid.
 fn read(words: Words) -> Result<u32, &'static str> {
     let wrong = "the module's words are `max-steps N`, and N is a number from 1 to 4000000";
     match words.count() {
@@ -51,10 +51,10 @@ fn read(words: Words) -> Result<u32, &'static str> {
     }
 }
 
-/// Takes the module's words, and has CONFIG know the number as `jentry.max-steps`.
+/// Applies the module's arguments, and registers the value as `jentry.max-steps` for CONFIG. Returns whether that succeeded.
 ///
 /// # Safety
-/// `context` is that of the module's load.
+/// `context` must be the one of the module's load.
 pub unsafe fn register(context: *mut Context, words: Words) -> bool {
     let server = Server::of(context);
     let steps = match read(words) {
@@ -82,10 +82,10 @@ pub unsafe fn register(context: *mut Context, words: Words) -> bool {
         && (server.api().load_configs)(context) == OK
 }
 
-/// Warns where a rewrite of the AOF would lose the classes: without an RDB part it has no place for them.
+/// Warns if a rewrite of the AOF would lose the classes, which are only saved in its RDB part.
 ///
 /// # Safety
-/// `context` is that of the module's load.
+/// `context` must be the one of the module's load.
 pub unsafe fn warn_of_rewrites(context: *mut Context) {
     let server = Server::of(context);
     let reply = (server.api().call)(

@@ -1,4 +1,4 @@
-//! The commands on classes, and how the nodes of a cluster tell each other of new ones.
+//! The commands on classes, and the exchange of new classes between the nodes of a cluster.
 use crate::api::{Context, IS_CLUSTER, IS_LOADING, IS_MASTER, IS_REPLICATED};
 use crate::classes::Denial;
 use crate::config::most_steps;
@@ -9,10 +9,10 @@ use crate::words::digits_of;
 use std::os::raw::c_char;
 use std::slice;
 
-/// The message that brings a class to other nodes.
+/// The type of a message that carries a class to other nodes.
 const BRINGS_CLASS: u8 = 1;
 
-/// Replies an id and the bounds of its class, as part of an array.
+/// Replies an id and the bounds of its class as elements of an array.
 fn reply_bounds(server: Server, verdict: &Verdict) {
     server.reply_text(&digits_of(&verdict.id));
     for bound in [verdict.steps, verdict.words, verdict.slots, verdict.depth] {
@@ -20,16 +20,16 @@ fn reply_bounds(server: Server, verdict: &Verdict) {
     }
 }
 
-/// JENTRY.DEFINE BYTES: judges a class and keeps it. Its id and its bounds.
+/// JENTRY.DEFINE BYTES: verifies a class and keeps it. Replies its id and its bounds.
 pub fn define(server: Server, words: Words) -> Answer {
     if words.count() != 2 {
         return Err(Failure::Arity);
     }
     let bytes = words.bytes(1)?;
-    // What a master took its replicas take too, and what the AOF holds was taken once.
+    // A replica accepts what its master accepted, and the classes of the AOF have been accepted before.
     let is_settled = server.is(IS_REPLICATED) || server.is(IS_LOADING);
     let most = if is_settled { u32::MAX } else { most_steps() };
-    // SAFETY: commands run on the main thread, behind the load.
+    // SAFETY: commands run on the main thread, after the load.
     let known =
         unsafe { with_state(|state| state.classes.of_file(bytes).map(|class| class.verdict)) };
     let verdict = match known {
@@ -41,9 +41,9 @@ pub fn define(server: Server, words: Words) -> Answer {
     Ok(())
 }
 
-/// Takes a new class: it is written to the AOF, and sent to the replicas and to the other nodes of a cluster.
+/// Accepts a new class: it is written to the AOF, and sent to the replicas and to the other nodes of a cluster.
 fn take(server: Server, bytes: &[u8], most: u32) -> Result<Verdict, Denial> {
-    // SAFETY: commands run on the main thread, behind the load.
+    // SAFETY: commands run on the main thread, after the load.
     let verdict = unsafe {
         with_state(|state| {
             let answer = state.classes.define(bytes, most);
@@ -64,10 +64,11 @@ fn take(server: Server, bytes: &[u8], most: u32) -> Result<Verdict, Denial> {
     Ok(verdict)
 }
 
-/// Another node of the cluster has a new class: a master takes it as if a client had sent it, so that its replicas and its files get it.
+/// Receives a new class from another node of the cluster. A master accepts it as if a client had sent it, so that its replicas and files
+/// get it.
 ///
 /// # Safety
-/// Redis calls it on its main thread, and `bytes` has as many bytes as it says.
+/// Only Redis may call it, on its main thread; `bytes` must have the given number of bytes.
 pub unsafe extern "C" fn receive(
     context: *mut Context,
     _sender: *const c_char,
@@ -95,10 +96,10 @@ pub unsafe extern "C" fn receive(
     }
 }
 
-/// JENTRY.FORGET ID: 1, or 0 where there was no such class.
+/// JENTRY.FORGET ID: removes a class. Replies 1, or 0 if there was no such class.
 pub fn forget(server: Server, words: Words) -> Answer {
     let digits = words.bytes(1)?;
-    // SAFETY: commands run on the main thread, behind the load.
+    // SAFETY: commands run on the main thread, after the load.
     let is_gone = unsafe { with_state(|state| state.classes.forget(digits)) };
     if is_gone {
         server.replicate_verbatim();
@@ -107,9 +108,9 @@ pub fn forget(server: Server, words: Words) -> Answer {
     Ok(())
 }
 
-/// JENTRY.LIST: for each class its id, its bounds, and the length of its file.
+/// JENTRY.LIST: replies for each class its id, its bounds, and the length of its file.
 pub fn list(server: Server, _words: Words) -> Answer {
-    // SAFETY: commands run on the main thread, behind the load; a reply runs no command.
+    // SAFETY: commands run on the main thread, after the load; a reply runs no command.
     unsafe {
         with_state(|state| {
             server.reply_array(state.classes.all().len());
@@ -123,10 +124,10 @@ pub fn list(server: Server, _words: Words) -> Answer {
     Ok(())
 }
 
-/// JENTRY.CLASS ID: the class file, or null.
+/// JENTRY.CLASS ID: replies the class file, or null.
 pub fn class(server: Server, words: Words) -> Answer {
     let digits = words.bytes(1)?;
-    // SAFETY: commands run on the main thread, behind the load; a reply runs no command.
+    // SAFETY: commands run on the main thread, after the load; a reply runs no command.
     unsafe {
         with_state(|state| match state.classes.find(digits) {
             Some(class) => server.reply_text(&class.bytes),
@@ -136,7 +137,7 @@ pub fn class(server: Server, words: Words) -> Answer {
     Ok(())
 }
 
-/// JENTRY.EXPLAIN BYTES: what `jentry explain` prints of a class file. No class is kept.
+/// JENTRY.EXPLAIN BYTES: replies what `jentry explain` prints for a class file. The class isn't kept.
 pub fn explain(server: Server, words: Words) -> Answer {
     let text = explanation(words.bytes(1)?);
     if text.is_empty() {

@@ -1,41 +1,42 @@
-//! Reading and writing a long where Redis keeps it.
+//! Reads and writes an integer in the memory where Redis stores it.
 //!
-//! A string that is a long lies in its object as an integer. The module interface reads a value by GET, and writes it by SET, whose calls cost
-//! more than a run, or by `StringDMA`, which turns the integer into a raw string in the keyspace. So the module looks at the object behind a key's
-//! handle, in the layout that it has in Redis 7.0. On another release, or where a string of the module's own shows another layout at the load, it
-//! asks by GET. Each look is held to what the interface says of the key, the first ones to GET, too, and one that differs ends them for good.
+//! Redis stores a string that is a long as an integer in its object. The module API reads a value by GET and writes it by SET, and these
+//! calls cost more than a run; or it uses `StringDMA`, which converts the integer into a raw string in the keyspace. So the module reads
+//! the object behind a key's handle directly, in the layout of Redis 7.0. On another release, or if a string that the module creates at
+//! load time has another layout, it uses GET. Each direct read is checked against what the API reports about the key, and the first ones
+//! also against GET. After a mismatch the module never reads directly again.
 //!
-//! An object that is the entry's alone is written where it is, as INCRBY does, and then the module does what else SET does. Redis shares the
-//! objects of 0 to 9,999 among all keys, and those can't be written. In their place SET gets an integer object of the module's own, which Redis
-//! keeps as it is, so the next write of the entry finds one that is its alone.
+//! An object that only the entry refers to is written in place, as INCRBY does, and the module then does everything else that SET does.
+//! Redis shares the objects of 0 to 9,999 among all keys, and those can't be written. For these the module passes SET an integer object of
+//! its own. Redis stores that object as it is, so the next write of the entry finds an unshared object.
 //!
-//! `Replicate` looks its command up and copies its words, which costs as much as the run. `ReplicateVerbatim` takes the words of the command that
-//! runs as they are, so the module lends it those of a SET in their place, where there are as many.
+//! `Replicate` looks up its command and copies its arguments, which costs as much as the run. `ReplicateVerbatim` uses the arguments of the
+//! running command as they are. So the module temporarily replaces them with those of a SET, if the number of arguments is the same.
 use crate::api::{Key, Text};
 use crate::server::{Server, Words};
 use std::os::raw::c_int;
 use std::ptr::{null_mut, NonNull};
 use std::sync::atomic::{AtomicPtr, AtomicU32, Ordering};
 
-/// `OpenKey` for reading.
+/// The `OpenKey` mode for reading.
 const READ: i32 = 1;
-/// Events of strings, for `NotifyKeyspaceEvent`.
+/// The string event class, for `NotifyKeyspaceEvent`.
 const OF_STRINGS: c_int = 1 << 3;
-/// What `GetExpire` answers where an entry has no time to live.
+/// The result of `GetExpire` if an entry has no time to live.
 const NO_EXPIRE: i64 = -1;
-/// The release whose layout this is, as `GetServerVersion` gives it, without the last byte.
+/// The release with this layout, in the form of `GetServerVersion` without the last byte.
 const RELEASE: i32 = 0x0700;
-/// How many looks are held to GET.
+/// The number of direct reads that are checked against GET.
 const CHECKS: u32 = 64;
-/// `checks_left` where no look is trusted.
+/// The value of `CHECKS_LEFT` if direct reads are disabled.
 const NEVER: u32 = u32::MAX;
 
 static CHECKS_LEFT: AtomicU32 = AtomicU32::new(NEVER);
-/// The words of a SET beside key and value, for the server's life.
+/// The arguments of a SET other than key and value; they exist for the server's life.
 static SET: AtomicPtr<Text> = AtomicPtr::new(null_mut());
 static KEEPTTL: AtomicPtr<Text> = AtomicPtr::new(null_mut());
 
-/// The members of a handle before and with its value (`RedisModuleKey`).
+/// The members of a handle up to its value (`RedisModuleKey`).
 #[repr(C)]
 struct Handle {
     context: *mut u8,
@@ -44,7 +45,7 @@ struct Handle {
     value: *mut Object,
 }
 
-/// An object (`redisObject`): type and encoding in four bits each, age, references, and a pointer or the integer itself.
+/// An object (`redisObject`): type and encoding with four bits each, age, reference count, and a pointer or the integer itself.
 #[repr(C)]
 struct Object {
     kind: u8,
@@ -53,19 +54,19 @@ struct Object {
     payload: i64,
 }
 
-/// The kinds of two strings: an integer, and bytes in the object's own block.
+/// The first byte of two kinds of strings: an integer, and bytes in the object's own block.
 const INTEGER: u8 = 0x10;
 const EMBEDDED: u8 = 0x80;
 
-/// What a look at a key finds.
+/// The result of a direct read.
 pub enum Found {
-    /// It isn't known: GET has to be asked.
+    /// The value isn't known: use GET.
     Unknown,
     Absent,
     Value(Place),
 }
 
-/// Where the integer of an entry is, until the next command of the server.
+/// The location of an entry's integer. It is valid until the server's next command.
 #[derive(Clone, Copy)]
 pub struct Place {
     object: NonNull<Object>,
@@ -74,7 +75,7 @@ pub struct Place {
     pub may_expire: bool,
 }
 
-/// How many characters a long has as a decimal.
+/// Returns the number of characters of a long in decimal.
 fn length_of(value: i64) -> usize {
     let mut rest = value.unsigned_abs();
     let mut length = 1 + usize::from(value < 0);
@@ -85,8 +86,8 @@ fn length_of(value: i64) -> usize {
     length
 }
 
-/// Whether a string of the module's own lies in an object of this layout: bytes in the object's block, one reference, and a pointer to the
-/// bytes where the interface says that they are.
+/// Returns whether a string that the module creates has this layout: bytes in the object's block, one reference, and a pointer to the
+/// address of the bytes that the API reports.
 unsafe fn has_layout(server: Server) -> bool {
     let api = server.api();
     let text = (api.create_text)(server.context(), b"0".as_ptr().cast(), 1);
@@ -101,18 +102,18 @@ unsafe fn has_layout(server: Server) -> bool {
     is_same
 }
 
-/// Whether the next looks have to be held to GET.
+/// Returns whether direct reads must still be checked against GET.
 pub fn is_checked() -> bool {
     CHECKS_LEFT.load(Ordering::Relaxed) > 0
 }
 
-/// Looks no more.
+/// Disables direct reads.
 fn end(server: Server) {
     CHECKS_LEFT.store(NEVER, Ordering::Relaxed);
     server.warn("this server keeps integers otherwise than Redis 7.0: each value is read by GET from now on");
 }
 
-/// Counts a look that GET has confirmed or denied.
+/// Counts a direct read that was checked against GET, or disables direct reads after a mismatch.
 pub fn count(server: Server, is_same: bool) {
     let left = CHECKS_LEFT.load(Ordering::Relaxed);
     if !is_same {
@@ -122,10 +123,10 @@ pub fn count(server: Server, is_same: bool) {
     }
 }
 
-/// Looks from now on, where the server is of the release that has the layout.
+/// Enables direct reads if the server has the release and the layout.
 ///
 /// # Safety
-/// The server loads the module.
+/// It must be called while the server loads the module.
 pub unsafe fn begin(server: Server) {
     let is_machine = cfg!(all(target_endian = "little", target_pointer_width = "64"));
     if is_machine && (server.api().server_version)() >> 8 == RELEASE && has_layout(server) {
@@ -138,9 +139,9 @@ pub unsafe fn begin(server: Server) {
     }
 }
 
-/// Looks at the value behind an open handle; none where the interface says otherwise of the key.
+/// Reads the value of an open key directly. Returns `None` if the API reports something else about the key.
 unsafe fn value_at(server: Server, key: *mut Text, handle: *mut Key) -> Option<Found> {
-    // SAFETY: `begin` has found the release that has this layout.
+    // SAFETY: `begin` has found the release with this layout.
     let inside = &*handle.cast::<Handle>();
     if inside.context != server.context().cast() || inside.key != key.cast() {
         return None;
@@ -159,10 +160,10 @@ unsafe fn value_at(server: Server, key: *mut Text, handle: *mut Key) -> Option<F
     }))
 }
 
-/// Looks at a key.
+/// Reads the value of a key directly.
 ///
 /// # Safety
-/// `key` is a string of the server's.
+/// `key` must be a string of the server.
 pub unsafe fn look(server: Server, key: *mut Text) -> Found {
     if CHECKS_LEFT.load(Ordering::Relaxed) == NEVER {
         return Found::Unknown;
@@ -179,7 +180,7 @@ pub unsafe fn look(server: Server, key: *mut Text) -> Found {
     })
 }
 
-/// Writes the SET of a value to the AOF and to replicas. With KEEPTTL it means the same where the entry has no time to live.
+/// Writes the SET of a value to the AOF and to replicas. If the entry has no time to live, KEEPTTL makes no difference.
 unsafe fn replicate(server: Server, words: Words, key: *mut Text, value: *mut Text, ttl: bool) {
     let (set, keep) = (SET.load(Ordering::Relaxed), KEEPTTL.load(Ordering::Relaxed));
     let (api, context, name) = (server.api(), server.context(), b"SET\0".as_ptr().cast());
@@ -196,15 +197,16 @@ unsafe fn replicate(server: Server, words: Words, key: *mut Text, value: *mut Te
     }
 }
 
-/// Does what a SET of the value does, KEEPTTL included, where the entry's object isn't shared: writes the value where it is, tells who watches
-/// or tracks the key and who listens to events, and writes the SET to the AOF and to replicas. False where the object is shared, and nothing is done.
+/// Does what a SET of the value with KEEPTTL does, if the entry's object isn't shared: writes the value in place, notifies clients that
+/// watch or track the key and subscribers to events, and writes the SET to the AOF and to replicas. Returns false without doing anything if
+/// the object is shared.
 ///
-/// The SET takes the object itself as its word. Where it is written to a file or a replica, the server holds the object until the command's end, and
-/// a second run on the entry in the same command finds it shared.
+/// The SET gets the object itself as its argument. If it is written to a file or a replica, the server keeps the object until the end of
+/// the command, so a second run on the entry in the same command finds it shared.
 ///
 /// # Safety
-/// `words` are the command's, `key` is a string of the server's, and `place` is what a look at it found in this command, behind which nothing
-/// changed the entry.
+/// `words` must be the command's arguments, `key` a string of the server, and `place` the result of a read in this command; the entry must
+/// not have changed since.
 pub unsafe fn write(
     server: Server,
     words: Words,
@@ -223,19 +225,19 @@ pub unsafe fn write(
     true
 }
 
-/// An integer object of the module's own.
+/// An integer object that the module creates.
 pub struct Integer {
     server: Server,
     text: *mut Text,
 }
 
 impl Integer {
-    /// None where the layout isn't known.
+    /// Creates an integer object. Returns `None` unless the layout is known.
     pub fn new(server: Server, value: i64) -> Option<Integer> {
         if is_checked() {
             return None;
         }
-        // SAFETY: `begin` has found that a short string is one block with the bytes in it, and nobody else has seen this one yet.
+        // SAFETY: `begin` has found that a short string is one block that contains its bytes, and nobody else refers to this one yet.
         unsafe {
             let text = (server.api().create_text)(server.context(), b"0".as_ptr().cast(), 1);
             let object = &mut *text.cast::<Object>();
@@ -245,7 +247,7 @@ impl Integer {
         }
     }
 
-    /// What a command takes as a word.
+    /// Returns the object as an argument of a command.
     pub fn text(&self) -> *mut Text {
         self.text
     }
@@ -253,7 +255,7 @@ impl Integer {
 
 impl Drop for Integer {
     fn drop(&mut self) {
-        // SAFETY: the object is this one's own, but for what a command has kept of it.
+        // SAFETY: this value owns the object; a command that kept it has a reference of its own.
         unsafe { (self.server.api().free_text)(self.server.context(), self.text) };
     }
 }

@@ -1,9 +1,9 @@
-//! The proved core, by `clients/c/jentry.h`.
+//! The verified core, through the interface of `clients/c/jentry.h`.
 use std::ffi::c_void;
 use std::mem::size_of;
 use std::ptr::null_mut;
 
-/// A verdict: accepted with a number and bounds where `refusal` is 0.
+/// A verdict: if `refusal` is 0 the class is accepted and has a number and bounds.
 #[repr(C)]
 #[derive(Clone, Copy, Default)]
 pub struct Verdict {
@@ -17,7 +17,7 @@ pub struct Verdict {
     pub id: [u8; 20],
 }
 
-/// An argument: `NULL`, `LONG` or `INTEGER`.
+/// An argument, of the kind `NULL`, `LONG` or `INTEGER`.
 #[repr(C)]
 #[derive(Clone, Copy, Default)]
 pub struct Arg {
@@ -36,7 +36,7 @@ pub struct Call {
     pub before: i64,
 }
 
-/// The end of a call.
+/// The outcome of a call.
 #[repr(C)]
 #[derive(Clone, Copy, Default)]
 pub struct Done {
@@ -59,7 +59,7 @@ pub const PUT: u32 = 1;
 pub const UNTOUCHED: u32 = 0;
 pub const SET: u32 = 1;
 
-/// Where the core keeps its engine.
+/// The handle of the core's engine.
 #[repr(C)]
 struct Handle {
     at: *mut c_void,
@@ -67,7 +67,7 @@ struct Handle {
     unused: [u8; 7],
 }
 
-// The sizes that jentry.h asserts, too.
+// The sizes that jentry.h asserts too.
 const _: [(); 16] = [(); size_of::<Handle>()];
 const _: [(); 48] = [(); size_of::<Verdict>()];
 const _: [(); 16] = [(); size_of::<Arg>()];
@@ -88,21 +88,21 @@ extern "C" {
     fn jentry_explain(bytes: *const u8, length: usize, text: *mut u8, room: usize) -> usize;
 }
 
-/// The engine of this server. It stays on the thread that runs commands.
+/// The engine of this server. Only the thread that runs commands uses it.
 pub struct Engine {
     handle: Handle,
 }
 
 impl Engine {
-    /// None where memory lacks.
+    /// Creates an engine. Returns `None` if memory runs out.
     pub fn new() -> Option<Engine> {
         let mut handle = Handle { at: null_mut(), open: false, unused: [0; 7] };
-        // SAFETY: the handle is zeroes.
+        // SAFETY: the handle is zero-initialised.
         let answer = unsafe { jentry_open(&mut handle) };
         (answer == 0).then_some(Engine { handle })
     }
 
-    /// Judges a class and keeps it where it is accepted.
+    /// Verifies a class, and keeps it if it is accepted.
     pub fn define(&mut self, bytes: &[u8]) -> Verdict {
         let mut verdict = Verdict::default();
         // SAFETY: the handle is the engine's own, and a slice's pointer is never null.
@@ -110,7 +110,7 @@ impl Engine {
         verdict
     }
 
-    /// Forgets the class with a number.
+    /// Removes the class with this number.
     pub fn forget(&mut self, number: u32) {
         // SAFETY: the handle is the engine's own.
         unsafe { jentry_forget(&mut self.handle, number) };
@@ -125,14 +125,14 @@ impl Engine {
     }
 }
 
-/// How much room a text of an explanation gets at first: a text that needs more has its class judged twice.
+/// The initial buffer size for an explanation, in bytes. If the text is longer, the class is verified a second time.
 const ROOM: usize = 1 << 17;
 
-/// What `jentry explain` prints of a class file; empty where memory lacks.
+/// Returns what `jentry explain` prints for a class file, or an empty text if memory runs out.
 pub fn explain(bytes: &[u8]) -> Vec<u8> {
     let mut text = Vec::new();
     let mut room = ROOM;
-    // The second round is for a text that is longer than the first one's room.
+    // The second attempt is for a text that doesn't fit in the first buffer.
     for _ in 0..2 {
         if text.try_reserve_exact(room).is_err() {
             return Vec::new();
@@ -150,7 +150,7 @@ pub fn explain(bytes: &[u8]) -> Vec<u8> {
     text
 }
 
-/// Names of the refusals 1 to 30.
+/// The names of the refusals 1 to 30.
 const REFUSALS: [&str; 30] = [
     "TooLarge",
     "Truncated",
@@ -184,7 +184,7 @@ const REFUSALS: [&str; 30] = [
     "NoMemory",
 ];
 
-/// Names of the exceptions 1 to 6.
+/// The names of the exceptions 1 to 6.
 const EXCEPTIONS: [&str; 6] = [
     "ArithmeticException",
     "ArrayIndexOutOfBoundsException",
@@ -194,7 +194,7 @@ const EXCEPTIONS: [&str; 6] = [
     "CacheLoaderException",
 ];
 
-/// The name behind a number that begins at 1.
+/// Returns the name of a number that starts at 1.
 fn named(names: &[&'static str], number: i64) -> &'static str {
     usize::try_from(number)
         .ok()
@@ -203,12 +203,12 @@ fn named(names: &[&'static str], number: i64) -> &'static str {
         .unwrap_or("Unknown")
 }
 
-/// The name of a refusal.
+/// Returns the name of a refusal.
 pub fn refusal_name(number: u32) -> &'static str {
     named(&REFUSALS, number.into())
 }
 
-/// The name of an exception.
+/// Returns the name of an exception.
 pub fn exception_name(number: i64) -> &'static str {
     named(&EXCEPTIONS, number)
 }

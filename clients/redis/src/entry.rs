@@ -1,6 +1,6 @@
 //! Entries: plain strings of the keyspace that hold a decimal long, read and written as Redis's own commands do.
 //!
-//! Redis runs one command at a time, so nothing else comes between the reading and the writing of a run.
+//! Redis runs one command at a time, so nothing else happens between the read and the write of a run.
 use crate::api::{Text, REPLY_NULL, REPLY_TEXT};
 use crate::direct::{self, Found, Integer, Place};
 use crate::server::{Called, Failure, Server, Words};
@@ -10,16 +10,16 @@ use crate::words::long_of;
 #[derive(Clone, Copy)]
 pub struct Entry {
     pub value: Option<i64>,
-    /// Whether it has a time to live, or it isn't known that it has none.
+    /// Whether it has a time to live, or may have one.
     may_expire: bool,
-    /// Where its integer is, if it may be written there.
+    /// The location of its integer, if the module may write there.
     place: Option<Place>,
 }
 
-/// The entry at a key, by GET.
+/// Reads the entry of a key by GET.
 ///
 /// # Safety
-/// `key` is a string of the server's.
+/// `key` must be a string of the server.
 unsafe fn get(server: Server, key: *mut Text) -> Result<Entry, Failure> {
     let reply = (server.api().call)(
         server.context(),
@@ -38,10 +38,10 @@ unsafe fn get(server: Server, key: *mut Text) -> Result<Entry, Failure> {
     Ok(Entry { value, may_expire: true, place: None })
 }
 
-/// The entry at a key.
+/// Reads the entry of a key.
 ///
 /// # Safety
-/// `key` is a string of the server's.
+/// `key` must be a string of the server.
 pub unsafe fn read(server: Server, key: *mut Text) -> Result<Entry, Failure> {
     let entry = match direct::look(server, key) {
         Found::Unknown => return get(server, key),
@@ -59,18 +59,18 @@ pub unsafe fn read(server: Server, key: *mut Text) -> Result<Entry, Failure> {
     Ok(entry)
 }
 
-/// What becomes of an entry's time to live.
+/// What happens to an entry's time to live.
 #[derive(Clone, Copy, PartialEq, Eq)]
 pub enum Lifetime {
-    /// It stays as it is.
+    /// It doesn't change.
     Keep,
-    /// There is none from now on.
+    /// It is removed.
     Endless,
-    /// It ends in this number of milliseconds.
+    /// It is set to this number of milliseconds.
     Milliseconds(i64),
 }
 
-/// Sets the value of an entry by SET, with an integer object of the module's own where there may be one.
+/// Sets the value of an entry by SET, with an integer object of the module if possible.
 unsafe fn set_anew(
     server: Server,
     key: *mut Text,
@@ -95,11 +95,11 @@ unsafe fn set_anew(
     Called::of(server, reply).map(drop)
 }
 
-/// Sets the value of an entry, and writes it to the AOF and to replicas as a SET.
+/// Sets the value of an entry, and writes it as a SET to the AOF and to replicas.
 ///
 /// # Safety
-/// `words` are the command's, `key` is a string of the server's, and `entry` is what was read of it in this command, behind which nothing
-/// changed it.
+/// `words` must be the command's arguments, `key` a string of the server, and `entry` the result of a read in this command; the entry must
+/// not have changed since.
 pub unsafe fn set(
     server: Server,
     words: Words,
@@ -118,10 +118,10 @@ pub unsafe fn set(
     }
 }
 
-/// Deletes the entry at a key, as a DEL.
+/// Deletes the entry of a key by DEL.
 ///
 /// # Safety
-/// `key` is a string of the server's.
+/// `key` must be a string of the server.
 pub unsafe fn delete(server: Server, key: *mut Text) -> Result<(), Failure> {
     let reply = (server.api().call)(
         server.context(),
@@ -132,10 +132,10 @@ pub unsafe fn delete(server: Server, key: *mut Text) -> Result<(), Failure> {
     Called::of(server, reply).map(drop)
 }
 
-/// Changes the time to live alone.
+/// Changes only the time to live.
 ///
 /// # Safety
-/// `key` is a string of the server's.
+/// `key` must be a string of the server.
 pub unsafe fn touch(server: Server, key: *mut Text, lifetime: Lifetime) -> Result<(), Failure> {
     let (call, context) = (server.api().call, server.context());
     let reply = match lifetime {

@@ -1,7 +1,7 @@
-//! A module of Redis: verified processors run beside the entries, which are plain strings that hold decimal longs.
+//! A Redis module that runs verified processors next to the entries, which are plain strings that hold decimal longs.
 //!
-//! Redis runs one command at a time, and that is the lock of the whole keyspace: between the reading of an entry and its writing nothing
-//! else runs. Each function that Redis calls is called on its main thread.
+//! Redis runs one command at a time, which locks the whole keyspace: nothing else runs between the read and the write of an entry. Redis
+//! calls all functions of the module on its main thread.
 mod allocator;
 mod api;
 mod apply;
@@ -23,10 +23,10 @@ use engine::Engine;
 use server::{Server, Words};
 use std::os::raw::c_int;
 
-/// What Redis calls when it loads the module.
+/// Loads the module.
 ///
 /// # Safety
-/// Redis alone calls it.
+/// Only Redis may call it.
 #[no_mangle]
 pub unsafe extern "C" fn RedisModule_OnLoad(
     context: *mut Context,

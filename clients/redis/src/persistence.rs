@@ -1,4 +1,4 @@
-//! Classes in RDB files, which are also what a replica is sent and what an AOF begins with.
+//! Saves the classes in RDB files, which replicas receive too and which form the first part of an AOF.
 use crate::api::{Api, Context, Io, TypeMethods, BEFORE_RDB, ERR, OK};
 use crate::server::api;
 use crate::state::with_state;
@@ -6,11 +6,11 @@ use std::ffi::CString;
 use std::os::raw::c_int;
 use std::slice;
 
-/// The data type's name, whose nine letters Redis wants, and its version.
+/// The data type's name, for which Redis requires nine letters, and its version.
 const NAME: &[u8] = b"jentrycls\0";
 const VERSION: c_int = 1;
 
-/// Writes the classes: their count, and each file.
+/// Writes the number of classes and each class file.
 unsafe extern "C" fn save(io: *mut Io, _when: c_int) {
     with_state(|state| {
         let classes = state.classes.all();
@@ -21,7 +21,7 @@ unsafe extern "C" fn save(io: *mut Io, _when: c_int) {
     });
 }
 
-/// One file of the classes; none where reading failed.
+/// Reads one class file. Returns `None` if reading fails.
 unsafe fn load_file(api: &Api, io: *mut Io) -> Option<Vec<u8>> {
     let mut length = 0;
     let bytes = (api.load_bytes)(io, &mut length);
@@ -37,8 +37,8 @@ unsafe fn load_file(api: &Api, io: *mut Io) -> Option<Vec<u8>> {
     (has_room && (api.is_io_error)(io) == 0).then_some(file)
 }
 
-/// The classes of a file or of a master take the place of those that were here, once all of them have been read. Each is judged anew, and one that
-/// is refused now is left out.
+/// Replaces the classes by those of a file or of a master, once all of them have been read. Each is verified again, and one that is refused
+/// now is left out.
 unsafe extern "C" fn load(io: *mut Io, version: c_int, _when: c_int) -> c_int {
     let api = api();
     if version != VERSION {
@@ -65,10 +65,10 @@ unsafe extern "C" fn load(io: *mut Io, version: c_int, _when: c_int) -> c_int {
     OK
 }
 
-/// Has the classes saved and loaded.
+/// Registers the functions that save and load the classes. Returns whether that succeeded.
 ///
 /// # Safety
-/// `context` is that of the module's load.
+/// `context` must be the one of the module's load.
 pub unsafe fn register(context: *mut Context) -> bool {
     let mut methods = TypeMethods {
         version: 2,

@@ -8,7 +8,7 @@ use crate::words::{arg_of, key_of, long_of};
 
 const MOST_ARGS: usize = 8;
 
-/// A class and arguments, to be run on one key or several.
+/// A class and its arguments, to run on one or more keys.
 pub struct Plan {
     number: u32,
     args: [Arg; MOST_ARGS],
@@ -16,10 +16,10 @@ pub struct Plan {
 }
 
 impl Plan {
-    /// The class with the id at a place.
+    /// Looks up the class whose id is the argument at this index.
     pub fn of_class(words: Words, id: usize) -> Result<Plan, Failure> {
         let digits = words.bytes(id)?;
-        // SAFETY: commands run on the main thread, behind the load.
+        // SAFETY: commands run on the main thread, after the load.
         let number = unsafe {
             with_state(|state| state.classes.find(digits).map(|class| class.verdict.number))
         };
@@ -27,7 +27,7 @@ impl Plan {
         Ok(Plan { number, args: [Arg::default(); MOST_ARGS], count: 0 })
     }
 
-    /// The same with arguments: all of these words.
+    /// Adds all of these words as arguments.
     pub fn with_args(mut self, words: Words) -> Result<Plan, Failure> {
         self.count = words.count();
         if self.count > MOST_ARGS {
@@ -40,7 +40,7 @@ impl Plan {
         Ok(self)
     }
 
-    /// Runs the class on the entry before: what it returned and what is to be done to the entry. It changes nothing.
+    /// Runs the class on the entry `before`. Returns its result and what to do to the entry, but changes nothing.
     pub fn run(&self, key: i64, before: Option<i64>) -> Result<Done, Failure> {
         let call = Call {
             number: self.number,
@@ -49,7 +49,7 @@ impl Plan {
             before: before.unwrap_or(0),
         };
         let args = self.args.get(..self.count).unwrap_or(&[]);
-        // SAFETY: commands run on the main thread, behind the load.
+        // SAFETY: commands run on the main thread, after the load.
         let done = unsafe {
             with_state(|state| {
                 let done = state.classes.invoke(&call, args);
@@ -67,14 +67,14 @@ impl Plan {
     }
 }
 
-/// The processor's key of a key.
+/// Returns the processor's key for a Redis key.
 pub fn number_of(name: &[u8]) -> Result<i64, Failure> {
     key_of(name).ok_or_else(|| "ERR the key doesn't end in a decimal long".into())
 }
 
-/// Does to an entry what a run says.
+/// Applies the effect of a run to the entry.
 fn apply(server: Server, words: Words, key: *mut Text, before: Entry, done: &Done) -> Answer {
-    // SAFETY: the key is a word of the command.
+    // SAFETY: the key is an argument of the command.
     unsafe {
         match done.effect {
             KEEP => Ok(()),
@@ -84,7 +84,7 @@ fn apply(server: Server, words: Words, key: *mut Text, before: Entry, done: &Don
     }
 }
 
-/// Replies what a run returned.
+/// Replies the result of a run.
 pub fn reply_value(server: Server, done: &Done) {
     if done.outcome == NULL {
         server.reply_null();
@@ -93,7 +93,7 @@ pub fn reply_value(server: Server, done: &Done) {
     }
 }
 
-/// Replies the type of what a run returned.
+/// Replies the type of the result.
 pub fn reply_type(server: Server, done: &Done) {
     server.reply_text(match done.outcome {
         NULL => b"null",
@@ -102,7 +102,7 @@ pub fn reply_type(server: Server, done: &Done) {
     });
 }
 
-/// Replies what a run did to the entry. A put of the value that was there is `keep`: the core says what has to be done.
+/// Replies the effect of a run on the entry. A put of the unchanged value is `keep`, because the core reports what must be done.
 pub fn reply_effect(server: Server, done: &Done) {
     server.reply_text(match done.effect {
         KEEP => b"keep",
@@ -111,7 +111,7 @@ pub fn reply_effect(server: Server, done: &Done) {
     });
 }
 
-/// Runs a plan on the entry at a key, a word of the command, whose number is the processor's, and does what it says.
+/// Runs a plan on the entry of a key, which is an argument of the command and whose processor key is `number`, and applies its effect.
 fn invoke_on(
     server: Server,
     words: Words,
@@ -119,14 +119,14 @@ fn invoke_on(
     key: *mut Text,
     number: i64,
 ) -> Result<Done, Failure> {
-    // SAFETY: the key is a word of the command.
+    // SAFETY: the key is an argument of the command.
     let before = unsafe { entry::read(server, key)? };
     let done = plan.run(number, before.value)?;
     apply(server, words, key, before, &done)?;
     Ok(done)
 }
 
-/// What `ID KEY [ARG ..]` asks for.
+/// Runs `ID KEY [ARG ..]`.
 fn one(server: Server, words: Words) -> Result<Done, Failure> {
     let (key, name) = (words.text(2)?, words.bytes(2)?);
     let plan = Plan::of_class(words, 1)?;
@@ -134,14 +134,14 @@ fn one(server: Server, words: Words) -> Result<Done, Failure> {
     invoke_on(server, words, &plan.with_args(words.from(3))?, key, number)
 }
 
-/// JENTRY.INVOKE ID KEY [ARG ..]: what the run returned.
+/// JENTRY.INVOKE ID KEY [ARG ..]: runs a class and replies its result.
 pub fn invoke(server: Server, words: Words) -> Answer {
     let done = one(server, words)?;
     reply_value(server, &done);
     Ok(())
 }
 
-/// JENTRY.DETAIL ID KEY [ARG ..]: what the run returned, its type, the effect, the instructions and the array words.
+/// JENTRY.DETAIL ID KEY [ARG ..]: replies the result, its type, the effect, the instructions and the array words.
 pub fn detail(server: Server, words: Words) -> Answer {
     let done = one(server, words)?;
     server.reply_array(5);
@@ -153,13 +153,13 @@ pub fn detail(server: Server, words: Words) -> Answer {
     Ok(())
 }
 
-/// JENTRY.PEEK ID KEY [ARG ..]: what the run returned, where it leaves the entry as it is.
+/// JENTRY.PEEK ID KEY [ARG ..]: replies the result if the run doesn't change the entry, else an error.
 pub fn peek(server: Server, words: Words) -> Answer {
     let (key, name) = (words.text(2)?, words.bytes(2)?);
     let plan = Plan::of_class(words, 1)?;
     let number = number_of(name)?;
     let plan = plan.with_args(words.from(3))?;
-    // SAFETY: the key is a word of the command.
+    // SAFETY: the key is an argument of the command.
     let done = plan.run(number, unsafe { entry::read(server, key)?.value })?;
     if done.effect != KEEP {
         return Err("WRITES the processor changes the entry: JENTRY.INVOKE it".into());
@@ -168,7 +168,7 @@ pub fn peek(server: Server, words: Words) -> Answer {
     Ok(())
 }
 
-/// JENTRY.INVOKEALL ID N KEY .. [ARG ..]: for each key, in their order, what its run returned, or its error.
+/// JENTRY.INVOKEALL ID N KEY .. [ARG ..]: replies for each key, in order, the result of its run or its error.
 pub fn invoke_all(server: Server, words: Words) -> Answer {
     let count = long_of(words.bytes(2)?).ok_or("ERR value is not an integer or out of range")?;
     let count = usize::try_from(count)

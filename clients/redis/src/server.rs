@@ -1,4 +1,4 @@
-//! What a command sees of the server: its words, and the ways to reply.
+//! A command's access to the server: its arguments, and the functions to reply.
 use crate::api::{Api, Context, Reply, Text};
 use std::cell::Cell;
 use std::ffi::CString;
@@ -9,24 +9,24 @@ use std::sync::atomic::{AtomicPtr, Ordering};
 
 static API: AtomicPtr<Api> = AtomicPtr::new(null_mut());
 
-/// Keeps the server's functions for all of its life.
+/// Stores the server's functions for the lifetime of the server.
 pub fn keep(api: Api) {
     API.store(Box::into_raw(Box::new(api)), Ordering::Release);
 }
 
-/// The server's functions.
+/// Returns the server's functions.
 ///
 /// # Safety
-/// `keep` was called.
+/// `keep` must have been called.
 pub unsafe fn api() -> &'static Api {
     &*API.load(Ordering::Acquire)
 }
 
-/// Why a command has no result.
+/// The reasons for which a command fails.
 pub enum Failure {
-    /// The text of the error's reply.
+    /// The text of the error reply.
     Told(String),
-    /// A word is missing, or there is one too many.
+    /// An argument is missing, or there is one too many.
     Arity,
 }
 
@@ -44,7 +44,7 @@ impl From<String> for Failure {
 
 pub type Answer = Result<(), Failure>;
 
-/// A command's context. It is used on the server's main thread alone, while the command runs.
+/// A command's context. It is only used on the server's main thread, while the command runs.
 #[derive(Clone, Copy)]
 pub struct Server {
     api: &'static Api,
@@ -53,7 +53,7 @@ pub struct Server {
 
 impl Server {
     /// # Safety
-    /// `keep` was called, and `context` is that of a command or an event which lasts for as long as what this gives.
+    /// `keep` must have been called, and `context` must be that of a command or an event that lasts as long as the returned value.
     pub unsafe fn of(context: *mut Context) -> Server {
         Server { api: api(), context }
     }
@@ -70,12 +70,12 @@ impl Server {
         unsafe { (self.api.reply_text)(self.context, text.as_ptr(), text.len()) };
     }
 
-    /// Begins an array of this many replies.
+    /// Starts an array of this many replies.
     pub fn reply_array(self, count: usize) {
         unsafe { (self.api.reply_array)(self.context, count as _) };
     }
 
-    /// Replies by an error. A text can't hold a zero, and a line can't hold an end of a line.
+    /// Replies an error. Line breaks become spaces, because an error reply is one line; a text with a zero byte becomes empty.
     pub fn reply_failure(self, failure: Failure) {
         match failure {
             Failure::Arity => unsafe {
@@ -88,12 +88,12 @@ impl Server {
         }
     }
 
-    /// Has the command itself written to the AOF and sent to the replicas.
+    /// Writes the command itself to the AOF and sends it to the replicas.
     pub fn replicate_verbatim(self) {
         unsafe { (self.api.replicate_verbatim)(self.context) };
     }
 
-    /// Whether all of these flags of the context are set.
+    /// Returns whether all of these flags of the context are set.
     pub fn is(self, flags: c_int) -> bool {
         unsafe { (self.api.context_flags)(self.context) & flags == flags }
     }
@@ -111,7 +111,7 @@ impl Server {
         };
     }
 
-    /// Tells the other nodes of the cluster.
+    /// Sends a message to the other nodes of the cluster.
     pub fn send_message(self, kind: u8, bytes: &[u8]) {
         if let Ok(count) = u32::try_from(bytes.len()) {
             unsafe {
@@ -129,7 +129,7 @@ impl Server {
     }
 }
 
-/// The words of a command, its name among them, where the server keeps them.
+/// The arguments of a command, including its name, in the server's memory.
 #[derive(Clone, Copy)]
 pub struct Words<'a> {
     api: &'static Api,
@@ -138,7 +138,7 @@ pub struct Words<'a> {
 
 impl<'a> Words<'a> {
     /// # Safety
-    /// They are a command's, which lasts for `'a`.
+    /// The arguments must be those of a command that lasts for `'a`.
     pub unsafe fn of(argv: *mut *mut Text, argc: c_int) -> Words<'a> {
         let count = usize::try_from(argc).unwrap_or(0);
         Words { api: api(), texts: slice::from_raw_parts(argv.cast::<Cell<*mut Text>>(), count) }
@@ -148,23 +148,23 @@ impl<'a> Words<'a> {
         self.texts.len()
     }
 
-    /// The word at a place, for a command that is to be called.
+    /// Returns the argument at an index, to pass it to another command.
     pub fn text(self, place: usize) -> Result<*mut Text, Failure> {
         self.texts.get(place).map(Cell::get).ok_or(Failure::Arity)
     }
 
-    /// The bytes of the word at a place.
+    /// Returns the bytes of the argument at an index.
     pub fn bytes(self, place: usize) -> Result<&'a [u8], Failure> {
         let text = self.text(place)?;
         let mut length = 0;
-        // SAFETY: the words last for `'a`, and Redis doesn't change the bytes of a command's words.
+        // SAFETY: the arguments last for `'a`, and Redis doesn't change the bytes of a command's arguments.
         unsafe { Ok(slice::from_raw_parts((self.api.text_bytes)(text, &mut length), length)) }
     }
 
-    /// Lets other words stand in place of the first ones while something is done.
+    /// Replaces the first arguments by others while the action runs.
     ///
     /// # Safety
-    /// They are the server's strings, as many as these words at most, and what is done doesn't look at `self`.
+    /// The others must be strings of the server, at most as many as these arguments, and the action must not use `self`.
     pub unsafe fn with<const N: usize>(self, others: [*mut Text; N], action: impl FnOnce()) {
         let mut own = others;
         let swap = |texts: &mut [*mut Text; N]| {
@@ -177,23 +177,26 @@ impl<'a> Words<'a> {
         swap(&mut own);
     }
 
-    /// The words from a place on.
+    /// Returns the arguments from an index on.
     pub fn from(self, place: usize) -> Words<'a> {
         Words { api: self.api, texts: self.texts.get(place..).unwrap_or(&[]) }
     }
 }
 
-/// The reply of a command that the module called.
+/// The reply to a command that the module called.
 pub struct Called {
     api: &'static Api,
     reply: NonNull<Reply>,
 }
 
 impl Called {
-    /// Takes what `Call` answered: an error where that is null, as when a command isn't there, or an error itself.
+    /// Wraps the result of `Call`.
+    ///
+    /// # Errors
+    /// Returns an error if the result is null, for example because there is no such command, or if the reply is an error.
     ///
     /// # Safety
-    /// Nobody else frees the reply.
+    /// Nothing else may free the reply.
     pub unsafe fn of(server: Server, reply: *mut Reply) -> Result<Called, Failure> {
         let reply = NonNull::new(reply).ok_or("ERR the server denied a command of the module")?;
         let called = Called { api: server.api, reply };
@@ -203,7 +206,7 @@ impl Called {
         Ok(called)
     }
 
-    /// Whether it is an error, by the first byte of the protocol: the server reads no more of a reply for it.
+    /// Returns whether it is an error, from the first byte of the protocol: the server needn't parse the reply for that.
     fn is_error(&self) -> bool {
         let mut length = 0;
         // SAFETY: the reply lasts as long as this.
@@ -217,7 +220,7 @@ impl Called {
         unsafe { (self.api.reply_kind)(self.reply.as_ptr()) }
     }
 
-    /// The bytes of a text or of an error.
+    /// Returns the bytes of a text or of an error.
     pub fn bytes(&self) -> &[u8] {
         let mut length = 0;
         unsafe {
@@ -230,7 +233,7 @@ impl Called {
         }
     }
 
-    /// Whether it is an array one of whose texts is this one.
+    /// Returns whether it is an array that contains this text.
     pub fn holds(&self, text: &[u8]) -> bool {
         let length = unsafe { (self.api.reply_length)(self.reply.as_ptr()) };
         (0..length).any(|place| unsafe {

@@ -1,4 +1,4 @@
-//! What the module keeps: the classes, and what INFO counts.
+//! The module's state: the classes, and the counters for INFO.
 use crate::api::{Context, InfoContext};
 use crate::classes::Classes;
 use crate::engine::{Done, Engine, THREW};
@@ -8,19 +8,19 @@ use std::os::raw::c_int;
 use std::ptr::null_mut;
 use std::sync::atomic::{AtomicPtr, Ordering};
 
-/// What has happened since the server's start.
+/// Counts since the start of the server.
 #[derive(Default)]
 pub struct Counters {
     pub runs: u64,
     pub steps: u64,
     pub costly: u64,
-    /// By the numbers of the exceptions, 1 to 6.
+    /// One count for each exception, 1 to 6.
     exceptions: [u64; 6],
-    /// By the numbers of the refusals, 1 to 30.
+    /// One count for each refusal, 1 to 30.
     refusals: [u64; 30],
 }
 
-/// Counts one more behind a number that begins at 1.
+/// Increments the count for a number that starts at 1.
 fn count_in(counts: &mut [u64], number: u64) {
     let place = usize::try_from(number).ok().and_then(|number| number.checked_sub(1));
     if let Some(count) = place.and_then(|place| counts.get_mut(place)) {
@@ -49,7 +49,7 @@ pub struct State {
 
 static STATE: AtomicPtr<State> = AtomicPtr::new(null_mut());
 
-/// Makes the state, for all of the server's life.
+/// Creates the state, for the lifetime of the server.
 pub fn begin(engine: Engine) {
     STATE.store(
         Box::into_raw(Box::new(State {
@@ -60,18 +60,20 @@ pub fn begin(engine: Engine) {
     );
 }
 
-/// Does something with the state. It calls no function of the server that runs commands, since one of these could be the module's.
+/// Runs an action on the state. The action must not call a server function that runs commands, since such a command could be one of the
+/// module.
 ///
 /// # Safety
-/// `begin` was called, and this is the server's main thread: it alone calls the module's functions, and its I/O threads run no commands.
+/// `begin` must have been called, and this must be the server's main thread: only that one calls the module's functions, and the I/O
+/// threads run no commands.
 pub unsafe fn with_state<T>(action: impl FnOnce(&mut State) -> T) -> T {
     action(&mut *STATE.load(Ordering::Acquire))
 }
 
-/// Answers INFO's section `jentry`. Redis sets the module's name and `_` before each field's.
+/// Writes the section `jentry` of INFO. Redis puts the module's name and `_` before the name of each field.
 ///
 /// # Safety
-/// Redis calls it, on its main thread.
+/// Only Redis may call it, on its main thread.
 pub unsafe extern "C" fn inform(context: *mut InfoContext, _is_crash: c_int) {
     let tell = |name: &str, count: u64| {
         let name = CString::new(name).unwrap_or_default();
@@ -94,10 +96,10 @@ pub unsafe extern "C" fn inform(context: *mut InfoContext, _is_crash: c_int) {
     });
 }
 
-/// Has INFO ask the module.
+/// Registers the function for INFO. Returns whether that succeeded.
 ///
 /// # Safety
-/// `context` is that of the module's load.
+/// `context` must be the one of the module's load.
 pub unsafe fn register(context: *mut Context) -> bool {
     (api().register_informer)(context, inform) == crate::api::OK
 }

@@ -1,15 +1,15 @@
-//! The words of a command: numbers, keys, arguments, ids.
+//! Parses the arguments of commands: numbers, keys, processor arguments, ids.
 use crate::engine::{Arg, INTEGER, LONG, NULL};
 
-/// The most digits of a long, without zeros ahead.
+/// The maximum number of digits of a long, without leading zeros.
 const MOST_DIGITS: usize = 19;
 
-/// The long of a sign and digits, of which there is at least one.
+/// Returns the long of a sign and its digits, of which there is at least one.
 fn signed(negative: bool, digits: &[u8]) -> Option<i64> {
     if digits.is_empty() || digits.len() > MOST_DIGITS {
         return None;
     }
-    // Nineteen digits are below 2^64.
+    // Numbers of nineteen digits are below 2^64.
     let mut sum: u64 = 0;
     for digit in digits {
         let value = digit.wrapping_sub(b'0');
@@ -25,7 +25,7 @@ fn signed(negative: bool, digits: &[u8]) -> Option<i64> {
     }
 }
 
-/// A sign, and what is behind it.
+/// Splits off a sign. Returns whether it is negative, and the rest.
 fn sign_of(text: &[u8]) -> (bool, &[u8]) {
     match text {
         [b'-', rest @ ..] => (true, rest),
@@ -33,7 +33,7 @@ fn sign_of(text: &[u8]) -> (bool, &[u8]) {
     }
 }
 
-/// A decimal long as INCR takes it: no sign but `-`, no blank, no zero ahead.
+/// Parses a decimal long like INCR: no sign but `-`, no blanks, no leading zeros.
 pub fn long_of(text: &[u8]) -> Option<i64> {
     let (negative, digits) = sign_of(text);
     match digits {
@@ -43,7 +43,7 @@ pub fn long_of(text: &[u8]) -> Option<i64> {
     }
 }
 
-/// The processor's key: the long behind the last `:`, or the whole name. Zeros ahead don't count.
+/// Returns the processor's key: the long after the last `:`, or the whole name. Leading zeros are ignored.
 pub fn key_of(name: &[u8]) -> Option<i64> {
     let place = name.iter().rposition(|byte| *byte == b':').map_or(0, |colon| colon + 1);
     let (negative, digits) = sign_of(name.get(place..)?);
@@ -54,7 +54,7 @@ pub fn key_of(name: &[u8]) -> Option<i64> {
     }
 }
 
-/// An argument: a long, an Integer (digits and `i`), or `null`.
+/// Parses an argument: a long, an Integer (digits and `i`), or `null`.
 pub fn arg_of(word: &[u8]) -> Option<Arg> {
     let of = |kind, value| Arg { kind, unused: 0, value };
     match word {
@@ -69,7 +69,7 @@ pub fn arg_of(word: &[u8]) -> Option<Arg> {
 /// A class's id: the SHA-1 of its file.
 pub type Id = [u8; 20];
 
-/// The value of a hexadecimal digit, `a` to `f` in small letters.
+/// Returns the value of a hexadecimal digit, `a` to `f` in lower case.
 fn digit_of(byte: u8) -> Option<u8> {
     match byte {
         b'0'..=b'9' => Some(byte - b'0'),
@@ -78,7 +78,7 @@ fn digit_of(byte: u8) -> Option<u8> {
     }
 }
 
-/// An id from its forty hexadecimal digits.
+/// Parses an id of forty hexadecimal digits.
 pub fn id_of(text: &[u8]) -> Option<Id> {
     let mut id = Id::default();
     if text.len() != 2 * id.len() {
@@ -93,7 +93,7 @@ pub fn id_of(text: &[u8]) -> Option<Id> {
     Some(id)
 }
 
-/// The forty hexadecimal digits of an id.
+/// Returns the forty hexadecimal digits of an id.
 pub fn digits_of(id: &Id) -> [u8; 40] {
     let mut text = [0; 40];
     for (digits, byte) in text.chunks_exact_mut(2).zip(id) {

@@ -1,4 +1,4 @@
-"""JENTRY.APPLY: a run that tells the entry before and behind it, and sets its time to live."""
+"""Tests JENTRY.APPLY: a run that reports the entry before and after it, and sets its time to live."""
 from commands_test import NO_KEY, OneServer
 from module_test import NO_CLASS
 from servers import row_classes
@@ -35,7 +35,7 @@ class Applied(OneServer):
         self.assertEqual(self.ask("EXISTS", "v:1"), 0)
 
     def times(self, created, updated, accessed, before, argument, mode="do"):
-        """The time to live that is left of one of 100 s, -1 for none, -2 for no entry, and the reply."""
+        """Returns the time to live in ms after an APPLY on an entry that had 100 s (-1 for none, -2 for no entry), and the reply."""
         cas = self.define(self.line, "CompareAndSet")
         self.line.get("DEL", "v:1")
         if before is not None:

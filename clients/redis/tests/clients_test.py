@@ -1,4 +1,4 @@
-"""Clients that we didn't write: redis-cli, and python3-redis on one server and on a cluster."""
+"""Tests third-party clients: redis-cli, and python3-redis on one server and on a cluster."""
 import os
 import subprocess
 import sys
@@ -11,7 +11,7 @@ from servers import EXAMPLES, HERE, PATIENCE
 
 
 def python_with_redis():
-    """A Python that has python3-redis, if there is one."""
+    """Returns a Python interpreter that has python3-redis, or None."""
     for python in (sys.executable, "/usr/bin/python3"):
         if (
             os.path.exists(python)

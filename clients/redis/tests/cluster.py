@@ -1,4 +1,4 @@
-"""A cluster of servers with the module, and a client that follows it."""
+"""A cluster of servers with the module, and a cluster client."""
 import binascii
 import re
 import shutil
@@ -12,13 +12,13 @@ SLOTS = 16_384
 
 
 def slot_of(key):
-    """The slot of a key, or of the tag in its braces."""
+    """Returns the slot of a key, or of the tag in its braces."""
     found = re.search(r"\{([^}]+)\}", key)
     return binascii.crc_hqx((found[1] if found else key).encode(), 0) % SLOTS
 
 
 class Cluster:
-    """Masters, each with the same number of replicas. Behind the `with` all of them are gone."""
+    """Masters, each with the same number of replicas. Leaving the `with` statement removes all of them."""
 
     def __init__(self, masters=3, replicas=1):
         self.nodes = []
@@ -63,7 +63,7 @@ class Cluster:
         return Client([node.port for node in self.nodes if node.process.poll() is None])
 
     def owner(self, slot):
-        """The port and the id of the master of a slot."""
+        """Returns the port and the id of the master of a slot."""
         with self.masters()[0].open() as line:
             for row in line.get("CLUSTER", "SLOTS"):
                 if row[0] <= slot <= row[1]:
@@ -93,11 +93,11 @@ def cli(*words):
 
 
 class NotKnown(Exception):
-    """A connection broke before the reply: whether the call has run is not known."""
+    """Raised if a connection broke before the reply, so it isn't known whether the call has run."""
 
 
 class Client:
-    """Sends each command to the node of its key, and follows MOVED and ASK. It never sends again what may have run."""
+    """Sends each command to the node of its key, and follows MOVED and ASK. It never resends a call that may have run."""
 
     def __init__(self, ports):
         self.ports, self.slots, self.lines = ports, {}, {}
@@ -121,7 +121,7 @@ class Client:
         self.slots = {slot: at for slot, at in self.slots.items() if at != port}
 
     def ask(self, key, *words):
-        """The reply to a command on a key, of the node that has it."""
+        """Sends a command on a key to its node, and returns the reply."""
         until = time.monotonic() + PATIENCE
         turn = 0
         while time.monotonic() < until:

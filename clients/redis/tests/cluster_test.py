@@ -1,4 +1,4 @@
-"""A cluster of three masters with a replica each: definitions, failover, resharding, a new node."""
+"""Tests a cluster of three masters with a replica each: definitions, failover, resharding, a new node."""
 import threading
 import unittest
 
@@ -16,7 +16,7 @@ def ids_at(node):
 
 
 class Counting(threading.Thread):
-    """Adds 1 to keys, one after the other, and counts what was replied and what isn't known. Each reply has to rise."""
+    """Adds 1 to keys in turn, and counts for each key the replies and the calls with an unknown outcome."""
 
     def __init__(self, ports, add, calls, number):
         super().__init__()
@@ -49,7 +49,7 @@ class OneCluster(ModuleTest):
         wait_for(lambda: all(ids_at(node) == [self.add] for node in self.cluster.nodes), "the class at all six nodes")
 
     def count(self, calls, during):
-        """Counts by eight clients while something happens. The sums of what was replied and of what isn't known, and those in the keys."""
+        """Counts with eight clients during an action. Returns the sums of the replies, of the unknown outcomes, and of the keys."""
         ports = [node.port for node in self.cluster.nodes]
         threads = [Counting(ports, self.add, calls, number) for number in range(CLIENTS)]
         for thread in threads:

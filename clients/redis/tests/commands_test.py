@@ -1,4 +1,4 @@
-"""The commands on one server: replies and errors, each to the byte."""
+"""Tests the commands on one server, with the exact bytes of replies and errors."""
 import hashlib
 import os
 import random
@@ -311,7 +311,7 @@ class Runs(OneServer):
 
 
 def returns_key():
-    """A class that returns its key."""
+    """Returns the file of a class that returns its key."""
     rows = row_classes()
     get_key = [
         rows.utf8(b"getKey"),
@@ -326,7 +326,7 @@ def random_number():
 
 
 def random_call():
-    """A key, an entry, and arguments."""
+    """Returns a random key, entry and arguments."""
     words = [
         random.choice([str(random_number()), str(random_number()), f"{random.randrange(2**31)}i", "null"])
         for _ in range(random.randrange(4))
@@ -335,7 +335,7 @@ def random_call():
 
 
 def lines_of(told, entry):
-    """The lines that `jentry run` prints of what DETAIL replied and what the entry is. Of a run that threw no steps are told."""
+    """Returns the lines that `jentry run` prints for a reply of DETAIL and the entry. The steps of a run that threw aren't reported."""
     value = "none" if entry is None else entry.decode()
     if isinstance(told, ReplyError):
         return str(told).replace("THREW", "threw") + f"\nvalue {value}\n"

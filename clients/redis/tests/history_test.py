@@ -1,4 +1,4 @@
-"""A random history of plain commands and runs, by several clients on few keys: for each key there has to be an order that real time allows."""
+"""Tests a random history of plain commands and runs, by several clients on few keys: the calls on each key must be linearizable."""
 import os
 import random
 import threading
@@ -10,13 +10,13 @@ CLIENTS, KEYS, EACH = 8, 4, int(os.environ.get("JENTRY_HISTORY", 250))
 
 
 class Call:
-    """A call on a key: its command, when it began and ended, and its reply."""
+    """A call on a key: its command, its start and end time, and its reply."""
 
     def __init__(self, kind, argument):
         self.kind, self.argument, self.begin, self.end, self.told = kind, argument, 0, 0, None
 
     def after(self, value):
-        """What the entry is behind the call on this value, and what is to be replied."""
+        """Returns the entry and the reply after a call on this value."""
         if self.kind == "GET":
             return value, None if value is None else b"%d" % value
         if self.kind == "SET":
@@ -33,7 +33,7 @@ class Call:
 
 
 def has_order(calls, start=None):
-    """Whether the calls on one key, of which each client had one at a time, have an order that real time allows and that explains each reply."""
+    """Returns whether the calls on one key are linearizable. Each client made one call at a time."""
     by_client = list(calls.values())
     seen = set()
     stack = [((0,) * len(by_client), start)]

@@ -1,4 +1,4 @@
-"""What the tests of the module share."""
+"""Shared base of the tests of the module."""
 import hashlib
 import unittest
 
@@ -18,12 +18,12 @@ NO_CLASS = "NOCLASS no class of this id here: JENTRY.DEFINE it"
 @unittest.skipIf(LACKS, LACKS)
 class ModuleTest(unittest.TestCase):
     def fails(self, told, text):
-        """Whether a reply is an error with just this text."""
+        """Checks that a reply is an error with exactly this text."""
         self.assertIsInstance(told, ReplyError, told)
         self.assertEqual(str(told), text)
 
     def define(self, line, name):
-        """Defines an example. Its id."""
+        """Defines an example, and returns its id."""
         file = class_file(name)
         told = line.get("JENTRY.DEFINE", file)
         self.assertEqual(told[0].decode(), hashlib.sha1(file).hexdigest())

@@ -1,4 +1,4 @@
-"""The pages: what README and docs/REDIS.md have a reader paste runs, and prints what they say, on servers with ports of their own."""
+"""Tests that the commands in README and docs/REDIS.md run and print what the pages show, on servers with ports of their own."""
 import os
 import re
 import shutil
@@ -20,13 +20,13 @@ NODES = range(1, 7)
 
 
 def blocks(page):
-    """The fenced blocks of a page."""
+    """Returns the fenced blocks of a page."""
     with open(os.path.join(TOP, page), encoding="utf-8") as file:
         return re.findall(r"^```\n(.*?)^```$", file.read(), re.MULTILINE | re.DOTALL)
 
 
 def steps(block):
-    """The commands of a session, each with what it prints."""
+    """Returns the commands of a session, each with its output."""
     return [
         (command, "".join(line + "\n" for line in printed.splitlines()))
         for command, printed in re.findall(r"^\$ (.*)\n((?:[^$].*\n|\n)*)", block, re.MULTILINE)
@@ -34,12 +34,12 @@ def steps(block):
 
 
 def start_of_the_page():
-    """The session that docs/REDIS.md begins with."""
+    """Returns the first session of docs/REDIS.md."""
     return next(steps(block) for block in blocks("docs/REDIS.md") if block.startswith("$ redis-cli"))
 
 
 def shell(text):
-    """What a text prints as bash runs it at the top of the repository; its status has to be 0."""
+    """Runs a text with bash at the top of the repository, and returns its output. The status must be 0."""
     done = subprocess.run(
         ["bash", "-e", "-c", text],
         cwd=TOP,
@@ -56,7 +56,7 @@ def shell(text):
 
 
 def as_on_a_terminal(text, port=None):
-    """The same commands; redis-cli prints to a pipe as it does to a terminal, and asks the server at a port."""
+    """Changes the commands so that redis-cli prints to a pipe as it does to a terminal, and connects to the server at this port."""
     return text.replace("redis-cli", f"{CLI} --no-raw" + (f" -p {port}" if port else ""))
 
 
@@ -98,7 +98,7 @@ class Pages(OneServer):
 
 
 def free_ports():
-    """What six ports, and those of their cluster buses, begin with where all of them are free."""
+    """Returns the common first digits of six ports that are free, together with the ports of their cluster buses."""
     for first in range(PORTS[0] // 10 + os.getpid() % 1000, PORTS[-1] // 10):
         if all(is_free(10 * first + node) and is_free(10 * first + node + BUS) for node in NODES):
             return str(first)

@@ -1,4 +1,4 @@
-"""Classes and values over restarts, in replicas, and what their files and streams hold."""
+"""Tests classes and values across restarts and in replicas, and the contents of their files and streams."""
 import os
 import re
 
@@ -12,7 +12,7 @@ def ids_of(line):
 
 class Restarts(ModuleTest):
     def fill(self, line):
-        """Two classes, of three that were defined, and a value."""
+        """Defines three classes, removes one of them, and sets a value."""
         add, plus, gone = self.define(line, "Add"), self.define(line, "Plus"), self.define(line, "Ratio")
         line.get("JENTRY.FORGET", gone)
         line.get("JENTRY.INVOKE", add, "v:1", 41)
@@ -101,7 +101,7 @@ class Restarts(ModuleTest):
 
 
 def rewrite(line):
-    """Has the AOF rewritten."""
+    """Rewrites the AOF."""
     wait_for(lambda: line.info("persistence")["aof_rewrite_in_progress"] == "0", "an earlier rewrite")
     line.get("BGREWRITEAOF")
     wait_for(
@@ -180,7 +180,7 @@ class Replicas(ModuleTest):
             self.assertEqual(ids_of(other), [add])
 
     def test_what_is_sent(self):
-        """Replicas are sent plain commands: never a call of a processor, and nothing of one that leaves the entry."""
+        """Replicas receive plain commands: never a call of a processor, and nothing for a run that leaves the entry unchanged."""
         with Server() as server, server.open() as line, server.open() as watcher:
             watcher.line.settimeout(30)
             add, cas = self.define(line, "Add"), self.define(line, "CompareAndSet")

@@ -1,6 +1,6 @@
-"""Random commands with random words, and hostile classes: the server stays up, and what it replies is a reply.
+"""Sends random commands with random arguments, and hostile classes: the server stays up, and every reply is valid.
 
-JENTRY_RANDOM is how many commands are sent.
+JENTRY_RANDOM is the number of commands.
 """
 import os
 import random
@@ -33,7 +33,7 @@ LEAST, MOST = -(2**63), 2**63 - 1
 
 
 def damaged(file, chosen):
-    """A class file with some bytes changed, cut or repeated."""
+    """Returns a class file with some bytes changed, removed or repeated."""
     file = bytearray(file)
     for _ in range(chosen.randrange(4)):
         place = chosen.randrange(len(file)) if file else 0
@@ -50,7 +50,7 @@ def damaged(file, chosen):
 
 
 class Words:
-    """Random words for each place of a command, most of them nearly right."""
+    """Random arguments for each position of a command, most of them almost valid."""
 
     def __init__(self, seed):
         self.chosen = random.Random(seed)
@@ -147,7 +147,7 @@ class RandomCommands(ModuleTest):
             self.assertNotIn("AddressSanitizer", server.log())
 
     def judge(self, server, line, name, file):
-        """Has a class explained and defined, and run where it is accepted. The processor's seconds of the longest."""
+        """Explains, defines and, if accepted, runs a class. Returns the CPU seconds of the slowest of these commands."""
         longest, words = 0, [("JENTRY.EXPLAIN", file), ("JENTRY.DEFINE", file)]
         for command in words:
             before = server.processor_seconds()
@@ -175,7 +175,7 @@ class RandomCommands(ModuleTest):
 
 
 def costly_classes():
-    """Classes of 64 KB, each of which repeats one part of a class as often as it can."""
+    """Yields classes of 64 KB, each of which repeats one part of a class as often as possible."""
     with tempfile.TemporaryDirectory(prefix="jentry-costly-") as folder:
         subprocess.run(
             [sys.executable, "-B", os.path.join(EXAMPLES, "costly.py"), "--only-write", folder],
@@ -188,7 +188,7 @@ def costly_classes():
 
 
 def hostile_classes():
-    """Classes of up to 64 KB that are dear to read or to judge."""
+    """Yields classes of up to 64 KB that are expensive to parse or to verify."""
     rows = row_classes()
     yield "most bytes", class_file("Plus") + bytes(65_536 - len(class_file("Plus")))
     yield "too many bytes", class_file("Plus") + bytes(65_537 - len(class_file("Plus")))

@@ -1,4 +1,4 @@
-"""A program on python3-redis, which defines a class where a node says that it lacks. `redis_client.py one|cluster PORT CLASS`"""
+"""A program that uses python3-redis, and defines a class if a node lacks it. `redis_client.py one|cluster PORT CLASS`"""
 import hashlib
 import logging
 import sys
@@ -11,13 +11,13 @@ logging.disable(logging.CRITICAL)  # a RedisCluster logs each error with a trace
 
 
 class Jentry:
-    """Processors at a server or a cluster."""
+    """Processors on a server or a cluster."""
 
     def __init__(self, server):
         self.server, self.files = server, {}
 
     def processor(self, file):
-        """The id of a class, which is sent where a node asks for it."""
+        """Returns the id of a class, and keeps its file for a node that lacks it."""
         name = hashlib.sha1(file).hexdigest()
         self.files[name] = file
         return name

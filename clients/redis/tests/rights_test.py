@@ -1,11 +1,11 @@
-"""Users' rights: commands by their names, keys by patterns, reading apart from writing."""
+"""Tests access rights: commands by name, keys by pattern, and read rights apart from write rights."""
 from commands_test import OneServer
 from servers import class_file
 
 
 class Rights(OneServer):
     def user(self, *rules):
-        """A connection of a user with these rules."""
+        """Returns a connection of a user with these rules."""
         self.line.get("ACL", "SETUSER", "one", "reset", "on", "nopass", *rules)
         other = self.server.open()
         self.addCleanup(other.close)

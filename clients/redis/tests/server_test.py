@@ -1,4 +1,4 @@
-"""What Redis does around a run: transactions, scripts, expiry, events, eviction, replicas, limits."""
+"""Tests runs together with other features of Redis: transactions, scripts, expiry, events, eviction, replicas, limits."""
 import os
 import shutil
 import subprocess
@@ -118,13 +118,13 @@ class Around(OneServer):
 
 
 class Looks(OneServer):
-    """On Redis 7.0 an integer is read where it lies, once GET has confirmed 64 looks; all else is read by GET."""
+    """On Redis 7.0 an integer is read directly after GET has confirmed 64 direct reads; everything else is read by GET."""
 
     def gets(self):
         return int(self.line.info("commandstats").get("cmdstat_get", "calls=0").split(",")[0].split("=")[1])
 
     def add_to(self, values):
-        """What the runs of Add on entries with these values leave, and how often GET was called for them."""
+        """Runs Add on entries with these values, and returns the new values and the number of GETs."""
         for number, value in enumerate(values):
             self.line.get("SET", f"v:{number}", value)
         before = self.gets()

@@ -1,7 +1,7 @@
-"""Redis servers with the module, on ports of their own, and a connection that speaks RESP.
+"""Redis servers with the module on their own ports, and a connection that speaks RESP.
 
-JENTRY_REDIS_MODULE names the built module, JENTRY_PROGRAM the built `jentry`, if it is there. JENTRY_PRELOAD is a library that servers are
-started with, as that of an address sanitizer with which the module was built.
+JENTRY_REDIS_MODULE names the built module, and JENTRY_PROGRAM the built `jentry`, if there is one. JENTRY_PRELOAD is a library to preload
+into the servers, such as the runtime of the address sanitizer with which the module was built.
 """
 import importlib
 import os
@@ -28,7 +28,7 @@ BUS = 10_000
 
 
 class ReplyError(Exception):
-    """An error that a server replied."""
+    """An error reply of a server."""
 
 
 def is_free(port):
@@ -41,7 +41,7 @@ def is_free(port):
 
 
 def free_port():
-    """A port that nobody listens on, and neither on that of its cluster bus."""
+    """Returns a free port such that the port of its cluster bus is free too."""
     for _ in range(1000):
         port = random.choice(PORTS)
         if is_free(port) and is_free(port + BUS):
@@ -54,7 +54,7 @@ def bytes_of(word):
 
 
 class Connection:
-    """A connection to a server. Texts are bytes, and an error is a ReplyError that `ask` gives and doesn't raise."""
+    """A connection to a server. Texts are bytes; `ask` returns an error reply as a ReplyError and doesn't raise it."""
 
     def __init__(self, port):
         self.port = port
@@ -77,7 +77,7 @@ class Connection:
         self.line.sendall(b"*%d\r\n" % len(words) + b"".join(b"$%d\r\n%s\r\n" % (len(word), word) for word in words))
 
     def take(self):
-        """The next reply."""
+        """Reads and returns the next reply."""
         head = self.file.readline()
         if not head.endswith(b"\r\n"):
             raise EOFError("the server closed the connection")
@@ -103,20 +103,20 @@ class Connection:
         return self.take()
 
     def get(self, *words):
-        """The same for a command that has to be done."""
+        """Sends a command like `ask`, but raises an error reply."""
         told = self.ask(*words)
         if isinstance(told, ReplyError):
             raise told
         return told
 
     def info(self, section):
-        """The fields of a section of INFO."""
+        """Returns the fields of a section of INFO."""
         lines = self.get("INFO", section).decode().splitlines()
         return dict(line.split(":", 1) for line in lines if ":" in line)
 
 
 class Server:
-    """A redis-server with the module. Behind the `with` it is gone, and so is its folder."""
+    """A redis-server with the module. Leaving the `with` statement ends it and deletes its folder."""
 
     def __init__(self, *options, module=True, arguments=()):
         self.options, self.module, self.arguments = options, module, arguments
@@ -130,7 +130,7 @@ class Server:
             raise
 
     def start(self):
-        """Starts it, anew where it has ended, with the files that it left."""
+        """Starts the server, or restarts it with its files."""
         words = [
             REDIS,
             "--port",
@@ -172,12 +172,12 @@ class Server:
         return Connection(self.port)
 
     def processor_seconds(self):
-        """What the main thread, which runs all commands, has taken of a processor so far."""
+        """Returns the CPU seconds of the main thread so far, which runs all commands."""
         with open(f"/proc/{self.process.pid}/task/{self.process.pid}/schedstat", encoding="ascii") as file:
             return int(file.read().split()[0]) / 1e9
 
     def end(self, by="terminate"):
-        """Ends it: by a signal that it handles, or by `kill`."""
+        """Ends the server: with a signal that it handles, or with `kill`."""
         if self.process and self.process.poll() is None:
             getattr(self.process, by)()
             self.process.wait(PATIENCE)
@@ -195,7 +195,7 @@ class Server:
 
 
 def wait_for(holds, what, more=lambda: "", seconds=PATIENCE):
-    """Waits until something holds."""
+    """Waits until a condition holds; raises TimeoutError after `seconds`."""
     until = time.monotonic() + seconds
     while not holds():
         if time.monotonic() > until:
@@ -204,18 +204,18 @@ def wait_for(holds, what, more=lambda: "", seconds=PATIENCE):
 
 
 def path_of(name):
-    """The path of the class file of an example, or of a refused one, `refused/NAME`."""
+    """Returns the path of the class file of an example, or of a refused one (`refused/NAME`)."""
     return os.path.join(EXAMPLES, name + ".class")
 
 
 def class_file(name):
-    """The class file of an example, or of a refused one."""
+    """Returns the class file of an example, or of a refused one."""
     with open(path_of(name), "rb") as file:
         return file.read()
 
 
 def row_classes():
-    """The module that makes the classes of the program's tests."""
+    """Returns the Python module that generates the classes of the program's tests."""
     folder = os.path.join(HERE, "../../../tests/program")
     if folder not in sys.path:
         sys.path.append(folder)
@@ -223,13 +223,13 @@ def row_classes():
 
 
 def examples(folder=""):
-    """The names of all examples of a folder."""
+    """Returns the names of all examples of a folder."""
     names = sorted(os.listdir(os.path.join(EXAMPLES, folder)))
     return [os.path.join(folder, name[:-6]) for name in names if name.endswith(".class")]
 
 
 def program(*words):
-    """What `jentry` prints of these words."""
+    """Runs `jentry` with these arguments, and returns its output."""
     done = subprocess.run(
         [PROGRAM, *map(str, words)], stdout=subprocess.PIPE, stderr=subprocess.STDOUT, text=True, timeout=PATIENCE
     )

@@ -1,4 +1,4 @@
-"""What INFO counts, and the setting of the most steps of a class."""
+"""Tests the counts of INFO, and the setting for the maximum number of steps of a class."""
 from commands_test import OneServer
 from module_test import ModuleTest
 from servers import ReplyError, Server, class_file
@@ -47,7 +47,7 @@ class Counted(OneServer):
 
 
 def told_steps(told):
-    """The steps of the two runs that threw."""
+    """Returns the total steps of the two runs that threw."""
     return told["jentry_steps_total"] - 23 - 29
 
 

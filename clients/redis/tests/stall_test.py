@@ -1,4 +1,4 @@
-"""The longest time that a class at `max-steps` holds other clients up."""
+"""Measures the longest time that a class at `max-steps` delays other clients."""
 import os
 import sys
 import threading

@@ -1,4 +1,4 @@
-"""On Redis 7.0 the integer of an entry is written where it lies, with all that a SET does beside."""
+"""On Redis 7.0 the integer of an entry is written in place, with all other effects of a SET."""
 import glob
 import os
 import unittest
@@ -26,14 +26,14 @@ class Writes(OneServer):
         return int(self.line.info("commandstats")["cmdstat_set"].split(",")[0].split("=")[1])
 
     def sets_of(self, runs, key="v:1"):
-        """How many SETs these runs of Add on an entry call."""
+        """Runs Add on an entry, and returns the number of SETs that this caused."""
         before = self.sets()
         for _ in range(runs):
             self.line.get("JENTRY.INVOKE", self.add, key, 1)
         return self.sets() - before
 
     def held(self, key="v:1"):
-        """The value of an entry, its encoding, and how many hold its object."""
+        """Returns the value of an entry, its encoding, and the reference count of its object."""
         return [self.ask("GET", key), self.ask("OBJECT", "ENCODING", key), self.ask("OBJECT", "REFCOUNT", key)]
 
     def test_an_integer_of_its_own(self):
@@ -133,7 +133,7 @@ class Writes(OneServer):
 
 
 def listener_id(line):
-    """The id of the client that has subscribed."""
+    """Returns the id of the client that has subscribed."""
     clients = [
         dict(word.split("=", 1) for word in row.split()) for row in line.get("CLIENT", "LIST").decode().splitlines()
     ]
@@ -141,7 +141,7 @@ def listener_id(line):
 
 
 class Written(Writes):
-    """What the AOF and a replica get of it. (The tests of one server run on one with an AOF, too.)"""
+    """Tests what the AOF and a replica receive. The tests of Writes run again on a server with an AOF."""
 
     @classmethod
     def setUpClass(cls):
@@ -149,7 +149,7 @@ class Written(Writes):
         cls.addClassCleanup(cls.server.__exit__)
 
     def run_all(self):
-        """Runs on entries of every kind. Their values."""
+        """Runs Add on entries of every kind. Returns the keys and their values."""
         self.line.get("MSET", "v:1", 5, "v:2", 20_000, "v:3", 5)
         self.line.get("SET", "v:4", 20_000, "PX", 100_000)
         for number in range(1, 6):
@@ -164,14 +164,14 @@ class Written(Writes):
         return keys, values
 
     def logged(self, *words):
-        """The commands that the AOF gets while one runs."""
+        """Runs a command, and returns its reply and the commands that it wrote to the AOF."""
         [path] = glob.glob(os.path.join(self.server.folder, "appendonlydir", "*.incr.aof"))
         before = os.path.getsize(path)
         told = self.line.get(*words)
         with open(path, "rb") as file:
             file.seek(before)
             lines = file.read().split(b"\r\n")
-        # A command is its count of words, and for each its length and itself.
+        # A command is the number of its arguments, then the length and the bytes of each.
         heads = [place for place, line in enumerate(lines) if line.startswith(b"*")]
         return told, [lines[head + 2 : head + 2 + 2 * int(lines[head][1:]) : 2] for head in heads]
 
@@ -180,7 +180,7 @@ class Written(Writes):
         for keep in ([], [b"KEEPTTL"]):
             self.line.get("SET", "v:1", 20_000, *(["PX", 100_000] if keep else []))
             self.assertEqual(self.logged("JENTRY.INVOKE", plus, "v:1"), (20_001, [[b"SET", b"v:1", b"20001", *keep]]))
-            # A SET of as many words as the command costs least, and KEEPTTL keeps what there is none of.
+            # A SET with as many arguments as the command costs least; KEEPTTL has no effect on an entry without a time to live.
             self.assertEqual(
                 self.logged("JENTRY.INVOKE", self.add, "v:1", 1), (20_002, [[b"SET", b"v:1", b"20002", b"KEEPTTL"]])
             )

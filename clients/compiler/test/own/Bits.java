@@ -56,7 +56,7 @@ public class Bits {
         }
     }
 
-    /** Where the bits of the value stand that are set, packed as bytes, at most eight. */
+    /** The positions of the value's set bits, packed as bytes, at most eight. */
     public static class Positions implements EntryProcessor<Long, Long, Long> {
         public Long process(MutableEntry<Long, Long> entry, Object... arguments) {
             long value = entry.exists() ? entry.getValue() : 0;
@@ -121,7 +121,7 @@ public class Bits {
         }
     }
 
-    /** A Gray code, and back again. */
+    /** The Gray code of the key, decoded again as a check. */
     public static class Gray implements EntryProcessor<Long, Long, Long> {
         public Long process(MutableEntry<Long, Long> entry, Object... arguments) {
             long gray = entry.getKey() ^ entry.getKey() >>> 1;

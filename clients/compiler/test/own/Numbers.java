@@ -1,9 +1,9 @@
 import javax.cache.processor.EntryProcessor;
 import javax.cache.processor.MutableEntry;
 
-/** Processors that reckon. */
+/** Processors that do arithmetic. */
 public class Numbers {
-    /** Euclid's greatest common divisor, with a bound on its passes. */
+    /** Euclid's greatest common divisor, with a limit on the iterations. */
     public static class Gcd implements EntryProcessor<Long, Long, Long> {
         public Long process(MutableEntry<Long, Long> entry, Object... arguments) {
             long a = Math.abs(entry.getKey());
@@ -50,7 +50,7 @@ public class Numbers {
         }
     }
 
-    /** A power by repeated squares, whose exponent ends the loop after a mask. */
+    /** A power by repeated squaring; the exponent is masked and ends the loop. */
     public static class SmallPower implements EntryProcessor<Long, Long, Long> {
         public Long process(MutableEntry<Long, Long> entry, Object... arguments) {
             long base = entry.getKey();
@@ -63,7 +63,7 @@ public class Numbers {
         }
     }
 
-    /** Collatz's steps to one, at most 60. */
+    /** The number of Collatz steps to one, at most 60. */
     public static class Collatz implements EntryProcessor<Long, Long, Integer> {
         public Integer process(MutableEntry<Long, Long> entry, Object... arguments) {
             long n = (entry.getKey() & 0xFFFFF) + 1;
@@ -127,7 +127,7 @@ public class Numbers {
         }
     }
 
-    /** An average in which a division by zero counts as nothing. */
+    /** The average of the arguments, or the key if there are none (by a division by zero). */
     public static class Average implements EntryProcessor<Long, Long, Long> {
         public Long process(MutableEntry<Long, Long> entry, Object... arguments) {
             long sum = 0;
@@ -146,7 +146,7 @@ public class Numbers {
         }
     }
 
-    /** A sum that is cut off where it overflows. */
+    /** A sum that saturates instead of overflowing. */
     public static class Saturating implements EntryProcessor<Long, Long, Long> {
         public Long process(MutableEntry<Long, Long> entry, Object... arguments) {
             long sum = entry.exists() ? entry.getValue() : 0;
@@ -163,7 +163,7 @@ public class Numbers {
         }
     }
 
-    /** A polynomial by Horner's rule, its coefficients a constant of the instance. */
+    /** A polynomial by Horner's rule, with the coefficients in a constant of the instance. */
     public static class Horner implements EntryProcessor<Long, Long, Long> {
         private final long[] coefficients = {3, -5, 0, 7, 11};
         private final long shift = 100;

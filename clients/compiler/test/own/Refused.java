@@ -1,9 +1,9 @@
 import javax.cache.processor.EntryProcessor;
 import javax.cache.processor.MutableEntry;
 
-/** Processors that stay refused. */
+/** Processors that the compiler refuses. */
 public class Refused {
-    /** A loop that only the data end. */
+    /** A loop that ends depending on the data only. */
     public static class Endless implements EntryProcessor<Long, Long, Integer> {
         public Integer process(MutableEntry<Long, Long> entry, Object... arguments) {
             int count = 0;
@@ -16,7 +16,7 @@ public class Refused {
         }
     }
 
-    /** A loop up to a number that the caller hands over. */
+    /** A loop up to a number that the caller passes. */
     public static class AsTold implements EntryProcessor<Long, Long, Long> {
         public Long process(MutableEntry<Long, Long> entry, Object... arguments) {
             long sum = 0;
@@ -28,7 +28,7 @@ public class Refused {
         }
     }
 
-    /** A table of a length that the caller hands over. */
+    /** An array with a length that the caller passes. */
     public static class Variable implements EntryProcessor<Long, Long, Long> {
         public Long process(MutableEntry<Long, Long> entry, Object... arguments) {
             long[] values = new long[arguments.length];

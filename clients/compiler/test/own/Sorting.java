@@ -29,7 +29,7 @@ public class Sorting {
         }
     }
 
-    /** Bubble sort of the value's bytes, ended early. */
+    /** Bubble sort of the value's bytes, with an early exit. */
     public static class Bubble implements EntryProcessor<Long, Long, Long> {
         public Long process(MutableEntry<Long, Long> entry, Object... arguments) {
             long[] bytes = new long[8];
@@ -62,7 +62,7 @@ public class Sorting {
         }
     }
 
-    /** The median by the library's sort. */
+    /** The median, with Arrays.sort. */
     public static class LibrarySort implements EntryProcessor<Long, Long, Long> {
         public Long process(MutableEntry<Long, Long> entry, Object... arguments) {
             long[] values = new long[5];
@@ -127,7 +127,7 @@ public class Sorting {
         }
     }
 
-    /** The least and the greatest argument, as a difference; labels. */
+    /** The difference of the greatest and the least argument; uses labels. */
     public static class Spread implements EntryProcessor<Long, Long, Long> {
         public Long process(MutableEntry<Long, Long> entry, Object... arguments) {
             long least = Long.MAX_VALUE;
@@ -164,7 +164,7 @@ public class Sorting {
         }
     }
 
-    /** Levenshtein's distance of two words of four bytes. */
+    /** The Levenshtein distance of two words of four bytes. */
     public static class Distance implements EntryProcessor<Long, Long, Integer> {
         public Integer process(MutableEntry<Long, Long> entry, Object... arguments) {
             long a = entry.getKey();

@@ -28,7 +28,7 @@ public class Windows {
         }
     }
 
-    /** A sliding window of eight counters of a byte. */
+    /** A sliding window of eight one-byte counters. */
     public static class Sliding implements EntryProcessor<Long, Long, Integer> {
         public Integer process(MutableEntry<Long, Long> entry, Object... arguments) {
             long window = entry.exists() ? entry.getValue() : 0;
@@ -88,7 +88,7 @@ public class Windows {
         }
     }
 
-    /** Votes: arguments that are equal to the value. */
+    /** Votes: counts the arguments that are equal to the value. */
     public static class Votes implements EntryProcessor<Long, Long, Integer> {
         public Integer process(MutableEntry<Long, Long> entry, Object... arguments) {
             int votes = 0;
@@ -101,7 +101,7 @@ public class Windows {
         }
     }
 
-    /** Sets the value, and answers nothing. */
+    /** Sets the value to the largest of itself and the arguments, and returns null. */
     public static class Largest implements EntryProcessor<Long, Long, Void> {
         public Void process(MutableEntry<Long, Long> entry, Object... arguments) {
             Long largest = entry.getValue();
@@ -147,7 +147,7 @@ public class Windows {
         }
     }
 
-    /** An xorshift generator, some steps on, by a switch in a loop. */
+    /** An xorshift generator advanced by several steps, with a switch in a loop. */
     public static class Shifts implements EntryProcessor<Long, Long, Long> {
         public Long process(MutableEntry<Long, Long> entry, Object... arguments) {
             long x = entry.getKey() | 1;
@@ -168,7 +168,7 @@ public class Windows {
         }
     }
 
-    /** A lock with slots of four bits: the first that is free. */
+    /** A lock with slots of four bits: returns the first free one. */
     public static class Slots implements EntryProcessor<Long, Long, Integer> {
         public Integer process(MutableEntry<Long, Long> entry, Object... arguments) {
             long slots = entry.exists() ? entry.getValue() : 0;
@@ -198,7 +198,7 @@ public class Windows {
         }
     }
 
-    /** Counters that are kept while a limit that the arguments give, at most 12, isn't reached. */
+    /** A sum by a loop whose limit depends on the number of arguments and is at most 12. */
     public static class Limited implements EntryProcessor<Long, Long, Long> {
         public Long process(MutableEntry<Long, Long> entry, Object... arguments) {
             int limit = Math.min(arguments.length * 2, 12);

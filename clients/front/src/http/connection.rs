@@ -1,18 +1,18 @@
-//! An HTTP connection: bytes in, bytes out, and how long it may take.
+//! An HTTP connection: its input, its output, and its time limits.
 
 use super::request::{parse, Route, LONGEST};
 use mio::net::TcpStream;
 use std::io::{self, Read, Write};
 use std::time::{Duration, Instant};
 
-/// How long a request may take from its connection's last answer or its own first byte, and an
-/// answer from its beginning.
+/// The time limit of a request, from the last reply or from its own first byte, and of a reply from
+/// its start.
 const PATIENCE: Duration = Duration::from_secs(10);
 
-/// How long a connection may wait with its next request.
+/// How long a connection may be idle before its next request.
 const KEEP_ALIVE: Duration = Duration::from_secs(120);
 
-/// An answer: its status line, its headers without the length, and its body.
+/// A response: its status line, its headers without the length, and its body.
 pub struct Response {
     pub status: &'static str,
     pub headers: &'static str,
@@ -25,16 +25,16 @@ pub struct Connection {
     input: Vec<u8>,
     output: Vec<u8>,
     written: usize,
-    /// When it last asked for something or was answered.
+    /// The time of its last request or response.
     active: Instant,
-    /// Whether a whole request has been answered already.
+    /// Whether it has already got a complete response.
     was_answered: bool,
     is_watching: bool,
     closes: bool,
 }
 
 impl Connection {
-    /// A connection that has asked for nothing yet.
+    /// Creates a connection without requests.
     pub fn new(stream: TcpStream) -> Connection {
         Connection {
             stream,
@@ -48,17 +48,17 @@ impl Connection {
         }
     }
 
-    /// Whether it gets events.
+    /// Returns whether it receives events.
     pub fn is_watching(&self) -> bool {
         self.is_watching
     }
 
-    /// When it last asked for something or was answered.
+    /// Returns the time of its last request or response.
     pub fn active(&self) -> Instant {
         self.active
     }
 
-    /// Whether it took longer than it may.
+    /// Returns whether it has exceeded its time limit.
     pub fn is_late(&self) -> bool {
         let is_idle = self.was_answered && self.input.is_empty() && !self.is_writing();
         let patience = if is_idle { KEEP_ALIVE } else { PATIENCE };
@@ -69,8 +69,8 @@ impl Connection {
         self.written < self.output.len()
     }
 
-    /// Writes and reads as far as the socket is ready. Gives what is asked for, once it is. An
-    /// error is the connection's end.
+    /// Writes and reads as far as the socket is ready. Returns the request once it is complete. An
+    /// error ends the connection.
     pub fn on_ready(&mut self) -> io::Result<Option<Route>> {
         self.write()?;
         loop {
@@ -91,13 +91,13 @@ impl Connection {
         }
     }
 
-    /// Reads once. True where something was read.
+    /// Reads once. Returns false if nothing has arrived.
     fn read(&mut self) -> io::Result<bool> {
         let mut buffer = [0; LONGEST];
         let room = LONGEST - self.input.len().min(LONGEST - 1);
         match self.stream.read(&mut buffer[..room]) {
             Ok(0) => Err(io::ErrorKind::UnexpectedEof.into()),
-            // A watcher has nothing more to say.
+            // A connection that receives events must not send anything more.
             Ok(_) if self.is_watching => Err(io::ErrorKind::InvalidData.into()),
             Ok(count) => {
                 if self.was_answered && self.input.is_empty() {
@@ -112,7 +112,7 @@ impl Connection {
         }
     }
 
-    /// Writes as far as the socket is ready. An error is the connection's end.
+    /// Writes as far as the socket is ready. An error ends the connection.
     pub fn write(&mut self) -> io::Result<()> {
         while self.is_writing() {
             match self.stream.write(&self.output[self.written..]) {
@@ -131,7 +131,7 @@ impl Connection {
         Ok(())
     }
 
-    /// Answers. What the socket doesn't take yet is written once it is ready.
+    /// Sends a response. What the socket doesn't accept now is written when it is ready.
     pub fn respond(&mut self, response: &Response, is_head: bool) {
         let connection = if self.closes { "close" } else { "keep-alive" };
         let head = format!(
@@ -149,7 +149,7 @@ impl Connection {
         self.active = Instant::now();
     }
 
-    /// Begins a stream of events, which ends with the connection.
+    /// Starts a stream of events, which ends with the connection.
     pub fn watch(&mut self, event: &str) {
         let head = "HTTP/1.1 200 OK\r\nContent-Type: text/event-stream\r\n\
                     Cache-Control: no-store\r\nX-Content-Type-Options: nosniff\r\n\
@@ -160,7 +160,7 @@ impl Connection {
         self.active = Instant::now();
     }
 
-    /// Sends an event, unless one before hasn't been taken. An error is the connection's end.
+    /// Sends an event, unless an earlier one is still being written. An error ends the connection.
     pub fn tell(&mut self, event: &str) -> io::Result<()> {
         self.write()?;
         if !self.is_writing() {

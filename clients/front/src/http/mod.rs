@@ -1,8 +1,8 @@
-//! The operator's side: `/metrics`, `/healthz` and a page, on a thread of its own.
+//! The operator's interface: `/metrics`, `/healthz` and a page, on a separate thread.
 //!
-//! Whoever connects here can hold up neither calls nor memory: there are at most
-//! [`MOST_CONNECTIONS`], each with a limit of bytes and of time. Where there are as many, the one
-//! that has been silent for longest makes room for a new one.
+//! HTTP clients can't delay calls or exhaust memory: there are at most [`MOST_CONNECTIONS`], each
+//! with a limit of bytes and of time. If the limit is reached, a new connection replaces the one
+//! that has been idle longest.
 
 mod connection;
 mod page;
@@ -24,13 +24,14 @@ use std::thread;
 use std::time::{Duration, Instant};
 use watch::Watch;
 
-/// The most HTTP connections at a time.
+/// The maximum number of HTTP connections at a time.
 pub const MOST_CONNECTIONS: usize = 64;
 
-/// The most of them that watch the page.
+/// The maximum number of connections that receive the events of the page.
 const MOST_WATCHERS: usize = 16;
 
-/// The most connections that are accepted before others have their turn, and the pause after that.
+/// The maximum number of connections that are accepted before others are served, and the pause
+/// after that.
 const ACCEPTS: usize = 32;
 const ACCEPT_PAUSE: Duration = Duration::from_millis(20);
 
@@ -40,7 +41,7 @@ const TICK: Duration = Duration::from_secs(1);
 /// The event loop is asked for its counts at most once in this time.
 const REFRESH_PAUSE: Duration = Duration::from_millis(20);
 
-/// How long the HTTP thread waits for the event loop, which answers between two reads.
+/// How long the HTTP thread waits for the event loop, which responds between two reads.
 const REFRESH_PATIENCE: Duration = Duration::from_millis(300);
 
 const LISTENER: Token = Token(0);
@@ -51,20 +52,21 @@ const FIRST_CONNECTION: usize = 2;
 struct Server {
     poll: Poll,
     listener: TcpListener,
-    /// Whether connections wait to be accepted, and when that may go on.
+    /// Whether connections wait to be accepted, and when accepting may continue.
     accepts: bool,
     accepts_from: Instant,
     board: Arc<Board>,
     connections: HashMap<usize, Connection>,
     next: usize,
-    /// Connections that may have sent more than was answered.
+    /// Connections that may have sent more requests than were processed.
     backlog: Vec<usize>,
     watch: Watch,
     refreshed: Instant,
     ticked: Instant,
 }
 
-/// Starts the HTTP thread on a listening socket. What it gives wakes it for the server's end.
+/// Starts the HTTP thread on a listening socket. The returned waker wakes it when the server has
+/// ended.
 pub fn start(listener: StdTcpListener, board: Arc<Board>, server: u32) -> io::Result<Waker> {
     listener.set_nonblocking(true)?;
     info!("http on {}", listener.local_addr()?);
@@ -105,7 +107,7 @@ impl Server {
             }
             let mut ready: Vec<usize> = events.iter().map(|it| it.token().0).collect();
             ready.append(&mut self.backlog);
-            // Each connection has one turn: an event and the backlog may both name it.
+            // Each connection is served once: an event and the backlog may both name it.
             ready.sort_unstable();
             ready.dedup();
             self.turn(&ready);
@@ -143,7 +145,7 @@ impl Server {
         }
     }
 
-    /// Accepts connections. Gives the requests that came with them.
+    /// Accepts connections. Returns the requests that came with them.
     fn accept(&mut self) -> Vec<(usize, Route)> {
         let mut asked = Vec::new();
         for _ in 0..ACCEPTS {
@@ -167,8 +169,8 @@ impl Server {
         asked
     }
 
-    /// Closes the connection that has been silent for longest, where there are as many as may be.
-    /// Watchers are closed last.
+    /// If the limit of connections is reached, closes the one that has been idle longest.
+    /// Connections that receive events are closed last.
     fn make_room(&mut self) {
         if self.connections.len() < MOST_CONNECTIONS {
             return;
@@ -180,7 +182,7 @@ impl Server {
         }
     }
 
-    /// Reads and writes as far as a connection is ready. Gives what it asks for, if it does.
+    /// Reads and writes as far as a connection is ready. Returns its request, if there is one.
     fn on_ready(&mut self, token: usize) -> Option<Route> {
         match self.connections.get_mut(&token)?.on_ready() {
             Ok(route) => route,
@@ -191,8 +193,8 @@ impl Server {
         }
     }
 
-    /// Answers requests. What came behind them on their connections has its turn later, so that
-    /// nobody who asks much keeps the others waiting.
+    /// Responds to requests. Later requests on the same connections are processed after those of
+    /// other connections, so that a client with many requests doesn't delay the others.
     fn answer(&mut self, asked: Vec<(usize, Route)>) {
         if asked.iter().any(|(_, route)| route.needs_counts()) {
             let wants_tables = asked.iter().any(|(_, route)| *route == Route::Events);
@@ -216,14 +218,14 @@ impl Server {
         }
     }
 
-    /// Has the event loop publish its counts, not too often.
+    /// Asks the event loop to publish its counts, with a pause between requests.
     fn refresh(&mut self, wants_tables: bool) {
         thread::sleep(REFRESH_PAUSE.saturating_sub(self.refreshed.elapsed()));
         self.board.refresh(wants_tables, REFRESH_PATIENCE);
         self.refreshed = Instant::now();
     }
 
-    /// Samples the counts, tells those who watch, and closes who took too long.
+    /// Samples the counts, sends events, and closes the connections that exceeded their time limit.
     fn tick(&mut self) {
         self.ticked = Instant::now();
         let watched = self.connections.values().any(Connection::is_watching);
@@ -235,12 +237,13 @@ impl Server {
         self.connections.retain(|_, it| !it.is_late());
     }
 
-    /// Sends an event to those who watch. Who hasn't taken the one before misses it.
+    /// Sends an event to the viewers of the page. A viewer that hasn't received the one before
+    /// misses it.
     fn tell(&mut self, event: &str) {
         self.connections.retain(|_, it| !it.is_watching() || it.tell(event).is_ok());
     }
 
-    /// Tells those who watch that the server has ended.
+    /// Reports to the viewers of the page that the server has ended.
     fn say_ended(&mut self) {
         if let Some(how) = self.board.ended() {
             self.watch.sample();

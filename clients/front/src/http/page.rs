@@ -6,14 +6,14 @@ use crate::tally::{name, DENIALS, EXCEPTIONS, REFUSALS};
 use prometheus::proto::{MetricFamily, MetricType};
 use serde_json::{json, Map, Value};
 
-/// The page, which has all that it needs in itself.
+/// The page, which is self-contained.
 pub const HTML: &str = include_str!("page.html");
 
 fn find<'f>(families: &'f [MetricFamily], name: &str) -> Option<&'f MetricFamily> {
     families.iter().find(|it| it.get_name() == name)
 }
 
-/// The sum of all series of a counter or gauge.
+/// Returns the sum of all series of a counter or gauge.
 pub fn total(families: &[MetricFamily], name: &str) -> f64 {
     let family = match find(families, name) {
         Some(it) => it,
@@ -30,7 +30,7 @@ pub fn total(families: &[MetricFamily], name: &str) -> f64 {
     family.get_metric().iter().map(value).sum()
 }
 
-/// The cumulative counts of a histogram by upper bound, up to all of them at infinity.
+/// Returns the cumulative counts of a histogram by upper bound, up to the total at infinity.
 pub fn buckets(families: &[MetricFamily], name: &str) -> Vec<(f64, u64)> {
     let metric = find(families, name).and_then(|it| it.get_metric().first());
     metric.map_or(Vec::new(), |it| {
@@ -43,13 +43,14 @@ pub fn buckets(families: &[MetricFamily], name: &str) -> Vec<(f64, u64)> {
     })
 }
 
-/// What came between two states of a histogram.
+/// Returns the difference of two states of a histogram.
 pub fn difference(later: &[(f64, u64)], earlier: &[(f64, u64)]) -> Vec<(f64, u64)> {
     later.iter().zip(earlier).map(|(one, other)| (one.0, one.1.saturating_sub(other.1))).collect()
 }
 
-/// A quantile by cumulative counts, linear between bounds as Prometheus's histogram_quantile. 0
-/// without observations; the last finite bound where it is above that.
+/// Computes a quantile from cumulative counts, linear between bounds like Prometheus's
+/// histogram_quantile. Returns 0 without observations, and the last finite bound if the quantile is
+/// above it.
 pub fn quantile(buckets: &[(f64, u64)], part: f64) -> f64 {
     let wanted = match buckets.last() {
         Some((_, count)) if *count > 0 => part * *count as f64,
@@ -67,7 +68,7 @@ pub fn quantile(buckets: &[(f64, u64)], part: f64) -> f64 {
     below
 }
 
-/// The counts of a family by number that aren't 0, each with its name.
+/// Returns the non-zero counts of a family by number, each with its name.
 fn numbered(families: &[MetricFamily], family: &str, names: &[&'static str]) -> Vec<Value> {
     let metrics = find(families, family).map_or(&[][..], |it| it.get_metric());
     let mut rows: Vec<(u8, Value)> = Vec::new();
@@ -101,7 +102,7 @@ fn connection_row(row: &ConnectionRow) -> Value {
     })
 }
 
-/// The metrics whose sums the page has.
+/// The metrics whose sums are on the page.
 const TOTALS: [&str; 22] = [
     "jentry_requests_total",
     "jentry_replies_total",
@@ -127,7 +128,7 @@ const TOTALS: [&str; 22] = [
     "process_resident_memory_bytes",
 ];
 
-/// The data of an event, as JSON in one line.
+/// Returns the data of an event, as JSON on one line.
 pub fn state(families: &[MetricFamily], tables: &Tables, history: Value) -> Value {
     let totals: Map<String, Value> =
         TOTALS.iter().map(|name| (name.to_string(), json!(total(families, name)))).collect();

@@ -1,25 +1,25 @@
-//! What Linux says of a process, by `/proc`.
+//! Reads information about a process from `/proc`.
 
 use nix::unistd::{sysconf, SysconfVar};
 use std::fs;
 use std::time::{SystemTime, UNIX_EPOCH};
 
-/// What is known of a process.
+/// Information about a process.
 #[derive(Clone, Copy, Debug, Default, PartialEq)]
 pub struct Process {
     /// Its resident memory.
     pub memory_bytes: u64,
-    /// Processor time, of the system too.
+    /// User and system CPU time.
     pub cpu_seconds: f64,
-    /// When it was started, by the clock of the system.
+    /// The start time in seconds since 1970.
     pub start_seconds: f64,
     pub open_files: u64,
 }
 
-/// Reads what is known of a process. None where it has ended.
+/// Reads the information about a process. Returns `None` if it has ended.
 pub fn read(process: &str) -> Option<Process> {
     let stat = fs::read_to_string(format!("/proc/{}/stat", process)).ok()?;
-    // The name of the program, in parentheses, may have spaces.
+    // The name of the program, in parentheses, may contain spaces.
     let fields: Vec<&str> = stat.rsplit_once(')')?.1.split_whitespace().collect();
     let number = |index: usize| fields.get(index)?.parse::<u64>().ok();
     if fields.first() == Some(&"Z") {
@@ -37,14 +37,14 @@ pub fn read(process: &str) -> Option<Process> {
     })
 }
 
-/// When the system was booted, by its clock.
+/// Returns the boot time in seconds since 1970.
 fn boot_seconds() -> Option<f64> {
     let stat = fs::read_to_string("/proc/stat").ok()?;
     let line = stat.lines().find_map(|line| line.strip_prefix("btime "))?;
     line.trim().parse().ok()
 }
 
-/// Seconds since 1970.
+/// Returns the seconds since 1970.
 pub fn now_seconds() -> f64 {
     SystemTime::now().duration_since(UNIX_EPOCH).map_or(0.0, |it| it.as_secs_f64())
 }

@@ -1,13 +1,13 @@
-//! HTTP requests: what of them is understood, and what they ask for.
+//! Parses the HTTP requests that the front supports.
 
 use httparse::{Request, Status, EMPTY_HEADER};
 
-/// The longest request, in bytes.
+/// The maximum length of a request, in bytes.
 pub const LONGEST: usize = 8_192;
 
 const MOST_HEADERS: usize = 64;
 
-/// What a request asks for.
+/// The target of a request.
 #[derive(Clone, Copy, Debug, PartialEq, Eq)]
 pub enum Route {
     Page {
@@ -26,19 +26,19 @@ pub enum Route {
     },
     /// A method other than GET and HEAD.
     BadMethod,
-    /// No HTTP, or HTTP that isn't needed here.
+    /// Not HTTP, or HTTP that isn't supported here.
     Bad,
     /// A request that is too long.
     TooLong,
 }
 
 impl Route {
-    /// Whether the answer has counts of the event loop.
+    /// Returns whether the response has counts of the event loop.
     pub fn needs_counts(self) -> bool {
         matches!(self, Route::Metrics { .. } | Route::Health { .. } | Route::Events)
     }
 
-    /// Whether the answer has no body.
+    /// Returns whether the response has no body.
     pub fn is_head(self) -> bool {
         match self {
             Route::Page { is_head }
@@ -64,18 +64,17 @@ impl Route {
     }
 }
 
-/// A request that has arrived.
+/// A complete request.
 #[derive(Debug, PartialEq, Eq)]
 pub struct Parsed {
     pub route: Route,
     /// Its length in bytes.
     pub length: usize,
-    /// Whether another request may come on its connection.
+    /// Whether another request may follow on its connection.
     pub keeps_alive: bool,
 }
 
-/// Parses the request at the beginning of what a connection has sent. None where its end hasn't
-/// arrived yet.
+/// Parses the request at the start of the input. Returns `None` if it hasn't fully arrived.
 pub fn parse(input: &[u8]) -> Option<Parsed> {
     let fail = |route| Some(Parsed { route, length: input.len(), keeps_alive: false });
     let mut headers = [EMPTY_HEADER; MOST_HEADERS];
@@ -97,7 +96,7 @@ pub fn parse(input: &[u8]) -> Option<Parsed> {
         _ => Route::Bad,
     };
     if has_body {
-        // A body isn't read, so what follows on the connection can't be told apart from it.
+        // A body isn't read, so the next request couldn't be distinguished from it.
         return fail(if route == Route::BadMethod { route } else { Route::Bad });
     }
     let connection = header("connection").unwrap_or_default();

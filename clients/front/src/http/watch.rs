@@ -1,4 +1,4 @@
-//! What the HTTP thread answers with: metrics, health, the page and its events, and the history of
+//! The responses of the HTTP thread: metrics, health, the page and its events, and the history of
 //! the last ten minutes.
 
 use super::connection::Response;
@@ -13,10 +13,10 @@ use std::collections::VecDeque;
 use std::sync::Arc;
 use std::time::{Duration, Instant};
 
-/// How many samples the page has: those of ten minutes.
+/// The number of samples on the page, for ten minutes.
 const HISTORY: usize = 600;
 
-/// The event loop is not healthy if it hasn't answered for so long.
+/// The event loop isn't healthy if it hasn't responded for this long.
 const LONG_SILENCE: Duration = Duration::from_secs(5);
 
 const TEXT: &str = "Content-Type: text/plain; charset=utf-8\r\nCache-Control: no-store\r\n";
@@ -29,7 +29,7 @@ const PAGE: &str = "Content-Type: text/html; charset=utf-8\r\nCache-Control: no-
     form-action 'none'; frame-ancestors 'none'\r\n";
 const GET_ONLY: &str = "Content-Type: text/plain; charset=utf-8\r\nAllow: GET, HEAD\r\n";
 
-/// What the histogram of rounds and the counters had at a moment.
+/// The state of the histogram of rounds and of the counters at one time.
 #[derive(Clone, Debug, Default)]
 struct Sample {
     requests: f64,
@@ -37,7 +37,7 @@ struct Sample {
     buckets: Vec<(f64, u64)>,
 }
 
-/// Metrics that the HTTP thread knows by itself.
+/// Metrics that the HTTP thread computes itself.
 struct OwnMetrics {
     server_up: IntGauge,
     server: ProcessMetrics,
@@ -53,13 +53,14 @@ struct ProcessMetrics {
     cpu: Counter,
 }
 
-/// Answers, and the history for the page.
+/// Creates responses, and keeps the history for the page.
 pub struct Watch {
     board: Arc<Board>,
     server: String,
     own: OwnMetrics,
     last: Option<(Instant, Sample)>,
-    /// Seconds since 1970, calls a second, median and 99th of a round's time, waiting requests.
+    /// Seconds since 1970, calls per second, median and 99th percentile of a round's time, waiting
+    /// requests.
     history: VecDeque<[f64; 5]>,
 }
 
@@ -116,14 +117,15 @@ impl OwnMetrics {
 }
 
 impl Watch {
-    /// Watches this board, and the server by its process id.
+    /// Observes this board, and the server by its process id.
     pub fn new(board: Arc<Board>, server: u32) -> prometheus::Result<Watch> {
         let own = OwnMetrics::new(board.registry())?;
         let history = VecDeque::with_capacity(HISTORY);
         Ok(Watch { board, server: server.to_string(), own, last: None, history })
     }
 
-    /// The answer to a request. That to [`Route::Events`] is for a watcher too many.
+    /// Returns the response to a request. For [`Route::Events`] it reports that there are too many
+    /// viewers.
     pub fn response(&self, route: Route) -> Response {
         let text = |status, text: &str| Response { status, headers: TEXT, body: text.into() };
         match route {
@@ -205,18 +207,18 @@ impl Watch {
         format!("event: state\ndata: {}\n\n", state)
     }
 
-    /// The first event for a page: all of the history.
+    /// Returns the first event for a page, with the whole history.
     pub fn first_event(&self) -> String {
         self.state(json!(self.history))
     }
 
-    /// The next event: the newest sample.
+    /// Returns the next event, with the newest sample.
     pub fn event(&self) -> String {
         self.state(self.history.back().map_or(json!([]), |it| json!([it])))
     }
 }
 
-/// The last event: how the server has ended.
+/// Returns the last event, which says how the server ended.
 pub fn ended_event(how: &str) -> String {
     format!("event: ended\ndata: {}\n\n", json!(how))
 }

@@ -4,14 +4,14 @@ import java.util.List;
 import jentry.compiler.profile.Bounds;
 
 /**
- * A class that the verifier accepts, as far as the compiler knows.
+ * A class that the verifier should accept.
  *
- * @param name its name, with dots
- * @param source what it was made of: the name of a class, and of a lambda's body with its descriptor behind a `#`
+ * @param name the class name, with dots
+ * @param source what the class was compiled from: the class name, and for a lambda also `#` and the name and descriptor of its body
  * @param bytes the class file
- * @param isUnchanged whether these are the bytes that were handed over
- * @param bounds what an invocation takes at most
- * @param stepsWithLoops the instructions of the longest way through the class before loops were written out
- * @param notes what was done, a line each
+ * @param isUnchanged whether the bytes are those of the input
+ * @param bounds the maximum cost of an invocation
+ * @param stepsWithLoops the number of instructions on the longest path before loops were unrolled
+ * @param notes the changes that were made, one per line
  */
 public record CompiledClass(String name, String source, byte[] bytes, boolean isUnchanged, Bounds bounds, long stepsWithLoops, List<String> notes) { }

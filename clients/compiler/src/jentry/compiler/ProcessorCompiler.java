@@ -21,11 +21,11 @@ import jentry.compiler.unroll.CodeWriter;
 import jentry.compiler.unroll.LoopUnroller;
 
 /**
- * Compiles class files of processors to class files that the server's verifier accepts: it writes the passes of loops out, and some other things that
- * the verifier refuses by what it accepts.
+ * Compiles class files of processors to class files that the server's verifier accepts. It unrolls loops, and replaces some other constructs that the
+ * verifier refuses.
  *
- * <p>What it writes is judged by the verifier as any other class. A class in which the compiler finds nothing that the verifier refuses is left as it
- * is. Instances keep nothing, and may be used by several threads.
+ * <p>The verifier checks the output like any other class. A class in which the compiler finds nothing that the verifier refuses isn't changed.
+ * Instances have no mutable state and can be used by several threads.
  */
 public final class ProcessorCompiler {
     private static final int MOST_BYTES = 65_536;
@@ -34,27 +34,27 @@ public final class ProcessorCompiler {
 
     private final boolean isVerbatim;
 
-    /** One that leaves out what has no effect. */
+    /** Creates a compiler that removes instructions without effect. */
     public ProcessorCompiler() {
         this(false);
     }
 
     /**
-     * One that may keep each instruction.
+     * Creates a compiler that can keep every instruction.
      *
-     * @param isVerbatim whether it does: the bound is then that of the loops, step for step
+     * @param isVerbatim whether it keeps them; the bound then equals the number of instructions that the loops execute
      */
     public ProcessorCompiler(boolean isVerbatim) {
         this.isVerbatim = isVerbatim;
     }
 
-    /** Whether a class file implements EntryProcessor itself, or has lambdas that do. */
+    /** Returns whether a class file implements EntryProcessor itself, or has lambdas that do. */
     public static boolean hasProcessors(byte[] classFile) throws CompileException {
         ClassNode node = read(classFile);
         return isProcessor(node) || !Lambdas.of(node).isEmpty();
     }
 
-    /** Whether a class is a processor, or would be one if it named the interface itself. */
+    /** Returns whether a class is a processor, or would be one if it named the interface itself. */
     private static boolean isProcessor(ClassNode node) {
         MethodNode process = Instructions.method(node, "process", Members.PROCESS);
         return node.interfaces.contains(Members.PROCESSOR) && (node.access & Opcodes.ACC_INTERFACE) == 0
@@ -62,13 +62,13 @@ public final class ProcessorCompiler {
     }
 
     /**
-     * What became of the processors of a class file.
+     * The result of compiling the processors of a class file.
      *
-     * @param classes those that were compiled
-     * @param problems of those that can't be
+     * @param classes the processors that were compiled
+     * @param problems the problems of those that can't be compiled
      */
     public record Result(List<CompiledClass> classes, List<Problem> problems) {
-        /** The classes, at least one. */
+        /** Returns the classes, at least one, or throws if there are problems or no classes. */
         public List<CompiledClass> orThrow(String name) throws CompileException {
             if (!problems.isEmpty()) {
                 throw new CompileException(problems);
@@ -81,9 +81,9 @@ public final class ProcessorCompiler {
     }
 
     /**
-     * Compiles the processors of a class file: the class itself, where it implements EntryProcessor, and each lambda in it that makes one.
+     * Compiles the processors of a class file: the class itself if it implements EntryProcessor, and each of its lambdas that implements it.
      *
-     * @throws CompileException where it is no class file
+     * @throws CompileException if the bytes aren't a class file
      */
     public Result compileAll(byte[] classFile) throws CompileException {
         ClassNode node = read(classFile);
@@ -108,25 +108,25 @@ public final class ProcessorCompiler {
     }
 
     /**
-     * Compiles the processors of a class file, all of them.
+     * Compiles all processors of a class file.
      *
      * @return at least one class
-     * @throws CompileException where one of them can't be compiled, or there is none
+     * @throws CompileException if one of them can't be compiled, or there is none
      */
     public List<CompiledClass> compile(byte[] classFile) throws CompileException {
         return compileAll(classFile).orThrow(Instructions.nameOf(read(classFile).name));
     }
 
     /**
-     * Compiles the class of a class file alone, without its lambdas.
+     * Compiles only the class of a class file, without its lambdas.
      *
-     * @throws CompileException where it can't be compiled
+     * @throws CompileException if the class can't be compiled
      */
     public CompiledClass compileClass(byte[] classFile) throws CompileException {
         return compileClass(read(classFile), classFile);
     }
 
-    /** The lambdas of a class file that make an EntryProcessor. */
+    /** Returns the lambdas of a class file that implement EntryProcessor. */
     public static List<Lambdas.Lambda> lambdas(byte[] classFile) throws CompileException {
         return Lambdas.of(read(classFile));
     }
@@ -135,7 +135,7 @@ public final class ProcessorCompiler {
      * Compiles one lambda of a class file.
      *
      * @param lambda one of {@link #lambdas}
-     * @throws CompileException where it can't be compiled
+     * @throws CompileException if the lambda can't be compiled
      */
     public CompiledClass compileLambda(Lambdas.Lambda lambda) throws CompileException {
         try {
@@ -150,7 +150,7 @@ public final class ProcessorCompiler {
         try {
             byte[] bytes = classFile;
             if (bytes.length > 7 && (bytes[6] & 0xFF) == 0 && (bytes[7] & 0xFF) > NEWEST_VERSION) {
-                // ASM reads no number above this one, but what javac writes of a processor hasn't changed since
+                // ASM refuses versions above this one, but javac's output for a processor hasn't changed since
                 bytes = bytes.clone();
                 bytes[7] = NEWEST_VERSION;
             }

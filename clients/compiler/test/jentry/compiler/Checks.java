@@ -13,7 +13,7 @@ import jentry.compiler.compare.Outcome;
 import jentry.compiler.compare.RandomCalls;
 import jentry.compiler.compare.Runner;
 
-/** What every compiled class has to pass. */
+/** Checks that every compiled class must pass. */
 final class Checks {
     static final ClassPath PATH = new ClassPath(Javac.api());
 
@@ -30,7 +30,7 @@ final class Checks {
         }
     }
 
-    /** The message of a refusal. */
+    /** Returns the message with which compilation is refused. */
     static String refusal(byte[] classFile) {
         try {
             return fail("compiled: " + new ProcessorCompiler().compile(classFile).get(0).name());
@@ -39,7 +39,7 @@ final class Checks {
         }
     }
 
-    /** The same calls on HotSpot before and after. */
+    /** Checks that the same calls have the same outcomes on HotSpot before and after compilation. */
     static void same(byte[] original, CompiledClass compiled, int calls) {
         try {
             Optional<Comparison.Difference> difference = Comparison.compare(PATH, original, compiled, calls, 7);
@@ -49,7 +49,7 @@ final class Checks {
         }
     }
 
-    /** The compiled class is accepted by jentry, with the bounds that the compiler says, and does there what the original does on HotSpot. */
+    /** Checks that jentry accepts the compiled class with the compiler's bounds, and runs it like the original on HotSpot. */
     static void sameByServer(JentryServer server, byte[] original, CompiledClass compiled, int count) throws Exception {
         JentryServer.Defined defined = server.define(compiled.bytes());
         assertEquals(0, defined.refusal(), compiled.name() + ": the refusal");

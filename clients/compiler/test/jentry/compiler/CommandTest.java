@@ -19,7 +19,7 @@ import org.junit.jupiter.api.Tag;
 import org.junit.jupiter.api.Test;
 import org.junit.jupiter.api.io.TempDir;
 
-/** The command line, its messages and its statuses. */
+/** Tests the command line, its messages and its statuses. */
 class CommandTest {
     private static final String LOOP = Javac.processor("Loop", "Long", "long s = 0;\nfor (int i = 0; i < 5; i++) {\n s += entry.getKey() ^ i;\n}\nreturn s;", "");
     private static final String PLAIN = Javac.processor("Plain", "Object", "return entry.getKey();", "");

@@ -14,7 +14,7 @@ import java.util.stream.Stream;
 import org.junit.jupiter.api.Tag;
 import org.junit.jupiter.api.Test;
 
-/** The processors of the repository: those that are accepted stay as they are, and some that are refused become accepted. */
+/** Tests the processors of the repository: accepted ones stay unchanged, and some refused ones become accepted. */
 class ExamplesTest {
     private static final Path TOP = Javac.HERE.resolve("../..");
     private static final List<String> COMPILED = List.of("Assertion", "BoxedConstant", "ByteArray", "DeclaredComparable", "DoubleParameter", "FieldInitialiser",

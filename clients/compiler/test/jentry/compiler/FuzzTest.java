@@ -7,7 +7,7 @@ import java.util.Map;
 import org.junit.jupiter.api.Tag;
 import org.junit.jupiter.api.Test;
 
-/** Random programs: compiled, compared on HotSpot, and run by the server. */
+/** Compiles random programs, compares them on HotSpot, and runs them on the server. */
 class FuzzTest {
     private static final int CLASSES = Integer.getInteger("jentry.fuzz", 200);
     private static final long SEED = Long.getLong("jentry.fuzz.seed", 1);

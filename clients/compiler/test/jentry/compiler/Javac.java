@@ -22,11 +22,11 @@ import javax.tools.SimpleJavaFileObject;
 import javax.tools.StandardJavaFileManager;
 import javax.tools.ToolProvider;
 
-/** javac in this process: sources in, class files out. */
+/** Runs javac in this process, from sources to class files in memory. */
 final class Javac {
     /** The folder of the compiler, clients/compiler. */
     static final Path HERE = Path.of(System.getProperty("jentry.compiler"));
-    /** The program, or null where there is none. */
+    /** The jentry program, or null if there is none. */
     static final String PROGRAM = program();
 
     private Javac() { }
@@ -36,12 +36,12 @@ final class Javac {
         return Files.isExecutable(Path.of(program)) ? program : null;
     }
 
-    /** The stubs of JCache, as class files in a folder. */
+    /** Compiles the stubs of JCache, and returns their folder. */
     static String api() {
         return System.getProperty("jentry.api");
     }
 
-    /** Compiles sources by their names, as `--release 8` or newer. Gives class files by the names of their classes. */
+    /** Compiles sources by name, with `--release 8` or newer. Returns class files by class name. */
     static Map<String, byte[]> compile(Map<String, String> sources, String... options) {
         return compile(api(), sources, options);
     }
@@ -64,18 +64,18 @@ final class Javac {
         return classes;
     }
 
-    /** Compiles one source whose class is public and has this name. */
+    /** Compiles one source with a public class of this name. */
     static byte[] compile(String name, String text, String... options) {
         return compile(Map.of(name, text), options).get(name);
     }
 
-    /** A processor with this body of process, and these members beside it. */
+    /** Returns the source of a processor with this body of process and these additional members. */
     static String processor(String name, String type, String body, String members) {
         return "import javax.cache.processor.*; import java.util.*;\npublic class " + name + " implements EntryProcessor<Long, Long, " + type + "> {\n"
             + "public " + type + " process(MutableEntry<Long, Long> entry, Object... args) {\n" + body + "\n}\n" + members + "\n}\n";
     }
 
-    /** The Java sources of a folder, by the names of their files without the ending. */
+    /** Returns the Java sources of a folder, by file name without the extension. */
     static Map<String, String> sources(Path folder) {
         Map<String, String> sources = new TreeMap<>();
         try (Stream<Path> files = Files.list(folder)) {

@@ -11,7 +11,7 @@ import java.util.List;
 import jentry.compiler.compare.Call;
 import jentry.compiler.compare.Outcome;
 
-/** `jentry serve` as a child process, by frames of docs/PROTOCOL.md. */
+/** Runs `jentry serve` as a child process, and speaks the protocol of docs/PROTOCOL.md. */
 final class JentryServer implements AutoCloseable {
     private static final String[] EXCEPTIONS = {"", "ArithmeticException", "ArrayIndexOutOfBoundsException", "NullPointerException", "ClassCastException",
         "IncompatibleClassChangeError"};
@@ -28,7 +28,7 @@ final class JentryServer implements AutoCloseable {
         in = new DataInputStream(new BufferedInputStream(process.getInputStream(), 1 << 16));
     }
 
-    /** A class that was defined: its number, or -1 with the refusal, and the bounds of its steps and words. */
+    /** A class definition: its number, or -1 and the refusal, and its bounds of steps and words. */
     record Defined(int number, int refusal, int steps, int words) { }
 
     private interface Body {
@@ -71,7 +71,7 @@ final class JentryServer implements AutoCloseable {
         return defined;
     }
 
-    /** Runs calls of a class, each on an entry of its own: calls with equal keys wait for one another. */
+    /** Runs calls of a class, each on its own entry: calls with equal keys wait for one another. */
     List<Outcome> run(int number, List<Call> calls) throws IOException {
         List<Outcome> outcomes = new ArrayList<>();
         for (int from = 0; from < calls.size();) {

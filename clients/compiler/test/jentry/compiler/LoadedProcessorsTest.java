@@ -17,17 +17,17 @@ import jentry.compiler.runtime.Client;
 import org.junit.jupiter.api.Test;
 import org.junit.jupiter.api.function.Executable;
 
-/** Processors of the running program: lambdas are found by the calls that hand them over. */
+/** Tests processors of the running program: lambdas are found by the calls that pass them. */
 class LoadedProcessorsTest {
     private static final EntryProcessor<Long, Long, Long> FIRST = (entry, arguments) -> entry.getKey() + 1;
     private static final EntryProcessor<Long, Long, Long> SECOND = (entry, arguments) -> entry.getKey() + 2;
 
-    /** A type of its own that is a processor, too. */
+    /** A subinterface of EntryProcessor. */
     private interface Own extends EntryProcessor<Long, Long, Long> { }
 
     private static final Own OWN = (entry, arguments) -> entry.getKey() + 6;
 
-    /** A class that hands over what another one holds. */
+    /** A class that passes lambdas of another class. */
     private static final class Helper {
         static Object answer(EntryProcessor<Long, Long, Long> processor) throws Exception {
             if (processor != null) {
@@ -37,7 +37,7 @@ class LoadedProcessorsTest {
         }
     }
 
-    /** Lambdas that other classes hand over, and methods that have the names of those of other classes. */
+    /** Lambdas that other classes pass, and methods with the same names as methods of other classes. */
     private static final class Constants {
         static final EntryProcessor<Long, Long, Long> TEN = (entry, arguments) -> entry.getKey() + 10;
         static final EntryProcessor<Long, Long, Long> TWENTY = (entry, arguments) -> entry.getKey() + 20;
@@ -48,7 +48,7 @@ class LoadedProcessorsTest {
         }
     }
 
-    /** The client's method by a reference, which is on no frame. */
+    /** The client's method through a method reference, which isn't in any stack frame. */
     private interface Way<P> {
         Object answer(ClassPath path, P processor, Object... arguments) throws Exception;
     }

@@ -10,7 +10,7 @@ import java.nio.file.Path;
 import org.junit.jupiter.api.Test;
 import org.junit.jupiter.api.io.TempDir;
 
-/** The goal of the plugin, by a real Maven without a network. */
+/** Tests the goal of the plugin with a real Maven, without a network. */
 class MavenTest {
     private static final Path UTILITIES = Path.of("/usr/share/java/plexus-utils.jar");
     private static final String PLUGIN = "jentry/jentry-maven-plugin/0.1.0/jentry-maven-plugin-0.1.0";
@@ -46,7 +46,7 @@ class MavenTest {
     void theGoalCompilesAndCompares() throws Exception {
         assumeTrue(isThere("mvn") && Files.exists(UTILITIES), "there is no mvn (apt-get install maven)");
         store(PLUGIN, Path.of(System.getProperty("jentry.jar")), Files.readString(Javac.HERE.resolve("maven/pom.xml")));
-        // Maven gives each plugin these, which a repository with a network has
+        // Maven adds these to each plugin; a remote repository would have them
         store("org/codehaus/plexus/plexus-utils/1.1/plexus-utils-1.1", UTILITIES, pom("org.codehaus.plexus", "plexus-utils", "1.1"));
         Path project = Files.createDirectories(folder.resolve("project/target/classes")).getParent().getParent();
         Files.writeString(project.resolve("pom.xml"), pom("g", "a", "1"));

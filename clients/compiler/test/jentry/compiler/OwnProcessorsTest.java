@@ -11,7 +11,7 @@ import org.junit.jupiter.api.BeforeAll;
 import org.junit.jupiter.api.Tag;
 import org.junit.jupiter.api.Test;
 
-/** The processors of test/own: bit counting, CRCs, searches, sorting, buckets, windows, boards. */
+/** Tests the processors of test/own: bit counting, CRCs, searches, sorting, buckets, windows, boards. */
 class OwnProcessorsTest {
     private static final Map<String, byte[]> OLD = new TreeMap<>();
     private static final Map<String, byte[]> NEW = new TreeMap<>();

@@ -10,7 +10,7 @@ import org.junit.jupiter.api.Test;
 import org.junit.jupiter.params.ParameterizedTest;
 import org.junit.jupiter.params.provider.ValueSource;
 
-/** The passes one by one: library calls, fields, handlers, small types, newer class files. */
+/** Tests the passes one by one: library calls, fields, handlers, small types, newer class files. */
 class PassesTest {
     private static CompiledClass same(String type, String body, String members, String release) {
         byte[] original = Javac.compile("P", Javac.processor("P", type, body, members), "--release", release);

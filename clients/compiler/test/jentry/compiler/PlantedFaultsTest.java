@@ -15,7 +15,7 @@ import org.junit.jupiter.api.io.TempDir;
 import org.junit.jupiter.params.ParameterizedTest;
 import org.junit.jupiter.params.provider.CsvSource;
 
-/** Compilers that are wrong by one edit of their source: each is found by the comparison. */
+/** Plants a fault in the compiler's source with a single edit, and checks that the comparison finds it. */
 class PlantedFaultsTest {
     private static Map<String, byte[]> classes;
 
@@ -69,7 +69,7 @@ class PlantedFaultsTest {
         assertFalse(Files.exists(folder.resolve("out").resolve(processor + ".class")), "a class that does something else is written");
     }
 
-    /** Runs the command by the edited classes, and by the others beside them. */
+    /** Runs the command with the edited classes, and the other classes unchanged. */
     private int run(String... words) throws Exception {
         String[] path = System.getProperty("java.class.path").split(File.pathSeparator);
         URL[] urls = new URL[path.length + 1];

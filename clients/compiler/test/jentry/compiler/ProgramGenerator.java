@@ -5,10 +5,10 @@ import java.util.List;
 import java.util.Random;
 
 /**
- * Writes random structured processors: loops of all kinds, nested, with break, continue and labels; arrays, tables, helpers, tries, and the library,
- * with small types, and with numbers at the ends of their types.
+ * Generates random structured processors: nested loops of all kinds with break, continue and labels; arrays, tables, helper methods, try statements
+ * and library calls, with small types and with numbers at the limits of their types.
  *
- * <p>Most loops are ended by a counter. Some programs aren't bounded, or too large: these the compiler has to refuse.
+ * <p>Most loops are ended by a counter. Some programs aren't bounded or are too large: the compiler must refuse these.
  */
 final class ProgramGenerator {
     private static final int MOST_PASSES = 160;

@@ -7,13 +7,13 @@ import org.junit.jupiter.api.Test;
 import org.junit.jupiter.params.ParameterizedTest;
 import org.junit.jupiter.params.provider.CsvSource;
 
-/** What can't be compiled is reported by its line, with what to write instead. Nothing is left out in silence. */
+/** Tests that what can't be compiled is reported with its line and what to write instead, and that nothing is silently left out. */
 class RefusalTest {
     private static String refusal(String type, String body, String members) {
         return Checks.refusal(Javac.compile("R", Javac.processor("R", type, body, members), "--release", "17"));
     }
 
-    /** The body's first line is line 4 of the source. */
+    /** The first line of the body is line 4 of the source. */
     @ParameterizedTest
     @CsvSource(delimiter = '|', value = {
         "long x = 0; try { x = entry.getValue(); } catch (NullPointerException e) { x = 1; } return x; | R.process, line 4: catch (java.lang.NullPointerException)",

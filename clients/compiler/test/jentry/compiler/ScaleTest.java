@@ -10,12 +10,12 @@ import java.util.concurrent.TimeUnit;
 import org.junit.jupiter.api.Test;
 import org.junit.jupiter.api.io.TempDir;
 
-/** The time and the memory of the command, its JVM's start among them. Time is that of the processor, since a test may share it with others. */
+/** Tests the time and the memory of the command, including the start of its JVM. It measures CPU time, because other work may share the machine. */
 class ScaleTest {
     @TempDir
     private Path folder;
 
-    /** Seconds of processor time, and what was printed; the status is held to. */
+    /** Returns the seconds of CPU time, and checks the status and the output. */
     private double seconds(int status, String told, String name, String source) throws Exception {
         Map<String, byte[]> classes = Javac.compile(Map.of(name, source), "--release", "8");
         Path in = Files.write(folder.resolve(name + ".class"), classes.get(name));

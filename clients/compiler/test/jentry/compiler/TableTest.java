@@ -12,7 +12,7 @@ import org.junit.jupiter.api.Test;
 import org.junit.jupiter.params.ParameterizedTest;
 import org.junit.jupiter.params.provider.CsvSource;
 
-/** Processors with loops: what is made of them, by bytes and bounds. */
+/** Tests processors with loops against a table of the resulting bytes and bounds. */
 class TableTest {
     private static final Map<String, byte[]> CLASSES = new TreeMap<>();
     private static final long MOST_STEPS = 4_000_000;

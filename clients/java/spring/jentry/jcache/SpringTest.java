@@ -13,7 +13,7 @@ import org.junit.jupiter.api.Test;
 import org.springframework.cache.Cache;
 import org.springframework.cache.jcache.JCacheCacheManager;
 
-/** Spring's cache abstraction on the provider: every method of its Cache, as a program calls them that knows Spring alone. */
+/** Tests Spring's cache abstraction on the provider: every method of its Cache, as a Spring program calls them. */
 class SpringTest extends OnServer {
     private Cache spring;
     private javax.cache.Cache<Long, Long> made;
@@ -63,7 +63,7 @@ class SpringTest extends OnServer {
         assertNull(spring.get(k));
     }
 
-    /** Spring's clear is JCache's removeAll(). */
+    /** Spring's clear calls JCache's removeAll(). */
     @Test void clear() {
         spring.put(k, 1L);
         if (Server.isRedis()) {

@@ -2,11 +2,11 @@ package jentry.jcache;
 
 import javax.cache.CacheException;
 
-/** The call didn't reach the server, or the server did nothing of it. It may be made again. */
+/** The request didn't reach the server, or the server did nothing with it. The call can be repeated safely. */
 public final class CallNotSentException extends CacheException {
     private static final long serialVersionUID = 1L;
 
-    /** Makes one that names the reason. */
+    /** Creates an exception with a reason and a cause. */
     public CallNotSentException(String reason, Throwable cause) {
         super(reason + "; this call was not sent", cause);
     }

@@ -3,13 +3,13 @@ package jentry.jcache;
 import javax.cache.CacheException;
 
 /**
- * The call was sent and its reply didn't come: the server may have run it, may still run it, or may never run it. A
- * program that makes such a call again may do it twice.
+ * The request was sent and no reply came. The server may have run it, may still run it, or may never run it. A program
+ * that repeats such a call may apply it twice.
  */
 public final class CallOutcomeUnknownException extends CacheException {
     private static final long serialVersionUID = 1L;
 
-    /** Makes one that names the reason. */
+    /** Creates an exception with a reason and a cause. */
     public CallOutcomeUnknownException(String reason, Throwable cause) {
         super(reason + "; whether this call has run is not known", cause);
     }

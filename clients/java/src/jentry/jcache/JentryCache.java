@@ -25,12 +25,13 @@ import jentry.jcache.impl.Unwrap;
 import jentry.jcache.store.Store;
 
 /**
- * A cache whose entries are in a server, for any number of threads. What JCache wants atomic is one step of the server.
+ * A cache whose entries are in a server. Any number of threads may use it. Each operation that JCache defines as atomic
+ * is one step at the server.
  *
- * <p>Every method throws NullPointerException for a null, before anything is sent; IllegalStateException where the
- * cache is closed; {@link CallNotSentException} where the call didn't reach the server; {@link
- * CallOutcomeUnknownException} where it was sent and its reply didn't come; and CacheException where the server answers
- * by an error.
+ * <p>Every method throws NullPointerException for a null argument, before anything is sent; IllegalStateException if
+ * the cache is closed; {@link CallNotSentException} if the request didn't reach the server; {@link
+ * CallOutcomeUnknownException} if the request was sent and no reply came; and CacheException if the server replies with
+ * an error.
  */
 public final class JentryCache implements Cache<Long, Long> {
     private static final Object[] NONE = {};
@@ -134,13 +135,13 @@ public final class JentryCache implements Cache<Long, Long> {
         return entries.delete(key(key), true).before();
     }
 
-    /** Reads the entries of the keys, some keys to a request. It isn't atomic over keys. */
+    /** Returns the entries of the keys. One request carries several keys; the call isn't atomic over keys. */
     @Override public Map<Long, Long> getAll(Set<? extends Long> keys) {
         open();
         return bulk.getAll(keys(keys));
     }
 
-    /** Puts entries, some keys to a request. It isn't atomic over keys. */
+    /** Puts the entries. One request carries several keys; the call isn't atomic over keys. */
     @Override public void putAll(Map<? extends Long, ? extends Long> map) {
         open();
         Map<Long, Long> all = new LinkedHashMap<>();
@@ -148,16 +149,16 @@ public final class JentryCache implements Cache<Long, Long> {
         bulk.putAll(all);
     }
 
-    /** Removes the entries of the keys, some keys to a request. It isn't atomic over keys. */
+    /** Removes the entries of the keys. One request carries several keys; the call isn't atomic over keys. */
     @Override public void removeAll(Set<? extends Long> keys) {
         open();
         bulk.removeAll(keys(keys));
     }
 
     /**
-     * Removes every entry that is there while it runs.
+     * Removes every entry that exists while the call runs.
      *
-     * @throws UnsupportedOperationException on {@code jentry serve}, which can't answer which keys there are
+     * @throws UnsupportedOperationException on {@code jentry serve}, which can't list its keys
      */
     @Override public void removeAll() {
         open();
@@ -165,9 +166,9 @@ public final class JentryCache implements Cache<Long, Long> {
     }
 
     /**
-     * As {@link #removeAll()}, without the writer, the listeners and the statistics.
+     * Removes every entry like {@link #removeAll()}, but without the writer, the listeners and the statistics.
      *
-     * @throws UnsupportedOperationException on {@code jentry serve}
+     * @throws UnsupportedOperationException on {@code jentry serve}, which can't list its keys
      */
     @Override public void clear() {
         open();
@@ -175,17 +176,17 @@ public final class JentryCache implements Cache<Long, Long> {
     }
 
     /**
-     * The entries that are there while it runs, in no order, each key once. Entries that come or go meanwhile may be
-     * left out.
+     * Returns an iterator over the entries, in no order, each key at most once. It may miss entries that are created or
+     * removed during the iteration.
      *
-     * @throws UnsupportedOperationException on {@code jentry serve}
+     * @throws UnsupportedOperationException on {@code jentry serve}, which can't list its keys
      */
     @Override public Iterator<Entry<Long, Long>> iterator() {
         open();
         return bulk.iterator();
     }
 
-    /** Loads entries in a thread of its own. Where there is no loader it only calls the listener's onCompletion. */
+    /** Loads entries in a separate thread. Without a loader it only calls the listener's onCompletion. */
     @Override public void loadAll(Set<? extends Long> keys, boolean replaceExistingValues,
         CompletionListener listener) {
         open();
@@ -195,15 +196,15 @@ public final class JentryCache implements Cache<Long, Long> {
     }
 
     /**
-     * Runs a processor on an entry, at the server. The class file of the processor is sent at its first use; the object
-     * itself never is. A processor that the server doesn't take runs in this JVM, not verified and possibly several
-     * times, where the property {@code jentry.local} is true.
+     * Runs an entry processor at the server. The class file of the processor is sent at its first use; the processor
+     * object itself is never sent. If the server can't run it and the property {@code jentry.local} is true, the
+     * processor runs in this JVM, unverified and possibly more than once.
      *
      * @param arguments at most eight, each a Long, an Integer or null
      * @return what the processor returned: a Long, an Integer or null
-     * @throws javax.cache.processor.EntryProcessorException where the processor threw; then the entry is as it was
-     * @throws ProcessorRefusedException where the server doesn't accept the class
-     * @throws javax.cache.CacheException also where the class has no class file, or needs more than its file
+     * @throws javax.cache.processor.EntryProcessorException if the processor threw; the entry is unchanged
+     * @throws ProcessorRefusedException if the server refuses the class
+     * @throws javax.cache.CacheException also if the class has no class file, or needs more than its own file
      */
     @Override public <T> T invoke(Long key, EntryProcessor<Long, Long, T> processor, Object... arguments) {
         open();
@@ -213,13 +214,13 @@ public final class JentryCache implements Cache<Long, Long> {
     }
 
     /**
-     * An invocation that no thread waits for. Two of them on one key may run in either order while both are under way.
-     * Only the first use of a class waits, until the server has judged it.
+     * Runs an entry processor at the server without blocking. Two invocations on the same key may run in either order
+     * while both are in progress. Only the first use of a class blocks, until the server has accepted or refused it.
      *
      * @param arguments at most eight, each a Long, an Integer or null
-     * @return the result, or what {@link #invoke} would throw
-     * @throws java.util.concurrent.RejectedExecutionException where as many calls wait as may ({@code jentry.queue});
-     *     then nothing is sent
+     * @return a future with the processor's result, or with the exception that {@link #invoke} would throw
+     * @throws java.util.concurrent.RejectedExecutionException if the queue of waiting calls is full ({@code
+     *     jentry.queue}); nothing is sent then
      */
     public <T> CompletableFuture<T> invokeAsync(Long key, EntryProcessor<Long, Long, T> processor,
         Object... arguments) {
@@ -230,8 +231,8 @@ public final class JentryCache implements Cache<Long, Long> {
     }
 
     /**
-     * As {@link #invoke}, on each key; what a processor threw is thrown by the result of that key. Keys whose processor
-     * returned null are left out.
+     * Runs an entry processor on each key, like {@link #invoke}. If the processor threw for a key, the result of that
+     * key throws the exception. Keys whose processor returned null are left out.
      */
     @Override public <T> Map<Long, EntryProcessorResult<T>> invokeAll(Set<? extends Long> keys,
         EntryProcessor<Long, Long, T> processor, Object... arguments) {
@@ -241,7 +242,7 @@ public final class JentryCache implements Cache<Long, Long> {
         return invoker.invokeAll(all, processor, arguments(arguments));
     }
 
-    /** How many runs of processors there were in this JVM, by the names of their classes. */
+    /** Returns the number of processor runs in this JVM, by class name. */
     public Map<String, Long> localRuns() {
         return invoker.localRuns();
     }
@@ -256,7 +257,7 @@ public final class JentryCache implements Cache<Long, Long> {
         context.deregister(Objects.requireNonNull(listener, "listener"));
     }
 
-    /** A copy of the configuration, as it is at the moment. */
+    /** Returns a copy of the current configuration. */
     @Override public <C extends Configuration<Long, Long>> C getConfiguration(Class<C> type) {
         open();
         if (type.isInstance(configuration)) {
@@ -274,8 +275,8 @@ public final class JentryCache implements Cache<Long, Long> {
     }
 
     /**
-     * Ends the cache, and its stream where it has one: calls that wait fail, and the round that is out may come to its
-     * end. The entries of a child process are gone then; those of other servers stay.
+     * Closes the cache, and its stream if it has one. Waiting calls fail; the round in progress may finish. The entries
+     * of a child process are lost; those of other servers stay.
      */
     @Override public synchronized void close() {
         if (closed) {
@@ -298,7 +299,7 @@ public final class JentryCache implements Cache<Long, Long> {
         return context;
     }
 
-    /** For tests. */
+    /** Returns the store, for tests. */
     Store store() {
         return store;
     }

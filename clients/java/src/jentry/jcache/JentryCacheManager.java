@@ -21,8 +21,8 @@ import jentry.jcache.store.StoreFactory;
 import jentry.jcache.stream.StreamStores;
 
 /**
- * The caches of one URI. On {@code jentry serve} each has a stream of its own: a child process, or a connection to a
- * server that runs already. On Redis they share the connections.
+ * The caches of one URI. On {@code jentry serve} each cache has its own stream: a child process, or a connection to a
+ * running server. On Redis the caches share the connections.
  */
 public final class JentryCacheManager implements CacheManager {
     private final JentryCachingProvider provider;
@@ -50,12 +50,12 @@ public final class JentryCacheManager implements CacheManager {
     }
 
     /**
-     * Makes a cache, and connects or starts what it needs.
+     * Creates a cache, and opens the connection or starts the child process that it needs.
      *
-     * @throws IllegalArgumentException where the types aren't Long and Long, or read-through has no loader, or
-     *     write-through no writer
-     * @throws UnsupportedOperationException where something is wanted that the server lacks
-     * @throws CacheException where there is a cache of that name already, or the server can't be had
+     * @throws IllegalArgumentException if the types aren't Long and Long, or read-through has no loader, or
+     *     write-through has no writer
+     * @throws UnsupportedOperationException if the configuration needs something that the server lacks
+     * @throws CacheException if there is already a cache of that name, or the server isn't available
      */
     @SuppressWarnings("unchecked")
     @Override public synchronized <K, V, C extends Configuration<K, V>> Cache<K, V> createCache(String name,
@@ -128,9 +128,8 @@ public final class JentryCacheManager implements CacheManager {
     }
 
     /**
-     * Closes the cache of that name, if there is one. On Redis its entries are deleted first, as JCache says:
-     * everyone's. The entries of a {@code jentry serve} that others use stay, since it can't answer which keys there
-     * are.
+     * Closes the cache of that name, if there is one. On Redis its entries are deleted first, as JCache requires, for
+     * all clients. On a shared {@code jentry serve} the entries stay, because the server can't list its keys.
      */
     @Override public void destroyCache(String name) {
         Cache<Long, Long> cache = find(name);
@@ -174,7 +173,7 @@ public final class JentryCacheManager implements CacheManager {
         return loader;
     }
 
-    /** A copy of the properties that the manager was made with. */
+    /** Returns a copy of the properties that the manager was created with. */
     @Override public Properties getProperties() {
         return (Properties) properties.clone();
     }

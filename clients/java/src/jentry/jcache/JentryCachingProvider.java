@@ -11,20 +11,23 @@ import javax.cache.CacheManager;
 import javax.cache.configuration.OptionalFeature;
 import javax.cache.spi.CachingProvider;
 
-/** The provider, which JCache finds by the services of its jar: a manager for each URI and class loader. */
+/**
+ * The caching provider, which JCache finds by the service file of its jar. It has a manager for each URI and class
+ * loader.
+ */
 public final class JentryCachingProvider implements CachingProvider {
     private static final URI DEFAULT = URI.create(System.getProperty("jentry.uri", "jentry:default"));
 
     private final Map<List<Object>, JentryCacheManager> managers = new HashMap<>();
 
-    /** Is called by JCache, which looks for providers by the service loader. */
+    /** Creates the provider. JCache calls this through the service loader. */
     public JentryCachingProvider() { }
 
     /**
-     * The manager of a URI and a class loader; a null stands for the default. While it is open it is the same for each
-     * call, with the properties of the first.
+     * Returns the manager of a URI and a class loader; null selects the default. Until the manager is closed, every
+     * call returns the same one, with the properties of the first call.
      *
-     * @throws javax.cache.CacheException where the URI or a property can't be understood
+     * @throws javax.cache.CacheException if the URI or a property is invalid
      */
     @Override public synchronized CacheManager getCacheManager(URI uri, ClassLoader loader, Properties properties) {
         URI at = uri == null ? getDefaultURI() : uri;
@@ -49,7 +52,7 @@ public final class JentryCachingProvider implements CachingProvider {
     }
 
     /**
-     * What the system property {@code jentry.uri} says, else {@code jentry:default}: a child process for each cache.
+     * Returns the system property {@code jentry.uri}, or else {@code jentry:default}: a child process for each cache.
      */
     @Override public URI getDefaultURI() {
         return DEFAULT;
@@ -86,7 +89,7 @@ public final class JentryCachingProvider implements CachingProvider {
         all.stream().filter(which).forEach(CacheManager::close);
     }
 
-    /** False: store by reference, the one optional feature, isn't there. */
+    /** Returns false: the only optional feature, store by reference, isn't supported. */
     @Override public boolean isSupported(OptionalFeature feature) {
         return false;
     }

@@ -4,7 +4,7 @@ import java.util.List;
 import javax.cache.CacheException;
 import jentry.jcache.impl.Refusal;
 
-/** The server refuses the class of a processor. Nothing was run, and no entry is changed. */
+/** The server refuses the class of a processor. Nothing was run, and no entry was changed. */
 public final class ProcessorRefusedException extends CacheException {
     private static final long serialVersionUID = 1L;
     private static final int OUTSIDE_PROFILE = Refusal.OUTSIDE_PROFILE.number();
@@ -15,12 +15,12 @@ public final class ProcessorRefusedException extends CacheException {
     private final String[] places;
 
     /**
-     * Makes one of what the server answered.
+     * Creates an exception from the server's reply.
      *
      * @param processor the name of the class
      * @param number the number of the refusal
-     * @param detail the opcode of refusal 17, the place of refusal 22, else 0
-     * @param places where in the source the refusal may be meant
+     * @param detail the opcode for refusal 17, the bytecode offset for refusal 22, else 0
+     * @param places the places in the source that the refusal may refer to
      */
     public ProcessorRefusedException(String processor, int number, int detail, List<String> places) {
         super(text(processor, number, detail, places));
@@ -30,10 +30,10 @@ public final class ProcessorRefusedException extends CacheException {
     }
 
     /**
-     * The same refusal, of a class that was sent as it is since it couldn't be compiled.
+     * Creates an exception for a class that was sent uncompiled because the compiler failed on it.
      *
-     * @param refusal what the server answered, which becomes the cause
-     * @param problem the compiler's reason
+     * @param refusal the server's refusal, which becomes the cause
+     * @param problem why the class couldn't be compiled
      */
     public ProcessorRefusedException(ProcessorRefusedException refusal, String problem) {
         super(refusal.getMessage() + "; it can't be compiled: " + problem, refusal);
@@ -56,30 +56,30 @@ public final class ProcessorRefusedException extends CacheException {
         return remedy.isEmpty() ? text : text + " (" + remedy + ")";
     }
 
-    /** The number of the refusal, 1 to 30. */
+    /** Returns the number of the refusal, 1 to 30. */
     public int number() {
         return number;
     }
 
-    /** The server's name of the refusal, as {@code BackwardBranch}. */
+    /** Returns the server's name of the refusal, such as {@code BackwardBranch}. */
     public String refusal() {
         return Refusal.title(number);
     }
 
-    /** The opcode for refusal 17, the place in the method's code for refusal 22, and 0 for all others. */
+    /** Returns the opcode for refusal 17, the bytecode offset in the method for refusal 22, and 0 for all others. */
     public int detail() {
         return detail;
     }
 
     /**
-     * Where in the source the refusal may be meant, as {@code process line 12}: at most eight places for the refusals
-     * 15, 17, 20 and 22, an empty list for all others.
+     * Returns the places in the source that the refusal may refer to, such as {@code process line 12}: at most eight
+     * for the refusals 15, 17, 20 and 22, and an empty list for all others.
      */
     public List<String> places() {
         return List.of(places);
     }
 
-    /** What to write instead, or an empty text where no Java source leads to the refusal. */
+    /** Returns what to write instead, or an empty string if no Java source leads to this refusal. */
     public String remedy() {
         return Refusal.remedy(number, detail);
     }

@@ -33,7 +33,7 @@ import org.junit.jupiter.api.Test;
 import org.junit.jupiter.api.Timeout;
 import org.junit.jupiter.api.function.Executable;
 
-/** What a caller sees where a server ends, is silent or errs, by a stand-in. */
+/** Tests what a caller gets if the server ends, doesn't reply or replies wrongly, with a stand-in for the server. */
 @Timeout(60)
 class BrokenTest {
     private static final String NOT_KNOWN = "whether this call has run is not known";
@@ -43,7 +43,7 @@ class BrokenTest {
         return assertThrows(CacheException.class, call::run).getMessage();
     }
 
-    /** Answers the first rounds as a server does, and the one after them so. */
+    /** A script that replies correctly to the first rounds, and with these bytes to every later one. */
     private static StandIn.Script after(int rounds, byte[] wrong) {
         return (it, round, requests) -> round > rounds ? wrong : it.right(requests);
     }
@@ -218,7 +218,7 @@ class BrokenTest {
         }
     }
 
-    /** A stand-in that holds each round from the second on until it is let go, and a cache on it. */
+    /** A stand-in that holds each round from the second on until it is released, and a cache on it. */
     private static final class Holding implements AutoCloseable {
         final CountDownLatch arrived = new CountDownLatch(1), go = new CountDownLatch(1);
         final StandIn server;
@@ -235,7 +235,7 @@ class BrokenTest {
             cache = server.cache(properties).unwrap(JentryCache.class);
         }
 
-        /** A thread whose round is out. */
+        /** Starts a thread whose round is in progress. */
         Team putIsOut() throws InterruptedException {
             cache.put(0L, 0L);
             Team team = Team.of(1, t -> cache.put(0L, 1L));
@@ -243,7 +243,7 @@ class BrokenTest {
             return team;
         }
 
-        /** An asynchronous call whose round is out. */
+        /** Starts an asynchronous call whose round is in progress. */
         CompletableFuture<Long> invocationIsOut() throws InterruptedException {
             CompletableFuture<Long> told = cache.invokeAsync(1L, new Sample.Key());
             arrived.await();

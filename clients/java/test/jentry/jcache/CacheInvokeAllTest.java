@@ -14,7 +14,7 @@ import javax.cache.processor.EntryProcessorException;
 import javax.cache.processor.EntryProcessorResult;
 import org.junit.jupiter.api.Test;
 
-/** What invokeAll takes, answers and throws, on the real server. */
+/** Tests what invokeAll accepts, returns and throws, on the real server. */
 class CacheInvokeAllTest extends OnServer {
     @Test void invokeAllAnswersByKey() {
         long one = server.key(1), zero = server.key(2), twenty = server.key(3), none = server.key(4);

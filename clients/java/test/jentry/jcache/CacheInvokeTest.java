@@ -13,7 +13,7 @@ import javax.cache.processor.EntryProcessor;
 import javax.cache.processor.EntryProcessorException;
 import org.junit.jupiter.api.Test;
 
-/** What invoke and invokeAsync take, answer and throw, on the real server. */
+/** Tests what invoke and invokeAsync accept, return and throw, on the real server. */
 class CacheInvokeTest extends OnServer {
     @Test void argumentsAndResults() {
         assertEquals(5L, cache.invoke(k, new Sample.Add(), 5L));

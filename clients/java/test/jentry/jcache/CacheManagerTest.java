@@ -20,7 +20,7 @@ import org.junit.jupiter.api.BeforeEach;
 import org.junit.jupiter.api.Test;
 import org.junit.jupiter.api.function.Executable;
 
-/** Each method of CacheManager, on the real server. */
+/** Tests each method of CacheManager, on the real server. */
 class CacheManagerTest extends OnServer {
     private CacheManager manager;
 

@@ -21,7 +21,7 @@ import javax.cache.integration.CompletionListener;
 import org.junit.jupiter.api.Test;
 import org.junit.jupiter.api.function.Executable;
 
-/** What holds for all methods of Cache, and those that have no test of their own, on the real server. */
+/** Tests what holds for all methods of Cache, and the methods without a test class of their own, on the real server. */
 class CacheTest extends OnServer {
     @Test void getAllPutAllRemoveAll() {
         Map<Long, Long> entries = new HashMap<>();

@@ -20,7 +20,7 @@ import javax.cache.spi.CachingProvider;
 import org.junit.jupiter.api.BeforeEach;
 import org.junit.jupiter.api.Test;
 
-/** Each method of CachingProvider, and how Caching finds it, on the real server. */
+/** Tests each method of CachingProvider, and that Caching finds the provider, on the real server. */
 class CachingTest extends OnServer {
     private CacheManager manager;
     private CachingProvider provider;

@@ -17,7 +17,7 @@ import javax.cache.processor.MutableEntry;
 import jentry.jcache.impl.ProcessorFile;
 import org.junit.jupiter.api.Test;
 
-/** The class files of processors: which can be sent, and what is told of those that can't or are refused, on the real server. */
+/** Tests which class files of processors can be sent, and the messages for those that can't be sent or are refused, on the real server. */
 class ClassFileTest extends OnServer {
     @Test void classesThatCanBeSent() {
         assertEquals(6L, cache.invoke(k, new TopLevel()));
@@ -49,7 +49,7 @@ class ClassFileTest extends OnServer {
         assertEquals(rounds, rounds());
     }
 
-    /** A loader that has a class's bytes from elsewhere, and no resource for them. */
+    /** A loader that defines a class from bytes and has no resource for it. */
     private static final class Hiding extends ClassLoader {
         private Hiding(ClassLoader parent) {
             super(parent);
@@ -127,7 +127,7 @@ class ClassFileTest extends OnServer {
         assertEquals(6L, cache.invoke(k, new TopLevel()));
     }
 
-    /** Of the newer version that this file is compiled for. */
+    /** A class of the newer class file version that this file is compiled for. */
     static class Newer implements EntryProcessor<Long, Long, Object> {
         @Override public Object process(MutableEntry<Long, Long> entry, Object... arguments) {
             return 1L;

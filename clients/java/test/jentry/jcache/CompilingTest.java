@@ -17,12 +17,12 @@ import javax.cache.processor.MutableEntry;
 import org.junit.jupiter.api.BeforeEach;
 import org.junit.jupiter.api.Test;
 
-/** Processors that are compiled before they are sent, on the real server; the jar of jentry-compile is on the class path. */
+/** Tests processors that are compiled before they are sent, on the real server. The jar of jentry-compile is on the class path. */
 class CompilingTest extends OnServer {
     private static final EntryProcessor<Long, Long, Long> ADDS_TWO = (entry, arguments) -> entry.getKey() + 2;
     private static final EntryProcessor<Long, Long, Long> ADDS_THREE = (entry, arguments) -> entry.getKey() + 3;
 
-    /** Lambdas that this class hands over. */
+    /** Lambdas that this class passes to the cache. */
     private static final class Processors {
         static final EntryProcessor<Long, Long, Long> FOUR = (entry, arguments) -> 4L;
         static final EntryProcessor<Long, Long, Long> FIVE = (entry, arguments) -> 5L;
@@ -74,7 +74,7 @@ class CompilingTest extends OnServer {
         return all;
     }
 
-    /** The digits of the argument; a class of the test's own Java. */
+    /** Counts the digits of its argument; compiled for the Java version of the tests. */
     public static final class Digits implements EntryProcessor<Long, Long, Integer> {
         private static final long[] POWERS = {10, 100, 1_000, 10_000};
 
@@ -87,7 +87,7 @@ class CompilingTest extends OnServer {
         }
     }
 
-    /** A loop that no counter ends. */
+    /** A loop without a counter that bounds it. */
     public static final class Endless implements EntryProcessor<Long, Long, Long> {
         @Override public Long process(MutableEntry<Long, Long> entry, Object... arguments) {
             long x = (Long) arguments[0];

@@ -25,7 +25,7 @@ import javax.cache.expiry.TouchedExpiryPolicy;
 import org.junit.jupiter.api.BeforeEach;
 import org.junit.jupiter.api.Test;
 
-/** What a configuration may and can't have, and what a cache tells of its own, on the real server. */
+/** Tests which configurations are accepted, and what a cache reports about its own, on the real server. */
 class ConfigurationTest extends OnServer {
     private CacheManager manager;
 
@@ -100,7 +100,7 @@ class ConfigurationTest extends OnServer {
         assertFalse(told.getCacheEntryListenerConfigurations().iterator().hasNext());
     }
 
-    /** A configuration of a kind that the provider doesn't have. */
+    /** A configuration type that the provider doesn't support. */
     private interface Another extends Configuration<Long, Long> { }
 
     @Test void aConfigurationOfAnotherKind() {

@@ -10,7 +10,7 @@ import java.util.List;
 import org.junit.jupiter.api.Tag;
 import org.junit.jupiter.api.Test;
 
-/** The examples, compiled against the JCache API alone and run in a JVM of their own, with the provider's jar beside. */
+/** Compiles the examples against the JCache API alone, and runs each in its own JVM with the provider's jar on the class path. */
 @Tag("server")
 class ExampleTest {
     private static final String JARS = System.getProperty("jentry.jars");
@@ -24,7 +24,7 @@ class ExampleTest {
         return told;
     }
 
-    /** The folder of the class files of an example. */
+    /** Compiles an example and returns the folder of its class files. */
     private static Path compiled(String example) throws IOException, InterruptedException {
         Path folder = Temporary.folder();
         String source = Path.of(System.getProperty("jentry.examples"), example + ".java").toString();

@@ -12,7 +12,7 @@ import java.util.Map;
 import java.util.Set;
 import org.junit.jupiter.api.Test;
 
-/** What reads entries: get, getAll and containsKey. */
+/** Tests the methods that read entries: get, getAll and containsKey. */
 class GetTest extends OnServer {
     @Test void getOfAKeyWithoutAnEntry() {
         assertNull(cache.get(k));

@@ -9,7 +9,7 @@ import javax.cache.event.CacheEntryExpiredListener;
 import javax.cache.event.CacheEntryRemovedListener;
 import javax.cache.event.CacheEntryUpdatedListener;
 
-/** A listener that keeps what it hears: kind, key as a difference, value, old value. */
+/** A listener that records its events: kind, key as a difference, value, old value. */
 public final class Heard implements CacheEntryCreatedListener<Long, Long>, CacheEntryUpdatedListener<Long, Long>,
     CacheEntryRemovedListener<Long, Long>, CacheEntryExpiredListener<Long, Long>, AutoCloseable {
     public final List<String> all = new CopyOnWriteArrayList<>();
@@ -28,7 +28,7 @@ public final class Heard implements CacheEntryCreatedListener<Long, Long>, Cache
         }
     }
 
-    /** Its registration. */
+    /** Returns a registration of this listener. */
     public MutableCacheEntryListenerConfiguration<Long, Long> by(boolean wantsOld, boolean isSynchronous) {
         return new MutableCacheEntryListenerConfiguration<>(() -> this, null, wantsOld, isSynchronous);
     }

@@ -12,24 +12,24 @@ import java.util.concurrent.atomic.AtomicLong;
 import java.util.function.Supplier;
 import javax.cache.Cache;
 
-/** What several threads called on one key that had no entry, when each call began and ended, and whether a ConcurrentHashMap allows what they were told. */
+/** The calls of several threads on one key that had no entry, with the time and result of each, and a check that a ConcurrentHashMap allows them. */
 final class History {
     private static final AtomicLong CLOCK = new AtomicLong();
     private static final Long KEY = 0L;
 
     private final List<Call> calls = Collections.synchronizedList(new ArrayList<>());
 
-    /** A method of a cache, with the arguments that it takes of these. */
+    /** A method of a cache. It uses those of the arguments that it needs. */
     interface OnCache {
         Object call(Cache<Long, Long> it, long key, long old, long value);
     }
 
-    /** What the same is on a map. */
+    /** The same method on a map. */
     interface OnMap {
         Object call(ConcurrentMap<Long, Long> it, long old, long value);
     }
 
-    /** The methods on one key, and their meaning. */
+    /** The methods on one key, each with its equivalent on a map. */
     enum Method {
         GET((it, key, old, value) -> it.get(key), (it, old, value) -> it.get(KEY)),
         CONTAINS_KEY((it, key, old, value) -> it.containsKey(key), (it, old, value) -> it.containsKey(KEY)),
@@ -59,17 +59,17 @@ final class History {
 
     private record Call(Method method, long old, long value, Object told, long begin, long end) { }
 
-    /** Which calls were taken, one bit each, and the entry that they left. */
+    /** The calls that were applied, one bit each, and the entry after them. */
     private record Place(long taken, Long entry) { }
 
-    /** Makes a call, and writes down what it told. */
+    /** Makes a call and records its result. */
     void call(Method method, long old, long value, Supplier<Object> call) {
         long begin = CLOCK.incrementAndGet();
         Object told = call.get();
         calls.add(new Call(method, old, value, told, begin, CLOCK.incrementAndGet()));
     }
 
-    /** For made-up histories: a call that told this, between these two moments. */
+    /** Adds a call with this result and these start and end times, for made-up histories. */
     void told(Method method, long old, long value, Object told, long begin, long end) {
         calls.add(new Call(method, old, value, told, begin, end));
     }
@@ -79,8 +79,8 @@ final class History {
     }
 
     /**
-     * Whether there is an order of the calls in which each that ended before another began stands before it, and in which a ConcurrentHashMap tells what
-     * was told. Of at most 64 calls.
+     * Returns whether the calls are linearizable: whether they have an order in which each call that ended before another began comes before it, and in which a
+     * ConcurrentHashMap returns the same results. There may be at most 64 calls.
      */
     boolean isAllowed() {
         if (size() > Long.SIZE) {
@@ -111,7 +111,7 @@ final class History {
         return false;
     }
 
-    /** Where a map is behind the call, or null where it tells something else. */
+    /** Returns the state after the call, or null if a map returns a different result. */
     private static Place after(Place place, int at, Call call) {
         ConcurrentMap<Long, Long> map = new ConcurrentHashMap<>();
         if (place.entry != null) {

@@ -8,7 +8,7 @@ import java.util.concurrent.ConcurrentMap;
 import java.util.concurrent.ThreadLocalRandom;
 import org.junit.jupiter.api.Test;
 
-/** Whether histories are told apart: those of a ConcurrentHashMap itself, and made-up ones that it never has. */
+/** Tests the check of histories: it accepts those of a ConcurrentHashMap, and rejects made-up ones that it never produces. */
 class HistoryTest {
     private static final History.Method[] METHODS = History.Method.values();
 

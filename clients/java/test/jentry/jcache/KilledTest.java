@@ -12,7 +12,7 @@ import javax.cache.CacheException;
 import jentry.jcache.stream.StreamStore;
 import org.junit.jupiter.api.Test;
 
-/** The real server, a child process, is killed in the middle of a round that takes it seconds. */
+/** Kills the real server, a child process, in the middle of a round that takes seconds. */
 class KilledTest extends OnServer {
     private static String failure(Runnable call) {
         return assertThrows(CacheException.class, call::run).getMessage();

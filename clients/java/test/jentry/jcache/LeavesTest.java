@@ -20,7 +20,7 @@ import javax.cache.Caching;
 import org.junit.jupiter.api.Tag;
 import org.junit.jupiter.api.Test;
 
-/** What is left behind: no process, thread, socket or file, by a manager that is closed and by a JVM that ends. */
+/** Tests that a closed manager and a JVM that ends leave no process, thread, socket or file. */
 @Tag("server")
 class LeavesTest {
     private static final int PATIENCE = 30_000;
@@ -79,7 +79,7 @@ class LeavesTest {
         await(() -> openFiles() <= files && children() <= processes, "files or processes that stay");
     }
 
-    /** Makes a cache, prints the processes and ends without closing it. */
+    /** Makes a cache, prints the processes and ends without closing the cache. */
     public static void main(String[] words) {
         CacheManager manager = Caching.getCachingProvider().getCacheManager(URI.create(words[0]), null);
         use(manager.createCache("left", Server.types()));

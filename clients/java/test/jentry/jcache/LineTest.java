@@ -18,7 +18,7 @@ import java.util.stream.Collectors;
 import java.util.stream.LongStream;
 import org.junit.jupiter.api.Test;
 
-/** Many threads on one stream of the real server. */
+/** Tests many threads on one stream of the real server. */
 class LineTest extends OnServer {
     private static final int THREADS = 64;
 

@@ -19,7 +19,7 @@ import javax.cache.event.CacheEntryCreatedListener;
 import javax.cache.event.CacheEntryListenerException;
 import org.junit.jupiter.api.Test;
 
-/** Listeners to the changes that a cache object makes. */
+/** Tests listeners to the changes that a cache object makes. */
 class ListenerTest extends OnServer {
     private final Heard heard = new Heard(0);
 
@@ -62,7 +62,7 @@ class ListenerTest extends OnServer {
         assertEquals(Set.of("REMOVED 0 2 2", "REMOVED 1 3 3"), Set.copyOf(it.all));
     }
 
-    /** jentry serve doesn't say what a processor did to its entry. */
+    /** jentry serve doesn't report what a processor did to its entry. */
     @Test void processors() {
         Heard it = listen(true, true);
         cache.invoke(k, new Sample.Add(), 4L);

@@ -18,7 +18,7 @@ import javax.cache.integration.CacheLoaderException;
 import javax.cache.integration.CompletionListenerFuture;
 import org.junit.jupiter.api.Test;
 
-/** Loaders: read-through, and loadAll. */
+/** Tests loaders: read-through and loadAll. */
 class LoaderTest extends OnServer {
     private final Map<Long, Long> source = new ConcurrentHashMap<>();
     private final AtomicInteger loads = new AtomicInteger();

@@ -18,7 +18,7 @@ import javax.cache.processor.EntryProcessorResult;
 import org.junit.jupiter.api.BeforeEach;
 import org.junit.jupiter.api.Test;
 
-/** Processors that the server doesn't take: refused, or run in this JVM where jentry.local is true. */
+/** Tests processors that the server refuses: the call fails, or the processor runs in this JVM if jentry.local is true. */
 class LocalInvokeTest extends OnServer {
     private Cache<Long, Long> local;
 

@@ -15,7 +15,7 @@ import javax.cache.expiry.ExpiryPolicy;
 import javax.cache.expiry.TouchedExpiryPolicy;
 import org.junit.jupiter.api.Test;
 
-/** Many threads on few keys of the real server: what they are told on each key is what a ConcurrentHashMap could have told them. */
+/** Tests many threads on few keys of the real server: the results on each key must be possible for a ConcurrentHashMap. */
 class MapTest extends OnServer {
     private static final History.Method[] METHODS = History.Method.values();
     private static final List<History.Method> PLAIN = List.of(History.Method.PUT, History.Method.GET, History.Method.REMOVE);
@@ -24,7 +24,7 @@ class MapTest extends OnServer {
         return of.get(ThreadLocalRandom.current().nextInt(of.size()));
     }
 
-    /** So many threads make so many calls each, of these methods, on as many new keys as there are histories. Half of them by another connection. */
+    /** Runs {@code threads} threads with {@code calls} calls each of these methods, on one new key per history. Half of the threads use another connection. */
     private void run(int threads, int calls, long first, List<History> histories, List<History.Method> methods) throws InterruptedException {
         run(cache, server.other(), threads, calls, first, histories, methods);
     }
@@ -54,7 +54,7 @@ class MapTest extends OnServer {
         }
     }
 
-    /** As the policies of JCache, but one that the provider doesn't know. */
+    /** Like a policy of JCache, but a class that the provider doesn't know. */
     private static final class Own implements ExpiryPolicy {
         @Override public Duration getExpiryForCreation() {
             return Duration.ONE_HOUR;

@@ -6,7 +6,7 @@ import javax.cache.integration.CacheLoader;
 
 /** Entries for tests. */
 public final class Numbers {
-    /** Has ten times the key for every key. */
+    /** Loads ten times the key for every key. */
     public static final CacheLoader<Long, Long> LOADER = new CacheLoader<>() {
         @Override public Long load(Long key) {
             return 10 * key;
@@ -21,7 +21,7 @@ public final class Numbers {
 
     private Numbers() { }
 
-    /** The keys from 0 on, this many; each is its own value. */
+    /** Returns entries for the keys from 0 to {@code count} - 1; the value of each is its key. */
     public static Map<Long, Long> upTo(long count) {
         Map<Long, Long> all = new HashMap<>();
         for (long i = 0; i < count; i++) {

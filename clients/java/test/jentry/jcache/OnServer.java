@@ -9,7 +9,7 @@ import org.junit.jupiter.api.AfterEach;
 import org.junit.jupiter.api.BeforeEach;
 import org.junit.jupiter.api.Tag;
 
-/** Tests that have a cache on the real server, each its own, and a key that no other test uses. */
+/** The base of tests on the real server. Each test has its own cache, and a key that no other test uses. */
 @Tag("server")
 abstract class OnServer {
     Server server;
@@ -23,7 +23,7 @@ abstract class OnServer {
         k = server.key(1);
     }
 
-    /** Another cache on the server, by a manager with these properties: names and values in turn. */
+    /** Creates another cache on the server, from a manager with these properties: names and values alternate. */
     Cache<Long, Long> create(MutableConfiguration<Long, Long> configuration, String... properties) {
         CacheManager own = server.manager.getCachingProvider().getCacheManager(Server.AT, new ClassLoader() { },
             StandIn.properties(properties));
@@ -36,7 +36,7 @@ abstract class OnServer {
         server.close();
     }
 
-    /** How many rounds the cache has sent. */
+    /** Returns the number of rounds that the cache has sent. */
     long rounds() {
         return server.own().store().sent();
     }

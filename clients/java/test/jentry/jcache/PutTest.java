@@ -11,7 +11,7 @@ import java.util.HashMap;
 import java.util.Map;
 import org.junit.jupiter.api.Test;
 
-/** What sets entries: put, getAndPut, putIfAbsent and putAll. */
+/** Tests the methods that set entries: put, getAndPut, putIfAbsent and putAll. */
 class PutTest extends OnServer {
     @Test void putOfANewAndOfAnOldKey() {
         cache.put(k, Long.MIN_VALUE);

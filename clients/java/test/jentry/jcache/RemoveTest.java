@@ -12,7 +12,7 @@ import java.util.Map;
 import java.util.Set;
 import org.junit.jupiter.api.Test;
 
-/** What removes entries: remove with and without the old value, getAndRemove and removeAll of keys. */
+/** Tests the methods that remove entries: remove with and without the old value, getAndRemove and removeAll of keys. */
 class RemoveTest extends OnServer {
     @Test void remove() {
         assertFalse(cache.remove(k));

@@ -8,7 +8,7 @@ import java.util.List;
 import javax.cache.processor.EntryProcessor;
 import javax.tools.ToolProvider;
 
-/** Another class of the name TopLevel, which answers 60. */
+/** A different class of the name TopLevel, which returns 60. */
 final class Renamed {
     private Renamed() { }
 

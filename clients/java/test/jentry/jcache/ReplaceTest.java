@@ -8,7 +8,7 @@ import static org.junit.jupiter.api.Assertions.assertTrue;
 
 import org.junit.jupiter.api.Test;
 
-/** What sets entries that are there: replace with and without the old value, and getAndReplace. */
+/** Tests the methods that replace entries: replace with and without the old value, and getAndReplace. */
 class ReplaceTest extends OnServer {
     @Test void replaceWhereOld() {
         assertFalse(cache.replace(k, 5L, 6L));

@@ -11,8 +11,8 @@ import javax.cache.Caching;
 import javax.cache.configuration.MutableConfiguration;
 
 /**
- * A cache on the real server, for one test: a child process of its own, or a connection to the front that {@code jentry.test.uri} names. A front's entries
- * stay from test to test, so each test has keys of its own.
+ * A cache on the real server, for one test: on its own child process, or on a connection to the front that {@code jentry.test.uri} names. The entries of a
+ * front persist between tests, so each test uses its own keys.
  */
 final class Server implements AutoCloseable {
     static final URI AT = URI.create(System.getProperty("jentry.test.uri", "jentry:default"));
@@ -35,7 +35,7 @@ final class Server implements AutoCloseable {
         return new MutableConfiguration<Long, Long>().setTypes(Long.class, Long.class);
     }
 
-    /** The n-th key of this test. */
+    /** Returns the n-th key of this test. */
     long key(long n) {
         return base + n;
     }
@@ -48,7 +48,7 @@ final class Server implements AutoCloseable {
         return keys;
     }
 
-    /** The same entries by another connection, where a front or Redis has them; else the cache itself. */
+    /** Returns the same entries on another connection if the server is shared, else the cache itself. */
     Cache<Long, Long> other() {
         if (!isShared()) {
             return cache;
@@ -61,12 +61,12 @@ final class Server implements AutoCloseable {
         return there == null ? manager.createCache("other", types()) : there;
     }
 
-    /** Whether others see the server's entries: it is a front, or Redis. */
+    /** Returns whether other clients see the server's entries: it is a front, or Redis. */
     static boolean isShared() {
         return !AT.getScheme().equals("jentry");
     }
 
-    /** Whether the server is Redis. */
+    /** Returns whether the server is Redis. */
     static boolean isRedis() {
         return AT.getScheme().startsWith("jentry+redis");
     }
@@ -75,7 +75,7 @@ final class Server implements AutoCloseable {
         return cache.unwrap(JentryCache.class);
     }
 
-    /** Another manager of the same URI, which shares no connection with the first. */
+    /** Creates another manager of the same URI, which shares no connection with the first. */
     private static CacheManager secondManager() {
         return Caching.getCachingProvider().getCacheManager(AT, new ClassLoader() { });
     }

@@ -7,7 +7,7 @@ import java.util.Collections;
 import java.util.List;
 import java.util.concurrent.TimeUnit;
 
-/** What is to be over within a second. Since other work may have the processors, it may take longer twice, but never more than five seconds. */
+/** Checks that something ends within a second. On a busy machine it may take longer twice, but never more than five seconds. */
 final class Soon {
     private static final long WANTED_MILLIS = 1_000;
     private static final long MOST_MILLIS = 5_000;
@@ -16,7 +16,7 @@ final class Soon {
     private Soon() { }
 
     interface Try {
-        /** The moments, by {@link System#nanoTime}, between which it was. */
+        /** Returns the start and end times by {@link System#nanoTime}. */
         long[] fromTo() throws Exception;
     }
 

@@ -28,8 +28,8 @@ import javax.cache.Caching;
 import jentry.jcache.stream.Wire;
 
 /**
- * Speaks the server's frames without a machine, for what the real server can't be made to do. Every class is accepted and adds 1 to its entry. A script
- * says what is answered to a round; the bytes that it answers are sent as they are, and a null closes the connection.
+ * Speaks the server's protocol without a machine, for behaviour that the real server can't be made to show. Every class is accepted and adds 1 to its entry. A
+ * script returns the reply to each round; its bytes are sent unchanged, and null closes the connection.
  */
 public final class StandIn implements AutoCloseable {
     public static final byte[] END = frame(9);
@@ -68,13 +68,13 @@ public final class StandIn implements AutoCloseable {
         return new StandIn(listener, URI.create("jentry+tcp://127.0.0.1:" + ((InetSocketAddress) at).getPort()), script);
     }
 
-    /** A cache on a connection to it, with these properties: names and values in turn. */
+    /** Creates a cache on a connection to this server, with these properties: names and values alternate. */
     Cache<Long, Long> cache(String... properties) {
         manager = Caching.getCachingProvider().getCacheManager(uri, null, properties(properties));
         return manager.createCache("stand-in", Server.types());
     }
 
-    /** Names and values in turn. */
+    /** Returns properties from names and values that alternate. */
     static Properties properties(String... words) {
         Properties all = new Properties();
         for (int i = 0; i < words.length; i += 2) {
@@ -96,11 +96,11 @@ public final class StandIn implements AutoCloseable {
                 start(() -> serve(connection));
             }
         } catch (IOException e) {
-            // It was closed.
+            // The server was closed.
         }
     }
 
-    /** How many connections it has at this moment. */
+    /** Returns the number of open connections. */
     int connections() {
         return connections.get();
     }
@@ -122,19 +122,19 @@ public final class StandIn implements AutoCloseable {
                 out.write(told);
             }
         } catch (Exception e) {
-            // The client went, or the test is over.
+            // The client disconnected, or the test has ended.
         } finally {
             connections.decrementAndGet();
         }
     }
 
-    /** The replies to these requests, without the round's end. */
+    /** Returns the replies to these requests, without the end of the round. */
     byte[] replies(List<byte[]> requests) {
         byte[][] frames = requests.stream().map(it -> frame(reply(ByteBuffer.wrap(it)))).toArray(byte[][]::new);
         return join(frames);
     }
 
-    /** What a server that works answers. */
+    /** Returns the replies of a correct server. */
     byte[] right(List<byte[]> requests) {
         return join(replies(requests), END);
     }
@@ -169,7 +169,7 @@ public final class StandIn implements AutoCloseable {
         return value == null ? new byte[1] : bytes(ByteBuffer.allocate(9).put((byte) 1).putLong(value));
     }
 
-    /** A frame of this kind and body. */
+    /** Returns a frame of these bytes: the kind, then the body. */
     public static byte[] frame(int... text) {
         byte[] bytes = new byte[text.length];
         for (int i = 0; i < text.length; i++) {

@@ -21,7 +21,7 @@ import javax.management.ObjectName;
 import org.junit.jupiter.api.BeforeEach;
 import org.junit.jupiter.api.Test;
 
-/** The beans of a cache, and its statistics beside scripts that are counted by hand. */
+/** Tests the beans of a cache, and compares its statistics with counts by hand. */
 class StatisticsTest extends OnServer {
     private static final MBeanServer BEANS = ManagementFactory.getPlatformMBeanServer();
     private Cache<Long, Long> counted;
@@ -87,7 +87,7 @@ class StatisticsTest extends OnServer {
         counts(4, 2, 4, 1);
     }
 
-    /** jentry serve doesn't say whether there was an entry where a comparison fails. */
+    /** jentry serve doesn't report whether there was an entry if a comparison fails. */
     @Test void comparisonsThatFail() {
         counted.put(k, 1L);
         counted.replace(k, 5L, 6L);
@@ -111,7 +111,7 @@ class StatisticsTest extends OnServer {
         assertEquals(0, told.getCacheEvictions());
     }
 
-    /** The reply of jentry serve to an invocation has no effect and no entry before, so nothing is counted there. */
+    /** The reply of jentry serve to an invocation has neither the effect nor the entry before, so nothing is counted there. */
     @Test void processors() {
         counted.invoke(k, new Sample.Add(), 1L);
         counted.invoke(k, new Sample.Add(), 2L);
@@ -129,7 +129,7 @@ class StatisticsTest extends OnServer {
         counts(Server.isRedis() ? 3 : 0, Server.isRedis() ? 5 : 0, Server.isRedis() ? 4 : 0, Server.isRedis() ? 1 : 0);
     }
 
-    /** A set of the value that is there is a put all the same. */
+    /** Setting the current value again still counts as a put. */
     @Test void aValueThatIsThere() {
         counted.put(k, 5L);
         assertTrue(counted.replace(k, 5L, 5L));

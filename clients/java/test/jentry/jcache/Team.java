@@ -10,9 +10,9 @@ import java.util.List;
 import java.util.concurrent.TimeUnit;
 import java.util.function.LongSupplier;
 
-/** Threads that do the same, and whose failures fail the test. */
+/** Threads that run the same code, and whose failures fail the test. */
 public final class Team {
-    /** How long a thread may take; more on a machine that has other work. */
+    /** How long a thread may take, in milliseconds; a busy machine needs more. */
     static final long PATIENCE_MILLIS = Long.getLong("jentry.test.patience", 60_000);
 
     private final List<Thread> threads = new ArrayList<>();
@@ -52,7 +52,7 @@ public final class Team {
         assertEquals(List.of(), wrong);
     }
 
-    /** As {@link #join()}, for many calls: a team whose count of calls grows on a slow machine may go on. */
+    /** Joins like {@link #join()}, but as long as the number of calls grows, the threads may go on. */
     public void join(LongSupplier calls) throws InterruptedException {
         for (long before = -1; threads.stream().anyMatch(Thread::isAlive);) {
             long now = calls.getAsLong();

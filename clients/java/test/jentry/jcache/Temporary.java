@@ -10,7 +10,7 @@ import java.util.Comparator;
 import java.util.List;
 import java.util.stream.Stream;
 
-/** Temporary folders of tests, which are deleted when the JVM ends. */
+/** Temporary folders for tests, which are deleted when the JVM ends. */
 public final class Temporary {
     private static final List<Path> ALL = Collections.synchronizedList(new ArrayList<>());
 
@@ -20,7 +20,7 @@ public final class Temporary {
 
     private Temporary() { }
 
-    /** A new folder. */
+    /** Creates a folder. */
     public static Path folder() {
         try {
             Path folder = Files.createTempDirectory("jentry");
@@ -31,12 +31,12 @@ public final class Temporary {
         }
     }
 
-    /** A folder that is deleted already. */
+    /** Removes a folder from the list after it was deleted. */
     public static void forget(Path folder) {
         ALL.remove(folder);
     }
 
-    /** Deletes a folder and what is in it. */
+    /** Deletes a folder and its contents. */
     public static void delete(Path folder) {
         try (Stream<Path> all = Files.walk(folder)) {
             for (Path it : all.sorted(Comparator.reverseOrder()).toList()) {

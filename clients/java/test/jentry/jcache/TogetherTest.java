@@ -7,7 +7,7 @@ import java.nio.file.Path;
 import java.util.List;
 import org.junit.jupiter.api.Test;
 
-/** Java, Python and the frames of the examples on one cache, where the server is a front's unix socket. */
+/** Tests the Java client, the Python client and the raw frames of the examples on one cache, if the server is a front on a unix socket. */
 class TogetherTest extends OnServer {
     private static final String SCRIPT = """
         import socket, subprocess, sys

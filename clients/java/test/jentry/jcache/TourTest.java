@@ -29,7 +29,7 @@ import javax.cache.processor.EntryProcessor;
 import javax.cache.processor.EntryProcessorException;
 import org.junit.jupiter.api.Test;
 
-/** A tour through the provider, as one program uses its parts together; the other tests have each part. */
+/** A tour of the provider in which one program uses its parts together; the other tests cover each part. */
 class TourTest extends OnServer {
     private static final long UNLUCKY = 13;
 
@@ -118,7 +118,7 @@ class TourTest extends OnServer {
         answer(false, () -> local.containsKey(k));
     }
 
-    /** What a loader reads and a writer writes; it has nothing to do with one key. */
+    /** A table that the loader reads and the writer writes; it fails for one key. */
     private static final class Table implements CacheLoader<Long, Long>, CacheWriter<Long, Long> {
         final Map<Long, Long> rows = new ConcurrentHashMap<>();
         final long unlucky;

@@ -16,7 +16,7 @@ import javax.cache.configuration.MutableConfiguration;
 import org.junit.jupiter.api.BeforeEach;
 import org.junit.jupiter.api.Test;
 
-/** The types of a cache are Long and Long, on the real server. */
+/** Tests that the types of a cache must be Long and Long, on the real server. */
 class TypesTest extends OnServer {
     private CacheManager manager;
 

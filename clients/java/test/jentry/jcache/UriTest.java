@@ -15,7 +15,7 @@ import javax.cache.spi.CachingProvider;
 import org.junit.jupiter.api.BeforeEach;
 import org.junit.jupiter.api.Test;
 
-/** The URIs and properties of a manager, on the real server. */
+/** Tests the URIs and properties of a manager, on the real server. */
 class UriTest extends OnServer {
     private CachingProvider provider;
 

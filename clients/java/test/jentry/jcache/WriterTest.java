@@ -19,7 +19,7 @@ import javax.cache.integration.CacheWriterException;
 import org.junit.jupiter.api.BeforeEach;
 import org.junit.jupiter.api.Test;
 
-/** Writers, which are called before a change and may forbid it. */
+/** Tests writers, which are called before a change and can prevent it. */
 class WriterTest extends OnServer {
     private static final long FORBIDDEN = 13;
     private final Map<Long, Long> written = new ConcurrentHashMap<>();
@@ -139,7 +139,7 @@ class WriterTest extends OnServer {
         assertEquals(Map.of(k + 1, 2L), through.getAll(Set.of(k, k + 1, k + 2)));
     }
 
-    /** Redis answers what a run would do before it does it; jentry serve can't. */
+    /** Redis reports what a run would do before it does it; jentry serve can't. */
     @Test void processorsAtTheServer() {
         if (!Server.isRedis()) {
             String message = assertThrows(CacheException.class, () -> through.invoke(k, new Sample.Add(), 1L)).getMessage();
@@ -189,7 +189,7 @@ class WriterTest extends OnServer {
         assertEquals(plain.get(k), Sink.LAST.get(k));
     }
 
-    /** Keeps the last value of each key. */
+    /** Records the last value of each key. */
     private static final class Sink implements CacheWriter<Long, Long> {
         static final Map<Long, Long> LAST = new ConcurrentHashMap<>();
 

@@ -3,11 +3,11 @@ package jentry.jcache;
 import javax.cache.processor.EntryProcessor;
 import javax.cache.processor.MutableEntry;
 
-/** Processors for tests of other packages; compiled with --release 8. */
+/** Processors for the tests of other packages; compiled with --release 8. */
 public final class Renewing {
     private Renewing() { }
 
-    /** Adds its argument, and begins with it. */
+    /** Adds its argument, and starts from it if there is no entry. */
     public static final class Add implements EntryProcessor<Long, Long, Long> {
         @Override public Long process(MutableEntry<Long, Long> entry, Object... arguments) {
             long after = (entry.exists() ? entry.getValue() : 0) + (Long) arguments[0];
@@ -16,14 +16,14 @@ public final class Renewing {
         }
     }
 
-    /** Answers the value. */
+    /** Returns the value. */
     public static final class Read implements EntryProcessor<Long, Long, Object> {
         @Override public Object process(MutableEntry<Long, Long> entry, Object... arguments) {
             return entry.getValue();
         }
     }
 
-    /** Sets its argument, also where it is the value that is there. */
+    /** Sets its argument, even if that is already the value. */
     public static final class Sets implements EntryProcessor<Long, Long, Object> {
         @Override public Object process(MutableEntry<Long, Long> entry, Object... arguments) {
             entry.setValue((Long) arguments[0]);

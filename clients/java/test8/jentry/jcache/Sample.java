@@ -7,7 +7,7 @@ import javax.cache.processor.MutableEntry;
 final class Sample {
     private Sample() { }
 
-    /** Adds its argument, and begins with it. */
+    /** Adds its argument, and starts from it if there is no entry. */
     static class Add implements EntryProcessor<Long, Long, Long> {
         @Override public Long process(MutableEntry<Long, Long> entry, Object... arguments) {
             long after = (entry.exists() ? entry.getValue() : 0) + (Long) arguments[0];
@@ -16,7 +16,7 @@ final class Sample {
         }
     }
 
-    /** Sets the value to 77 and answers a hundred divided by the one before; null where that is 1. */
+    /** Sets the value to 77 and returns a hundred divided by the value before, or null if that is 1. */
     static class Divides implements EntryProcessor<Long, Long, Long> {
         @Override public Long process(MutableEntry<Long, Long> entry, Object... arguments) {
             long before = entry.getValue();
@@ -37,7 +37,7 @@ final class Sample {
         }
     }
 
-    /** Answers half of its argument, as a Long or an Integer. */
+    /** Returns half of its argument, as a Long or an Integer. */
     static class Half implements EntryProcessor<Long, Long, Number> {
         @Override public Number process(MutableEntry<Long, Long> entry, Object... arguments) {
             if (arguments[0] instanceof Long) {
@@ -53,7 +53,7 @@ final class Sample {
         }
     }
 
-    /** Sets its argument, also where it is the value that is there. */
+    /** Sets its argument, even if that is already the value. */
     static class Sets implements EntryProcessor<Long, Long, Object> {
         @Override public Object process(MutableEntry<Long, Long> entry, Object... arguments) {
             entry.setValue((Long) arguments[0]);
@@ -96,7 +96,7 @@ final class Sample {
         }
     }
 
-    /** Takes more than 1,500,000 instructions. */
+    /** Executes more than 1,500,000 instructions. */
     static class Heavy implements EntryProcessor<Long, Long, Long> {
         @Override public Long process(MutableEntry<Long, Long> entry, Object... arguments) {
             return seven(1);
@@ -187,7 +187,7 @@ final class Sample {
         }
     }
 
-    /** A dense switch, and one whose keys stand far apart. */
+    /** A dense switch, and one whose keys are far apart. */
     static class Switches implements EntryProcessor<Long, Long, Object> {
         @Override public Object process(MutableEntry<Long, Long> entry, Object... arguments) {
             int key = (Integer) arguments[0];

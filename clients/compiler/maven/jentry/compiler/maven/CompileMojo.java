@@ -10,7 +10,7 @@ import org.apache.maven.plugin.AbstractMojo;
 import org.apache.maven.plugin.MojoExecutionException;
 import org.apache.maven.plugin.MojoFailureException;
 
-/** The goal `jentry:compile`: its parameters are those of plugin.xml. */
+/** The Maven goal `jentry:compile`. Its parameters are listed in plugin.xml. */
 public final class CompileMojo extends AbstractMojo {
     private static final int FAILED = 3;
 

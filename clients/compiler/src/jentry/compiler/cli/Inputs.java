@@ -10,20 +10,20 @@ import java.util.stream.Stream;
 import java.util.zip.ZipEntry;
 import java.util.zip.ZipFile;
 
-/** The class files behind a word of the command line. */
+/** Finds the class files that a command line argument names. */
 final class Inputs {
     /**
      * A class file.
      *
-     * @param name what messages call it
-     * @param file where it lies, or null where it lies in a jar
+     * @param name the name in messages
+     * @param file its path, or null if it is in a jar
      * @param bytes its content
      */
     record Input(String name, Path file, byte[] bytes) { }
 
     private Inputs() { }
 
-    /** The class files of a class file, a folder or a jar, in the order of their names. */
+    /** Returns the class files of a class file, a folder or a jar, sorted by name. */
     static List<Input> of(Path place) throws IOException {
         if (Files.isDirectory(place)) {
             return ofFolder(place);

@@ -51,12 +51,12 @@ public final class Main {
         this.err = err;
     }
 
-    /** Runs the command, and ends the JVM with its status. */
+    /** Runs the command and exits with its status. */
     public static void main(String[] words) {
         System.exit(run(System.out, System.err, words));
     }
 
-    /** Runs the command. Gives its status. */
+    /** Runs the command and returns its status. */
     public static int run(PrintStream out, PrintStream err, String... words) {
         try {
             Options options = new Options(words);

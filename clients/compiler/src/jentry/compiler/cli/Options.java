@@ -4,9 +4,9 @@ import java.nio.file.Path;
 import java.util.ArrayList;
 import java.util.List;
 
-/** The words of the command line. */
+/** The command line options. */
 final class Options {
-    /** The command line can't be read. */
+    /** Thrown if the command line is invalid. */
     static final class UsageException extends Exception {
         private static final long serialVersionUID = 1L;
 
@@ -83,7 +83,7 @@ final class Options {
                 return number;
             }
         } catch (NumberFormatException e) {
-            // Told below, as a number that is too small is.
+            // Reported below, like a number that is too small.
         }
         throw new UsageException("the option " + name + " takes a number" + (least > 0 ? " from " + least : "") + ", not " + value);
     }

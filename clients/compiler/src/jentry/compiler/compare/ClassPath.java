@@ -10,16 +10,16 @@ import java.net.URLClassLoader;
 import java.util.ArrayList;
 import java.util.List;
 
-/** Where classes are loaded from that processors need: JCache's, and those of the same program. */
+/** The class path for running processors: the JCache API and the classes of the program. */
 public final class ClassPath {
     private static final String STUBS = "/jentry/compiler/api/";
 
     private final ClassLoader common;
 
     /**
-     * Of folders and jars. Where JCache isn't among them, stubs of its interfaces that come with the compiler are taken.
+     * Creates a class path. If it lacks JCache, stubs of its interfaces that come with the compiler are used.
      *
-     * @param places folders and jars, as on a class path
+     * @param places folders and jars, in the form of a class path
      */
     public ClassPath(String places) {
         List<URL> urls = new ArrayList<>();
@@ -39,12 +39,12 @@ public final class ClassPath {
         return Class.forName(name, false, common);
     }
 
-    /** A loader that has this class and the others of its package, and else asks the path. */
+    /** Returns a loader that defines this class and the others of its package, and delegates to the path for the rest. */
     ClassLoader with(String name, byte[] classFile) {
         return new Own(common, name, classFile);
     }
 
-    /** Looks in the path first, and for what isn't there of JCache among the stubs. */
+    /** Loads classes from the path, and missing ones of JCache from the stubs. */
     private static final class Stubs extends URLClassLoader {
         Stubs(URL[] urls) {
             super(urls, ClassLoader.getPlatformClassLoader());
@@ -68,7 +68,7 @@ public final class ClassPath {
         }
     }
 
-    /** Has a class of its own. It loads the rest of its package, too, since classes of two loaders don't see what is theirs alone. */
+    /** Defines a class of its own. It also defines the rest of the package, because package-private access fails between two loaders. */
     private static final class Own extends ClassLoader {
         private final String own;
         private final byte[] classFile;
@@ -88,7 +88,7 @@ public final class ClassPath {
             }
         }
 
-        /** The class file of another class of the package, or null. */
+        /** Returns the class file of another class of the package, or null. */
         private byte[] ofPackage(String name) {
             boolean isOfPackage = name.substring(0, name.lastIndexOf('.') + 1).equals(own.substring(0, own.lastIndexOf('.') + 1));
             try (InputStream in = isOfPackage ? getParent().getResourceAsStream(name.replace('.', '/') + ".class") : null) {

@@ -3,14 +3,14 @@ package jentry.compiler.compare;
 import java.util.Optional;
 import jentry.compiler.CompiledClass;
 
-/** Runs a class before and after compilation on the same calls. */
+/** Compares a class before and after compilation by running both on the same calls. */
 public final class Comparison {
     /**
-     * The first call that ends otherwise.
+     * The first call with different outcomes.
      *
      * @param call the call
-     * @param before how it ends by the class that was handed over
-     * @param after how it ends by the class that was made
+     * @param before its outcome with the original class
+     * @param after its outcome with the compiled class
      */
     public record Difference(Call call, Outcome before, Outcome after) {
         @Override
@@ -22,13 +22,13 @@ public final class Comparison {
     private Comparison() { }
 
     /**
-     * Compares.
+     * Compares two classes.
      *
-     * @param original the class file that was handed over
-     * @param calls how many calls are made
-     * @param seed of the random numbers: the same seed gives the same calls
-     * @return the first difference, or nothing
-     * @throws ReflectiveOperationException where one of the two classes can't be loaded or made
+     * @param original the original class file
+     * @param calls the number of calls
+     * @param seed the seed of the random numbers: the same seed gives the same calls
+     * @return the first difference, or empty
+     * @throws ReflectiveOperationException if one of the two classes can't be loaded or instantiated
      */
     public static Optional<Difference> compare(ClassPath path, byte[] original, CompiledClass compiled, int calls, long seed)
             throws ReflectiveOperationException {

@@ -11,7 +11,7 @@ import org.objectweb.asm.tree.ClassNode;
 import org.objectweb.asm.tree.MethodNode;
 import jentry.compiler.profile.Instructions;
 
-/** Makes invocations: small numbers, numbers at the ends of their ranges, the numbers that a class's code names and their neighbours, and any. */
+/** Generates random invocations: small numbers, range limits, the constants in a class's code and their neighbours, and arbitrary numbers. */
 public final class RandomCalls {
     private static final int MOST_ARGUMENTS = 8;
     private static final long[] BOUNDARIES = {0, 1, -1, 2, 7, 8, 63, 64, 127, 128, 255, 256, Short.MAX_VALUE, Integer.MAX_VALUE, Integer.MIN_VALUE,
@@ -20,7 +20,7 @@ public final class RandomCalls {
     private final Random random;
     private final long[] named;
 
-    /** Of the numbers in a class file, by a random number generator with this seed. */
+    /** Creates a generator from the constants in a class file and a random seed. */
     public RandomCalls(byte[] classFile, long seed) {
         random = new Random(seed);
         ClassNode node = new ClassNode();
@@ -36,7 +36,7 @@ public final class RandomCalls {
         named = numbers.stream().mapToLong(it -> it).toArray();
     }
 
-    /** The next one. */
+    /** Returns the next call. */
     public Call next() {
         List<Object> arguments = new ArrayList<>();
         for (int count = random.nextInt(MOST_ARGUMENTS + 1); count > 0; count--) {

@@ -7,17 +7,17 @@ import java.lang.reflect.InvocationHandler;
 import java.lang.reflect.Method;
 import java.lang.reflect.Proxy;
 
-/** Runs a processor on the JVM at hand. */
+/** Runs a processor on this JVM. */
 public final class Runner {
     private final MethodHandle process;
     private final Entry entry = new Entry();
     private final Object proxy;
 
     /**
-     * Of a class file.
+     * Loads a class file.
      *
-     * @param source the class's name, and the name and the descriptor of a lambda's body behind a `#`
-     * @throws ReflectiveOperationException where the class can't be loaded or made
+     * @param source the class name, and for a lambda also `#` and the name and descriptor of its body
+     * @throws ReflectiveOperationException if the class can't be loaded or instantiated
      */
     public Runner(ClassPath path, byte[] classFile, String source) throws ReflectiveOperationException {
         int hash = source.indexOf('#');
@@ -63,7 +63,7 @@ public final class Runner {
         }
     }
 
-    /** The entry of one call after the other. */
+    /** The entry, reused for each call. */
     private static final class Entry implements InvocationHandler {
         private Long key;
         private Long value;

@@ -1,6 +1,6 @@
 package jentry.compiler.library;
 
-/** Methods of Arrays by loops, which are written out for arrays of a known length. */
+/** Methods of Arrays written with loops, which the compiler unrolls for arrays of a known length. */
 public final class ArraysMethods {
     private ArraysMethods() { }
 

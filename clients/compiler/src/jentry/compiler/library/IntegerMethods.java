@@ -1,6 +1,6 @@
 package jentry.compiler.library;
 
-/** Methods of Integer by what the server knows. A receiver is the first parameter. */
+/** Methods of Integer written with operations that the server supports. The receiver is the first parameter. */
 public final class IntegerMethods {
     private IntegerMethods() { }
 

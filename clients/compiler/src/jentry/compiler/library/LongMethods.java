@@ -1,6 +1,6 @@
 package jentry.compiler.library;
 
-/** Methods of Long by what the server knows. A receiver is the first parameter. */
+/** Methods of Long written with operations that the server supports. The receiver is the first parameter. */
 public final class LongMethods {
     private LongMethods() { }
 

@@ -1,6 +1,6 @@
 package jentry.compiler.library;
 
-/** Methods of Math by what the server knows. Where one of them throws, it divides by zero. */
+/** Methods of Math written with operations that the server supports. To throw, they divide by zero. */
 public final class MathMethods {
     private MathMethods() { }
 

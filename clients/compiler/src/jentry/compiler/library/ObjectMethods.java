@@ -1,6 +1,6 @@
 package jentry.compiler.library;
 
-/** Methods of Object by what the server knows. The compiler sees to it that the receiver is a number or null. */
+/** Methods of Object written with operations that the server supports. The compiler ensures that the receiver is a number or null. */
 public final class ObjectMethods {
     private ObjectMethods() { }
 

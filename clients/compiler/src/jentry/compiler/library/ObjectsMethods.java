@@ -1,6 +1,6 @@
 package jentry.compiler.library;
 
-/** Methods of Objects by what the server knows. The compiler sees to it that the first operand is a number or null. */
+/** Methods of Objects written with operations that the server supports. The compiler ensures that the first operand is a number or null. */
 public final class ObjectsMethods {
     private ObjectsMethods() { }
 

@@ -13,12 +13,12 @@ import org.objectweb.asm.tree.MethodNode;
 import org.objectweb.asm.tree.TableSwitchInsnNode;
 
 /**
- * What an invocation takes at most, over all paths of a class whose branches lead forward.
+ * The maximum cost of an invocation, over all paths of a class without backward branches.
  *
- * @param steps instructions
- * @param words the length of each array, and 1 for it
- * @param slots locals and operands of all methods that are open at once
- * @param depth methods that are open at once
+ * @param steps the number of instructions
+ * @param words the sum over all arrays of the length plus 1
+ * @param slots the locals and operands of all active methods together
+ * @param depth the number of active methods
  */
 public record Bounds(long steps, long words, long slots, long depth) {
     /** The limits of the server. */
@@ -27,12 +27,12 @@ public record Bounds(long steps, long words, long slots, long depth) {
     private static final Bounds NOTHING = new Bounds(0, 0, 0, 0);
     private static final long CEILING = 1L << 40;
 
-    /** The bounds of `process`. */
+    /** Returns the bounds of `process`. */
     public static Bounds of(ClassNode owner) {
         return new Walk(owner).method(Instructions.method(owner, "process", Members.PROCESS));
     }
 
-    /** As `jentry check` prints them. */
+    /** Returns the bounds as `jentry check` prints them. */
     @Override
     public String toString() {
         return "steps=" + steps + " words=" + words + " slots=" + slots + " depth=" + depth;
@@ -46,7 +46,7 @@ public record Bounds(long steps, long words, long slots, long depth) {
         return new Bounds(Math.min(CEILING, a.steps + b.steps), Math.min(CEILING, a.words + b.words), a.slots + b.slots, a.depth + b.depth);
     }
 
-    /** The longest paths of each method, each method once. Targets are behind their branches, so one pass from the end finds them. */
+    /** Finds the longest paths of each method once. Branches only lead forward, so one backward pass over the code is enough. */
     private static final class Walk implements Opcodes {
         private final ClassNode owner;
         private final Map<MethodNode, Bounds> known = new IdentityHashMap<>();

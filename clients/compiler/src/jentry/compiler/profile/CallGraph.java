@@ -10,7 +10,7 @@ import org.objectweb.asm.tree.AbstractInsnNode;
 import org.objectweb.asm.tree.ClassNode;
 import org.objectweb.asm.tree.MethodNode;
 
-/** Which methods of a class `process` reaches. */
+/** Finds the methods of a class that `process` reaches. */
 public final class CallGraph {
     private final ClassNode owner;
     private final Map<MethodNode, Boolean> ended = new IdentityHashMap<>();
@@ -21,9 +21,9 @@ public final class CallGraph {
     }
 
     /**
-     * The methods that `process` reaches, each before those that it calls.
+     * Returns the methods that `process` reaches, each before those that it calls.
      *
-     * @throws ProblemException where a method calls itself, straight or by others, or where there is no `process`
+     * @throws ProblemException if a method calls itself, directly or through others, or if there is no `process`
      */
     public static List<MethodNode> of(ClassNode owner) throws ProblemException {
         MethodNode process = Instructions.method(owner, "process", Members.PROCESS);
@@ -38,9 +38,9 @@ public final class CallGraph {
     }
 
     /**
-     * Looks for recursion in all methods of a class, used or not.
+     * Checks all methods of a class for recursion, used or not.
      *
-     * @throws ProblemException where there is some
+     * @throws ProblemException if there is recursion
      */
     static void check(ClassNode owner) throws ProblemException {
         CallGraph graph = new CallGraph(owner);
@@ -51,7 +51,7 @@ public final class CallGraph {
         }
     }
 
-    /** Drops the methods that `process` doesn't reach. */
+    /** Removes the methods that `process` doesn't reach. */
     public static void dropUnused(ClassNode owner) throws ProblemException {
         Set<MethodNode> used = Collections.newSetFromMap(new IdentityHashMap<>());
         used.addAll(of(owner));

@@ -11,11 +11,11 @@ import org.objectweb.asm.tree.LineNumberNode;
 import org.objectweb.asm.tree.MethodInsnNode;
 import org.objectweb.asm.tree.MethodNode;
 
-/** Small questions about instructions, and small instructions. */
+/** Helpers to inspect and create instructions. */
 public final class Instructions implements Opcodes {
     private Instructions() { }
 
-    /** The instruction behind, labels and lines left out, or null. */
+    /** Returns the next instruction, skipping labels and line numbers, or null. */
     public static AbstractInsnNode next(AbstractInsnNode at) {
         AbstractInsnNode found = at.getNext();
         while (found != null && found.getOpcode() < 0) {
@@ -24,7 +24,7 @@ public final class Instructions implements Opcodes {
         return found;
     }
 
-    /** The instruction before, labels and lines left out, or null. */
+    /** Returns the previous instruction, skipping labels and line numbers, or null. */
     public static AbstractInsnNode previous(AbstractInsnNode at) {
         AbstractInsnNode found = at.getPrevious();
         while (found != null && found.getOpcode() < 0) {
@@ -33,7 +33,7 @@ public final class Instructions implements Opcodes {
         return found;
     }
 
-    /** The line of the source, or -1. */
+    /** Returns the source line of an instruction, or -1. */
     public static int line(AbstractInsnNode at) {
         for (AbstractInsnNode before = at; before != null; before = before.getPrevious()) {
             if (before instanceof LineNumberNode line) {
@@ -43,7 +43,7 @@ public final class Instructions implements Opcodes {
         return -1;
     }
 
-    /** The first line of a method, or -1. */
+    /** Returns the first source line of a method, or -1. */
     public static int line(MethodNode method) {
         for (AbstractInsnNode at : method.instructions) {
             if (at instanceof LineNumberNode line) {
@@ -53,7 +53,7 @@ public final class Instructions implements Opcodes {
         return -1;
     }
 
-    /** The Integer or Long that an instruction pushes, or null. */
+    /** Returns the Integer or Long that an instruction pushes, or null. */
     public static Object pushed(AbstractInsnNode at) {
         int opcode = at == null ? -1 : at.getOpcode();
         if (opcode >= ICONST_M1 && opcode <= ICONST_5) {
@@ -69,7 +69,7 @@ public final class Instructions implements Opcodes {
         return null;
     }
 
-    /** The shortest push of an Integer or a Long. */
+    /** Returns the shortest instruction that pushes an Integer or a Long. */
     public static AbstractInsnNode push(Object value) {
         if (value instanceof Long number) {
             return number == 0 || number == 1 ? new InsnNode(LCONST_0 + (int) (long) number) : new LdcInsnNode(number);
@@ -83,12 +83,12 @@ public final class Instructions implements Opcodes {
         return number == (short) number ? new IntInsnNode(SIPUSH, number) : new LdcInsnNode(number);
     }
 
-    /** The instruction that discards a value of one slot or two. */
+    /** Returns the instruction that discards a value of one slot or two. */
     public static InsnNode pop(int size) {
         return new InsnNode(size == 2 ? POP2 : POP);
     }
 
-    /** The method of the class that an instruction calls, or null. */
+    /** Returns the method of the class that an instruction calls, or null. */
     public static MethodNode callee(ClassNode owner, AbstractInsnNode at) {
         if (!(at instanceof MethodInsnNode call) || !call.owner.equals(owner.name)) {
             return null;
@@ -96,7 +96,7 @@ public final class Instructions implements Opcodes {
         return method(owner, call.name, call.desc);
     }
 
-    /** A method by its name and descriptor, or null. */
+    /** Returns a method by name and descriptor, or null. */
     public static MethodNode method(ClassNode owner, String name, String descriptor) {
         for (MethodNode method : owner.methods) {
             if (method.name.equals(name) && method.desc.equals(descriptor)) {
@@ -106,12 +106,12 @@ public final class Instructions implements Opcodes {
         return null;
     }
 
-    /** Whether a method has no receiver. */
+    /** Returns whether a method is static. */
     public static boolean isStatic(MethodNode method) {
         return (method.access & ACC_STATIC) != 0;
     }
 
-    /** How many instructions a method has, labels and lines left out. */
+    /** Returns the number of instructions of a method, without labels and line numbers. */
     public static int count(MethodNode method) {
         int count = 0;
         for (AbstractInsnNode at : method.instructions) {
@@ -120,22 +120,22 @@ public final class Instructions implements Opcodes {
         return count;
     }
 
-    /** A class's name as the source has it. */
+    /** Returns the source form of a class name. */
     public static String nameOf(String internal) {
         return Type.getObjectType(internal).getClassName();
     }
 
-    /** A problem at an instruction. */
+    /** Returns a problem at an instruction. */
     public static Problem problem(ClassNode owner, MethodNode method, AbstractInsnNode at, String what, String remedy) {
         return new Problem(nameOf(owner.name), method.name, line(at), what, remedy);
     }
 
-    /** A problem of a method as a whole. */
+    /** Returns a problem of a whole method. */
     public static Problem problem(ClassNode owner, MethodNode method, String what, String remedy) {
         return new Problem(nameOf(owner.name), method.name, line(method), what, remedy);
     }
 
-    /** A problem of a class as a whole. */
+    /** Returns a problem of a whole class. */
     public static Problem problem(ClassNode owner, String what, String remedy) {
         return new Problem(nameOf(owner.name), "", -1, what, remedy);
     }

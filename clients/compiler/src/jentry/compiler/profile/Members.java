@@ -7,7 +7,7 @@ import org.objectweb.asm.tree.ClassNode;
 import org.objectweb.asm.tree.MethodInsnNode;
 import org.objectweb.asm.tree.MethodNode;
 
-/** The types and the methods that a class of the profile may name. */
+/** The types and methods that a class of the profile may use. */
 public final class Members implements Opcodes {
     /** The interface of processors. */
     public static final String PROCESSOR = "javax/cache/processor/EntryProcessor";
@@ -24,12 +24,12 @@ public final class Members implements Opcodes {
 
     private Members() { }
 
-    /** Whether a cast, a test or a frame may name this class or array. */
+    /** Returns whether a cast, an instanceof or a frame may name this class or array. */
     public static boolean isKnown(String owner, String type) {
         return type.equals(owner) || CLASSES.contains(type) || ARRAYS.contains(type);
     }
 
-    /** Whether a parameter or a result may have this type. */
+    /** Returns whether a parameter or a result may have this type. */
     public static boolean isKnown(String owner, Type type) {
         return switch (type.getSort()) {
             case Type.INT, Type.LONG, Type.BOOLEAN, Type.VOID -> true;
@@ -39,7 +39,7 @@ public final class Members implements Opcodes {
         };
     }
 
-    /** Whether a call reaches a method that is known. */
+    /** Returns whether a call's target is supported. */
     public static boolean isKnown(ClassNode owner, MethodInsnNode call) {
         return isLibrary(call) || isOwn(owner, call);
     }
@@ -58,7 +58,7 @@ public final class Members implements Opcodes {
         };
     }
 
-    /** Whether a call is one of those that the server knows. */
+    /** Returns whether a call is one of the library methods that the server supports. */
     public static boolean isLibrary(MethodInsnNode call) {
         String name = call.name + call.desc;
         return switch (call.getOpcode()) {

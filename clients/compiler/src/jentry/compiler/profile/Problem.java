@@ -1,13 +1,13 @@
 package jentry.compiler.profile;
 
 /**
- * Why a class can't be accepted.
+ * The reason why a class can't be accepted.
  *
- * @param className the class, with dots
- * @param method the method's name, or an empty text where the class as a whole is meant
- * @param line the line of the source, or -1 where the class file doesn't say
+ * @param className the class name, with dots
+ * @param method the method's name, or an empty string for the whole class
+ * @param line the source line, or -1 if the class file has none
  * @param what the construct that isn't accepted
- * @param remedy what to write instead, or an empty text
+ * @param remedy what to write instead, or an empty string
  */
 public record Problem(String className, String method, int line, String what, String remedy) {
     @Override

@@ -18,17 +18,17 @@ import org.objectweb.asm.tree.TryCatchBlockNode;
 import org.objectweb.asm.tree.TypeInsnNode;
 
 /**
- * The rules by which the server refuses a class, as far as the compiler has to know them.
+ * The rules by which the server refuses a class, as far as the compiler needs them.
  *
- * <p>Each problem that is found here is one for which the server refuses the class. So a class that the server accepts has none, and is left as it is.
- * The reverse doesn't hold: types, for one, are checked by the server alone.
+ * <p>The server refuses a class for every problem that is found here. So a class that the server accepts has none, and isn't changed. The reverse
+ * doesn't hold: types, for example, are only checked by the server.
  */
 public final class Profile implements Opcodes {
-    /** What a check leaves out, since later passes see to it. */
+    /** What a check skips because later passes handle it. */
     public enum Stage {
-        /** Loops, lengths of arrays and the types of frames aren't looked at. */
+        /** Skips loops, array lengths and the types of frames. */
         BEFORE_UNROLLING,
-        /** Everything is. */
+        /** Skips nothing. */
         COMPLETE
     }
 
@@ -45,7 +45,7 @@ public final class Profile implements Opcodes {
         complete = stage == Stage.COMPLETE;
     }
 
-    /** Everything in a class for which the server refuses it, the length of the file and the bounds left out. */
+    /** Returns all problems of a class, except for the length of the file and the bounds. */
     public static List<Problem> problems(ClassNode owner, Stage stage) {
         Profile profile = new Profile(owner, stage);
         profile.header();
@@ -116,13 +116,13 @@ public final class Profile implements Opcodes {
         }
     }
 
-    /** javac ends `finally` and `synchronized` by these instructions: the handler is reported for all of them. */
+    /** Returns whether javac generated the instruction for `finally` or `synchronized`. Such instructions are reported once, for the handler. */
     private static boolean belongsToHandler(MethodNode method, AbstractInsnNode at) {
         boolean ends = at.getOpcode() == ATHROW || at.getOpcode() == MONITORENTER || at.getOpcode() == MONITOREXIT;
         return ends && method.tryCatchBlocks.stream().anyMatch(it -> it.type == null);
     }
 
-    /** The constructor's call: the instruction NEW before it is reported. */
+    /** Returns whether the instruction is a constructor call. It isn't reported because the NEW before it is. */
     private static boolean belongsToNew(AbstractInsnNode at) {
         return at instanceof MethodInsnNode call && call.name.equals("<init>");
     }
@@ -165,7 +165,7 @@ public final class Profile implements Opcodes {
             "test before you act: of exceptions ArithmeticException alone can be caught"));
     }
 
-    /** A place within the range: the line of a label comes behind it. */
+    /** Returns an instruction within the range, because the line number comes after the label. */
     private static AbstractInsnNode lineOf(TryCatchBlockNode block) {
         AbstractInsnNode first = Instructions.next(block.start);
         return first == null ? block.start : first;

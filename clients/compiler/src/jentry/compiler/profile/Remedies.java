@@ -8,13 +8,13 @@ import org.objectweb.asm.tree.LdcInsnNode;
 import org.objectweb.asm.tree.MethodInsnNode;
 import org.objectweb.asm.tree.TypeInsnNode;
 
-/** What an instruction outside the profile is in Java, and what to write instead. */
+/** Names the Java construct of an instruction outside the profile, and what to write instead. */
 final class Remedies implements Opcodes {
     private static final String FIXED_POINT = "reckon in long with a fixed point, as v * 119 / 100";
 
     private Remedies() { }
 
-    /** The construct, in the words of the source. */
+    /** Returns the construct in terms of the source. */
     static String what(AbstractInsnNode at) {
         if (at instanceof MethodInsnNode call) {
             return "a call of " + Instructions.nameOf(call.owner) + "." + call.name + ", which the server doesn't know";
@@ -47,7 +47,7 @@ final class Remedies implements Opcodes {
         };
     }
 
-    /** What to write in its place. */
+    /** Returns what to write instead. */
     static String remedy(AbstractInsnNode at) {
         if (at instanceof MethodInsnNode call) {
             return ofCall(call);

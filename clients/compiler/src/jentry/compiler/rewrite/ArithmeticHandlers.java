@@ -28,9 +28,9 @@ import jentry.compiler.profile.Instructions;
 import jentry.compiler.profile.ProblemException;
 
 /**
- * Writes `catch (ArithmeticException e)` as a test before each division in the range.
+ * Replaces `catch (ArithmeticException e)` by a test before each division in the range.
  *
- * <p>A method that is called in the range and may divide by zero is copied into it. The exception itself has to be left unused.
+ * <p>A method that is called in the range and may divide by zero is inlined. The exception variable must be unused.
  */
 final class ArithmeticHandlers implements Opcodes {
     private static final String CAUGHT = "java/lang/ArithmeticException";
@@ -41,7 +41,7 @@ final class ArithmeticHandlers implements Opcodes {
         this.owner = owner;
     }
 
-    /** Replaces the handlers of all methods that catch nothing else. Gives how many there were. */
+    /** Replaces the handlers of all methods that catch nothing else. Returns how many there were. */
     static int replace(ClassNode owner) throws ProblemException {
         ArithmeticHandlers handlers = new ArithmeticHandlers(owner);
         List<MethodNode> methods = new ArrayList<>(CallGraph.of(owner));
@@ -121,7 +121,7 @@ final class ArithmeticHandlers implements Opcodes {
         }
     }
 
-    /** Where the divisor is zero, all operands are dropped, and null takes the place of the exception. */
+    /** Creates the test: if the divisor is zero, all operands are dropped and null is pushed in place of the exception. */
     private static InsnList guard(Frame<BasicValue> frame, LabelNode handler, boolean isLong) {
         InsnList code = new InsnList();
         LabelNode divides = new LabelNode();

@@ -13,7 +13,7 @@ import org.objectweb.asm.tree.MethodNode;
 import jentry.compiler.profile.Instructions;
 import jentry.compiler.profile.Problem;
 
-/** Finds the arrays of fields that a class may write to after its initialisers, in any of its methods: their elements aren't constant. */
+/** Finds the arrays in fields that any method of a class may write to after the initialisers: their elements aren't constant. */
 final class ArrayWrites implements Opcodes {
     private final ClassNode owner;
     private final ValueSources sources;
@@ -24,7 +24,7 @@ final class ArrayWrites implements Opcodes {
         sources = new ValueSources(owner);
     }
 
-    /** For each field whose array is written, or handed to code that isn't seen, the place. */
+    /** Returns, for each field whose array is written or passed to unknown code, the place where that happens. */
     static Map<String, Problem> of(ClassNode owner) {
         ArrayWrites writes = new ArrayWrites(owner);
         for (MethodNode method : owner.methods) {

@@ -8,7 +8,7 @@ import org.objectweb.asm.tree.ClassNode;
 import org.objectweb.asm.tree.MethodInsnNode;
 import org.objectweb.asm.tree.MethodNode;
 
-/** Makes a class file of Java 8 of one of a newer Java, as far as nothing but its number, its nest and the calls of private methods are newer. */
+/** Converts a class file of a newer Java to Java 8, if only its version, its nest and the calls of private methods are newer. */
 final class ClassVersion implements Opcodes {
     private ClassVersion() { }
 

@@ -22,10 +22,10 @@ import jentry.compiler.profile.Problem;
 import jentry.compiler.profile.ProblemException;
 
 /**
- * Puts the values of final fields in the place of their reads, where the initialisers can be run at compile time.
+ * Replaces reads of final fields by their values, if the initialisers can be run at compile time.
  *
- * <p>A number becomes a constant. A boxed number and an array are made at the start of each method that reads them, in a local. An array that the
- * class may write to later isn't constant, and is refused.
+ * <p>A number becomes a constant. A boxed number or an array is created in a local at the start of each method that reads it. An array that the class
+ * may write to later isn't constant and is refused.
  */
 final class FieldConstants implements Opcodes {
     private static final String OBJECT = "java/lang/Object";
@@ -45,9 +45,9 @@ final class FieldConstants implements Opcodes {
     }
 
     /**
-     * Runs the initialisers, before any method is dropped.
+     * Runs the initialisers, before any method is removed.
      *
-     * @param host the class that a lambda was taken from, whose class initialiser may have more to do than the processor needs; or null
+     * @param host the class of a lambda, whose class initialiser may do more than the processor needs; or null
      */
     static FieldConstants of(ClassNode owner, ClassNode host) throws ProblemException {
         FieldConstants constants = new FieldConstants(owner, host);
@@ -83,7 +83,7 @@ final class FieldConstants implements Opcodes {
         constructor.localVariables = null;
     }
 
-    /** Puts the values in, and drops the class initialiser. Gives the names of the fields. */
+    /** Replaces the reads and removes the class initialiser. Returns the names of the fields. */
     Set<String> inline() throws ProblemException {
         owner.methods.removeIf(it -> it.name.equals("<clinit>"));
         for (MethodNode method : owner.methods) {
@@ -125,7 +125,7 @@ final class FieldConstants implements Opcodes {
         }
     }
 
-    /** The value that a read of a field has, at all times. */
+    /** Returns the constant value of a field. */
     private Object value(MethodNode method, FieldInsnNode at) throws ProblemException {
         FieldNode field = fields.get(at.name);
         boolean isStatic = at.getOpcode() == GETSTATIC || at.getOpcode() == PUTSTATIC;
@@ -194,7 +194,10 @@ final class FieldConstants implements Opcodes {
         return code;
     }
 
-    /** Each method that reads an array has one of its own, so that a write into one isn't seen in another. Two fields may have one array. */
+    /**
+     * Refuses an array that is written to: each method that reads it gets its own copy, so a write in one wouldn't be visible in another. Two fields
+     * may share an array.
+     */
     private void refuseWritten(Object array) throws ProblemException {
         for (Map.Entry<String, Problem> write : written.entrySet()) {
             FieldNode field = fields.get(write.getKey());

@@ -25,18 +25,18 @@ import jentry.compiler.profile.Instructions;
 import jentry.compiler.unroll.Arithmetic;
 
 /**
- * Runs the initialisers of a class at compile time, and so finds the values of its fields: numbers, boxed numbers, and arrays of numbers.
+ * Runs the initialisers of a class at compile time to find the values of its fields: numbers, boxed numbers, and arrays of numbers.
  *
- * <p>An int is an Integer here and a long a Long; a boxed number is a {@link Box}.
+ * <p>Here an int is an Integer and a long a Long; a boxed number is a {@link Box}.
  */
 final class Initialisers implements Opcodes {
-    /** A Long or an Integer of Java. */
+    /** A java.lang.Long or Integer object. */
     record Box(Number number) { }
 
-    /** A value that isn't known, of one slot or two. */
+    /** An unknown value of one slot or two. */
     record Unknown(int size) { }
 
-    /** An initialiser does what isn't done at compile time. */
+    /** Thrown if an initialiser does something that isn't supported at compile time. */
     static final class UnsupportedException extends Exception {
         private static final long serialVersionUID = 1L;
 
@@ -69,10 +69,10 @@ final class Initialisers implements Opcodes {
     private int depth;
 
     /**
-     * Of a class.
+     * Creates the interpreter of a class.
      *
      * @param written the fields whose arrays the class writes to after its initialisers
-     * @param isLenient whether what can't be computed is an unknown value, since the rest of the class isn't the processor's
+     * @param isLenient whether an unsupported computation gives an unknown value, because the rest of the class isn't part of the processor
      */
     Initialisers(ClassNode owner, Set<String> written, boolean isLenient) {
         this.owner = owner;
@@ -81,13 +81,13 @@ final class Initialisers implements Opcodes {
         owner.fields.stream().filter(it -> it.value instanceof Integer || it.value instanceof Long).forEach(it -> fields.put(it.name, it.value));
     }
 
-    /** The value of a field, or null where it isn't known. */
+    /** Returns the value of a field, or null if it isn't known. */
     Object value(FieldNode field) {
         Object value = fields.get(field.name);
         return value instanceof Unknown || value == SELF || spoiled.contains(value) ? null : value;
     }
 
-    /** Runs an initialiser: of the class, or a constructor without parameters. */
+    /** Runs an initialiser: that of the class, or a constructor without parameters. */
     void run(MethodNode method) throws UnsupportedException {
         try {
             isConstructing = !Instructions.isStatic(method);
@@ -96,7 +96,7 @@ final class Initialisers implements Opcodes {
             if (!isLenient) {
                 throw e;
             }
-            // what the rest would have written into arrays isn't known
+            // the instructions that weren't run may write to arrays, so their elements aren't known
             fields.values().forEach(this::spoil);
         }
     }
@@ -222,7 +222,7 @@ final class Initialisers implements Opcodes {
             }
         }
 
-        /** Whether a static field of the class, or an element of its array, may be written to between the making of two instances. */
+        /** Returns whether a static field, or an element of its array, may be written to between the creation of two instances. */
         private boolean mayChange(String name) {
             boolean isFinal = owner.fields.stream().anyMatch(it -> it.name.equals(name) && (it.access & ACC_FINAL) != 0);
             Object value = fields.get(name);
@@ -262,7 +262,7 @@ final class Initialisers implements Opcodes {
             }
         }
 
-        /** What the JDK answers, or null where it isn't asked, or throws. */
+        /** Calls the method on this JVM. Returns null if the arguments aren't known, the result isn't a number, or the method throws. */
         private Object libraryResult(MethodInsnNode at, List<Object> arguments) {
             try {
                 List<Object> values = new ArrayList<>();

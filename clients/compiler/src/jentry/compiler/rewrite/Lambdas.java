@@ -23,7 +23,7 @@ import jentry.compiler.profile.Members;
 import jentry.compiler.profile.Problem;
 import jentry.compiler.profile.ProblemException;
 
-/** Makes a class of its own of a lambda, or of a reference to a static method, that is an EntryProcessor and takes nothing from outside. */
+/** Converts a lambda or a reference to a static method to a class, if it is an EntryProcessor and captures nothing. */
 public final class Lambdas implements Opcodes {
     private static final Set<String> BOXES = Set.of("java/lang/Object", "java/lang/Number", "java/lang/Long", "java/lang/Integer", "java/lang/Void",
         "java/lang/Boolean");
@@ -31,19 +31,19 @@ public final class Lambdas implements Opcodes {
     private Lambdas() { }
 
     /**
-     * A lambda that makes an EntryProcessor.
+     * A lambda that implements EntryProcessor.
      *
-     * @param host the class that has it
-     * @param method the method that makes it
-     * @param site the instruction
+     * @param host the class that contains it
+     * @param method the method that creates it
+     * @param site the instruction that creates it
      */
     public record Lambda(ClassNode host, MethodNode method, InvokeDynamicInsnNode site) {
-        /** The method that is its body. */
+        /** Returns the method that is its body. */
         public Handle body() {
             return (Handle) site.bsmArgs[1];
         }
 
-        /** The name of the class that is made of it, in the form of the class file. No other body has it, and no class that is nested in the host. */
+        /** Returns the internal name of the new class. No other body has it, nor does any class nested in the host. */
         public String className() {
             Set<String> taken = new HashSet<>();
             host.innerClasses.forEach(it -> taken.add(it.name));
@@ -59,7 +59,7 @@ public final class Lambdas implements Opcodes {
             throw new IllegalStateException("the body is a method of another class");
         }
 
-        /** Whether its body is this method. */
+        /** Returns whether its body is this method. */
         public boolean isBody(String owner, String name, String descriptor) {
             return body().getOwner().equals(owner) && body().getName().equals(name) && body().getDesc().equals(descriptor);
         }
@@ -69,12 +69,12 @@ public final class Lambdas implements Opcodes {
         }
     }
 
-    /** The lambdas of a class that make an EntryProcessor, each body once. */
+    /** Returns the lambdas of a class that implement EntryProcessor, each body once. */
     public static List<Lambda> of(ClassNode host) {
         Map<String, Lambda> found = new LinkedHashMap<>();
         for (MethodNode method : host.methods) {
             if (method.name.equals("$deserializeLambda$")) {
-                // javac's own, which makes each serializable lambda once more
+                // javac generates this method, which creates each serializable lambda a second time
                 continue;
             }
             for (AbstractInsnNode at : method.instructions) {
@@ -89,9 +89,9 @@ public final class Lambdas implements Opcodes {
     }
 
     /**
-     * The class of a lambda, with the methods and static fields of its host that it uses.
+     * Returns the class of a lambda, with the methods and static fields of its host that it uses.
      *
-     * @throws ProblemException where it takes something from outside, or its body is no static method of the class
+     * @throws ProblemException if it captures something, or its body isn't a static method of the class
      */
     public static ClassNode toClass(Lambda lambda) throws ProblemException {
         Handle body = lambda.body();

@@ -20,7 +20,9 @@ import jentry.compiler.profile.Instructions;
 import jentry.compiler.profile.Members;
 import jentry.compiler.profile.ProblemException;
 
-/** Copies methods of the JDK that the server doesn't know into the class, as private static methods: those of jentry.compiler.library. */
+/**
+ * Copies the methods of jentry.compiler.library into the class as private static methods, in place of JDK methods that the server doesn't support.
+ */
 final class LibraryCalls implements Opcodes {
     private static final String LIBRARY = "/jentry/compiler/library/";
     private static final Map<String, String> LIBRARIES = Map.of("java/lang/Long", "LongMethods", "java/lang/Integer", "IntegerMethods",
@@ -36,7 +38,7 @@ final class LibraryCalls implements Opcodes {
         this.owner = owner;
     }
 
-    /** Replaces the calls, those of the copied methods too. Gives the methods' names. */
+    /** Replaces the calls, including those in the copied methods. Returns the names of the methods. */
     static Set<String> replace(ClassNode owner) throws ProblemException {
         LibraryCalls calls = new LibraryCalls(owner);
         calls.refuseIdentity();
@@ -73,7 +75,7 @@ final class LibraryCalls implements Opcodes {
         method.instructions.set(call, new MethodInsnNode(INVOKESTATIC, owner.name, mine.name, template.desc, false));
     }
 
-    /** The template of what a call reaches, its receiver being the first parameter; or null. */
+    /** Returns the replacement of the called method, with the receiver as its first parameter, or null. */
     private static MethodNode template(MethodInsnNode call) {
         String library = LIBRARIES.get(call.owner);
         if (library == null || Members.isLibrary(call) || call.name.startsWith("<")) {
@@ -95,7 +97,7 @@ final class LibraryCalls implements Opcodes {
         });
     }
 
-    /** equals of two objects is right for numbers and null alone: of any others it would compare identity. */
+    /** Refuses equals of two objects unless they are numbers or null, because the replacement would compare the identity of others. */
     private void refuseIdentity() throws ProblemException {
         ValueSources sources = new ValueSources(owner);
         for (MethodNode method : owner.methods) {

@@ -18,11 +18,11 @@ import org.objectweb.asm.tree.analysis.Value;
 /**
  * Where a value may come from, through loads, stores, copies and casts.
  *
- * @param size its slots
- * @param sources instructions that made it, {@link Parameter}s, or the handlers of a caught exception
+ * @param size its number of slots
+ * @param sources the instructions that produced it, {@link Parameter}s, or the handlers of a caught exception
  */
 record Origin(int size, Set<Object> sources) implements Value {
-    /** A parameter of a method, by its number; the receiver is 0, and the first parameter of a static method is 0 too. */
+    /** A parameter of a method, by its index. The receiver has index 0; so has the first parameter of a static method. */
     record Parameter(int number) { }
 
     @Override
@@ -30,7 +30,7 @@ record Origin(int size, Set<Object> sources) implements Value {
         return size;
     }
 
-    /** The origins of the locals and operands before each instruction; null before those that aren't reached. */
+    /** Returns the origins of the locals and operands before each instruction; null for unreachable ones. */
     static Frame<Origin>[] of(ClassNode owner, MethodNode method, Reader reader) {
         try {
             return new Analyzer<>(reader).analyze(owner.name, method);
@@ -39,7 +39,7 @@ record Origin(int size, Set<Object> sources) implements Value {
         }
     }
 
-    /** Follows origins, and lists the instructions that use the exception of a handler. */
+    /** Tracks origins, and collects the instructions that use the exception of a handler. */
     static final class Reader extends Interpreter<Origin> implements Opcodes {
         private final Set<AbstractInsnNode> usesOfExceptions = new HashSet<>();
         private int parameters;

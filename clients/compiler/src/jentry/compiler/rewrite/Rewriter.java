@@ -7,16 +7,16 @@ import org.objectweb.asm.tree.ClassNode;
 import jentry.compiler.profile.CallGraph;
 import jentry.compiler.profile.ProblemException;
 
-/** The passes that come before loops: each writes what the server refuses by what it accepts. */
+/** Runs the passes before the unrolling of loops. Each one replaces constructs that the server refuses. */
 public final class Rewriter {
     private Rewriter() { }
 
     /**
      * Rewrites a class in place.
      *
-     * @param host the class that a lambda was taken from, or null where the class wasn't made of one
-     * @return what was done, a line each
-     * @throws ProblemException where a pass can't keep the class's meaning
+     * @param host the class that contained the lambda, or null if the class isn't made from a lambda
+     * @return the changes, one per line
+     * @throws ProblemException if a pass can't preserve the meaning of the class
      */
     public static List<String> rewrite(ClassNode owner, ClassNode host) throws ProblemException {
         List<String> notes = new ArrayList<>();

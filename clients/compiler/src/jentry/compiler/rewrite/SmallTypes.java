@@ -19,9 +19,9 @@ import jentry.compiler.profile.Instructions;
 import jentry.compiler.profile.ProblemException;
 
 /**
- * Lets `byte`, `short` and `char` be `int` in descriptors, and their arrays and those of `boolean` be arrays of `int`.
+ * Replaces `byte`, `short` and `char` in descriptors by `int`, and their arrays and those of `boolean` by arrays of `int`.
  *
- * <p>The values are the same: javac narrows what it hands over, and what is stored into such an array is narrowed here.
+ * <p>The values stay the same: javac narrows arguments, and this pass narrows what is stored into such an array.
  */
 final class SmallTypes implements Opcodes {
     private final ClassNode owner;
@@ -52,7 +52,7 @@ final class SmallTypes implements Opcodes {
         return kind == T_BOOLEAN || kind == T_BYTE || kind == T_SHORT || kind == T_CHAR;
     }
 
-    /** A test for int[] would hold for these arrays, too. */
+    /** Refuses instanceof int[] and casts to it, which would also succeed for the replaced arrays. */
     private void refuseTests() throws ProblemException {
         for (MethodNode method : owner.methods) {
             for (AbstractInsnNode at : method.instructions) {

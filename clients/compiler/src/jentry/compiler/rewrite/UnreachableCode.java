@@ -14,7 +14,7 @@ import jentry.compiler.profile.Instructions;
 import jentry.compiler.unroll.Arithmetic;
 import jentry.compiler.unroll.ControlFlowGraph;
 
-/** Drops tests of a constant, and the code that nothing leads to, as that of an assertion. */
+/** Removes tests of constants, and unreachable code such as disabled assertions. */
 final class UnreachableCode implements Opcodes {
     private UnreachableCode() { }
 
@@ -26,7 +26,7 @@ final class UnreachableCode implements Opcodes {
         }
     }
 
-    /** Drops what nothing leads to, of a method without handlers. */
+    /** Removes the unreachable code of a method without exception handlers. */
     static void dropUnreached(MethodNode method) {
         ControlFlowGraph graph = new ControlFlowGraph(method);
         for (AbstractInsnNode at : method.instructions.toArray()) {

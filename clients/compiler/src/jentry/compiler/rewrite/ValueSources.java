@@ -15,19 +15,19 @@ import org.objectweb.asm.tree.MethodNode;
 import org.objectweb.asm.tree.analysis.Frame;
 import jentry.compiler.profile.Instructions;
 
-/** Where the operands of instructions may come from, through the calls among the methods of a class too. */
+/** Finds the origins of the operands of instructions, including calls among the methods of a class. */
 public final class ValueSources implements Opcodes {
     private record Visit(MethodNode method, Object source) { }
 
     private final ClassNode owner;
     private final Map<MethodNode, Frame<Origin>[]> frames = new IdentityHashMap<>();
 
-    /** Of a class. */
+    /** Analyses a class. */
     public ValueSources(ClassNode owner) {
         this.owner = owner;
     }
 
-    /** The origin of the operand so far below the top, within its method; null where the instruction isn't reached. */
+    /** Returns the origin, within its method, of the operand {@code below} places below the top; null if the instruction is unreachable. */
     Origin origin(MethodNode method, AbstractInsnNode at, int below) {
         Frame<Origin> frame = framesOf(method)[method.instructions.indexOf(at)];
         return frame == null ? null : frame.getStack(frame.getStackSize() - 1 - below);
@@ -38,8 +38,8 @@ public final class ValueSources implements Opcodes {
     }
 
     /**
-     * The instructions of a method that made an operand of it; null where it may also come from elsewhere: from a parameter, or to an
-     * instruction that isn't reached.
+     * Returns the instructions of the method that produced an operand. Returns null if it may come from elsewhere, such as a parameter, or if the
+     * instruction is unreachable.
      */
     public Set<AbstractInsnNode> within(MethodNode method, AbstractInsnNode at, int below) {
         Origin origin = origin(method, at, below);
@@ -53,7 +53,10 @@ public final class ValueSources implements Opcodes {
         return made;
     }
 
-    /** The instructions that may have made an operand: calls of own methods and parameters are followed. What nobody in the class hands over is left out. */
+    /**
+     * Returns the instructions that may have produced an operand, through calls of own methods and parameters. Values from outside the class are left
+     * out.
+     */
     public Set<AbstractInsnNode> of(MethodNode method, AbstractInsnNode at, int below) {
         Set<AbstractInsnNode> made = new HashSet<>();
         for (Object source : all(method, at, below)) {
@@ -64,13 +67,16 @@ public final class ValueSources implements Opcodes {
         return made;
     }
 
-    /** Whether an operand is made by such instructions alone: calls of own methods and parameters are followed. */
+    /** Returns whether only such instructions produce an operand, through calls of own methods and parameters. */
     boolean isMadeBy(MethodNode method, AbstractInsnNode at, int below, Predicate<AbstractInsnNode> test) {
         Set<Object> all = all(method, at, below);
         return !all.isEmpty() && all.stream().allMatch(it -> it instanceof AbstractInsnNode made && test.test(made));
     }
 
-    /** The instructions that may have made an operand, and what else it may be: a parameter that nobody in the class hands over, a caught exception. */
+    /**
+     * Returns the instructions that may have produced an operand, and its other sources: parameters that are passed from outside, and caught
+     * exceptions.
+     */
     private Set<Object> all(MethodNode method, AbstractInsnNode at, int below) {
         Set<Object> found = new HashSet<>();
         follow(method, origin(method, at, below), found, new HashSet<>());

@@ -10,7 +10,7 @@ import org.objectweb.asm.tree.MethodNode;
 import org.objectweb.asm.tree.TypeInsnNode;
 import jentry.compiler.profile.Instructions;
 
-/** Lets methods whose result is Void, and so null, have an Object as their result. */
+/** Changes methods with the result type Void, whose result is always null, to return Object. */
 final class VoidResults implements Opcodes {
     private static final String VOID = ")Ljava/lang/Void;";
     private static final String OBJECT = ")Ljava/lang/Object;";

@@ -24,11 +24,11 @@ import jentry.compiler.profile.Members;
 import jentry.compiler.rewrite.ValueSources;
 
 /**
- * Finds which lambda a program hands over, by the call that is under way.
+ * Finds which lambda a program passes, from the call on the stack.
  *
- * <p>The call of the client's method is looked up in the class file of its caller by the line and by the method that is called; javac may write it
- * several times, as in a finally. What it hands over has to be made in the method that calls, or be a final field of the class that makes the lambda.
- * Whatever else it may be, a parameter or what another method returns, could be another lambda of the class: then nothing is found.
+ * <p>The call of the client's method is looked up in the class file of its caller by its line and by the called method; javac may generate it several
+ * times, for example for a finally. The argument must be created in the calling method, or be a final field of the class that creates the lambda.
+ * Anything else, such as a parameter or the result of another method, could be a different lambda of the class, so nothing is found.
  */
 final class CallerScan {
     private static final String PROCESSOR = "L" + Members.PROCESSOR + ";";
@@ -38,9 +38,9 @@ final class CallerScan {
     private final ClassNode hostNode;
 
     /**
-     * Of lambdas that a class makes.
+     * Creates a scan for the lambdas that a class creates.
      *
-     * @param classFile that of the class
+     * @param classFile the class file of the host
      */
     CallerScan(Class<?> host, byte[] classFile) {
         this.host = host;
@@ -53,12 +53,12 @@ final class CallerScan {
         return node;
     }
 
-    /** The bodies that may have been handed over; empty where the call doesn't say. */
+    /** Returns the bodies that may have been passed, or an empty set if the call doesn't show it. */
     Set<Handle> bodies() {
         return StackWalker.getInstance(StackWalker.Option.RETAIN_CLASS_REFERENCE).walk(this::bodies);
     }
 
-    /** The caller is the first frame that isn't the client's, and the frame before is the client's method that it calls. */
+    /** Looks for the caller: the first frame outside the client. The frame above it is the client's method that it calls. */
     private Set<Handle> bodies(Stream<StackFrame> frames) {
         StackFrame called = null;
         CodeSource client = null;
@@ -101,12 +101,12 @@ final class CallerScan {
         try {
             return type == host ? hostNode : read(LoadedProcessors.classFile(type));
         } catch (CompileException e) {
-            // a class that was made at run time doesn't say what it hands over
+            // a class that was generated at run time has no class file to look in
             return null;
         }
     }
 
-    /** What a call hands over as its processor; null where that isn't known. */
+    /** Returns the origins of the processor argument of a call, or null if they aren't known. */
     private static Set<AbstractInsnNode> handedOver(ValueSources sources, MethodNode method, MethodInsnNode call) {
         Type[] types = Type.getArgumentTypes(call.desc);
         for (int i = 0; i < types.length; i++) {
@@ -117,7 +117,7 @@ final class CallerScan {
         return null;
     }
 
-    /** Whether values are lambdas of the host, whose bodies are added, or final fields of it that hold such. */
+    /** Returns whether the values are lambdas of the host, or final fields of the host that hold such lambdas. Adds the bodies of the lambdas. */
     private boolean areLambdas(Set<AbstractInsnNode> made, boolean isMadeByHost, Set<Handle> bodies, boolean mayBeFields) {
         if (made == null) {
             return false;
@@ -138,7 +138,7 @@ final class CallerScan {
             && hostNode.fields.stream().anyMatch(it -> it.name.equals(field.name) && (it.access & Opcodes.ACC_FINAL) != 0);
     }
 
-    /** What the host writes to a field. A null among them isn't known. */
+    /** Returns the values that the host writes to a field; null for one that isn't known. */
     private List<Set<AbstractInsnNode>> writes(FieldInsnNode field) {
         List<Set<AbstractInsnNode>> all = new ArrayList<>();
         ValueSources sources = new ValueSources(hostNode);

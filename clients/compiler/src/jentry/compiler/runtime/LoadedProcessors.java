@@ -18,7 +18,7 @@ import jentry.compiler.rewrite.Lambdas;
 /**
  * Compiles processors of the running program: an instance of a class, or a lambda.
  *
- * <p>A client of the server calls this by reflection, so that it works without the compiler, too.
+ * <p>A client of the server calls this by reflection, so the client also works without the compiler.
  */
 public final class LoadedProcessors {
     private static final String LAMBDA = "$$Lambda";
@@ -27,10 +27,10 @@ public final class LoadedProcessors {
     private LoadedProcessors() { }
 
     /**
-     * The class file of a processor, compiled; or as it is, where it is accepted so.
+     * Returns the compiled class file of a processor, or its unchanged class file if that is accepted.
      *
      * @param processor an EntryProcessor
-     * @throws CompileException where it can't be compiled, or its class file can't be found; the message says what to write instead
+     * @throws CompileException if it can't be compiled or its class file can't be found; the message says what to write instead
      */
     public static byte[] compile(Object processor) throws CompileException {
         Class<?> type = processor.getClass();
@@ -102,7 +102,7 @@ public final class LoadedProcessors {
             "hand the lambda over where it is written, or cast it to (EntryProcessor<Long, Long, ..> & java.io.Serializable)"));
     }
 
-    /** What a serializable lambda says of itself, or null. */
+    /** Returns the description that a serializable lambda has of itself, or null. */
     private static SerializedLambda declared(Object processor) {
         try {
             Method method = processor.getClass().getDeclaredMethod("writeReplace");

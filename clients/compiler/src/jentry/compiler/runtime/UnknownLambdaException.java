@@ -4,7 +4,7 @@ import java.util.List;
 import jentry.compiler.CompileException;
 import jentry.compiler.profile.Problem;
 
-/** The call doesn't say which lambda of a class is handed over; another call may. */
+/** Thrown if the call doesn't show which lambda of a class is passed; another call may show it. */
 public final class UnknownLambdaException extends CompileException {
     private static final long serialVersionUID = 1L;
 

@@ -3,17 +3,17 @@ package jentry.compiler.unroll;
 import org.objectweb.asm.tree.analysis.Value;
 
 /**
- * What is known of a value on every way that leads to an instruction.
+ * What is known about a value on every path to an instruction.
  *
- * @param size its slots: 1 or 2
- * @param fact an Integer or a Long where it is that number; a Range; an Array; null where nothing is known
+ * @param size its number of slots: 1 or 2
+ * @param fact an Integer or a Long for a constant; a Range; an Array; null if nothing is known
  */
 record AbstractValue(int size, Object fact) implements Value {
-    /** A number from low to high, both among them. */
+    /** A number from low to high, inclusive. */
     record Range(long low, long high) { }
 
     /**
-     * An array of least to most elements.
+     * An array with between least and most elements.
      *
      * @param isPresent whether it is never null
      */
@@ -23,17 +23,17 @@ record AbstractValue(int size, Object fact) implements Value {
     private static final AbstractValue ONE_SLOT = new AbstractValue(1, null);
     private static final AbstractValue TWO_SLOTS = new AbstractValue(2, null);
 
-    /** A value of which nothing is known. */
+    /** Returns a value about which nothing is known. */
     static AbstractValue unknown(int size) {
         return size == 2 ? TWO_SLOTS : ONE_SLOT;
     }
 
-    /** A number, an Integer or a Long. */
+    /** Returns a constant, an Integer or a Long. */
     static AbstractValue constant(Object number) {
         return new AbstractValue(number instanceof Long ? 2 : 1, number);
     }
 
-    /** A number within limits. */
+    /** Returns a number within limits. */
     static AbstractValue range(int size, long low, long high) {
         if (low == high) {
             return constant(size == 2 ? (Object) low : (Object) (int) low);
@@ -42,7 +42,7 @@ record AbstractValue(int size, Object fact) implements Value {
         return says ? new AbstractValue(size, new Range(low, high)) : unknown(size);
     }
 
-    /** An array. */
+    /** Returns an array. */
     static AbstractValue array(int least, int most, boolean isPresent) {
         return new AbstractValue(1, new Array(least, most, isPresent));
     }
@@ -56,13 +56,13 @@ record AbstractValue(int size, Object fact) implements Value {
         return fact instanceof Integer || fact instanceof Long;
     }
 
-    /** Whether it is one of a few numbers, so that these can be counted. */
+    /** Returns whether the range is so narrow that its numbers can be enumerated. */
     boolean isNarrow() {
         return isConstant() || fact instanceof Range range && range.low >= Integer.MIN_VALUE && range.high <= Integer.MAX_VALUE
             && range.high - range.low <= NARROW;
     }
 
-    /** The sum of narrow values; what it is where it would pass the limits of its type isn't known. */
+    /** Returns the sum of narrow values, or an unknown value if the sum may overflow. */
     AbstractValue plus(long low, long high) {
         long least = low() + low;
         long greatest = high() + high;
@@ -76,7 +76,7 @@ record AbstractValue(int size, Object fact) implements Value {
         return ((a ^ sum) & (b ^ sum)) < 0;
     }
 
-    /** The least number that it can be. */
+    /** Returns the lowest possible number. */
     long low() {
         if (fact instanceof Range range) {
             return range.low;
@@ -84,7 +84,7 @@ record AbstractValue(int size, Object fact) implements Value {
         return isConstant() ? ((Number) fact).longValue() : size == 2 ? Long.MIN_VALUE : Integer.MIN_VALUE;
     }
 
-    /** The greatest number that it can be. */
+    /** Returns the highest possible number. */
     long high() {
         if (fact instanceof Range range) {
             return range.high;
@@ -92,7 +92,7 @@ record AbstractValue(int size, Object fact) implements Value {
         return isConstant() ? ((Number) fact).longValue() : size == 2 ? Long.MAX_VALUE : Integer.MAX_VALUE;
     }
 
-    /** What is known of a value that is this one or another. */
+    /** Returns what is known about a value that is either this one or the other. */
     AbstractValue or(AbstractValue other) {
         if (equals(other)) {
             return this;

@@ -2,11 +2,11 @@ package jentry.compiler.unroll;
 
 import org.objectweb.asm.Opcodes;
 
-/** What the arithmetic instructions make of numbers that are known (JVMS 6.5). An Integer is an int, a Long a long. */
+/** Evaluates arithmetic instructions on constants (JVMS 6.5). An Integer is an int, a Long a long. */
 public final class Arithmetic implements Opcodes {
     private Arithmetic() { }
 
-    /** What an instruction of one operand makes, or null where it isn't one of these, or throws. */
+    /** Evaluates an instruction with one operand. Returns null for other instructions. */
     public static Object unary(int opcode, Object operand) {
         if (operand instanceof Integer n) {
             return switch (opcode) {
@@ -27,7 +27,7 @@ public final class Arithmetic implements Opcodes {
         return null;
     }
 
-    /** What an instruction of two operands makes, or null where it isn't one of these, or throws. */
+    /** Evaluates an instruction with two operands. Returns null for other instructions and for those that throw. */
     public static Object binary(int opcode, Object left, Object right) {
         if (left instanceof Integer a && right instanceof Integer b) {
             return ofInts(opcode, a, b);
@@ -76,7 +76,7 @@ public final class Arithmetic implements Opcodes {
         };
     }
 
-    /** Whether a test of one int against zero, or of two ints, holds: the comparison is 0 to 5 for ==, !=, <, >=, > and <=. */
+    /** Evaluates a comparison of an int with zero or of two ints. The comparison is 0 to 5 for ==, !=, <, >=, > and <=. */
     public static boolean holds(int comparison, int a, int b) {
         return switch (comparison) {
             case 0 -> a == b;

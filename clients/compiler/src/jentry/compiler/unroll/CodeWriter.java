@@ -14,15 +14,15 @@ import org.objectweb.asm.tree.MethodNode;
 import org.objectweb.asm.tree.TableSwitchInsnNode;
 import jentry.compiler.profile.Instructions;
 
-/** Writes the states of a method as code, in an order in which every branch leads forward. */
+/** Writes the states of a method as code, in an order in which all branches lead forward. */
 public final class CodeWriter implements Opcodes {
-    /** What code is written. */
+    /** The form of the generated code. */
     public enum Form {
-        /** Tests that are decided, loads of known numbers and stores that nobody reads are left out. */
+        /** Omits decided tests, loads of known numbers, and stores that are never read. */
         FOLDED,
-        /** The same, with shorter pushes of small longs, which take two instructions. */
+        /** Like FOLDED, but pushes small longs by two instructions, which are shorter. */
         SHORT,
-        /** Each instruction is kept, so that steps are those of the loops. */
+        /** Keeps every instruction, so the number of steps is that of the loops. */
         VERBATIM
     }
 
@@ -119,7 +119,7 @@ public final class CodeWriter implements Opcodes {
         }
     }
 
-    /** A test of which both ways are left. Where each instruction is kept, one of the ways of a decided test leads where no value goes. */
+    /** Adds a test of which both branches are kept. In VERBATIM form one branch of a decided test is never taken. */
     private void addTest(State state, State behind) {
         State falls = state.next.get(0);
         State jumps = state.next.get(state.next.size() - 1);

@@ -13,12 +13,12 @@ import org.objectweb.asm.tree.analysis.Frame;
 import org.objectweb.asm.tree.analysis.Interpreter;
 import jentry.compiler.profile.Instructions;
 
-/** What each instruction makes of what is known: numbers, limits of numbers, and lengths of arrays. */
+/** Computes what is known after each instruction: constants, ranges of numbers, and lengths of arrays. */
 final class ConstantPropagation extends Interpreter<AbstractValue> implements Opcodes {
-    /** The most arguments of an invocation. */
+    /** The maximum number of arguments of an invocation. */
     static final int MOST_ARGUMENTS = 8;
 
-    /** Whether limits of numbers that grow are given up, so that the propagation ends soon. */
+    /** Whether growing ranges are widened to unknown values, so that the propagation ends soon. */
     private boolean widens;
 
     ConstantPropagation() {
@@ -116,7 +116,7 @@ final class ConstantPropagation extends Interpreter<AbstractValue> implements Op
         return !widens || a.equals(b) ? a.or(b) : AbstractValue.unknown(Math.min(a.size(), b.size()));
     }
 
-    /** The successor that a test or a switch surely goes to, by its number in {@link ControlFlowGraph#successors}, or -1. */
+    /** Returns the index in {@link ControlFlowGraph#successors} of the only possible successor of a test or a switch, or -1. */
     static int decided(AbstractInsnNode at, Frame<AbstractValue> frame) {
         int opcode = at.getOpcode();
         int top = frame.getStackSize() - 1;
@@ -132,7 +132,7 @@ final class ConstantPropagation extends Interpreter<AbstractValue> implements Op
         return -1;
     }
 
-    /** 1 where the comparison surely holds, 0 where it surely doesn't, else -1. */
+    /** Returns 1 if the comparison is always true, 0 if it is always false, else -1. */
     private static int tested(int comparison, AbstractValue a, AbstractValue b) {
         boolean less = a.high() < b.low();
         boolean most = a.high() <= b.low();

@@ -18,7 +18,7 @@ import org.objectweb.asm.tree.LookupSwitchInsnNode;
 import org.objectweb.asm.tree.MethodNode;
 import org.objectweb.asm.tree.TableSwitchInsnNode;
 
-/** The instructions of a method, numbered from 0, where each leads, and its loops. */
+/** The control flow of a method: its instructions, numbered from 0, their successors, and its loops. */
 public final class ControlFlowGraph implements Opcodes {
     private final MethodNode method;
     private final List<AbstractInsnNode> instructions = new ArrayList<>();
@@ -30,7 +30,7 @@ public final class ControlFlowGraph implements Opcodes {
     private final int[] dominator;
     private final int[] order;
 
-    /** Of a method that has code, and no handlers of exceptions. */
+    /** Analyses a method that has code and no exception handlers. */
     public ControlFlowGraph(MethodNode method) {
         this.method = method;
         int line = -1;
@@ -74,22 +74,22 @@ public final class ControlFlowGraph implements Opcodes {
         return loops;
     }
 
-    /** Whether a place is reached from the start. */
+    /** Returns whether a place is reachable. */
     public boolean isReached(int place) {
         return order[place] >= 0;
     }
 
-    /** Whether an instruction is reached from the start. */
+    /** Returns whether an instruction is reachable. */
     public boolean isReached(AbstractInsnNode at) {
         return at.getOpcode() < 0 || isReached(places.get(at));
     }
 
-    /** Where an instruction leads: a test to the next instruction and to its target, a switch to its default and to its cases. */
+    /** Returns the successors: of a test the next instruction and its target, of a switch its default and its cases. */
     int[] successors(int place) {
         return successors.get(place);
     }
 
-    /** From where a place is reached. */
+    /** Returns the predecessors of a place. */
     List<Integer> predecessors(int place) {
         return predecessors.get(place);
     }
@@ -116,7 +116,7 @@ public final class ControlFlowGraph implements Opcodes {
         return all;
     }
 
-    // The dominators by Cooper, Harvey and Kennedy: in reverse postorder, until nothing changes.
+    // Computes dominators by the algorithm of Cooper, Harvey and Kennedy: in reverse postorder, until nothing changes.
     private void findDominators() {
         List<Integer> reversed = Postorder.reversed(size(), this::successors);
         for (int i = 0; i < reversed.size(); i++) {
@@ -163,7 +163,7 @@ public final class ControlFlowGraph implements Opcodes {
         return left;
     }
 
-    /** Whether every way to a place leads through another one. */
+    /** Returns whether every path to a place goes through the place {@code above}. */
     boolean dominates(int above, int place) {
         int at = place;
         while (order[at] > order[above]) {

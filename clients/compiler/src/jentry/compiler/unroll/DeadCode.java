@@ -18,18 +18,18 @@ import org.objectweb.asm.tree.TableSwitchInsnNode;
 import org.objectweb.asm.tree.VarInsnNode;
 import jentry.compiler.profile.Instructions;
 
-/** Leaves out what has no effect: values that are discarded, stores that nobody reads, jumps to the next instruction. */
+/** Removes code without effect: discarded values, stores that are never read, jumps to the next instruction. */
 final class DeadCode implements Opcodes {
     private final InsnList code;
     private final Set<Integer> presentArrays;
 
-    /** Of code whose branches lead forward. */
+    /** Analyses code whose branches all lead forward. */
     DeadCode(InsnList code, UnrolledGraph graph) {
         this.code = code;
         presentArrays = presentArrays(graph);
     }
 
-    /** The locals that hold an array, and never null, wherever they are loaded. */
+    /** Returns the locals that hold a non-null array at each of their loads. */
     private static Set<Integer> presentArrays(UnrolledGraph graph) {
         Set<Integer> present = new HashSet<>();
         Set<Integer> others = new HashSet<>();
@@ -49,7 +49,7 @@ final class DeadCode implements Opcodes {
         }
     }
 
-    /** Drops the labels that no branch and no line needs: each would begin a basic block where frames are computed. */
+    /** Removes the labels that no branch and no line number uses: each would start a basic block when frames are computed. */
     static void dropLabels(InsnList code) {
         Set<LabelNode> used = targets(code);
         for (AbstractInsnNode at : code) {
@@ -87,7 +87,7 @@ final class DeadCode implements Opcodes {
         return all;
     }
 
-    /** The instruction before, where no branch leads between the two. */
+    /** Returns the previous instruction, if no branch leads between the two. */
     private static AbstractInsnNode before(AbstractInsnNode at, Set<LabelNode> targets) {
         AbstractInsnNode before = at.getPrevious();
         while (before != null && before.getOpcode() < 0) {
@@ -99,7 +99,7 @@ final class DeadCode implements Opcodes {
         return before;
     }
 
-    /** A push and its pop are nothing; a pure instruction and its pop are pops of its operands. */
+    /** Removes a push followed by its pop, and replaces a pure instruction followed by its pop by pops of its operands. */
     private boolean dropDiscarded() {
         Set<LabelNode> targets = targets(code);
         boolean changed = false;
@@ -145,7 +145,7 @@ final class DeadCode implements Opcodes {
         return changed;
     }
 
-    /** All branches lead forward, so one pass from the end tells which locals are read later. */
+    /** Removes stores that are never read. All branches lead forward, so one pass from the end finds which locals are read later. */
     private boolean dropStores() {
         Map<LabelNode, BitSet> liveAt = new IdentityHashMap<>();
         BitSet live = new BitSet();

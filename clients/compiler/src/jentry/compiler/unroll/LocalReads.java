@@ -18,13 +18,13 @@ import org.objectweb.asm.tree.analysis.Frame;
 import org.objectweb.asm.tree.analysis.Interpreter;
 import org.objectweb.asm.tree.analysis.Value;
 
-/** Which locals the expression reads that an operand is the value of. */
+/** Finds which locals are read by the expression that computes an operand. */
 final class LocalReads extends Interpreter<LocalReads.Reads> implements Opcodes {
     /**
      * An operand.
      *
-     * @param size its slots
-     * @param locals those that its expression loads
+     * @param size its number of slots
+     * @param locals the locals that its expression loads
      */
     record Reads(int size, Set<Integer> locals) implements Value {
         @Override
@@ -37,7 +37,7 @@ final class LocalReads extends Interpreter<LocalReads.Reads> implements Opcodes 
         super(ASM9);
     }
 
-    /** The reads of all operands before each instruction of a method, labels and lines counted. */
+    /** Returns the reads of all operands before each instruction of a method; labels and line numbers have an index too. */
     static Frame<Reads>[] of(MethodNode method) {
         try {
             return new Analyzer<>(new LocalReads()).analyze("java/lang/Object", method);

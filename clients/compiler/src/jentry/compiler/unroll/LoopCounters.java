@@ -12,15 +12,15 @@ import org.objectweb.asm.tree.IincInsnNode;
 import org.objectweb.asm.tree.VarInsnNode;
 import org.objectweb.asm.tree.analysis.Frame;
 
-/** Chooses the locals whose values tell the passes of a loop apart. */
+/** Chooses the local variables whose values distinguish the iterations of a loop. */
 final class LoopCounters implements Opcodes {
-    /** How many locals are followed, the fewest first: the first choice by which a method's loops end is taken. */
+    /** Which locals are tracked, the fewest first. The first choice with which all loops of a method end is used. */
     enum Choice {
-        /** Those that a test reads by which a loop is left, and that each pass writes. */
+        /** Locals that an exit test of the loop reads and that every iteration writes. */
         WRITTEN_BY_EACH_PASS,
-        /** Those that a test reads by which a loop is left, and that some pass writes. */
+        /** Locals that an exit test of the loop reads and that some iteration writes. */
         WRITTEN_BY_SOME_PASS,
-        /** Those that any test in the loop reads, and that some pass writes. */
+        /** Locals that any test in the loop reads and that some iteration writes. */
         OF_ANY_TEST
     }
 
@@ -28,14 +28,14 @@ final class LoopCounters implements Opcodes {
     private final Choice choice;
     private final Frame<LocalReads.Reads>[] reads;
 
-    /** Of a method whose operands' reads are known. */
+    /** Creates the counters of a method. */
     LoopCounters(ControlFlowGraph graph, Choice choice, Frame<LocalReads.Reads>[] reads) {
         this.graph = graph;
         this.choice = choice;
         this.reads = reads;
     }
 
-    /** For each instruction the counters of the loops around it, rising. */
+    /** Returns, for each instruction, the counters of the loops around it, in ascending order. */
     int[][] byPlace() {
         List<Set<Integer>> all = new ArrayList<>();
         for (int place = 0; place < graph.size(); place++) {
@@ -64,7 +64,7 @@ final class LoopCounters implements Opcodes {
         return choice == Choice.OF_ANY_TEST || loop.latches().get(place) || java.util.Arrays.stream(next).anyMatch(leaves);
     }
 
-    /** The locals that the operands of a test read. */
+    /** Adds the locals that the operands of a test read. */
     private void addReads(int test, Set<Integer> locals) {
         AbstractInsnNode at = graph.instruction(test);
         Frame<LocalReads.Reads> frame = reads[graph.method().instructions.indexOf(at)];

@@ -17,9 +17,9 @@ import jentry.compiler.profile.Members;
 import jentry.compiler.profile.ProblemException;
 
 /**
- * Writes the passes of counted loops out, in all methods of a class.
+ * Unrolls the counted loops in all methods of a class.
  *
- * <p>Methods are looked at from `process` to those that it calls, since what all calls of a method hand over is known in it.
+ * <p>Callers come before the methods they call, starting with `process`, so that what all calls of a method pass to it is known.
  */
 public final class LoopUnroller implements Opcodes {
     private final ClassNode owner;
@@ -28,10 +28,10 @@ public final class LoopUnroller implements Opcodes {
     private final Map<MethodNode, AbstractValue[]> given = new IdentityHashMap<>();
 
     /**
-     * Finds the passes. The class isn't changed by this.
+     * Unrolls the loops without changing the class yet.
      *
-     * @param owner a class whose instructions, loops aside, are accepted
-     * @throws ProblemException where a counter doesn't end a loop, or it has too many passes
+     * @param owner a class whose instructions are accepted, except for loops
+     * @throws ProblemException if no counter ends a loop, or it has too many iterations
      */
     public LoopUnroller(ClassNode owner) throws ProblemException {
         this.owner = owner;
@@ -53,7 +53,7 @@ public final class LoopUnroller implements Opcodes {
             } catch (UnboundedLoopException e) {
                 first = first == null ? e : first;
                 if (e.isTooLong()) {
-                    // more counters tell more passes apart, and not fewer
+                    // more counters distinguish more iterations, never fewer
                     break;
                 }
             }
@@ -90,7 +90,7 @@ public final class LoopUnroller implements Opcodes {
         return all;
     }
 
-    /** The instructions of the longest way through `process` as it was, each pass counted. */
+    /** Returns the number of instructions on the longest path through the original `process`, with every iteration counted. */
     public long steps() {
         Map<MethodNode, Long> known = new HashMap<>();
         for (int i = methods.size() - 1; i >= 0; i--) {
@@ -113,9 +113,9 @@ public final class LoopUnroller implements Opcodes {
     }
 
     /**
-     * Puts code without loops in the place of each method that has some, or that makes an array of a length that is known, but isn't a constant there.
+     * Replaces the code of each method that has loops, or that creates an array whose known length isn't a constant in the code.
      *
-     * @return what was done, a line for each loop
+     * @return the changes, one line for each loop
      */
     public List<String> rewrite(CodeWriter.Form form) {
         List<String> notes = new ArrayList<>();

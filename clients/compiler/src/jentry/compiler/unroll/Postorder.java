@@ -8,16 +8,16 @@ import java.util.Deque;
 import java.util.List;
 import java.util.function.IntFunction;
 
-/** A search in depth of a graph whose nodes are numbered, from node 0, without recursion. */
+/** A depth-first search without recursion, from node 0, in a graph of numbered nodes. */
 final class Postorder {
     private Postorder() { }
 
     /**
-     * The nodes that are reached, in reverse postorder: without circles, each comes before those that it leads to. Of a node's successors the first
-     * is searched last, and so comes next where nothing is between.
+     * Returns the reachable nodes in reverse postorder: without cycles, each comes before its successors. The first successor of a node is searched
+     * last, so it comes right after the node if nothing has to come between.
      *
      * @param size the number of nodes
-     * @param successors where a node leads
+     * @param successors the successors of a node
      */
     static List<Integer> reversed(int size, IntFunction<int[]> successors) {
         List<Integer> ended = new ArrayList<>();

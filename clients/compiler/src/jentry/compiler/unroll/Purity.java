@@ -4,13 +4,13 @@ import org.objectweb.asm.Opcodes;
 import org.objectweb.asm.tree.AbstractInsnNode;
 import jentry.compiler.profile.Instructions;
 
-/** Instructions that do nothing but put one value in the place of their operands. */
+/** Instructions whose only effect is to replace their operands by one value. */
 final class Purity implements Opcodes {
     private static final int[] NOTHING = {};
 
     private Purity() { }
 
-    /** Whether an instruction has no effect beside its value. ARRAYLENGTH is one of them only where its array isn't null. */
+    /** Returns whether an instruction has no effect other than its value. ARRAYLENGTH is only pure if its array isn't null. */
     static boolean isPure(AbstractInsnNode at) {
         int opcode = at.getOpcode();
         if (opcode == LDC) {
@@ -25,7 +25,7 @@ final class Purity implements Opcodes {
         return (opcode - IADD) % 4 < 2;
     }
 
-    /** The slots of the value that a pure instruction puts. */
+    /** Returns the number of slots of the value that a pure instruction pushes. */
     static int size(AbstractInsnNode at) {
         int opcode = at.getOpcode();
         return switch (opcode) {
@@ -35,7 +35,7 @@ final class Purity implements Opcodes {
         };
     }
 
-    /** The slots of each operand of a pure instruction, the top one first. */
+    /** Returns the number of slots of each operand of a pure instruction, the top one first. */
     static int[] operands(int opcode) {
         if (opcode < IADD) {
             return NOTHING;

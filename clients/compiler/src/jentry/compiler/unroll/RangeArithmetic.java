@@ -2,11 +2,11 @@ package jentry.compiler.unroll;
 
 import org.objectweb.asm.Opcodes;
 
-/** What the arithmetic instructions make of numbers of which limits are known. Where a result may wrap round, nothing is known of it. */
+/** Evaluates arithmetic instructions on ranges. If the result may overflow, it is unknown. */
 final class RangeArithmetic implements Opcodes {
     private RangeArithmetic() { }
 
-    /** The result of an instruction of one operand. */
+    /** Returns the result of an instruction with one operand. */
     static AbstractValue unary(int opcode, AbstractValue value) {
         return switch (opcode) {
             case INEG, LNEG -> times(value, -1);
@@ -24,7 +24,7 @@ final class RangeArithmetic implements Opcodes {
         return value.low() >= low && value.high() <= high ? value : AbstractValue.range(1, low, high);
     }
 
-    /** The result of an instruction of two operands. */
+    /** Returns the result of an instruction with two operands. */
     static AbstractValue binary(int opcode, AbstractValue left, AbstractValue right) {
         int size = left.size();
         return switch (opcode) {
@@ -42,14 +42,14 @@ final class RangeArithmetic implements Opcodes {
         };
     }
 
-    /** A value and a mask that isn't negative is between zero and the mask. */
+    /** Returns the range of a bitwise and: with a non-negative mask it is from zero to the mask. */
     private static AbstractValue masked(AbstractValue left, AbstractValue right) {
         long most = Math.min(left.low() >= 0 ? left.high() : Long.MAX_VALUE, right.low() >= 0 ? right.high() : Long.MAX_VALUE);
         boolean isLimited = left.low() >= 0 || right.low() >= 0;
         return isLimited ? AbstractValue.range(left.size(), 0, most) : AbstractValue.unknown(left.size());
     }
 
-    /** A remainder is nearer to zero than the divisor, and has the sign of what was divided. */
+    /** Returns the range of a remainder: it is closer to zero than the divisor, and has the sign of the dividend. */
     private static AbstractValue remainder(AbstractValue left, AbstractValue right) {
         if (!right.isConstant() || right.low() == 0 || right.low() == Long.MIN_VALUE) {
             return AbstractValue.unknown(left.size());
@@ -58,7 +58,7 @@ final class RangeArithmetic implements Opcodes {
         return AbstractValue.range(left.size(), left.low() >= 0 ? 0 : -most, left.high() <= 0 ? 0 : most);
     }
 
-    /** A quotient by a known divisor rises with what is divided, or falls. That by -1 of the least number is that number. */
+    /** Returns the range of a quotient by a known divisor, which is monotonic in the dividend. The lowest number divided by -1 is itself. */
     private static AbstractValue quotient(AbstractValue left, AbstractValue right) {
         if (!right.isConstant() || right.low() == 0 || right.low() == -1) {
             return AbstractValue.unknown(left.size());
@@ -68,7 +68,7 @@ final class RangeArithmetic implements Opcodes {
         return AbstractValue.range(left.size(), Math.min(first, last), Math.max(first, last));
     }
 
-    /** The products with a factor that isn't zero, where none of them passes the limits of its type. */
+    /** Returns the range of a product with a nonzero factor, or an unknown value if one of the products may overflow. */
     private static AbstractValue times(AbstractValue value, long factor) {
         long first = value.low() * factor;
         long last = value.high() * factor;

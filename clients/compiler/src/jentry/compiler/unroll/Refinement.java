@@ -5,7 +5,7 @@ import org.objectweb.asm.tree.VarInsnNode;
 import org.objectweb.asm.tree.analysis.Frame;
 import jentry.compiler.profile.Instructions;
 
-/** What a test says of the locals that are loaded right before it: on each of its two ways their limits are narrower. */
+/** Narrows the ranges of the locals that are loaded right before a test, separately for each of its two branches. */
 final class Refinement implements Opcodes {
     private final ControlFlowGraph graph;
 
@@ -14,10 +14,10 @@ final class Refinement implements Opcodes {
     }
 
     /**
-     * Narrows the limits of locals.
+     * Narrows the ranges of locals.
      *
-     * @param frame what is known on the way behind the test; its locals are those before the test
-     * @param holds whether the way is that on which the test holds
+     * @param frame what is known on the branch after the test; its locals are those before the test
+     * @param holds whether the test is true on this branch
      */
     void narrow(int place, Frame<AbstractValue> frame, boolean holds) {
         int opcode = graph.instruction(place).getOpcode();
@@ -54,7 +54,7 @@ final class Refinement implements Opcodes {
         return opcode == ILOAD || opcode == LLOAD;
     }
 
-    /** What is known of what a load or a push puts; null for other instructions. */
+    /** Returns what is known about the value that a load or a push puts on the stack; null for other instructions. */
     private AbstractValue operand(int place, Frame<AbstractValue> frame) {
         if (loads(place)) {
             return frame.getLocal(((VarInsnNode) graph.instruction(place)).var);
@@ -63,7 +63,7 @@ final class Refinement implements Opcodes {
         return constant == null ? null : AbstractValue.constant(constant);
     }
 
-    /** The comparison with its sides changed: of ==, !=, <, >=, > and <=. */
+    /** Returns the comparison with its sides swapped: of ==, !=, <, >=, > and <=. */
     private static int mirrored(int comparison) {
         return switch (comparison) {
             case 2 -> 4;

@@ -4,13 +4,13 @@ import java.util.List;
 import org.objectweb.asm.tree.AbstractInsnNode;
 import org.objectweb.asm.tree.analysis.Frame;
 
-/** An instruction with the values of the counters around it: one copy of it in the code that is written out. */
+/** An instruction together with the values of the counters of the loops around it: one copy of it in the unrolled code. */
 final class State {
     /**
-     * What tells states apart.
+     * The identity of a state.
      *
      * @param place the instruction's number
-     * @param counters the counters' values; an empty text where one isn't known
+     * @param counters the values of the counters; an empty string for an unknown one
      */
     record Key(int place, List<Object> counters) { }
 
@@ -21,16 +21,16 @@ final class State {
     /** What is known before the instruction. */
     Frame<AbstractValue> frame;
 
-    /** The states that follow: that of the next instruction first, and one alone where a test is decided. */
+    /** The successors, that of the next instruction first; a decided test has only one. */
     List<State> next = List.of();
 
-    /** Whether the counters decide the test. */
+    /** Whether the outcome of the test is known. */
     boolean isDecided;
 
-    /** The number that the instruction puts in place of its operands, without another effect, or null. */
+    /** The number that replaces the operands of the instruction, if that is its only effect; or null. */
     Object result;
 
-    /** How often another way brought something new. */
+    /** How often another path to this state changed what is known. */
     int merges;
 
     State(Key key, int number, AbstractInsnNode instruction, Frame<AbstractValue> frame) {
@@ -56,7 +56,7 @@ final class State {
         return instruction.getOpcode();
     }
 
-    /** What is known of the operand so far below the top. */
+    /** Returns what is known about the operand {@code below} places below the top. */
     AbstractValue operand(int below) {
         return frame.getStack(frame.getStackSize() - 1 - below);
     }

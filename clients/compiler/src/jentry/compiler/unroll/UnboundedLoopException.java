@@ -1,6 +1,6 @@
 package jentry.compiler.unroll;
 
-/** The counters that are followed don't end a loop, or end it after too many passes. */
+/** Thrown if the tracked counters don't end a loop, or end it after too many iterations. */
 final class UnboundedLoopException extends Exception {
     private static final long serialVersionUID = 1L;
 
@@ -8,10 +8,10 @@ final class UnboundedLoopException extends Exception {
     private final boolean isTooLong;
 
     /**
-     * Of one loop.
+     * Creates an exception for one loop.
      *
      * @param line the line of its head, or -1
-     * @param isTooLong whether it ends, as far as was looked, but has too many passes
+     * @param isTooLong whether the loop seems to end but has too many iterations
      */
     UnboundedLoopException(int line, boolean isTooLong) {
         super(isTooLong ? "a loop with too many passes" : "a loop that no counter ends");

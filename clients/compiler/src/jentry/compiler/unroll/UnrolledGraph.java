@@ -17,13 +17,13 @@ import jentry.compiler.profile.Instructions;
 import jentry.compiler.profile.Members;
 
 /**
- * The control flow of a method with its loops written out: a graph without circles.
+ * The control flow of a method with its loops unrolled: a graph without cycles.
  *
- * <p>It is found by abstract interpretation. A state is an instruction with the values of the counters of the loops around it; what else is known of
- * locals and operands is what all ways to the state have in common. A test that this decides has one successor.
+ * <p>It is computed by abstract interpretation. A state is an instruction together with the values of the counters of the loops around it; for the
+ * other locals and operands it has what all paths to the state have in common. A test that this decides has one successor.
  */
 final class UnrolledGraph implements Opcodes {
-    /** The most states of a method: the code of more wouldn't fit into a class. */
+    /** The maximum number of states of a method: the code of more wouldn't fit into a class. */
     static final int MOST_STATES = 60_000;
 
     private static final int MERGES_BEFORE_WIDENING = 4;
@@ -38,10 +38,10 @@ final class UnrolledGraph implements Opcodes {
     private final List<State> order = new ArrayList<>();
 
     /**
-     * Finds the graph.
+     * Computes the graph.
      *
-     * @param given what is known of each parameter of a static or own method, or null
-     * @throws UnboundedLoopException where the counters don't end a loop, or the graph has too many states
+     * @param given what is known about each parameter of a static or own method, or null
+     * @throws UnboundedLoopException if the counters don't end a loop, or the graph has too many states
      */
     UnrolledGraph(ControlFlowGraph graph, int[][] counters, AbstractValue[] given) throws UnboundedLoopException {
         this.graph = graph;
@@ -62,12 +62,12 @@ final class UnrolledGraph implements Opcodes {
         return graph;
     }
 
-    /** The states that are reached, each before those that follow it. */
+    /** Returns the reachable states, each before its successors. */
     List<State> order() {
         return order;
     }
 
-    /** How often a loop is passed, in all: the copies of the instruction that leads back, which stand once in each pass. */
+    /** Returns the total number of iterations of a loop: the number of copies of a latch, which occurs once in each iteration. */
     int passes(Loop loop) {
         Map<Integer, Integer> copies = new HashMap<>();
         order.stream().filter(it -> loop.latches().get(it.place())).forEach(it -> copies.merge(it.place(), 1, Integer::sum));
@@ -117,7 +117,7 @@ final class UnrolledGraph implements Opcodes {
         state.next = next;
     }
 
-    /** What is known behind a test, on the way on which it holds or on the other. */
+    /** Returns what is known after a test, on the branch on which it is true or on the other. */
     private Frame<AbstractValue> refined(int place, Frame<AbstractValue> after, boolean holds) {
         Frame<AbstractValue> way = new Frame<>(after);
         refinement.narrow(place, way, holds);
@@ -133,12 +133,12 @@ final class UnrolledGraph implements Opcodes {
         return top.isConstant() ? top.fact() : null;
     }
 
-    /** Whether a value is an array that is there. */
+    /** Returns whether a value is a non-null array. */
     static boolean isPresent(AbstractValue value) {
         return value.fact() instanceof AbstractValue.Array array && array.isPresent();
     }
 
-    /** The state of a place with this frame, which belongs to the state from here on. */
+    /** Returns the state of a place with this frame. The state owns the frame from then on. */
     private State enter(int place, Frame<AbstractValue> frame) throws UnboundedLoopException, AnalyzerException {
         List<Object> values = new ArrayList<>(counters[place].length);
         for (int local : counters[place]) {
@@ -165,7 +165,7 @@ final class UnrolledGraph implements Opcodes {
         return state;
     }
 
-    /** The line of the loop whose head has the most copies. */
+    /** Returns the line of the loop whose head has the most copies. */
     private int mostCopiedLine() {
         int[] copies = new int[graph.size()];
         byNumber.forEach(it -> copies[it.place()]++);

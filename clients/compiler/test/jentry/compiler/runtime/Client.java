@@ -6,11 +6,11 @@ import jentry.compiler.compare.Call;
 import jentry.compiler.compare.Runner;
 import org.objectweb.asm.ClassReader;
 
-/** Stands for a client of the server, whose frames are passed over. */
+/** A stand-in for a client of the server; its stack frames are skipped. */
 public final class Client {
     private Client() { }
 
-    /** What a processor's class answers on key 100. */
+    /** Returns what the compiled class of a processor returns on key 100. */
     public static Object answer(ClassPath path, EntryProcessor<Long, Long, ?> processor, Object... arguments) throws Exception {
         byte[] compiled = LoadedProcessors.compile(processor);
         String name = new ClassReader(compiled).getClassName().replace('/', '.');

@@ -6,7 +6,7 @@ import java.util.Random;
 import org.junit.jupiter.api.Test;
 import org.objectweb.asm.Opcodes;
 
-/** Limits hold for what the instructions make of any numbers within the limits of their operands. */
+/** Tests that the computed range contains the result of an instruction for any operands within their ranges. */
 class RangeArithmeticTest implements Opcodes {
     private static final int[] OF_INTS = {IADD, ISUB, IMUL, IDIV, IREM, ISHL, ISHR, IUSHR, IAND, IOR, IXOR};
     private static final int[] OF_LONGS = {LADD, LSUB, LMUL, LDIV, LREM, LSHL, LSHR, LUSHR, LAND, LOR, LXOR, LCMP};

@@ -3,7 +3,9 @@ package jentry.jcache.impl;
 import java.io.IOException;
 import java.io.InputStream;
 
-/** The processors by which a cache does what a server has no request for. They are sent and judged as any other. */
+/**
+ * The processors for cache operations that the server has no request for. They are sent and verified like any other.
+ */
 public enum BuiltIn {
     GET_AND_PUT("GetAndPut"),
     GET_AND_REMOVE("GetAndRemove"),
@@ -27,7 +29,7 @@ public enum BuiltIn {
         }
     }
 
-    /** Its class file. */
+    /** Returns the processor's class file. */
     public ProcessorFile file() {
         return file;
     }

@@ -15,20 +15,20 @@ import jentry.jcache.store.Durations;
 import jentry.jcache.store.Mutation;
 import jentry.jcache.store.Store;
 
-/** The methods of a cache on several keys. None of them is atomic over keys. */
+/** The cache methods that take several keys. None of them is atomic over keys. */
 public final class BulkOperations {
     private final CacheContext at;
     private final Store store;
     private final EntryOperations entries;
 
-    /** Makes the methods of a cache. */
+    /** Creates the methods of a cache. */
     public BulkOperations(CacheContext at, EntryOperations entries) {
         this.at = at;
         store = at.store;
         this.entries = entries;
     }
 
-    /** {@code getAll}: the keys that have entries, with their values. */
+    /** Implements {@code getAll}: returns the keys that have entries, with their values. */
     public Map<Long, Long> getAll(long[] keys) {
         long begin = at.statistics.begin();
         Map<Long, Long> found = new HashMap<>();
@@ -63,7 +63,7 @@ public final class BulkOperations {
         return values;
     }
 
-    /** {@code putAll}. With a writer, what it hasn't written isn't put. */
+    /** Implements {@code putAll}. With a writer, only the entries that it has written are put. */
     public void putAll(Map<Long, Long> map) {
         if (map.isEmpty()) {
             return;
@@ -93,7 +93,7 @@ public final class BulkOperations {
         at.statistics.put(all.size(), begin);
     }
 
-    /** {@code removeAll(keys)}. With a writer, what it hasn't deleted stays. */
+    /** Implements {@code removeAll(keys)}. With a writer, only the keys that it has deleted are removed. */
     public void removeAll(long[] keys) {
         if (keys.length == 0) {
             return;
@@ -121,24 +121,24 @@ public final class BulkOperations {
         }
     }
 
-    /** {@code removeAll()}. */
+    /** Implements {@code removeAll()}. */
     public void removeAll() {
         for (Iterator<long[]> pages = store.scan("removeAll()"); pages.hasNext();) {
             removeAll(pages.next());
         }
     }
 
-    /** {@code clear}: without the writer, the listeners and the statistics. */
+    /** Implements {@code clear}, without the writer, the listeners and the statistics. */
     public void clear() {
         store.clear();
     }
 
-    /** {@code iterator}. */
+    /** Implements {@code iterator}. */
     public Iterator<Cache.Entry<Long, Long>> iterator() {
         return new EntryIterator(at, store.scan("iterator"), this::readAll, key -> entries.delete(key, false));
     }
 
-    /** {@code loadAll}: in a thread of its own, where there is a loader. */
+    /** Implements {@code loadAll}: loads in a separate thread if there is a loader. */
     public void loadAll(List<Long> keys, boolean replaces, CompletionListener listener) {
         if (!at.loader.isThere()) {
             if (listener != null) {

@@ -13,8 +13,8 @@ import javax.management.MBeanServer;
 import javax.management.ObjectName;
 
 /**
- * A cache's beans in the JVM's MBean server, under the names that JCache gives them. Two caches of one name by managers
- * of one URI have the same names: the first that registers a bean has it.
+ * A cache's beans in the JVM's MBean server, under the names that JCache defines. Two caches of the same name from
+ * managers of the same URI have the same bean names; the first one to register a bean owns it.
  */
 final class CacheBeans {
     private final Cache<?, ?> cache;
@@ -24,7 +24,7 @@ final class CacheBeans {
         this.cache = cache;
     }
 
-    /** The configuration of a cache, as it is at the moment of the call. */
+    /** The current configuration of a cache. */
     public record Configured(CompleteConfiguration<?, ?> of) implements CacheMXBean {
         @Override public String getKeyType() {
             return of.getKeyType().getName();
@@ -61,12 +61,12 @@ final class CacheBeans {
             + ",Cache=" + clean(cache.getName()));
     }
 
-    /** Characters that have a meaning in the name of a bean. */
+    /** Replaces the characters that have a meaning in the name of a bean. */
     private static String clean(String text) {
         return text.replaceAll("[,:=\r\n*?\"]", ".");
     }
 
-    /** Registers a bean where it is wanted, else removes it. */
+    /** Registers a bean if it is wanted, else unregisters it. */
     synchronized void set(String type, Object bean, boolean wanted) {
         try {
             MBeanServer server = ManagementFactory.getPlatformMBeanServer();

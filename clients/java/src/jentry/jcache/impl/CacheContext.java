@@ -25,7 +25,7 @@ public final class CacheContext {
     private final AutoCloseable watching;
 
     /**
-     * Makes the parts that a configuration names.
+     * Creates the parts that a configuration names.
      *
      * @param cache the cache, as the source of events and for the names of the beans
      */
@@ -52,14 +52,14 @@ public final class CacheContext {
         enableManagement(configuration.isManagementEnabled());
     }
 
-    /** Begins or ends counting, with the bean. */
+    /** Enables or disables the statistics and their bean. */
     public void enableStatistics(boolean wanted) {
         configuration.setStatisticsEnabled(wanted);
         statistics.enable(wanted);
         beans.set("CacheStatistics", statistics, wanted);
     }
 
-    /** Registers or removes the bean of the configuration. */
+    /** Registers or unregisters the configuration bean. */
     public void enableManagement(boolean wanted) {
         configuration.setManagementEnabled(wanted);
         beans.set("CacheConfiguration", new CacheBeans.Configured(configuration), wanted);
@@ -77,7 +77,10 @@ public final class CacheContext {
         configuration.removeCacheEntryListenerConfiguration(by);
     }
 
-    /** An event of the server. It has no value, so the value is read; where it is gone by then the event is dropped. */
+    /**
+     * Handles an event of the server. The event carries no value, so the value is read; if it is gone by then, the
+     * event is dropped.
+     */
     private void heard(long key, Watcher.Kind kind, boolean hearsAll) {
         if (events.isEmpty()) {
             return;
@@ -94,7 +97,7 @@ public final class CacheContext {
         }
     }
 
-    /** Ends all parts. */
+    /** Closes all parts. */
     public void close() {
         enableStatistics(false);
         enableManagement(false);

@@ -5,8 +5,8 @@ import javax.cache.management.CacheStatisticsMXBean;
 import jentry.jcache.store.Effect;
 
 /**
- * Counts what the calls of this cache object did, while that is enabled. Other clients' calls aren't counted, nor what
- * the server evicts. Times are averages in microseconds.
+ * The statistics of this cache object, collected while they are enabled. Calls of other clients and evictions by the
+ * server aren't counted. Times are averages in microseconds.
  */
 public final class CacheStatistics implements CacheStatisticsMXBean {
     private static final float NANOS_PER_MICRO = 1_000;
@@ -24,12 +24,12 @@ public final class CacheStatistics implements CacheStatisticsMXBean {
         return enabled;
     }
 
-    /** The begin of a call, for the methods that count its time; 0 while nothing is counted. */
+    /** Returns the start time of a call, or 0 while the statistics are disabled. */
     long begin() {
         return enabled ? System.nanoTime() : 0;
     }
 
-    /** Counts lookups that began then. */
+    /** Counts the hits and misses of a lookup that started at the time {@code begin}. */
     void got(long hit, long missed, long begin) {
         if (enabled) {
             hits.add(hit);
@@ -38,7 +38,7 @@ public final class CacheStatistics implements CacheStatisticsMXBean {
         }
     }
 
-    /** Counts a lookup by the way; null, where it isn't known whether there was an entry, counts as none. */
+    /** Counts a hit or a miss of a method that isn't a get, without its time; null means unknown and isn't counted. */
     void looked(Boolean existed) {
         if (enabled && existed != null) {
             (existed ? hits : misses).increment();
@@ -59,7 +59,7 @@ public final class CacheStatistics implements CacheStatisticsMXBean {
         }
     }
 
-    /** Counts a run of a processor: a hit or a miss, and a put or a removal by its effect. */
+    /** Counts a run of a processor: a hit or a miss, and a put or a removal according to its effect. */
     void ran(boolean existed, Effect effect, long begin) {
         got(existed ? 1 : 0, existed ? 0 : 1, begin);
         if (effect == Effect.PUT) {
@@ -69,7 +69,7 @@ public final class CacheStatistics implements CacheStatisticsMXBean {
         }
     }
 
-    /** A call that began while nothing was counted has no time. */
+    /** Adds the time since {@code begin}. A call that started while the statistics were disabled has no time. */
     private static void add(LongAdder nanos, long begin) {
         if (begin != 0) {
             nanos.add(System.nanoTime() - begin);
@@ -118,7 +118,7 @@ public final class CacheStatistics implements CacheStatisticsMXBean {
         return removals.sum();
     }
 
-    /** Always 0: a server doesn't report to its clients what it evicts. */
+    /** Returns 0: a server doesn't report evictions to its clients. */
     @Override public long getCacheEvictions() {
         return 0;
     }

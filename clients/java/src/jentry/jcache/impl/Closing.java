@@ -1,12 +1,12 @@
 package jentry.jcache.impl;
 
-/** Closes what a program gave to a cache. */
+/** Closes objects that a program passed to a cache. */
 final class Closing {
     private static final System.Logger LOG = System.getLogger("jentry.jcache");
 
     private Closing() { }
 
-    /** Closes an object that can be closed. What it throws is logged: the cache has ended, whatever its parts do. */
+    /** Closes an object if it is closeable. An exception is only logged, because the cache is closed in any case. */
     static void close(Object it) {
         if (it instanceof AutoCloseable closeable) {
             try {

@@ -13,10 +13,10 @@ final class EntryEvent extends CacheEntryEvent<Long, Long> {
     private final Long old;
 
     /**
-     * Makes one.
+     * Creates an event.
      *
-     * @param value the value of the change, the value that was removed, or null where it isn't known
-     * @param old the value before, or null where there was none or it isn't known
+     * @param value the new value, or the removed value, or null if it isn't known
+     * @param old the value before, or null if there was none or it isn't known
      */
     EntryEvent(Cache<Long, Long> source, EventType type, long key, Long value, Long old) {
         super(source, type);

@@ -12,8 +12,8 @@ import java.util.function.LongConsumer;
 import javax.cache.Cache;
 
 /**
- * The entries of a cache, by pages of keys whose values are read together. Each key comes once at most, for which the
- * keys that came are kept here.
+ * Iterates over the entries of a cache by pages of keys, whose values are read together. It returns each key at most
+ * once and therefore remembers the keys it has returned.
  */
 final class EntryIterator implements Iterator<Cache.Entry<Long, Long>> {
     private final CacheContext at;

@@ -8,20 +8,20 @@ import jentry.jcache.store.Mutation;
 import jentry.jcache.store.Store;
 
 /**
- * The methods of a cache on one key: each is one atomic step of the store, with what the configuration adds to it. The
- * order is the writer, the store, the statistics, the listeners.
+ * The cache methods on one key. Each is one atomic step of the store, plus what the configuration requires, in this
+ * order: the writer, the store, the statistics, the listeners.
  *
- * <p>Where the expiry policy is one of the program's own, a change takes two steps: whether there is an entry decides
- * which method of the policy is asked, and the change is made only if that still holds, else again.
+ * <p>With a custom expiry policy a change takes two steps. Whether there is an entry decides which method of the policy
+ * is called; the change is made only if that is still so, and is retried otherwise.
  */
 public final class EntryOperations {
-    /** How often a change is tried that others spoil. */
+    /** The maximum number of attempts of a change that conflicts with other changes. */
     static final int MOST_TRIES = 1_000;
 
     private final CacheContext at;
     private final Store store;
 
-    /** Makes the methods of a cache. */
+    /** Creates the methods of a cache. */
     public EntryOperations(CacheContext at) {
         this.at = at;
         store = at.store;
@@ -32,7 +32,7 @@ public final class EntryOperations {
             + " times in between; this call changed nothing");
     }
 
-    /** {@code get}. */
+    /** Implements {@code get}. */
     public Long get(long key) {
         long begin = at.statistics.begin();
         Long value = read(key);
@@ -55,7 +55,7 @@ public final class EntryOperations {
         return value;
     }
 
-    /** Gives an entry the time to live of an access. */
+    /** Sets the time to live of an entry that was accessed. */
     void touch(long key) {
         long time = at.expiry.forAccess();
         if (time != Durations.LEAVE) {
@@ -63,7 +63,7 @@ public final class EntryOperations {
         }
     }
 
-    /** Puts a value that was loaded where there is still no entry; answers it, or the other value that is there. */
+    /** Puts a loaded value if there is still no entry. Returns that value, or the one that is there instead. */
     Long loaded(long key, Long value) {
         if (value == null) {
             return null;
@@ -76,18 +76,18 @@ public final class EntryOperations {
         return other == null ? value : other;
     }
 
-    /** {@code containsKey}. */
+    /** Implements {@code containsKey}. */
     public boolean contains(long key) {
         return store.contains(key);
     }
 
-    /** Does the work of one key. Where there is a writer, one thread of this JVM at a time is at a key. */
+    /** Runs the work on one key. If there is a writer, only one thread of this JVM at a time works on a key. */
     private <T> T guarded(long key, Supplier<T> work) {
         return at.writer.isThere() ? at.locks.with(key, work) : work.get();
     }
 
     /**
-     * {@code put} and its kin.
+     * Implements {@code put} and the methods like it.
      *
      * @param isLookup whether the method counts as a hit or a miss
      */
@@ -113,7 +113,7 @@ public final class EntryOperations {
         return when == Store.When.ALWAYS || store.contains(key) == (when == Store.When.PRESENT);
     }
 
-    /** Sets a value in the store, with the time to live of a creation or an update. */
+    /** Sets a value in the store, with the time to live for a creation or an update. */
     Mutation commit(long key, long value, Store.When when, boolean asksBefore) {
         if (at.expiry.isConstant()) {
             return store.set(key, value, when, at.expiry.constant(), asksBefore);
@@ -134,7 +134,7 @@ public final class EntryOperations {
     }
 
     /**
-     * {@code remove} and {@code getAndRemove}.
+     * Implements {@code remove} and {@code getAndRemove}.
      *
      * @param isLookup whether the method counts as a hit or a miss
      */
@@ -154,7 +154,7 @@ public final class EntryOperations {
         return change;
     }
 
-    /** {@code replace(key, old, next)}, or {@code remove(key, old)} where {@code next} is null. */
+    /** Implements {@code replace(key, old, next)}, or {@code remove(key, old)} if {@code next} is null. */
     public boolean compare(long key, long old, Long next) {
         long begin = at.statistics.begin();
         Mutation change = guarded(key, () -> {
@@ -197,7 +197,7 @@ public final class EntryOperations {
         throw spoiled(key);
     }
 
-    /** Asks the writer for a change, where there is one; null is a removal. */
+    /** Calls the writer before a change, if there is one; a null value is a removal. */
     void write(long key, Long value) {
         if (value == null) {
             at.writer.delete(key);

@@ -19,9 +19,9 @@ import javax.cache.event.CacheEntryUpdatedListener;
 import javax.cache.event.EventType;
 
 /**
- * The listeners of a cache. Synchronous ones run in the thread that made the change; the others run in one thread of
- * the cache, one event after the other. What a synchronous listener throws goes to the caller of the cache, behind the
- * change and behind the other listeners; what another one throws is logged.
+ * The listeners of a cache. Synchronous listeners run in the thread that made the change; the others run in one thread
+ * of the cache, one event after another. An exception of a synchronous listener is thrown to the caller of the cache,
+ * after the change and after the other listeners; an exception of an asynchronous one is logged.
  */
 final class EventDispatcher {
     private static final System.Logger LOG = System.getLogger("jentry.jcache");
@@ -39,21 +39,21 @@ final class EventDispatcher {
         CacheEntryEventFilter<? super Long, ? super Long> filter) { }
 
     /**
-     * Makes one without listeners.
+     * Creates a dispatcher without listeners.
      *
-     * @param isFromServer whether changes come from the server's events, and not from the calls of this cache
+     * @param isFromServer whether the events come from the server instead of from the calls of this cache
      */
     EventDispatcher(Cache<Long, Long> source, boolean isFromServer) {
         this.source = source;
         this.isFromServer = isFromServer;
     }
 
-    /** Whether there is a listener. */
+    /** Returns whether there are no listeners. */
     boolean isEmpty() {
         return all.isEmpty();
     }
 
-    /** Whether the cache's own changes have to be dispatched, for which the values before have to be known. */
+    /** Returns whether the cache's own changes must be dispatched, which requires the previous values. */
     boolean isAsked() {
         return !isFromServer && !all.isEmpty();
     }
@@ -76,7 +76,7 @@ final class EventDispatcher {
         }
     }
 
-    /** A call of the cache changed an entry: from one value to another, where null is no entry. */
+    /** Dispatches a change that a call of this cache made; null means no entry. */
     void changed(long key, Long before, Long after) {
         if (!isAsked() || before == null && after == null) {
             return;
@@ -93,7 +93,7 @@ final class EventDispatcher {
     /**
      * Runs the listeners for a change.
      *
-     * @throws CacheEntryListenerException the first that a synchronous listener threw
+     * @throws CacheEntryListenerException the first exception of a synchronous listener
      */
     void dispatch(EventType type, long key, Long value, Long old) {
         EntryEvent event = new EntryEvent(source, type, key, value, old);
@@ -155,13 +155,16 @@ final class EventDispatcher {
         }
     }
 
-    /** The API's generic types let a filter of a type above Long see an event of Long only through this cast. */
+    /**
+     * Casts a filter of a supertype of Long. The API's generic types need this cast before the filter accepts an event
+     * of Long.
+     */
     @SuppressWarnings("unchecked")
     private static boolean isWanted(Registered to, EntryEvent event) {
         return to.filter() == null || ((CacheEntryEventFilter<Long, Long>) to.filter()).evaluate(event);
     }
 
-    /** The same for listeners. */
+    /** Casts a listener of a supertype of Long likewise. */
     @SuppressWarnings("unchecked")
     private static void call(CacheEntryListener<?, ?> listener, EntryEvent event) {
         List<CacheEntryEvent<? extends Long, ? extends Long>> events = List.of(event);
@@ -177,7 +180,7 @@ final class EventDispatcher {
         }
     }
 
-    /** Ends the thread. Events that wait have a second, and a listener that blocks is interrupted then. */
+    /** Ends the thread. Waiting events get one second; then a listener that blocks is interrupted. */
     void close() {
         ExecutorService ended;
         synchronized (this) {

@@ -12,15 +12,15 @@ import javax.cache.expiry.TouchedExpiryPolicy;
 import jentry.jcache.store.Durations;
 
 /**
- * The times to live that a cache's expiry policy gives. The five policies of JCache always give the same ones, so those
- * are read once. Another policy is asked at each call, by the one method that counts there.
+ * The times to live from a cache's expiry policy. The five policies of JCache always give the same times, so those are
+ * read once. Any other policy is asked on each call, by the one method that applies.
  */
 final class ExpiryDurations {
     private static final System.Logger LOG = System.getLogger("jentry.jcache");
     private static final Set<Class<?>> CONSTANT = Set.of(EternalExpiryPolicy.class, CreatedExpiryPolicy.class,
         AccessedExpiryPolicy.class, ModifiedExpiryPolicy.class, TouchedExpiryPolicy.class);
 
-    /** Some 3,000 years: Redis refuses times that overflow its clock. */
+    /** About 3,000 years: Redis refuses times that overflow its clock. */
     private static final long LONGEST_MILLIS = 100_000_000_000_000L;
 
     private final ExpiryPolicy policy;
@@ -31,32 +31,32 @@ final class ExpiryDurations {
         constant = CONSTANT.contains(policy.getClass()) ? new Durations(created(), updated(), accessed()) : null;
     }
 
-    /** Whether the policy always gives the same times. */
+    /** Returns whether the policy always gives the same times. */
     boolean isConstant() {
         return constant != null;
     }
 
-    /** The times of a policy that always gives the same ones, else null. */
+    /** Returns the times of a policy that always gives the same ones, else null. */
     Durations constant() {
         return constant;
     }
 
-    /** Whether no entry ever expires, by all that is known. */
+    /** Returns whether it is certain that no entry ever expires. */
     boolean isEternal() {
         return Durations.NONE.equals(constant);
     }
 
-    /** The times for an entry that is made. */
+    /** Returns the times for a new entry. */
     Durations forCreation() {
         return isConstant() ? constant : new Durations(created(), Durations.LEAVE, Durations.LEAVE);
     }
 
-    /** The times for an entry that is there and gets a value. */
+    /** Returns the times for an existing entry that gets a value. */
     Durations forUpdate() {
         return isConstant() ? constant : new Durations(Durations.ETERNAL, updated(), Durations.LEAVE);
     }
 
-    /** The time for an entry that is read. */
+    /** Returns the time for an entry that is read. */
     long forAccess() {
         return isConstant() ? constant.accessed() : accessed();
     }

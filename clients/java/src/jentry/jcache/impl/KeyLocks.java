@@ -6,15 +6,15 @@ import java.util.concurrent.locks.ReentrantLock;
 import java.util.function.Supplier;
 
 /**
- * Locks of this JVM, each for the keys of one remainder. They keep threads from spoiling each other's attempts; what is
- * atomic is so by the server, which other JVMs share.
+ * Locks of this JVM, each for the keys of one hash value. They keep the threads of this JVM from spoiling each other's
+ * attempts; atomicity comes from the server, which other JVMs use too.
  */
 final class KeyLocks {
     private static final int COUNT = 64;
 
     /**
-     * How long a thread waits for a lock before it goes on without it. A processor in this JVM may call the cache on
-     * another key, so two threads could wait for each other.
+     * How long a thread waits for a lock before it continues without it. A processor in this JVM may call the cache on
+     * another key, so two threads could deadlock.
      */
     private static final long PATIENCE_MILLIS = 2_000;
 
@@ -28,7 +28,7 @@ final class KeyLocks {
         return locks[Math.floorMod(Long.hashCode(key), COUNT)];
     }
 
-    /** Does the work while it holds the lock of the key. */
+    /** Runs the work while holding the lock of the key, or without it if the wait times out. */
     <T> T with(long key, Supplier<T> work) {
         ReentrantLock lock = lock(key);
         boolean isHeld = take(lock);

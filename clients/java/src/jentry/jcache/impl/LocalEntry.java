@@ -6,8 +6,8 @@ import javax.cache.processor.MutableEntry;
 import jentry.jcache.store.Effect;
 
 /**
- * The entry that a processor in this JVM gets. What the processor does is noted here, and done to the store afterwards
- * if the entry there is still the same.
+ * The entry that a processor gets when it runs in this JVM. It records what the processor does; the change is written
+ * to the store afterwards, if the entry there is still the same.
  */
 final class LocalEntry implements MutableEntry<Long, Long> {
     private final long key;
@@ -20,10 +20,10 @@ final class LocalEntry implements MutableEntry<Long, Long> {
     private boolean wasAsked;
 
     /**
-     * Makes one.
+     * Creates an entry.
      *
      * @param value the value in the store, or null
-     * @param loader answers the value of a key that has none, or null
+     * @param loader returns the value of a key that has no entry, or null
      */
     LocalEntry(long key, Long value, LongFunction<Long> loader) {
         this.key = key;
@@ -63,22 +63,22 @@ final class LocalEntry implements MutableEntry<Long, Long> {
         isLoaded = false;
     }
 
-    /** What the processor did; a value that was only loaded is no effect of the processor. */
+    /** Returns what the processor did. A value that was only loaded isn't an effect of the processor. */
     Effect effect() {
         return isSet ? Effect.PUT : isRemoved ? Effect.DELETE : Effect.KEEP;
     }
 
-    /** Whether the value was loaded and neither set nor removed afterwards. */
+    /** Returns whether the value was loaded, and neither set nor removed afterwards. */
     boolean isLoaded() {
         return isLoaded;
     }
 
-    /** Whether the processor read a value that was in the store. */
+    /** Returns whether the processor read a value that was in the store. */
     boolean isAccessed() {
         return isAccessed;
     }
 
-    /** The value that is left, or null. */
+    /** Returns the value after the run, or null. */
     Long value() {
         return value;
     }

@@ -6,8 +6,8 @@ import java.lang.invoke.MethodType;
 import javax.cache.processor.EntryProcessor;
 
 /**
- * The compiler of processors, where the jar of jentry-compile is on the class path. It is looked up by reflection, so
- * that the provider needs neither that jar nor ASM.
+ * The processor compiler, if the jar of jentry-compile is on the class path. It is found by reflection, so the provider
+ * needs neither that jar nor ASM.
  */
 final class OptionalCompiler {
     private static final String NAME = "jentry.compiler.runtime.LoadedProcessors";
@@ -15,11 +15,11 @@ final class OptionalCompiler {
     private static final MethodHandle COMPILE = find();
 
     /**
-     * What the compiler makes of a processor.
+     * The outcome of a compilation.
      *
      * @param bytes the class file, or null
      * @param problem why there is none, or null
-     * @param isOfCall whether the same processor may be compiled where another call hands it over
+     * @param isOfCall whether the same processor may compile when it comes from another call site
      */
     record Result(byte[] bytes, String problem, boolean isOfCall) { }
 
@@ -38,14 +38,14 @@ final class OptionalCompiler {
         return null;
     }
 
-    /** Whether the compiler was found. */
+    /** Returns whether the compiler was found. */
     static boolean isThere() {
         return COMPILE != null;
     }
 
     /**
-     * Compiles a processor in the thread that hands it over: the compiler finds a lambda by the calls that are under
-     * way.
+     * Compiles a processor. This must run in the thread that called the cache, because the compiler identifies a lambda
+     * by the stack of that thread.
      */
     static Result compile(EntryProcessor<?, ?, ?> processor) {
         try {

@@ -9,8 +9,8 @@ import java.util.Set;
 import javax.cache.CacheException;
 
 /**
- * What the URI and the properties of a manager say. A property that the manager doesn't have is looked for among the
- * system's.
+ * The settings from the URI and the properties of a manager. A property that the manager lacks is read from the system
+ * properties.
  */
 public final class Options {
     private static final String CHILD = "jentry", UNIX = "jentry+unix", TCP = "jentry+tcp";
@@ -26,13 +26,13 @@ public final class Options {
     private static final int QUEUE = 65_536;
     private static final int REDIS_PORT = 6_379;
 
-    /** Which events the listeners of a cache get. */
+    /** Which events the listeners of a cache receive. */
     public enum Events {
-        /** Those of the changes that the cache object itself makes. */
+        /** Those of the changes that this cache object makes. */
         LOCAL,
-        /** Those, and the expiries that Redis reports. */
+        /** Those of LOCAL, and the expiries that Redis reports. */
         EXPIRED,
-        /** Those that Redis reports, whoever made the change. */
+        /** Those that Redis reports, whichever client made the change. */
         SERVER
     }
 
@@ -45,10 +45,10 @@ public final class Options {
     private final Events events;
 
     /**
-     * Reads them.
+     * Parses the URI and the properties.
      *
-     * @throws CacheException where the URI has another form, or a property isn't known, or isn't one of servers of this
-     *     kind, or has a value that it can't have
+     * @throws CacheException if the URI is malformed, or a property is unknown, doesn't apply to this kind of server or
+     *     has an invalid value
      */
     public Options(URI uri, Properties properties) {
         this.uri = uri;
@@ -79,22 +79,22 @@ public final class Options {
         return CHILD.equals(uri.getScheme());
     }
 
-    /** Whether the server is Redis, or a cluster of it. */
+    /** Returns whether the server is Redis or Redis Cluster. */
     public boolean isRedis() {
         return REDIS.equals(uri.getScheme()) || isTls();
     }
 
-    /** Whether connections are encrypted. */
+    /** Returns whether connections use TLS. */
     public boolean isTls() {
         return REDIS_TLS.equals(uri.getScheme());
     }
 
-    /** Whether the server is behind a unix socket. */
+    /** Returns whether the server has a unix socket. */
     public boolean isUnix() {
         return UNIX.equals(uri.getScheme());
     }
 
-    /** Whether the server is behind a TCP port and speaks the frames of {@code jentry serve}. */
+    /** Returns whether the server has a TCP port and speaks the protocol of {@code jentry serve}. */
     public boolean isTcp() {
         return TCP.equals(uri.getScheme());
     }
@@ -130,7 +130,7 @@ public final class Options {
                 return number;
             }
         } catch (NumberFormatException e) {
-            // The message below is that of a number out of its limits.
+            // The exception below reports a number out of range.
         }
         throw new CacheException(
             "the property " + name + " is a number from " + least + " to " + most + ", not " + text);
@@ -146,42 +146,42 @@ public final class Options {
         return at;
     }
 
-    /** A property, or null. */
+    /** Returns a property, or null. */
     public String text(String name) {
         return properties.getProperty(name, System.getProperty(name));
     }
 
-    /** Where the server is. */
+    /** Returns the address of the server. */
     public URI uri() {
         return uri;
     }
 
-    /** How long a reply may take, 0 for ever. */
+    /** Returns the timeout of a reply in milliseconds; 0 means none. */
     public int timeoutMillis() {
         return timeoutMillis;
     }
 
-    /** How many calls may wait. */
+    /** Returns the maximum number of waiting calls. */
     public int queue() {
         return queue;
     }
 
-    /** Whether a processor that the server doesn't take runs in this JVM. */
+    /** Returns whether a processor that the server can't run runs in this JVM. */
     public boolean isLocal() {
         return isLocal;
     }
 
-    /** Whether processors are compiled before they are sent, where the compiler is there. */
+    /** Returns whether processors are compiled before they are sent, if the compiler is on the class path. */
     public boolean isCompiling() {
         return isCompiling;
     }
 
-    /** Which events listeners get. */
+    /** Returns which events listeners receive. */
     public Events events() {
         return events;
     }
 
-    /** The nodes of Redis that the URI names, each as HOST:PORT. */
+    /** Returns the Redis nodes that the URI names, each as HOST:PORT. */
     public List<String> nodes() {
         List<String> nodes = new ArrayList<>();
         for (String node : uri.getRawAuthority().split(",")) {
@@ -190,13 +190,13 @@ public final class Options {
         return nodes;
     }
 
-    /** What the keys of a cache in Redis begin with. */
+    /** Returns the prefix of a cache's keys in Redis. */
     public String prefix(String cache) {
         String path = uri.getPath().replaceFirst("^/", "");
         return (path.isEmpty() ? "" : path + ":") + cache + ":";
     }
 
-    /** The command of a child process. */
+    /** Returns the command line of a child process. */
     public List<String> command() {
         List<String> command = new ArrayList<>(List.of(program(), "serve"));
         for (String name : List.of("workers", "stripes")) {

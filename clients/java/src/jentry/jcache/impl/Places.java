@@ -8,10 +8,10 @@ import java.util.Arrays;
 import java.util.List;
 
 /**
- * Where in the source a refusal stands, as far as number and detail tell: the methods and lines of each instruction of
- * the named opcode (17), of each branch that goes back (20), of each instruction at the named place (22), each method
- * with a table of exceptions (15). A help for messages: it judges nothing, and answers nothing where a file isn't what
- * it seems.
+ * Finds the places in the source that a refusal may refer to, from its number and detail: the methods and lines of each
+ * instruction with the given opcode (17), of each backward branch (20) and of each instruction at the given offset
+ * (22), and each method with an exception table (15). It only improves messages: it checks nothing, and returns an
+ * empty list for a malformed file.
  */
 public final class Places {
     private static final int MOST = 8;
@@ -21,7 +21,7 @@ public final class Places {
     private static final int TYPE_MISMATCH = Refusal.TYPE_MISMATCH.number();
     private static final int TABLESWITCH = 170, LOOKUPSWITCH = 171, WIDE = 196, GOTO_W = 200, IINC = 132;
 
-    // The lengths of instructions by their opcodes; those of the two switches and of wide are told by their operands.
+    // Instruction lengths by opcode. Those of the two switches and of wide depend on their operands.
     private static final int[] LENGTHS = new int[256];
 
     static {
@@ -46,7 +46,7 @@ public final class Places {
         this.detail = detail;
     }
 
-    /** The places of a refusal in a class file. */
+    /** Returns the places of a refusal in a class file. */
     public static List<String> of(byte[] file, int number, int detail) {
         boolean isLocated = number == EXCEPTION_TABLE || number == OUTSIDE_PROFILE || number == BACKWARD_BRANCH
             || number == TYPE_MISMATCH;
@@ -79,7 +79,7 @@ public final class Places {
         }
     }
 
-    /** The texts of the constant pool, by their indices. */
+    /** Reads the strings of the constant pool, by index. */
     private void readTexts() throws IOException {
         texts = new String[in.readUnsignedShort()];
         for (int i = 1; i < texts.length; i++) {

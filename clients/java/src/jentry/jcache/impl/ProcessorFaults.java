@@ -3,12 +3,12 @@ package jentry.jcache.impl;
 import javax.cache.integration.CacheLoaderException;
 import javax.cache.processor.EntryProcessorException;
 
-/** The exceptions by which a processor can end in a server, by the numbers that the server has for them. */
+/** The exceptions with which a processor can end at a server, by the server's numbers. */
 public final class ProcessorFaults {
     private ProcessorFaults() { }
 
     /**
-     * What {@code invoke} throws where a processor ended by an exception.
+     * Returns the exception that {@code invoke} throws if a processor ended with an exception.
      *
      * @param number the server's number of the exception
      * @param type the name of the processor's class
@@ -19,14 +19,14 @@ public final class ProcessorFaults {
             : new EntryProcessorException(thrown);
     }
 
-    /** What {@code get} throws where the server's loader ended by an exception. */
+    /** Returns the exception that {@code get} throws if the server's loader ended with an exception. */
     public static CacheLoaderException ofLoader(int number) {
         Throwable thrown = thrown(number, "in the server's loader");
         return thrown instanceof CacheLoaderException ? (CacheLoaderException) thrown
             : new CacheLoaderException(thrown);
     }
 
-    /** The fifth one is an error in Java. */
+    /** Returns the processor's own exception. The fifth one is an Error in Java. */
     private static Throwable thrown(int number, String where) {
         switch (number) {
             case 1: return new ArithmeticException(where);

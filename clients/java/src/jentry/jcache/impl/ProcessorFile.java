@@ -13,8 +13,8 @@ import javax.cache.CacheException;
 import javax.cache.processor.EntryProcessor;
 
 /**
- * The class file of a processor. Two are equal where their bytes are. {@link #of(EntryProcessor, boolean)} is the
- * one place where the file of a processor object is found.
+ * The class file of a processor. Two are equal if their bytes are. Only {@link #of(EntryProcessor, boolean)} looks for
+ * the file of a processor object.
  */
 public final class ProcessorFile {
     private static final String AS_A_CLASS = "write it as a class of its own, compiled with javac --release 8";
@@ -30,7 +30,8 @@ public final class ProcessorFile {
     };
 
     /**
-     * What is sent of a class once it was compiled. That is tried once, or until a call says which lambda the class is.
+     * What is sent for a class that is to be compiled. The compiler runs once for each class, or until the call site of
+     * a lambda is found.
      */
     private static final class Compiled {
         private volatile ProcessorFile file;
@@ -44,7 +45,7 @@ public final class ProcessorFile {
             return file;
         }
 
-        /** Gives the problem, or null. */
+        /** Compiles the processor unless that was done before. Returns why it failed, or null. */
         private synchronized String compile(EntryProcessor<?, ?, ?> processor) {
             if (file != null || problem != null) {
                 return problem;
@@ -66,7 +67,7 @@ public final class ProcessorFile {
     private volatile String id;
 
     /**
-     * Makes one of bytes that are known.
+     * Creates a file from its bytes.
      *
      * @param type the name of the class, for messages
      * @param bytes the class file
@@ -83,19 +84,19 @@ public final class ProcessorFile {
     }
 
     /**
-     * The class file that is sent for a processor: what the compiler makes of it, where it is to be compiled and the
-     * compiler is there, else the file of its class, which is looked for where the class's loader found the class. It
-     * is made once for each class.
+     * Returns the class file to send for a processor: the compiler's output if the class is to be compiled and the
+     * compiler is on the class path, else the file of its class as its class loader finds it. The result is cached for
+     * each class.
      *
-     * @param isToCompile whether it is compiled if it can be
-     * @throws CacheException where there is no file, or where the class needs more than its file
+     * @param isToCompile whether to compile the class if possible
+     * @throws CacheException if there is no file, or the class needs more than its own file
      */
     public static ProcessorFile of(EntryProcessor<?, ?, ?> processor, boolean isToCompile) {
         Class<?> type = processor.getClass();
         return isToCompile && OptionalCompiler.isThere() ? COMPILED.get(type).of(processor) : FILES.get(type);
     }
 
-    /** The file of a class that can't be compiled. */
+    /** Returns the file of a class that can't be compiled. */
     private static ProcessorFile uncompiled(Class<?> type, String problem) {
         if (isLambda(type)) {
             throw new CacheException(
@@ -108,22 +109,22 @@ public final class ProcessorFile {
         return type.isHidden() || type.isSynthetic();
     }
 
-    /** The name of the class. */
+    /** Returns the name of the class. */
     public String type() {
         return type;
     }
 
-    /** Why the class couldn't be compiled, or null where it was, or wasn't to be. */
+    /** Returns why the class couldn't be compiled, or null if it was compiled or wasn't meant to be. */
     public String problem() {
         return problem;
     }
 
-    /** The bytes of the file, which the caller must not change. */
+    /** Returns the bytes of the file, which the caller must not change. */
     public byte[] bytes() {
         return bytes;
     }
 
-    /** The SHA-1 of the file in hexadecimal digits. */
+    /** Returns the SHA-1 of the file in hexadecimal digits. */
     public String id() {
         if (id == null) {
             try {
@@ -143,7 +144,7 @@ public final class ProcessorFile {
         return other instanceof ProcessorFile && Arrays.equals(bytes, ((ProcessorFile) other).bytes);
     }
 
-    /** The bytes of a class's file. */
+    /** Returns the bytes of a class's file. */
     public static byte[] bytesOf(Class<?> type) {
         String name = type.getName();
         String reason = withoutFile(type);

@@ -20,9 +20,9 @@ import jentry.jcache.store.Invocation;
 import jentry.jcache.store.Store;
 
 /**
- * Runs processors: at the server, where it takes them; else, where {@code jentry.local} is true, in this JVM. A run in
- * this JVM reads the entry, runs the processor and commits by a compare-and-set; where the entry is another one by
- * then, the processor runs again.
+ * Runs processors at the server, or in this JVM if the server can't run them and {@code jentry.local} is true. A run in
+ * this JVM reads the entry, runs the processor and commits by compare-and-set; if the entry has changed meanwhile, the
+ * processor runs again.
  */
 public final class ProcessorInvoker {
     private static final System.Logger LOG = System.getLogger("jentry.jcache");
@@ -36,14 +36,14 @@ public final class ProcessorInvoker {
     private final Map<ProcessorFile, ProcessorRefusedException> refused = new ConcurrentHashMap<>();
     private final Map<String, LongAdder> localRuns = new ConcurrentHashMap<>();
 
-    /** Makes the methods of a cache. */
+    /** Creates the methods of a cache. */
     public ProcessorInvoker(CacheContext at, EntryOperations entries) {
         this.at = at;
         store = at.store;
         this.entries = entries;
     }
 
-    /** How many runs there were in this JVM, by the names of the processors' classes. */
+    /** Returns the number of runs in this JVM, by the class names of the processors. */
     public Map<String, Long> localRuns() {
         Map<String, Long> all = new HashMap<>();
         localRuns.forEach((type, runs) -> all.put(type, runs.sum()));
@@ -51,7 +51,7 @@ public final class ProcessorInvoker {
     }
 
     /**
-     * How one call of a cache runs: at the server by a class file, or here because of a reason.
+     * Where a call runs: at the server from a class file, or in this JVM for a reason.
      *
      * @param file the class file, or null
      * @param reason why the server can't run it, or null
@@ -95,8 +95,8 @@ public final class ProcessorInvoker {
     }
 
     /**
-     * Keeps the refusal of a class, with the compiler's reason where the class was sent as it is because of one. It is
-     * thrown where the processor may not run here.
+     * Records the refusal of a class, together with the compiler's reason if the class was sent uncompiled because of
+     * one. Throws the refusal if the processor may not run in this JVM.
      */
     private void refuse(Way way, ProcessorRefusedException e) {
         String problem = way.file().problem();
@@ -107,7 +107,7 @@ public final class ProcessorInvoker {
         }
     }
 
-    /** {@code invoke}. */
+    /** Implements {@code invoke}. */
     @SuppressWarnings("unchecked")
     public <T> T invoke(long key, EntryProcessor<Long, Long, T> processor, Object[] arguments) {
         Way way = way(processor, arguments);
@@ -122,14 +122,18 @@ public final class ProcessorInvoker {
     }
 
     /**
-     * Whether the entry is absent and a loader has its value once the processor asks for it, which only a run in this
-     * JVM can do as JCache says. Without {@code jentry.local} the value is loaded before the run.
+     * Returns whether the processor must run in this JVM because the entry is absent and there is a loader. JCache
+     * requires the load to happen only when the processor asks for the value, which a run at the server can't do.
+     * Without {@code jentry.local} the value is loaded before the run.
      */
     private boolean isToLoadLazily(long key) {
         return at.isLocal && at.loader.isOnMiss() && !store.contains(key);
     }
 
-    /** Whether a run has to be divided into a dry run and a commit: a writer or a policy has to be asked in between. */
+    /**
+     * Returns whether a run is split into a dry run and a commit, because a writer or an expiry policy is called in
+     * between.
+     */
     private boolean isDivided() {
         return store.hasDetail() && (at.writer.isThere() || !at.expiry.isConstant());
     }
@@ -150,7 +154,9 @@ public final class ProcessorInvoker {
         }
     }
 
-    /** Counts a run and calls the listeners, as far as the store says what happened; answers the result or throws. */
+    /**
+     * Counts a run and calls the listeners, as far as the store reports what happened. Returns the result or throws.
+     */
     private Object counted(long key, Invocation done, long begin) {
         Object result = done.result();
         if (done.effect() != null) {
@@ -181,7 +187,9 @@ public final class ProcessorInvoker {
         LockSupport.parkNanos(ThreadLocalRandom.current().nextLong(1, most));
     }
 
-    /** Does to the store what a run did, if the entry is still the one that the run began with. */
+    /**
+     * Applies what a run did to the store, if the entry is still the one the run started with. Returns whether it was.
+     */
     private boolean isCommitted(long key, Effect effect, Long before, Long after, boolean isAccess) {
         if (effect == Effect.KEEP) {
             if (before != null && isAccess) {
@@ -242,7 +250,9 @@ public final class ProcessorInvoker {
         }
     }
 
-    /** {@code invokeAll}: what a processor threw is thrown by the result of that key; keys with null are left out. */
+    /**
+     * Implements {@code invokeAll}: the result of a key throws what its processor threw; keys with null are left out.
+     */
     public <T> Map<Long, EntryProcessorResult<T>> invokeAll(long[] keys, EntryProcessor<Long, Long, T> processor,
         Object[] arguments) {
         Way way = way(processor, arguments);
@@ -267,7 +277,7 @@ public final class ProcessorInvoker {
         return results;
     }
 
-    /** The same exception anew, so that each call of a result has a stack trace of its own. */
+    /** Returns a copy of the exception, so that each call of a result has its own stack trace. */
     private static EntryProcessorException again(EntryProcessorException e) {
         return new EntryProcessorException(e.getMessage(), e.getCause());
     }
@@ -304,7 +314,7 @@ public final class ProcessorInvoker {
         }
     }
 
-    /** {@code invokeAsync}. */
+    /** Implements {@code invokeAsync}. */
     @SuppressWarnings("unchecked")
     public <T> CompletableFuture<T> invokeAsync(long key, EntryProcessor<Long, Long, T> processor, Object[] arguments) {
         Way way = way(processor, arguments);

@@ -8,7 +8,7 @@ import javax.cache.configuration.CompleteConfiguration;
 import javax.cache.integration.CacheLoader;
 import javax.cache.integration.CacheLoaderException;
 
-/** The loader of a cache, if it has one. It runs in this JVM. */
+/** The loader of a cache, if there is one. It runs in this JVM. */
 final class ReadThrough {
     private final CacheLoader<Long, Long> loader;
     private final boolean isOnMiss;
@@ -19,22 +19,22 @@ final class ReadThrough {
         isOnMiss = configuration.isReadThrough() && loader != null;
     }
 
-    /** Whether there is a loader. */
+    /** Returns whether there is a loader. */
     boolean isThere() {
         return loader != null;
     }
 
-    /** Whether lookups that find nothing ask the loader. */
+    /** Returns whether lookups that miss call the loader. */
     boolean isOnMiss() {
         return isOnMiss;
     }
 
-    /** The value of a key that has no entry, or null. */
+    /** Returns the loaded value of a key, or null. */
     Long load(long key) {
         return isOnMiss ? checked(() -> loader.load(key)) : null;
     }
 
-    /** The values of keys, without those that have none. */
+    /** Returns the loaded values of keys, without the keys that have none. */
     Map<Long, Long> loadAll(List<Long> keys) {
         if (keys.isEmpty()) {
             return Map.of();

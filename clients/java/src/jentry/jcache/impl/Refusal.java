@@ -2,7 +2,7 @@ package jentry.jcache.impl;
 
 import java.util.Map;
 
-/** The reasons for which the server refuses a class, by their numbers, and what to write instead. */
+/** The reasons for which the server refuses a class, in the order of their numbers, each with what to write instead. */
 public enum Refusal {
     TOO_LARGE("TooLarge",
         "the class file has more than 65,536 bytes, or the class more than 256 methods: write fewer or shorter ones, "
@@ -76,12 +76,12 @@ public enum Refusal {
         this.remedy = remedy;
     }
 
-    /** The server's name of a number. */
+    /** Returns the server's name of a refusal number. */
     public static String title(int number) {
         return number > 0 && number <= ALL.length ? ALL[number - 1].title : "refusal " + number;
     }
 
-    /** What to write instead, or an empty text where no Java source leads to this refusal. */
+    /** Returns what to write instead, or an empty string if no Java source leads to this refusal. */
     public static String remedy(int number, int detail) {
         if (number == OUTSIDE_PROFILE.number()) {
             return OPCODES.getOrDefault(detail, "");
@@ -89,7 +89,7 @@ public enum Refusal {
         return number > 0 && number <= ALL.length ? ALL[number - 1].remedy : "";
     }
 
-    /** The server's number. */
+    /** Returns the server's number, from 1. */
     public int number() {
         return ordinal() + 1;
     }

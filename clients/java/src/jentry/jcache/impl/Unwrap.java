@@ -1,14 +1,14 @@
 package jentry.jcache.impl;
 
-/** The methods {@code unwrap} of JCache. */
+/** Implements the {@code unwrap} methods of JCache. */
 public final class Unwrap {
     private Unwrap() { }
 
     /**
-     * The object as another type.
+     * Returns the object as another type.
      *
      * @param what the kind of object, for the message
-     * @throws IllegalArgumentException where it isn't one of that type
+     * @throws IllegalArgumentException if the object isn't of that type
      */
     public static <T> T as(Class<T> type, Object it, String what) {
         if (type.isInstance(it)) {

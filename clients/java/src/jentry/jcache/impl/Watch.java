@@ -4,31 +4,29 @@ import java.util.LinkedHashSet;
 import java.util.Set;
 import java.util.concurrent.TimeUnit;
 
-/**
- * The one thread of the JVM that looks after calls that take too long. It is there while there is something to watch.
- */
+/** The single thread of this JVM that ends calls that time out. It runs while there is something to watch. */
 public final class Watch {
     private static final long LEAST_MILLIS = 5;
     private static final long MOST_MILLIS = 1_000;
     private static final Set<Watched> ALL = new LinkedHashSet<>();
     private static Thread thread;
 
-    /** Something whose calls may take too long. */
+    /** Something whose calls can time out. */
     public interface Watched {
         /**
-         * Ends what takes too long.
+         * Ends the calls that have timed out.
          *
          * @param now the time by {@link System#nanoTime}
          */
         void watch(long now);
 
-        /** How long a call may take. */
+        /** Returns the timeout of a call in nanoseconds. */
         long timeoutNanos();
     }
 
     private Watch() { }
 
-    /** Begins to look after it. */
+    /** Starts watching an object. */
     public static void add(Watched it) {
         synchronized (ALL) {
             ALL.add(it);
@@ -41,7 +39,7 @@ public final class Watch {
         }
     }
 
-    /** Looks after it no longer. */
+    /** Stops watching an object. */
     public static void remove(Watched it) {
         synchronized (ALL) {
             ALL.remove(it);
@@ -56,7 +54,7 @@ public final class Watch {
         }
     }
 
-    /** Waits a while and answers what there is; where there is nothing any more, this thread is to end. */
+    /** Waits for a while and returns the watched objects. If there are none, this thread must end. */
     private static Set<Watched> next() {
         synchronized (ALL) {
             try {
@@ -64,7 +62,7 @@ public final class Watch {
                     ALL.wait(pauseMillis());
                 }
             } catch (InterruptedException e) {
-                // Nobody has a reason to interrupt this thread; it looks once more and goes on.
+                // Nobody has a reason to interrupt this thread, so it continues.
             }
             if (ALL.isEmpty()) {
                 thread = null;
@@ -73,7 +71,7 @@ public final class Watch {
         }
     }
 
-    /** A tenth of the shortest time that a call may take, within limits. */
+    /** Returns a tenth of the shortest timeout, within limits. */
     private static long pauseMillis() {
         long shortest = ALL.stream().mapToLong(Watched::timeoutNanos).min().orElse(0);
         return Math.max(LEAST_MILLIS, Math.min(MOST_MILLIS, TimeUnit.NANOSECONDS.toMillis(shortest) / 10));

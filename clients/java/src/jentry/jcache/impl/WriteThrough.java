@@ -12,8 +12,8 @@ import javax.cache.integration.CacheWriter;
 import javax.cache.integration.CacheWriterException;
 
 /**
- * The writer of a cache, if it is to be used. It runs in this JVM, before each change, so that it can forbid the change
- * by an exception.
+ * The writer of a cache, if the cache is write-through. It runs in this JVM before each change, so it can prevent the
+ * change by an exception.
  */
 final class WriteThrough {
     private final CacheWriter<? super Long, ? super Long> writer;
@@ -39,10 +39,13 @@ final class WriteThrough {
         }
     }
 
-    /** What a bulk method of the writer did: the keys that it wrote, and its exception or null. */
+    /** The outcome of a bulk method of the writer: the keys it wrote, and its exception or null. */
     record Written(Set<Long> keys, CacheWriterException failure) { }
 
-    /** Writes entries. The writer takes those out of its collection that it has written, should it throw. */
+    /**
+     * Writes entries. A writer that throws must first remove the entries it has written from its collection, as JCache
+     * requires.
+     */
     Written writeAll(Map<Long, Long> entries) {
         List<Cache.Entry<? extends Long, ? extends Long>> left = new ArrayList<>();
         entries.forEach((key, value) -> left.add(new PlainEntry(key, value)));
@@ -54,13 +57,16 @@ final class WriteThrough {
         return new Written(done, failure);
     }
 
-    /** A writer of a type above Long takes entries of Long, by the API's own signature, only through this cast. */
+    /**
+     * Casts a writer of a supertype of Long. The API's signature needs this cast before the writer accepts entries of
+     * Long.
+     */
     @SuppressWarnings("unchecked")
     private void writeAllUnchecked(Collection<Cache.Entry<? extends Long, ? extends Long>> entries) {
         ((CacheWriter<Long, Long>) writer).writeAll(entries);
     }
 
-    /** Deletes keys, likewise. */
+    /** Deletes keys. A writer that throws must first remove the keys it has deleted from its collection. */
     Written deleteAll(Collection<Long> keys) {
         Collection<Object> left = new ArrayList<>(keys);
         CacheWriterException failure = failure(() -> writer.deleteAll(left));

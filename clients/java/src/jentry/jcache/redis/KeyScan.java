@@ -5,7 +5,7 @@ import java.util.Iterator;
 import java.util.NoSuchElementException;
 import java.util.Objects;
 
-/** The keys of a cache, by SCAN at each master. It goes through the whole database, other caches and all. */
+/** Iterates over the keys of a cache with SCAN at each master. It scans the whole database, including other caches. */
 final class KeyScan implements Iterator<long[]> {
     private static final int PAGE = 500;
     private static final String BEGIN = "0";

@@ -2,7 +2,7 @@ package jentry.jcache.redis;
 
 import java.nio.charset.StandardCharsets;
 
-/** The names of a cache's entries in Redis: a prefix, which ends in a colon, and the key in decimal digits. */
+/** The names of a cache's entries in Redis: a prefix that ends in a colon, then the key in decimal digits. */
 final class Keys {
     private final String prefix;
 
@@ -18,7 +18,9 @@ final class Keys {
         return RedisCluster.slot(name(key));
     }
 
-    /** A glob that matches the names, and those of other caches whose names begin with the same letters. */
+    /**
+     * Returns a glob that matches the names, and also those of other caches whose names begin with the same letters.
+     */
     String pattern() {
         StringBuilder text = new StringBuilder();
         for (char c : prefix.toCharArray()) {
@@ -30,7 +32,7 @@ final class Keys {
         return text + "*";
     }
 
-    /** The key of a name, or null where it isn't one of this cache. */
+    /** Returns the key of a name, or null if the name isn't one of this cache. */
     Long key(byte[] name) {
         return key(new String(name, StandardCharsets.UTF_8));
     }

@@ -11,8 +11,8 @@ import jentry.jcache.impl.Options;
 import jentry.jcache.store.Watcher;
 
 /**
- * The keyspace notifications of Redis on the keys of a cache, by a connection to each master. A thread looks after the
- * connections: where one is lost, or another node is a master, it connects anew. What happens in between is lost.
+ * Listens to Redis keyspace notifications about the keys of a cache, with a connection to each master. A thread
+ * reconnects lost connections and follows changes of the masters. Events that happen meanwhile are lost.
  */
 final class KeyspaceEvents implements AutoCloseable {
     private static final System.Logger LOG = System.getLogger("jentry.jcache");
@@ -29,9 +29,9 @@ final class KeyspaceEvents implements AutoCloseable {
     private boolean closed;
 
     /**
-     * Begins to listen.
+     * Connects and starts listening.
      *
-     * @throws CacheException where a master doesn't send the events that are wanted
+     * @throws CacheException if a master isn't configured to send the events
      */
     KeyspaceEvents(RedisCluster cluster, Keys keys, Watcher watcher) {
         this.cluster = cluster;
@@ -54,7 +54,7 @@ final class KeyspaceEvents implements AutoCloseable {
         keeper.start();
     }
 
-    /** What a master lacks of {@code notify-keyspace-events}. */
+    /** Checks that the {@code notify-keyspace-events} setting of a master includes the events. */
     private void check(String node) {
         boolean isAll = cluster.options().events() == Options.Events.SERVER;
         String wanted = isAll ? "K$gxn" : "Kx";
@@ -65,7 +65,8 @@ final class KeyspaceEvents implements AutoCloseable {
                 + "); its notify-keyspace-events has to have " + wanted);
             return;
         }
-        // A has all of these but n, which Redis 7.0 doesn't show beside A, whether it is set or not.
+        // A includes all of these but n. Redis 7.0 omits n beside A, whether it is set or not, so it isn't required
+        // there.
         String has = Replies.text(pair[1]).replace("A", "A$gxn");
         StringBuilder lacks = new StringBuilder();
         wanted.chars().filter(it -> has.indexOf(it) < 0).forEach(it -> lacks.append((char) it));
@@ -120,7 +121,7 @@ final class KeyspaceEvents implements AutoCloseable {
         }
     }
 
-    /** Before the event of a SET that makes an entry there is one named new. */
+    /** Handles an event. Redis sends an event named new before the event of a SET that creates an entry. */
     private void heard(long key, String event, Set<Long> fresh) {
         if (event.equals("new")) {
             fresh.add(key);
@@ -141,14 +142,14 @@ final class KeyspaceEvents implements AutoCloseable {
         }
     }
 
-    /** Connects to masters that have no connection, and leaves nodes that aren't masters any more. */
+    /** Connects to masters that have no connection, and disconnects from nodes that are no longer masters. */
     private void keep() {
         while (true) {
             synchronized (sockets) {
                 try {
                     sockets.wait(PAUSE_MILLIS);
                 } catch (InterruptedException e) {
-                    // Nobody has a reason to interrupt this thread; it goes on.
+                    // Nobody has a reason to interrupt this thread, so it continues.
                 }
                 if (closed) {
                     return;

@@ -13,9 +13,9 @@ import jentry.jcache.CallNotSentException;
 import jentry.jcache.CallOutcomeUnknownException;
 
 /**
- * Calls on several keys. The keys of one slot are a group, whose commands go together; the groups of one node go in
- * pieces of 1,024 keys at most, and the nodes work side by side. A group that a node did nothing of (its slot has moved
- * or is moving, the connection was gone) is done key by key, by what follows redirections.
+ * Calls on several keys. The keys of one slot are a group, whose commands are sent together. The groups of one node are
+ * sent in pieces of at most 1,024 keys; the nodes work in parallel. If a node did nothing with a group (its slot has
+ * moved or is moving, or the connection was lost), its keys are handled one by one, which follows redirections.
  */
 final class RedisBulk {
     static final int MOST_KEYS = 1_024;
@@ -27,7 +27,7 @@ final class RedisBulk {
     private final Taker taker;
     private final IntConsumer single;
 
-    /** Adds the commands for keys of one slot, which are at these places; several have to be in a MULTI. */
+    /** Adds the commands for the keys at these indices, all of one slot; several commands must be inside MULTI. */
     interface Maker {
         void make(List<Integer> places, Resp.Commands commands);
     }
@@ -42,11 +42,11 @@ final class RedisBulk {
     private record Piece(List<Group> groups, RedisConnection.Call call) { }
 
     /**
-     * Describes the calls.
+     * Creates the bulk call.
      *
-     * @param slots the slots of the keys, by their places
-     * @param isRead whether what may have been done may be done once more
-     * @param single does what is to be done for the key at one place
+     * @param slots the slot of each key
+     * @param isRead whether a call that may have been done can be repeated
+     * @param single does the work for the key at one index
      */
     RedisBulk(RedisCluster cluster, int[] slots, boolean isRead, Maker maker, Taker taker, IntConsumer single) {
         this.cluster = cluster;
@@ -57,7 +57,7 @@ final class RedisBulk {
         this.single = single;
     }
 
-    /** Makes the calls. Where some fail, the others are made all the same, and the first failure is thrown then. */
+    /** Makes the calls. If some fail, the others are still made, and the first failure is thrown at the end. */
     void run() {
         Map<String, Deque<Group>> byNode = byNode();
         CacheException first = null;
@@ -110,7 +110,7 @@ final class RedisBulk {
         return byNode;
     }
 
-    /** Sends the next piece of a node. */
+    /** Sends the next piece to a node. */
     private void submit(String node, Deque<Group> groups, List<Piece> pieces, List<Group> again) {
         List<Group> some = new ArrayList<>();
         Resp.Commands all = new Resp.Commands();

@@ -19,21 +19,21 @@ import jentry.jcache.CallNotSentException;
 import jentry.jcache.CallOutcomeUnknownException;
 import jentry.jcache.impl.Options;
 
-/** One node, or the masters of a cluster: which node has a key, a connection to each, and redirections. */
+/** One node, or the masters of a cluster: the node of each slot, a connection to each node, and redirections. */
 final class RedisCluster {
     static final int SLOTS = 16_384;
     private static final int MOST_TRIES = 16;
 
     /**
-     * While a slot moves, two nodes may each name the other until the cluster's bus has told both. So a call that was
-     * redirected a few times waits before it follows, for more than a second in all.
+     * While a slot moves, two nodes may redirect to each other until the cluster bus has updated both. So after a few
+     * redirections a call waits before each further one, for more than a second in total.
      */
     private static final int MOST_REDIRECTIONS = 64;
     private static final int QUICK_REDIRECTIONS = 4;
     private static final int MOST_RESENDS = 2;
     private static final long PAUSE_NANOS = 20_000_000;
 
-    /** Errors by which a node says that it did nothing of a command. */
+    /** Errors with which a node reports that it didn't execute a command. */
     private static final Set<String> UNDONE =
         Set.of("MOVED", "ASK", "TRYAGAIN", "CLUSTERDOWN", "LOADING", "READONLY", "MASTERDOWN");
 
@@ -45,7 +45,7 @@ final class RedisCluster {
     private volatile boolean closed;
     private long refreshed;
 
-    /** Connects to a node that the options name. */
+    /** Connects to one of the nodes that the options name. */
     RedisCluster(Options options) {
         this.options = options;
         refreshed = System.nanoTime() - 1;
@@ -65,7 +65,7 @@ final class RedisCluster {
         return sent.sum();
     }
 
-    /** The slot of a key: CRC16 as of XMODEM, of the part in the first braces if there is one that isn't empty. */
+    /** Returns the slot of a key: CRC16 (XMODEM) of the key, or of the part in its first braces if that isn't empty. */
     static int slot(String key) {
         byte[] text = key.getBytes(StandardCharsets.UTF_8);
         int from = 0, to = text.length;
@@ -118,9 +118,9 @@ final class RedisCluster {
     }
 
     /**
-     * Asks some node which nodes have which slots.
+     * Asks one of the nodes for the slot map.
      *
-     * @param since the moment of what made the map doubtful; an answer that is newer stays
+     * @param since the time when the map became doubtful; a newer map is kept
      */
     private synchronized void refresh(long since) {
         if (refreshed - since > 0) {
@@ -168,13 +168,13 @@ final class RedisCluster {
         return node.substring(0, node.lastIndexOf(':'));
     }
 
-    /** Asks for the map anew, and answers the masters. */
+    /** Reads the slot map again and returns the masters. */
     Set<String> refreshedMasters() {
         refresh(System.nanoTime());
         return masters();
     }
 
-    /** The masters that have slots. */
+    /** Returns the masters that have slots. */
     Set<String> masters() {
         Set<String> all = new TreeSet<>();
         for (int i = 0; i < SLOTS; i++) {
@@ -186,7 +186,7 @@ final class RedisCluster {
         return all;
     }
 
-    /** The node of a slot. */
+    /** Returns the node of a slot. */
     String node(int slot) {
         String node = nodes.get(slot);
         if (node == null) {
@@ -195,7 +195,7 @@ final class RedisCluster {
         return node;
     }
 
-    /** Begins a call at a node. */
+    /** Starts a call at a node. */
     RedisConnection.Call submit(String node, Resp.Commands commands) {
         RedisConnection.Call call = new RedisConnection.Call(commands);
         sent.increment();
@@ -204,9 +204,9 @@ final class RedisCluster {
     }
 
     /**
-     * Begins a call at the node of a slot, which no thread waits for.
+     * Starts a call at the node of a slot, without waiting for its end.
      *
-     * @throws RejectedExecutionException where as many calls of that node wait as may
+     * @throws RejectedExecutionException if the queue of waiting calls of that node is full
      */
     void submit(int slot, Resp.Commands commands, Executor executor, Consumer<RedisConnection.Call> then) {
         RedisConnection at = connection(node(slot));
@@ -217,12 +217,12 @@ final class RedisCluster {
         at.submit(new RedisConnection.Call(commands, executor, then));
     }
 
-    /** Makes a call at a node, whatever it answers. */
+    /** Makes a call at a node and returns its replies, errors included. */
     Object[] at(String node, Resp.Commands commands) {
         return submit(node, commands).await();
     }
 
-    /** As {@link #at}, for what reads: where the reply doesn't come or the call can't be sent, once more. */
+    /** Makes a read like {@link #at}, and retries it once if it can't be sent or no reply comes. */
     Object[] read(String node, Resp.Commands commands) {
         try {
             return at(node, commands);
@@ -231,13 +231,13 @@ final class RedisCluster {
         }
     }
 
-    /** Replies, and the node that gave them. */
+    /** The replies, and the node that sent them. */
     record Answer(String node, Object[] replies) { }
 
     /**
-     * Sends a command on one key, or commands on it between MULTI and EXEC, to the node of the slot. What did nothing
-     * is sent again: what a node redirects or can't do yet, and what couldn't be sent. A read whose reply didn't come
-     * is sent once more.
+     * Sends a command on one key, or commands on it between MULTI and EXEC, to the node of the slot. A call that had no
+     * effect is retried: one that the node redirects or can't execute yet, or one that couldn't be sent. A read without
+     * a reply is retried once.
      */
     Answer make(int slot, Resp.Commands commands, boolean isRead) {
         String node = node(slot);
@@ -286,7 +286,7 @@ final class RedisCluster {
         return node(slot);
     }
 
-    /** Where to send a call that a node did nothing of. */
+    /** Returns the node to which to send a call that this node didn't execute. */
     private String next(int slot, String node, Resp.Failure undone, long since) {
         if (undone.is("MOVED") || undone.is("ASK")) {
             String[] words = undone.text().split(" ");
@@ -299,7 +299,10 @@ final class RedisCluster {
         return undone.is("TRYAGAIN") ? node : nodeAnew(slot, since);
     }
 
-    /** The first error that says that nothing was done; in a MULTI it is the reply to the queued command. */
+    /**
+     * Returns the first error that says that nothing was done, or null. Inside MULTI it is the reply to the queued
+     * command.
+     */
     static Resp.Failure undone(Object... replies) {
         for (Object reply : replies) {
             if (reply instanceof Resp.Failure f && UNDONE.contains(f.code())) {

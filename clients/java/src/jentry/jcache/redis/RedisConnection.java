@@ -16,9 +16,10 @@ import jentry.jcache.impl.Options;
 import jentry.jcache.impl.Watch;
 
 /**
- * One connection to one node, for all threads. A call is some commands in one piece. The thread that finds nobody
- * writing writes all that waits, in one write; a thread of the connection reads the replies, which come in the order of
- * the commands. The connection breaks where a reply takes longer than the timeout, and stays broken.
+ * One connection to one node, shared by all threads. The commands of a call are sent without other commands between
+ * them. A thread that finds no other thread writing writes all queued calls in one write; a reader thread takes the
+ * replies, which come in the order of the commands. If a reply takes longer than the timeout, the connection is closed
+ * for good.
  */
 final class RedisConnection implements Watch.Watched {
     private final String node;
@@ -32,7 +33,7 @@ final class RedisConnection implements Watch.Watched {
     private volatile String broken;
     private Throwable cause;
 
-    /** Commands, and what becomes of them. */
+    /** Commands and their outcome. */
     static final class Call {
         private final Resp.Commands commands;
         private final Object[] replies;
@@ -46,12 +47,12 @@ final class RedisConnection implements Watch.Watched {
         private Throwable cause;
         private volatile boolean ended;
 
-        /** A call whose replies this thread waits for. */
+        /** Creates a call whose replies this thread waits for. */
         Call(Resp.Commands commands) {
             this(commands, Thread.currentThread(), null, null);
         }
 
-        /** A call behind whose end an executor goes on. */
+        /** Creates a call that no thread waits for; the executor runs {@code then} after its end. */
         Call(Resp.Commands commands, Executor executor, Consumer<Call> then) {
             this(commands, null, executor, then);
         }
@@ -74,10 +75,11 @@ final class RedisConnection implements Watch.Watched {
         }
 
         /**
-         * Waits for the end of a call, as the thread that made it, and answers the replies in the commands' order.
+         * Waits for the end of the call, in the thread that created it, and returns the replies in the order of the
+         * commands.
          *
-         * @throws CallNotSentException where nothing of it was sent
-         * @throws CallOutcomeUnknownException where the connection broke before all replies were there
+         * @throws CallNotSentException if nothing of it was sent
+         * @throws CallOutcomeUnknownException if the connection broke before all replies came
          */
         Object[] await() {
             boolean interrupted = false;
@@ -96,7 +98,7 @@ final class RedisConnection implements Watch.Watched {
         }
     }
 
-    /** Connects. */
+    /** Connects to a node and starts the reader thread. */
     RedisConnection(String node, Options options) throws IOException {
         this.node = node;
         at = new RedisSocket(node, options);
@@ -113,7 +115,7 @@ final class RedisConnection implements Watch.Watched {
         return broken != null;
     }
 
-    /** How many calls are under way. */
+    /** Returns the number of calls that haven't ended. */
     int pending() {
         lock.lock();
         try {
@@ -123,7 +125,7 @@ final class RedisConnection implements Watch.Watched {
         }
     }
 
-    /** Begins a call. */
+    /** Queues a call, and writes it unless another thread is writing. */
     void submit(Call call) {
         boolean writes = false;
         lock.lock();
@@ -156,7 +158,10 @@ final class RedisConnection implements Watch.Watched {
         }
     }
 
-    /** Copies what waits; answers its length, or 0 where nothing waits and so this thread no longer writes. */
+    /**
+     * Copies the queued commands into the buffer. Returns their length, or 0 if the queue is empty; this thread stops
+     * writing then.
+     */
     private int gather() {
         lock.lock();
         try {
@@ -197,7 +202,7 @@ final class RedisConnection implements Watch.Watched {
         }
     }
 
-    /** Gives a reply to the oldest call; answers the call if that was its last one. */
+    /** Adds a reply to the oldest call. Returns the call if that was its last reply, else null. */
     private Call take(Object reply) throws IOException {
         lock.lock();
         try {

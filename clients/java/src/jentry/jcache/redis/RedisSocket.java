@@ -9,7 +9,7 @@ import javax.net.ssl.SSLSocket;
 import javax.net.ssl.SSLSocketFactory;
 import jentry.jcache.impl.Options;
 
-/** A connection to one node that has passed TLS and AUTH, where the options ask for these. */
+/** A connection to one node, after the TLS handshake and AUTH if the options ask for them. */
 final class RedisSocket {
     private static final int CONNECT_MILLIS = 3_000;
 
@@ -17,11 +17,11 @@ final class RedisSocket {
     final Resp.In in;
 
     /**
-     * Connects.
+     * Connects to a node.
      *
      * @param node HOST:PORT
-     * @throws IOException where the node can't be reached, or its certificate isn't one that this JVM trusts
-     * @throws CacheException where the node refuses the password
+     * @throws IOException if the node isn't reachable, or this JVM doesn't trust its certificate
+     * @throws CacheException if the node refuses the password
      */
     RedisSocket(String node, Options options) throws IOException {
         Socket plain = new Socket();
@@ -43,7 +43,10 @@ final class RedisSocket {
         }
     }
 
-    /** The certificate has to be one for the host, by an authority that the JVM trusts (javax.net.ssl.trustStore). */
+    /**
+     * Starts TLS. The certificate must match the host and come from an authority that the JVM trusts
+     * (javax.net.ssl.trustStore).
+     */
     private static Socket encrypted(Socket plain, String host, int port) throws IOException {
         SSLSocket socket = (SSLSocket) ((SSLSocketFactory) SSLSocketFactory.getDefault())
             .createSocket(plain, host, port, true);
@@ -77,7 +80,7 @@ final class RedisSocket {
         try {
             socket.close();
         } catch (IOException e) {
-            // It is closed as far as it can be.
+            // The socket is closed as far as possible.
         }
     }
 }

@@ -25,7 +25,7 @@ import jentry.jcache.store.Watcher;
 
 /**
  * The entries of a cache in Redis: the entry of a key is the string at PREFIX:KEY, in decimal digits. Each method on
- * one key is one command of Redis, or two between MULTI and EXEC; times to live pass by the server's clock.
+ * one key is one Redis command, or two between MULTI and EXEC; times to live run by the server's clock.
  */
 final class RedisStore implements Store {
     private final RedisCluster cluster;
@@ -33,9 +33,9 @@ final class RedisStore implements Store {
     private final Map<String, Set<ProcessorFile>> defined = new ConcurrentHashMap<>();
 
     /**
-     * Makes one.
+     * Creates a store.
      *
-     * @throws CacheException where a master doesn't have the module
+     * @throws CacheException if a master doesn't have the module
      */
     RedisStore(RedisCluster cluster, String prefix) {
         this.cluster = cluster;
@@ -43,7 +43,7 @@ final class RedisStore implements Store {
         cluster.masters().forEach(this::findModule);
     }
 
-    /** A server that doesn't let a client ask for commands is taken as one that has the module. */
+    /** Checks that a node has the module. A server that denies the client COMMAND is assumed to have it. */
     private void findModule(String node) {
         Object reply = cluster.at(node, new Resp.Commands().add("COMMAND", "INFO", "JENTRY.APPLY"))[0];
         if (reply instanceof Object[] commands && (commands.length == 0 || commands[0] == null)) {
@@ -75,7 +75,10 @@ final class RedisStore implements Store {
         return Long.valueOf(1).equals(one(key, true, "EXISTS", keys.name(key)));
     }
 
-    /** The words of a SET. Redis has no time to live of nothing, so an entry that expires at once has a millisecond. */
+    /**
+     * Returns the words of a SET. Redis has no time to live of zero, so an entry that expires at once gets one
+     * millisecond.
+     */
     private static Object[] setting(String name, long value, long time, Object... options) {
         List<Object> words = new ArrayList<>(List.of("SET", name, value));
         words.addAll(List.of(options));
@@ -87,7 +90,7 @@ final class RedisStore implements Store {
         return words.toArray();
     }
 
-    /** Whether one SET is right for entries that are there and for those that aren't. */
+    /** Returns whether a single SET is right both for existing entries and for new ones. */
     private static boolean isUniform(Durations times) {
         return times.created() != Durations.ZERO && (times.created() == times.updated()
             || times.created() == Durations.ETERNAL && times.updated() == Durations.LEAVE);
@@ -119,7 +122,10 @@ final class RedisStore implements Store {
         return new Mutation(true, before != null, before);
     }
 
-    /** Where there is an entry the first SET acts, else the second; answers the value before. */
+    /**
+     * Sets a value by two SETs: the first acts if there is an entry, the second if there is none. Returns the value
+     * before.
+     */
     private Long setInTwo(long key, long value, Durations durations) {
         String name = keys.name(key);
         Resp.Commands commands = new Resp.Commands().add("MULTI")
@@ -210,7 +216,7 @@ final class RedisStore implements Store {
         return count.get();
     }
 
-    /** Whether it was done is what the processor answers: 1 or 0. */
+    /** Runs a built-in processor, which returns 1 if it changed the entry and else 0. */
     @Override public Mutation compare(long key, long old, Long next, Durations durations, boolean asksBefore) {
         BuiltIn by = next == null ? BuiltIn.REMOVE_IF : BuiltIn.REPLACE_IF;
         Object[] arguments = next == null ? new Object[] {old} : new Object[] {old, next};
@@ -234,7 +240,7 @@ final class RedisStore implements Store {
         defined.computeIfAbsent(node, it -> ConcurrentHashMap.newKeySet()).add(file);
     }
 
-    /** Defines a class at a node that didn't get it from this store yet. The node may have forgotten it since. */
+    /** Defines a class at a node that didn't get it from this store yet. The node may have lost it since. */
     private void defineOnce(String node, ProcessorFile file) {
         if (!defined.getOrDefault(node, Set.of()).contains(file)) {
             define(node, file);
@@ -245,7 +251,7 @@ final class RedisStore implements Store {
         return reply instanceof Resp.Failure f && f.is("NOCLASS");
     }
 
-    /** A node that doesn't have the class gets it, and the call again: it did nothing. */
+    /** Runs a processor. If the node doesn't have the class it did nothing: it gets the class, then the call again. */
     private Invocation apply(ProcessorFile file, long key, Object[] words) {
         Resp.Commands commands = new Resp.Commands().add(words);
         RedisCluster.Answer answer = cluster.make(keys.slot(key), commands, false);
@@ -307,7 +313,7 @@ final class RedisStore implements Store {
         }
     }
 
-    /** The end of a call that no thread waited for; what a node did nothing of is made again. */
+    /** Returns the outcome of a call that no thread waited for; a call that the node didn't execute is repeated. */
     private Invocation answered(RedisConnection.Call call, ProcessorFile file, long key, Object[] words) {
         Object reply;
         try {
@@ -344,6 +350,6 @@ final class RedisStore implements Store {
         return cluster.sent();
     }
 
-    /** Does nothing: the connections are those of all caches of the manager. */
+    /** Does nothing: all caches of the manager share the connections. */
     @Override public void close() { }
 }

@@ -6,12 +6,14 @@ import jentry.jcache.impl.Options;
 import jentry.jcache.store.Store;
 import jentry.jcache.store.StoreFactory;
 
-/** Stores in one Redis, or one cluster of it. They share a connection to each node, which the first store opens. */
+/**
+ * Stores in one Redis server or one Redis Cluster. They share a connection to each node, which the first store opens.
+ */
 public final class RedisStores implements StoreFactory {
     private final Options options;
     private RedisCluster cluster;
 
-    /** Makes one for the nodes that the options name. */
+    /** Creates a factory for the nodes that the options name. */
     public RedisStores(Options options) {
         this.options = options;
     }

@@ -10,13 +10,13 @@ import jentry.jcache.impl.ProcessorFile;
 import jentry.jcache.store.Effect;
 import jentry.jcache.store.Invocation;
 
-/** The replies of Redis, as the answers of a store. */
+/** Converts replies of Redis to results of a store. */
 final class Replies {
     private static final int MOST_SHOWN = 40;
 
     private Replies() { }
 
-    /** The reply, if it isn't an error. */
+    /** Returns the reply, or throws if it is an error. */
     static Object checked(Object reply) {
         if (reply instanceof Resp.Failure f) {
             throw new CacheException("Redis: " + f.text());
@@ -24,7 +24,7 @@ final class Replies {
         return reply;
     }
 
-    /** The replies, if none is an error. */
+    /** Returns the replies, or throws if one of them is an error. */
     static Object[] checked(Object[] replies) {
         for (Object reply : replies) {
             checked(reply);
@@ -32,7 +32,7 @@ final class Replies {
         return replies;
     }
 
-    /** The value of a string that has a decimal long, or null where there is none. */
+    /** Returns the value of a string with a decimal long, or null if there is none. */
     static Long value(Object reply) {
         Object answer = checked(reply);
         if (answer == null || answer instanceof Long) {
@@ -51,7 +51,7 @@ final class Replies {
         return new String((byte[]) reply, StandardCharsets.ISO_8859_1);
     }
 
-    /** The reply to JENTRY.APPLY: value, its kind, effect, before, after, steps, words. */
+    /** Converts the reply to JENTRY.APPLY: value, its kind, effect, before, after, steps, words. */
     static Invocation invocation(Object reply, ProcessorFile file) {
         if (reply instanceof Resp.Failure f && f.is("THREW")) {
             int number = Integer.parseInt(f.text().split(" ")[1]);
@@ -64,7 +64,7 @@ final class Replies {
         return new Invocation(value, null, effect, value(row[3]), value(row[4]));
     }
 
-    /** The reply to JENTRY.DEFINE. */
+    /** Checks the reply to JENTRY.DEFINE. */
     static void defined(Object reply, ProcessorFile file) {
         if (reply instanceof Resp.Failure f && f.is("REFUSED")) {
             String[] words = f.text().split(" ");

@@ -6,13 +6,13 @@ import java.io.InputStream;
 import java.nio.charset.StandardCharsets;
 import java.util.Arrays;
 
-/** The serialization protocol of Redis, version 2. */
+/** The Redis serialization protocol (RESP), version 2. */
 final class Resp {
     private Resp() { }
 
     /** An error reply. */
     record Failure(String text) {
-        /** The first word, by which Redis names the kind of an error. */
+        /** Returns the first word, which is the kind of the error. */
         String code() {
             int end = text.indexOf(' ');
             return end < 0 ? text : text.substring(0, end);
@@ -23,7 +23,7 @@ final class Resp {
         }
     }
 
-    /** A status reply, as OK. */
+    /** A status reply such as OK. */
     record Status(String text) { }
 
     /** Commands that are sent together: on the shared connection no other thread's command comes between them. */
@@ -33,7 +33,7 @@ final class Resp {
         private int length;
         private int count;
 
-        /** Adds a command. A word is bytes, or an object whose text is sent. */
+        /** Adds a command. Each word is a byte array, or an object whose string form is sent. */
         Commands add(Object... words) {
             line('*', words.length);
             for (Object word : words) {
@@ -46,7 +46,7 @@ final class Resp {
             return this;
         }
 
-        /** Adds other commands. */
+        /** Appends other commands. */
         Commands add(Commands others) {
             put(others.bytes, others.length);
             count += others.count;
@@ -66,12 +66,12 @@ final class Resp {
             length += size;
         }
 
-        /** How many replies they take. */
+        /** Returns the number of replies to expect. */
         int count() {
             return count;
         }
 
-        /** The text, which has {@link #length} bytes. */
+        /** Returns the buffer, of which the first {@link #length} bytes are used. */
         byte[] bytes() {
             return bytes;
         }
@@ -80,7 +80,7 @@ final class Resp {
             return length;
         }
 
-        /** The same behind ASKING, which a node needs that is about to get the slot. */
+        /** Returns the same commands with ASKING before them, as a node that is importing the slot needs. */
         Commands asking() {
             return new Commands().add("ASKING").add(this);
         }

@@ -1,10 +1,10 @@
 package jentry.jcache.store;
 
-/** How a processor left its entry. */
+/** What a processor did to its entry. */
 public enum Effect {
-    /** It set no value and removed nothing. */
+    /** It neither set nor removed the value. */
     KEEP,
-    /** It set a value, which may equal the one before. */
+    /** It set a value, which may equal the previous one. */
     PUT,
     /** It removed the entry. */
     DELETE

@@ -1,10 +1,10 @@
 package jentry.jcache.store;
 
 /**
- * What became of a change of one entry.
+ * The outcome of a change of one entry.
  *
  * @param done whether the entry was changed
- * @param existed whether there was an entry before, or null where the store doesn't know
- * @param before the value before, or null; it is known only where the caller asked for it
+ * @param existed whether there was an entry before, or null if the store doesn't know
+ * @param before the value before, or null; it is known only if the caller asked for it
  */
 public record Mutation(boolean done, Boolean existed, Long before) { }

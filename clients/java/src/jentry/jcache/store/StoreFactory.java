@@ -3,12 +3,12 @@ package jentry.jcache.store;
 /** Opens the stores of a manager's caches. */
 public interface StoreFactory {
     /**
-     * The store of the cache of that name.
+     * Opens the store of the cache of that name.
      *
-     * @throws javax.cache.CacheException where the server can't be had
+     * @throws javax.cache.CacheException if the server isn't available
      */
     Store open(String name);
 
-    /** Ends what the stores share. */
+    /** Closes the connections that the stores share. */
     void close();
 }

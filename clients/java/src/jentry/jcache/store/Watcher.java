@@ -1,10 +1,10 @@
 package jentry.jcache.store;
 
-/** Takes the events that a store sends about entries, whoever changed them. */
+/** Receives a store's events about entries, whichever client changed them. */
 public interface Watcher {
-    /** Kinds of changes. */
+    /** The kinds of changes. */
     enum Kind { CREATED, UPDATED, REMOVED, EXPIRED }
 
-    /** An entry changed. The call comes on a thread of the store and must not throw. */
+    /** Called after an entry changed. The call comes on a thread of the store and must not throw. */
     void changed(long key, Kind kind);
 }

@@ -5,15 +5,15 @@ import jentry.jcache.CallNotSentException;
 import jentry.jcache.CallOutcomeUnknownException;
 
 /**
- * Requests that go in one round, and what becomes of their replies. Replies are taken by the thread that leads the
- * round; exceptions are made by the thread that made the call, so that their stack traces tell of it.
+ * Requests that go in one round, and the outcome of their replies. The thread that leads the round takes the replies;
+ * the thread that made the call creates the exceptions, so that their stack traces show the caller.
  */
 abstract class Call {
     private final Wire.Out text;
     private final int requests;
     private final int jobs;
 
-    // These two are the line's.
+    // Only Line uses these two.
     Thread waiter;
     volatile State state = State.WAITS;
 
@@ -21,16 +21,13 @@ abstract class Call {
     private String trouble;
     private boolean wasSent;
 
-    /**
-     * What a call does: it waits for its round, it is the first of the next round and so its thread leads, or it has
-     * ended.
-     */
+    /** The state of a call: it waits, its thread must lead the round, or it has ended. */
     enum State { WAITS, LEADS, ENDED }
 
     /**
-     * @param text the requests' frames
-     * @param requests how many they are, and how many replies they take
-     * @param jobs how many jobs of a round they are
+     * @param text the frames of the requests
+     * @param requests the number of requests, and of replies
+     * @param jobs the number of jobs in the round
      */
     Call(Wire.Out text, int requests, int jobs) {
         this.text = text;
@@ -53,24 +50,24 @@ abstract class Call {
     /**
      * Takes the reply to one of the requests.
      *
-     * @throws IOException where it is no reply to that request; then the stream is broken
+     * @throws IOException if it isn't a reply to that request; the stream is broken then
      */
     abstract void reply(int request, int kind, Wire.In body) throws IOException;
 
     /**
-     * Is called once by the thread that led the round, when all replies are there or the call has failed. Must not wait
-     * and must not throw.
+     * Called once, by the thread that ends the call, after all replies have come or the call has failed. It must not
+     * wait and must not throw.
      */
     void ended() { }
 
-    /** The stream broke before the call had its replies; says why, and whether the call was sent. */
+    /** Records that the stream broke before the call had its replies: the reason, and whether the call was sent. */
     final void fail(String why, Throwable by, boolean sent) {
         trouble = why;
         cause = by;
         wasSent = sent;
     }
 
-    /** Throws where the stream broke before the call had its replies. */
+    /** Throws if the stream broke before the call had its replies. */
     final void check() {
         if (trouble != null) {
             throw wasSent ? new CallOutcomeUnknownException(trouble, cause)
@@ -78,7 +75,7 @@ abstract class Call {
         }
     }
 
-    /** The exception of a reply that is no reply to the request. */
+    /** Returns the exception for a reply of the wrong kind. */
     static IOException unlike(int kind) {
         return new IOException("a reply of kind " + kind + ", which doesn't answer its request");
     }

@@ -10,7 +10,7 @@ import jentry.jcache.impl.ProcessorFaults;
 import jentry.jcache.impl.ProcessorFile;
 import jentry.jcache.store.Invocation;
 
-/** The calls of a cache: which replies each takes, and what it answers or throws by them. */
+/** The calls of a cache: the replies each one takes, and the result or exception it produces. */
 final class Calls {
     private Calls() { }
 
@@ -23,7 +23,7 @@ final class Calls {
         private int loaderFault;
 
         /**
-         * @param expected the kind of its reply
+         * @param expected the kind of the reply
          * @param what the request, for messages
          */
         One(Wire.Out text, int expected, String what) {
@@ -46,7 +46,7 @@ final class Calls {
             }
         }
 
-        /** What the reply told, once the call has ended; throws where it failed. */
+        /** Returns the content of the reply after the call has ended. Throws if the call failed. */
         Object answer() {
             check();
             if (denial != 0) {
@@ -58,12 +58,12 @@ final class Calls {
         }
     }
 
-    /** A get is answered by a result where the server's loader was asked and failed. */
+    /** Returns whether the reply is a result instead of a value: the reply to a get if the server's loader failed. */
     private static boolean isLoaderFault(int kind, int expected) {
         return kind == Wire.RESULT && expected == Wire.VALUE;
     }
 
-    /** The Long or null of a value, the Boolean of a flag, null of Done. */
+    /** Returns the Long or null of a value, the Boolean of a flag, or null for Done. */
     private static Object simple(int kind, Wire.In body) throws IOException {
         if (kind == Wire.FLAG) {
             return body.flag();
@@ -81,14 +81,14 @@ final class Calls {
             super(text, Wire.RESULT, what);
         }
 
-        /** What became of the run, once the call has ended; throws where the call failed. */
+        /** Returns the outcome of the run after the call has ended. Throws if the call failed. */
         final Invocation invocation() {
             return (Invocation) answer();
         }
     }
 
     /**
-     * An invocation that no thread waits for. Its future is completed by the future's own executor, since what depends
+     * An invocation that no thread waits for. The future's default executor completes it, because actions that depend
      * on it may wait for other calls.
      */
     static final class Async extends Invoke {
@@ -111,12 +111,12 @@ final class Calls {
         }
     }
 
-    /** Takes the reply to one of many requests. */
+    /** Takes the reply to one of several requests. */
     interface Taker {
         void take(int request, Object told);
     }
 
-    /** Many puts, gets or removes. */
+    /** Several puts, gets or removes. */
     static final class Many extends Call {
         private final int expected;
         private final String what;
@@ -143,7 +143,7 @@ final class Calls {
             }
         }
 
-        /** Throws where the call failed, or a request of it was denied. */
+        /** Throws if the call failed or the server denied one of its requests. */
         void answer() {
             check();
             if (denial != 0) {
@@ -154,7 +154,7 @@ final class Calls {
         }
     }
 
-    /** One invokeAll. */
+    /** An invokeAll. */
     static final class InvokeAll extends Call {
         private final long[] keys;
         private final String processor;
@@ -168,7 +168,7 @@ final class Calls {
             this.taker = taker;
         }
 
-        /** The results come in the order of the keys, and may leave some out. */
+        /** Takes the results, which come in the order of the keys; some may be left out. */
         @Override void reply(int request, int kind, Wire.In body) throws IOException {
             if (kind == Wire.DENIED) {
                 denial = body.u1();
@@ -198,7 +198,7 @@ final class Calls {
         }
     }
 
-    /** The definition of a class. It is no job. */
+    /** The definition of a class. It doesn't count as a job. */
     static final class Define extends Call {
         private final ProcessorFile file;
         private int kind;
@@ -225,7 +225,7 @@ final class Calls {
             }
         }
 
-        /** The class's number on the stream; throws where it is refused or denied. */
+        /** Returns the class's number on the stream. Throws if the class was refused or the request denied. */
         int answer() {
             check();
             if (kind == Wire.REFUSED) {

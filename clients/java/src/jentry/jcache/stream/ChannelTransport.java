@@ -13,11 +13,11 @@ import java.nio.channels.SocketChannel;
 import java.nio.file.Path;
 
 /**
- * A connection to a server that runs already, by a unix socket or by TCP.
+ * A connection to a running server, by a unix socket or by TCP.
  *
- * <p>A thread that is interrupted while it is in a blocking channel closes it, for all threads that share it. So the
- * channel doesn't block: a selector waits, which an interrupt merely wakes. The thread goes on waiting then, and finds
- * itself interrupted afterwards.
+ * <p>An interrupt of a thread that is blocked in a channel closes the channel for all threads that share it. So this
+ * channel is non-blocking: a selector waits, and an interrupt only wakes it. The thread then keeps waiting, and its
+ * interrupt status is restored afterwards.
  */
 final class ChannelTransport implements Transport {
     private static final int CONNECT_MILLIS = 5_000;
@@ -29,8 +29,7 @@ final class ChannelTransport implements Transport {
 
     private final Spin spin = new Spin();
 
-    // A channel copies arrays by a buffer of each thread's own, which it keeps. With this one there is one for all
-    // threads.
+    // A channel copies arrays through a buffer that it keeps for each thread. With this buffer all threads share one.
     private final ByteBuffer buffer = ByteBuffer.allocateDirect(ROOM);
 
     private ChannelTransport(SocketChannel channel) throws IOException {
@@ -95,7 +94,7 @@ final class ChannelTransport implements Transport {
         }
     }
 
-    /** Reads what is there, or comes soon; 0 where nothing does. */
+    /** Polls for bytes that are there or come soon. Returns the number of bytes read, 0 if there are none. */
     private int look() throws IOException {
         int got = channel.read(buffer);
         if (got == 0 && spin.begins()) {
@@ -107,7 +106,9 @@ final class ChannelTransport implements Transport {
         return got;
     }
 
-    /** Waits until the channel is ready, or something wakes the selector; answers whether an interrupt did. */
+    /**
+     * Waits until the channel is ready or something wakes the selector. Returns whether this thread was interrupted.
+     */
     private boolean await(int operation) throws IOException {
         try {
             key.interestOps(operation);
@@ -138,7 +139,7 @@ final class ChannelTransport implements Transport {
         try {
             close();
         } catch (IOException e) {
-            // It is closed as far as it can be, and nobody uses it any more.
+            // The channel is closed as far as possible, and nobody uses it any more.
         }
     }
 }

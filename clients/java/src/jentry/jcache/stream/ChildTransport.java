@@ -8,14 +8,14 @@ import java.util.List;
 import java.util.Map;
 import java.util.concurrent.TimeUnit;
 
-/** A child process that is the server, by two pipes. Its entries are gone when it ends. */
+/** A server that runs as a child process, connected by two pipes. Its entries are lost when it ends. */
 final class ChildTransport implements Transport {
     private static final int CLOSE_MILLIS = 2_000;
     private static final int LAST_WORDS_MILLIS = 250;
     private static final int MOST_WORDS = 1_000;
 
-    // What a round of the server frees stays for its next one, where its C library is glibc: memory that is new each
-    // time costs as much as the calls.
+    // With glibc these make the server keep freed memory from one round to the next: allocating it from the system
+    // again costs as much as the calls.
     private static final Map<String, String> KEEPS_MEMORY =
         Map.of("MALLOC_MMAP_THRESHOLD_", "33554432", "MALLOC_TRIM_THRESHOLD_", "67108864");
 
@@ -38,8 +38,8 @@ final class ChildTransport implements Transport {
     }
 
     /**
-     * Keeps the last of what comes on standard error. It has to be read as it comes: a full pipe would hold up the
-     * server.
+     * Keeps the end of what the child writes to standard error. It reads continuously, because a full pipe would block
+     * the server.
      */
     private void listen() {
         byte[] some = new byte[MOST_WORDS];
@@ -51,7 +51,7 @@ final class ChildTransport implements Transport {
                 }
             }
         } catch (IOException e) {
-            // The process was ended from here; what it told before stays.
+            // The process was ended from here; the words read so far are kept.
         }
     }
 
@@ -93,7 +93,10 @@ final class ChildTransport implements Transport {
         }
     }
 
-    /** Where the command is a script, the server is a child of it that holds the pipes; so all of them are ended. */
+    /**
+     * Ends the process and its descendants: if the command is a script, the server is a child of it that holds the
+     * pipes.
+     */
     @Override public void cut() {
         process.descendants().forEach(ProcessHandle::destroyForcibly);
         process.destroyForcibly();

@@ -13,15 +13,15 @@ import jentry.jcache.CallNotSentException;
 import jentry.jcache.impl.Watch;
 
 /**
- * One stream that many threads share. One round is out at most; the calls that come meanwhile gather for the next one.
- * An idle line sends at once.
+ * A stream that many threads share. A round is a batch of calls, and at most one is in progress; calls that come
+ * meanwhile are queued for the next round. An idle stream sends at once.
  *
- * <p>The callers themselves drive it: one that waits leads its round, that is, it reads the replies and deals them, and
- * before it goes on it sends the next round and hands the lead to a caller of that. So the server works while the next
- * leader is being woken. Calls that nobody waits for are led by a thread of the line.
+ * <p>The calling threads do the work: one that waits leads its round. The leader reads the replies and passes them to
+ * the calls, then sends the next round and hands the lead to a thread that waits in it. So the server works while the
+ * next leader wakes up. Rounds in which no thread waits are led by a thread of the stream itself.
  *
- * <p>A thread waits for its call's replies, so no round has two calls of one thread, and each thread's calls keep their
- * order. An interrupted thread goes on waiting, and finds itself interrupted afterwards.
+ * <p>A thread waits for the replies to its call, so no round has two calls of one thread, and the calls of a thread
+ * keep their order. An interrupted thread keeps waiting, and its interrupt status is restored afterwards.
  */
 final class Line implements Watch.Watched {
     private static final long CLOSE_NANOS = TimeUnit.SECONDS.toNanos(5);
@@ -37,9 +37,10 @@ final class Line implements Watch.Watched {
     private final ArrayDeque<Call> queue = new ArrayDeque<>();
     private final Wire.Out round = new Wire.Out(1 << 12);
 
-    // Whether some thread has the lead, or is about to take it. Where none has, the queue is empty and no round is out.
+    // Whether a thread has the lead or is about to take it. If none has, the queue is empty and no round is in
+    // progress.
     private boolean led;
-    // The calls of the round that was sent, for who reads their replies; null where none was. It is the leader's alone.
+    // The calls of the round that was sent, for the thread that reads their replies, or null. Only the leader uses it.
     private List<Call> sent;
     private boolean ownLeads;
     private boolean out;
@@ -50,8 +51,8 @@ final class Line implements Watch.Watched {
     private long rounds;
 
     /**
-     * @param limit the most calls that wait
-     * @param timeoutMillis how long a round may be out, 0 for ever
+     * @param limit the maximum number of waiting calls
+     * @param timeoutMillis the timeout of a round in milliseconds; 0 means none
      */
     Line(Transport transport, int limit, long timeoutMillis) {
         this.transport = transport;
@@ -64,9 +65,9 @@ final class Line implements Watch.Watched {
     }
 
     /**
-     * Makes a call and waits for its end. Where too many calls wait, it waits for room first.
+     * Makes a call and waits for its end. If the queue is full, it first waits for room.
      *
-     * @throws javax.cache.CacheException where the stream is broken, or breaks before the call has its replies
+     * @throws javax.cache.CacheException if the stream is broken, or breaks before the call has its replies
      */
     void make(Call call) {
         call.waiter = Thread.currentThread();
@@ -91,7 +92,7 @@ final class Line implements Watch.Watched {
         call.check();
     }
 
-    /** Waits for a call's end, and leads its round if it is told to. */
+    /** Waits for the end of a call, and leads its round if this thread gets the lead. */
     private void await(Call call) {
         boolean interrupted = false;
         while (call.state != Call.State.ENDED) {
@@ -108,10 +109,10 @@ final class Line implements Watch.Watched {
     }
 
     /**
-     * Hands a call in and returns; {@link Call#ended} tells its end.
+     * Queues a call without waiting; {@link Call#ended} is called at its end.
      *
-     * @throws RejectedExecutionException where too many calls wait
-     * @throws CallNotSentException where the stream is broken
+     * @throws RejectedExecutionException if too many calls are waiting
+     * @throws CallNotSentException if the stream is broken
      */
     void hand(Call call) {
         lock.lock();
@@ -130,14 +131,14 @@ final class Line implements Watch.Watched {
         }
     }
 
-    /** Under the lock. */
+    /** Throws if the stream is broken. The caller holds the lock. */
     private void open() {
         if (broken != null) {
             throw new CallNotSentException(broken, cause);
         }
     }
 
-    /** Gives the lead to the thread of the line; under the lock. */
+    /** Gives the lead to the thread of the stream. The caller holds the lock. */
     private void wakeOwn() {
         ownLeads = true;
         if (own == null) {
@@ -148,7 +149,7 @@ final class Line implements Watch.Watched {
         LockSupport.unpark(own);
     }
 
-    /** Leads the rounds that have no call that a thread waits for. */
+    /** Leads the rounds in which no thread waits. */
     private void leadOthers() {
         while (true) {
             boolean mine;
@@ -171,8 +172,8 @@ final class Line implements Watch.Watched {
     }
 
     /**
-     * Reads the replies of the round that is out, or of one that it sends where none is. Then it sends the next round,
-     * which runs while another thread is woken to lead it, and tells the calls of its own round their end.
+     * Reads the replies of the round in progress, or sends a round first if there is none. Then it sends the next
+     * round, which runs while another thread wakes up to lead it, and ends the calls of its own round.
      */
     private void lead() {
         if (sent == null && !send()) {
@@ -199,8 +200,8 @@ final class Line implements Watch.Watched {
     }
 
     /**
-     * Sends what waits as the next round. Where nothing waits, or the line breaks, nobody has the lead any more; then
-     * the answer is false.
+     * Sends the queued calls as the next round. Returns false if the queue is empty or the stream breaks; then no
+     * thread has the lead.
      */
     private boolean send() {
         List<Call> taken = take();
@@ -237,7 +238,10 @@ final class Line implements Watch.Watched {
         }
     }
 
-    /** The calls of the next round, which is out from now on; none where none waits. */
+    /**
+     * Takes the calls of the next round off the queue and marks the round as in progress. Returns an empty list if the
+     * queue is empty.
+     */
     private List<Call> take() {
         List<Call> taken = new ArrayList<>();
         lock.lock();
@@ -292,9 +296,9 @@ final class Line implements Watch.Watched {
         }
     }
 
-    /** The leader's round failed: so did its calls, and all that wait. */
+    /** Ends the calls of the leader's round and all waiting calls with an error. */
     private void fail(List<Call> taken, Throwable why) {
-        // Before the cut, which closes what the words come by.
+        // This comes first, because cut() closes the pipe that the words come from.
         String last = transport.lastWords();
         transport.cut();
         String what = "the stream to the server is broken" + (last.isEmpty() ? "" : " (" + last + ")");
@@ -315,8 +319,8 @@ final class Line implements Watch.Watched {
     }
 
     /**
-     * From now on every call fails; answers the calls that waited, which are to be told so. The first reason is the one
-     * that stays.
+     * Marks the stream as broken, so that every later call fails. Returns the calls that waited, whose ends the caller
+     * must report. If there are several reasons, the first one is kept.
      */
     private List<Call> breakLine(String what, Throwable why) {
         lock.lock();
@@ -340,7 +344,7 @@ final class Line implements Watch.Watched {
     }
 
     /**
-     * Ends a stream whose round is out for too long.
+     * Ends a stream whose round has timed out.
      *
      * @param now the time by {@link System#nanoTime}
      */
@@ -365,7 +369,7 @@ final class Line implements Watch.Watched {
         return timeoutNanos;
     }
 
-    /** How many rounds were sent so far. */
+    /** Returns the number of rounds sent. */
     long rounds() {
         lock.lock();
         try {
@@ -375,7 +379,7 @@ final class Line implements Watch.Watched {
         }
     }
 
-    /** How many calls wait for their round. */
+    /** Returns the number of calls that wait for their round. */
     int waiting() {
         lock.lock();
         try {
@@ -385,7 +389,7 @@ final class Line implements Watch.Watched {
         }
     }
 
-    /** Ends the stream. Calls that wait fail; the round that is out has some seconds to come to its end. */
+    /** Closes the stream. Waiting calls fail; the round in progress has five seconds to finish. */
     void close() throws IOException {
         Watch.remove(this);
         tell(breakLine("the cache is closed", null));

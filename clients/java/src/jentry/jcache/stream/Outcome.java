@@ -5,7 +5,7 @@ import javax.cache.CacheException;
 import jentry.jcache.impl.ProcessorFaults;
 import jentry.jcache.store.Invocation;
 
-/** What the server answers to one invocation: a result, an exception of the processor, or a denial. */
+/** The server's reply to one invocation: a result, an exception of the processor, or a denial. */
 final class Outcome {
     private static final int RETURNED = 0, THREW = 1, DENIED = 2;
     private static final String[] DENIALS =
@@ -14,7 +14,7 @@ final class Outcome {
     private Outcome() { }
 
     /**
-     * Reads one.
+     * Reads a reply.
      *
      * @param processor the name of the class, for messages
      */
@@ -30,7 +30,7 @@ final class Outcome {
             : Invocation.failed(() -> denied(number, processor));
     }
 
-    /** The number of the exception by which the server's loader ended in a get. */
+    /** Returns the number of the exception with which the server's loader ended in a get. */
     static int readLoaderFault(Wire.In body) throws IOException {
         int kind = body.u1();
         if (kind != THREW) {
@@ -39,7 +39,7 @@ final class Outcome {
         return body.u1();
     }
 
-    /** What is thrown where the server denies a request. */
+    /** Returns the exception for a request that the server denied. */
     static CacheException denied(int number, String what) {
         String name = number > 0 && number < DENIALS.length ? DENIALS[number] : "denial";
         return new CacheException(what + " is denied by the server: " + number + " " + name + "; it changed nothing");

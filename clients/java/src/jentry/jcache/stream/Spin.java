@@ -1,9 +1,9 @@
 package jentry.jcache.stream;
 
 /**
- * How long a thread looks again and again for a reply before it sleeps. A server mostly answers within this time; where
- * it does, nobody had to be woken. Where that was in vain, the next waits sleep at once, and so they do for a second
- * where other work took the processor meanwhile. One thread uses it at a time.
+ * Decides how long a thread polls for a reply before it sleeps. Most replies come within that time, and then no thread
+ * has to be woken. After an unsuccessful poll the next waits sleep at once, and for one second all do if other work
+ * took the processor meanwhile. Only one thread at a time uses it.
  */
 final class Spin {
     private static final long LONG_NANOS = 50_000;
@@ -11,13 +11,13 @@ final class Spin {
     private static final long TAKEN_AWAY_NANOS = 1_000_000;
     private static final long REST_NANOS = 1_000_000_000;
 
-    // How many waits still sleep at once, and how many did before the last one that looked.
+    // How many more waits sleep at once, and how many did after the last unsuccessful poll.
     private int skip;
     private int skipped;
     private long restsFrom = System.nanoTime() - REST_NANOS;
     private long begun;
 
-    /** A wait begins; answers whether it is to look. */
+    /** Starts a wait. Returns whether it should poll. */
     boolean begins() {
         if (skip > 0) {
             skip--;
@@ -28,9 +28,9 @@ final class Spin {
     }
 
     /**
-     * Answers whether a wait is to look once more.
+     * Returns whether a wait should poll again.
      *
-     * @param found whether it has found something just now
+     * @param found whether the last poll found something
      */
     boolean goesOn(boolean found) {
         long now = System.nanoTime();

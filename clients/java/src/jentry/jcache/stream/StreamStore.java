@@ -21,9 +21,9 @@ import jentry.jcache.store.Store;
 import jentry.jcache.store.Watcher;
 
 /**
- * The entries of a server at the other end of a stream. What JCache wants atomic is one request of the server, or one
- * run of a built-in processor there. The protocol has no times to live, no request for the keys and no events, and its
- * reply to an invocation has the result alone.
+ * The entries of a server at the other end of a stream. Each operation that JCache defines as atomic is one request, or
+ * one run of a built-in processor at the server. The protocol has no times to live, no request for the keys and no
+ * events, and its reply to an invocation has only the result.
  */
 public final class StreamStore implements Store {
     private static final int BULK = 1_024;
@@ -32,11 +32,11 @@ public final class StreamStore implements Store {
     private final Line line;
     private final ConcurrentHashMap<ProcessorFile, Definition> definitions = new ConcurrentHashMap<>();
 
-    /** A class of the stream. The lock is held by the thread that defines it, so that it is defined once. */
+    /** A class of the stream. The thread that defines the class holds the lock, so the class is defined once. */
     private static final class Definition {
         final ReentrantLock lock = new ReentrantLock();
 
-        /** The number on the stream, or -1. */
+        /** The class's number on the stream, or -1. */
         volatile int number = -1;
     }
 
@@ -53,7 +53,7 @@ public final class StreamStore implements Store {
         return arguments.length == 0 ? NONE : Wire.arguments(arguments);
     }
 
-    /** The number of a class on the stream, for which it is defined at its first use. */
+    /** Returns the number of a class on the stream, and defines the class at its first use. */
     private int number(ProcessorFile file) {
         Definition known = definitions.computeIfAbsent(file, it -> new Definition());
         if (known.number < 0) {
@@ -137,14 +137,14 @@ public final class StreamStore implements Store {
         return new Mutation(done, done, null);
     }
 
-    /** Where the value is another one, the server doesn't say whether there is an entry. */
+    /** Runs a built-in processor. If the value is a different one, its reply doesn't show whether there is an entry. */
     @Override public Mutation compare(long key, long old, Long next, Durations durations, boolean asksBefore) {
         boolean done = next == null ? isTrue(BuiltIn.REMOVE_IF, key, Wire.arguments(old))
             : isTrue(BuiltIn.REPLACE_IF, key, Wire.arguments(old, next));
         return new Mutation(done, done ? true : null, done ? old : null);
     }
 
-    /** Sends a request of one kind for each key, 1,024 to a call. */
+    /** Sends a request of one kind for each key, up to 1,024 in a call. */
     private void each(long[] keys, int kind, int expected, String what, Calls.Taker taker) {
         for (int from = 0; from < keys.length; from += BULK) {
             int first = from;
@@ -238,14 +238,14 @@ public final class StreamStore implements Store {
         return line.rounds();
     }
 
-    /** How many calls wait for their round. */
+    /** Returns the number of calls that wait for their round. */
     public int waiting() {
         return line.waiting();
     }
 
     /**
-     * Ends the stream. Calls that wait fail, the round that is out may come to its end. Where the server is a child
-     * process it ends too, and so do its entries.
+     * Closes the stream. Waiting calls fail; the round in progress may finish. A child process ends too, and its
+     * entries are lost.
      */
     @Override public void close() {
         try {

@@ -8,11 +8,11 @@ import jentry.jcache.impl.Options;
 import jentry.jcache.store.Store;
 import jentry.jcache.store.StoreFactory;
 
-/** Stores on streams of {@code jentry serve}: each has a child process, or a connection, of its own. */
+/** Stores on streams of {@code jentry serve}: each has its own child process or connection. */
 public final class StreamStores implements StoreFactory {
     private final Options options;
 
-    /** Makes one for the servers that the options name. */
+    /** Creates a factory for the servers that the options name. */
     public StreamStores(Options options) {
         this.options = options;
     }

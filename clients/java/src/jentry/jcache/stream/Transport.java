@@ -2,22 +2,23 @@ package jentry.jcache.stream;
 
 import java.io.IOException;
 
-/** Two byte streams to a server. One thread at a time reads or writes; {@link #cut} may come from any other. */
+/** Two byte streams to a server. One thread at a time reads or writes; any other thread may call {@link #cut}. */
 interface Transport {
-    /** Writes so many bytes of the text, all of them. */
+    /** Writes the first {@code count} bytes of the text. */
     void write(byte[] text, int count) throws IOException;
 
     /**
-     * Waits for bytes and reads at most so many to this place on; answers how many they are, or -1 at the stream's end.
+     * Waits for bytes, and reads at most {@code count} of them into {@code to}, starting at index {@code from}. Returns
+     * the number of bytes, or -1 at the end of the stream.
      */
     int read(byte[] to, int from, int count) throws IOException;
 
-    /** What the server told of its end on its standard error, or an empty text where that isn't to be had. */
+    /** Returns what the server last wrote to standard error, or an empty string if that isn't available. */
     String lastWords();
 
-    /** Ends the stream between rounds. A server that is a child process ends by that, and is waited for. */
+    /** Closes the stream between rounds. A child process ends because of it, and is waited for. */
     void close() throws IOException;
 
-    /** Ends the stream at once. Whoever reads or writes it is woken by an IOException or by the stream's end. */
+    /** Closes the stream at once. A thread that is reading or writing gets an IOException or the end of the stream. */
     void cut();
 }

@@ -4,31 +4,34 @@ import java.io.EOFException;
 import java.io.IOException;
 import java.util.Arrays;
 
-/** The frames of the protocol: requests are written, replies are read. Numbers have their highest byte first. */
+/** The frames of the protocol: requests are written, replies are read. Numbers are big-endian. */
 public final class Wire {
-    /** Kinds of requests. */
+    /** The kinds of requests. */
     public static final int DEFINE = 1, PUT = 2, GET = 3, REMOVE = 4, CONTAINS = 5, INVOKE = 6, INVOKE_ALL = 7, END = 8;
 
     static final int DEFINED = 1, REFUSED = 2, DONE = 3, VALUE = 4, FLAG = 5, RESULT = 6, RESULTS = 7, DENIED = 8,
         ENDED = 9;
 
-    /** The most bytes that the length of a request may tell; no reply to a request of this client is longer either. */
+    /** The maximum length of a request in bytes. No reply to a request of this client is longer either. */
     static final int LONGEST = 131_072;
 
-    /** The most jobs of a round. A put, get, remove, contains or invoke is one job, an invokeAll one for each key. */
+    /**
+     * The maximum number of jobs in a round. A put, get, remove, contains or invoke is one job, an invokeAll one for
+     * each key.
+     */
     static final int MOST_JOBS = 4_096;
 
-    /** The most arguments of an invocation. */
+    /** The maximum number of arguments of an invocation. */
     static final int MOST_ARGUMENTS = 8;
 
     private Wire() { }
 
-    /** The text of requests, which grows. */
+    /** A growing buffer of request frames. */
     static final class Out {
         private byte[] bytes;
         private int length;
 
-        /** @param room how many bytes fit before the text has to grow */
+        /** @param room the initial capacity in bytes */
         Out(int room) {
             bytes = new byte[room];
         }
@@ -88,7 +91,7 @@ public final class Wire {
             return put(other.bytes, other.length);
         }
 
-        /** A get, a remove or a contains. */
+        /** Adds a get, a remove or a contains. */
         Out onKey(int kind, long key) {
             return s4(9).u1(kind).s8(key);
         }
@@ -119,9 +122,9 @@ public final class Wire {
     }
 
     /**
-     * The text of the arguments of an invocation.
+     * Encodes the arguments of an invocation.
      *
-     * @throws IllegalArgumentException where there are more than eight, or one is no Long, no Integer and not null
+     * @throws IllegalArgumentException if there are more than eight, or one is neither a Long nor an Integer nor null
      */
     static byte[] arguments(Object... arguments) {
         if (arguments.length > MOST_ARGUMENTS) {
@@ -146,7 +149,8 @@ public final class Wire {
     }
 
     /**
-     * The replies of a stream, frame by frame. What is no reply is told by IOException, and never read past its frame.
+     * Reads the replies of a stream, frame by frame. A malformed reply causes an IOException and is never read past its
+     * frame.
      */
     static final class In {
         private final Transport from;
@@ -176,7 +180,7 @@ public final class Wire {
             }
         }
 
-        /** Goes to the next frame, and answers its kind. */
+        /** Moves to the next frame and returns its kind. */
         int next() throws IOException {
             if (cursor != last) {
                 throw new IOException("a reply is " + (last - cursor) + " bytes longer than replies of its kind are");
@@ -222,7 +226,7 @@ public final class Wire {
             return flag == 1;
         }
 
-        /** A Long, an Integer or null. */
+        /** Reads a Long, an Integer or null. */
         Object argument() throws IOException {
             int kind = u1();
             switch (kind) {

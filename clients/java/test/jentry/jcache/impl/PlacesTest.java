@@ -8,7 +8,7 @@ import java.io.IOException;
 import java.util.List;
 import org.junit.jupiter.api.Test;
 
-/** The places of a refusal in code with instructions of every length, in a class file of one method and no more than is read. */
+/** Tests the places of a refusal in code with instructions of every length. The class file has one method and only the parts that are read. */
 class PlacesTest {
     private static byte[] fileOf(int... code) throws IOException {
         ByteArrayOutputStream bytes = new ByteArrayOutputStream();

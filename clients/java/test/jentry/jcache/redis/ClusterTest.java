@@ -18,7 +18,7 @@ import jentry.jcache.Team;
 import org.junit.jupiter.api.Test;
 import org.junit.jupiter.api.Timeout;
 
-/** Exact counts by a verified processor: on one server, on three masters, while slots move, and over a failover. */
+/** Tests exact counts by a verified processor: on one server, on three masters, while slots move, and during a failover. */
 @Timeout(1_800)
 class ClusterTest extends WithRedis {
     private static final int THREADS = 8;
@@ -38,7 +38,7 @@ class ClusterTest extends WithRedis {
         cache.invoke((thread * 7L + i) % KEYS, new Renewing.Add(), 1L);
     }
 
-    /** The calls of the threads, and how they ended. */
+    /** Counts the outcomes of the threads' calls. */
     private static final class Ends {
         final AtomicLong done = new AtomicLong(), unknown = new AtomicLong(), unsent = new AtomicLong();
         private final Team team;
@@ -73,7 +73,7 @@ class ClusterTest extends WithRedis {
         }
     }
 
-    /** Every call is done, and each once. */
+    /** Checks that every call is done exactly once. */
     private static void isExact(Cache<Long, Long> cache) throws InterruptedException {
         Ends ends = new Ends(cache);
         ends.await();
@@ -97,7 +97,7 @@ class ClusterTest extends WithRedis {
         }
     }
 
-    /** Each slot moves once: heartbeats of the bus that are late could give a slot that moves again to a node without its keys. */
+    /** Each slot moves only once: after a second move a late heartbeat of the cluster bus could give the slot to a node without its keys. */
     @Test void onThreeMastersWhileSlotsMove() throws Exception {
         RedisNodes nodes = open(new RedisNodes(false));
         Cache<Long, Long> cache = open(RedisServer.manager(nodes.uri("app"))).createCache("test", types());
@@ -117,7 +117,7 @@ class ClusterTest extends WithRedis {
         assertTrue(moved.get() >= KEYS / 4, moved + " slots were moved");
     }
 
-    /** Keys of one slot, some of which are at the master that is about to get it. */
+    /** Keys of one slot that is moving, some of which have already been moved to its new master. */
     @Test void aSlotThatHasMovedHalf() throws InterruptedException {
         RedisNodes nodes = open(new RedisNodes(false));
         Cache<Long, Long> cache = open(RedisServer.manager(nodes.uri("app"))).createCache("{t}", types());
@@ -150,7 +150,7 @@ class ClusterTest extends WithRedis {
         assertEquals(all, cache.getAll(all.keySet()));
     }
 
-    /** Kills a master in the middle of the calls, and answers how they ended. */
+    /** Kills a master during the calls, and returns their outcomes. */
     private Ends killed(RedisNodes nodes, Cache<Long, Long> cache, boolean isCaughtUp) throws InterruptedException {
         Ends ends = new Ends(cache);
         RedisNodes.await(() -> ends.done.get() > THREADS * EACH / 8, "calls that aren't made");
@@ -167,13 +167,13 @@ class ClusterTest extends WithRedis {
         return ends;
     }
 
-    /** Whether a call waits at the master, and its replica has all that was done before. */
+    /** Returns whether a call waits at the master while its replica has everything that was done before. */
     private static boolean isCaughtUp(RedisServer master, RedisServer replica) {
         return master.number("clients", "blocked_clients") > 0
             && master.number("replication", "master_repl_offset") == replica.number("replication", "slave_repl_offset");
     }
 
-    /** Its replica has all that was done, so nothing of that is lost, and the calls that were out are thrown as not known. */
+    /** The replica has everything that was done, so nothing is lost; the calls in progress throw CallOutcomeUnknownException. */
     @Test void aMasterThatIsKilledWithItsReplicaCaughtUp() throws InterruptedException {
         RedisNodes nodes = open(new RedisNodes(true));
         Cache<Long, Long> cache = open(RedisServer.manager(nodes.uri("app"))).createCache("test", types());
@@ -182,7 +182,7 @@ class ClusterTest extends WithRedis {
         assertTrue(ends.unknown.get() > 0, ends::toString);
     }
 
-    /** Replication is asynchronous: what the killed master answered and hadn't sent on yet is lost, and nobody is told. */
+    /** Replication is asynchronous: what the killed master acknowledged but hasn't replicated yet is lost, and no client learns of it. */
     @Test void aMasterThatIsKilled() throws InterruptedException {
         RedisNodes nodes = open(new RedisNodes(true));
         Cache<Long, Long> cache = open(RedisServer.manager(nodes.uri("app"))).createCache("test", types());

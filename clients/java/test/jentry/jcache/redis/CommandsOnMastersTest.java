@@ -14,7 +14,7 @@ import org.junit.jupiter.api.BeforeAll;
 import org.junit.jupiter.api.BeforeEach;
 import org.junit.jupiter.api.Test;
 
-/** The same commands on three masters, at the one that has the key. */
+/** The tests of CommandsTest on three masters; each command goes to the master of its key. */
 class CommandsOnMastersTest extends CommandsTest {
     private static RedisNodes nodes;
 
@@ -38,7 +38,7 @@ class CommandsOnMastersTest extends CommandsTest {
         define();
     }
 
-    /** A command has the keys of one slot alone, and each key is in one. */
+    /** A command carries keys of one slot only, and here each key has a different slot. */
     @Test @Override void severalKeysGoInPiecesOf1024() throws Exception {
         Map<Long, Long> all = Numbers.upTo(2_500);
         monitor.commands();

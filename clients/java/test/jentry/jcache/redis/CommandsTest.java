@@ -27,14 +27,14 @@ import jentry.jcache.Renewing;
 import org.junit.jupiter.api.BeforeEach;
 import org.junit.jupiter.api.Test;
 
-/** The commands that each method sends, which are all that it costs; on one server. */
+/** Tests which commands each method sends, on one server. They are all that a method costs. */
 class CommandsTest extends WithRedis {
     private static final String K = "app:test:1";
     private static final String HOUR = "3600000";
     private static final String SCAN = "SCAN 0 MATCH app:test:* COUNT 500 TYPE string";
     private static final Duration TIME = new Duration(TimeUnit.HOURS, 1);
 
-    /** The one that has the key 1. */
+    /** The server of the key 1. */
     RedisServer server;
     CacheManager manager;
     Monitor monitor;
@@ -50,7 +50,7 @@ class CommandsTest extends WithRedis {
         define();
     }
 
-    /** Makes the cache, whose classes are known at the server then. */
+    /** Creates the cache, and defines its classes at the server. */
     void define() throws Exception {
         create(types());
         cache.invoke(1L, new Renewing.Add(), 1L);
@@ -71,7 +71,7 @@ class CommandsTest extends WithRedis {
         create(types().setExpiryPolicyFactory(policy));
     }
 
-    /** The key 1 has the value 5, or none. */
+    /** Checks the commands of a call on the key 1, which has the value 5 or no entry. */
     private void sends(boolean exists, Work work, String... wanted) throws Exception {
         server.ask("DEL", K);
         if (exists) {
@@ -117,7 +117,7 @@ class CommandsTest extends WithRedis {
         assertTrue(cache.isClosed());
     }
 
-    /** So that a long call doesn't hold others up. */
+    /** Long calls are sent in pieces so that they don't delay other calls. */
     @Test void severalKeysGoInPiecesOf1024() throws Exception {
         Map<Long, Long> all = Numbers.upTo(2_500);
         List<Integer> counts = new ArrayList<>();
@@ -174,7 +174,7 @@ class CommandsTest extends WithRedis {
         assertNull(cache.get(1L));
     }
 
-    /** Gives an hour to what is made and set, and eternity to what is read. */
+    /** Sets one hour on creation and update, and no expiry on access. */
     private static final class Own implements ExpiryPolicy {
         @Override public Duration getExpiryForCreation() {
             return TIME;

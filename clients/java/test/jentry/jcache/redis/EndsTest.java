@@ -10,7 +10,7 @@ import java.util.stream.Stream;
 import jentry.jcache.Temporary;
 import org.junit.jupiter.api.Test;
 
-/** What a JVM leaves that ends without closing its caches, one of which hears the server's events. */
+/** Tests what a JVM leaves that ends without closing its caches, one of which listens to the server's events. */
 class EndsTest extends WithRedis {
     private static long clients(RedisServer server) {
         return server.number("clients", "connected_clients");

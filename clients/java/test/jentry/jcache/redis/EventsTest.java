@@ -15,7 +15,7 @@ import jentry.jcache.Heard;
 import jentry.jcache.Renewing;
 import org.junit.jupiter.api.Test;
 
-/** Listeners to changes that anybody makes, by the keyspace notifications of Redis. */
+/** Tests listeners to the changes of any client, by the keyspace notifications of Redis. */
 class EventsTest extends WithRedis {
     private final Heard heard = new Heard(0);
 

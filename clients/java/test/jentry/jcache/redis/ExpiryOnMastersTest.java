@@ -4,7 +4,7 @@ import org.junit.jupiter.api.AfterAll;
 import org.junit.jupiter.api.BeforeAll;
 import org.junit.jupiter.api.BeforeEach;
 
-/** The same times to live on three masters. */
+/** The tests of ExpiryTest on three masters. */
 class ExpiryOnMastersTest extends ExpiryTest {
     private static RedisNodes nodes;
 

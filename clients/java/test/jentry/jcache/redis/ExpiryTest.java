@@ -28,15 +28,15 @@ import org.junit.jupiter.api.BeforeEach;
 import org.junit.jupiter.api.Test;
 
 /**
- * Times to live. What a call does to the time of an entry is read from Redis by PTTL, whose clock alone decides: the
- * entry is given a time of half an hour first, a policy gives an hour.
+ * Tests times to live. The time after a call is read with PTTL, so only the clock of Redis matters. Each entry starts with half an hour, and the policy sets an
+ * hour.
  */
 class ExpiryTest extends WithRedis {
     private static final long HOUR = TimeUnit.HOURS.toMillis(1);
     private static final long HALF = HOUR / 2;
     private static final Duration TIME = Duration.ONE_HOUR;
 
-    /** The one that has the key 1. */
+    /** The server of the key 1. */
     RedisServer server;
     CacheManager manager;
 
@@ -50,7 +50,7 @@ class ExpiryTest extends WithRedis {
         return manager.createCache("timed", types().setExpiryPolicyFactory(policy));
     }
 
-    /** What the time to live is: an hour, half of it, none, or no entry. */
+    /** Describes the time to live of an entry: an hour, half of it, none, or no entry. */
     private String time(long key) {
         long left = (Long) server.ask("PTTL", "app:timed:" + key);
         return left == -2 ? "gone" : left == -1 ? "eternal" : left > HALF ? "hour" : "half";
@@ -60,7 +60,7 @@ class ExpiryTest extends WithRedis {
         void on(Cache<Long, Long> cache);
     }
 
-    /** The times behind a call on the key 1, which has the value 5 and half an hour, or on an absent one. */
+    /** Returns the time after a call on the key 1, which has the value 5 and half an hour, or no entry. */
     private String behind(Cache<Long, Long> cache, boolean exists, Work work) {
         server.ask("DEL", "app:timed:1");
         if (exists) {
@@ -95,7 +95,7 @@ class ExpiryTest extends WithRedis {
         allAre("half", cache, true, LEAVING);
     }
 
-    /** putAll of a cache whose entries never expire is an MSET, which ends a time to live that others gave. */
+    /** putAll on a cache whose entries never expire sends MSET, which clears a time to live that another client set. */
     @Test void eternal() {
         Cache<Long, Long> cache = create(EternalExpiryPolicy.factoryOf());
         allAre("eternal", cache, false, CREATING);
@@ -123,7 +123,7 @@ class ExpiryTest extends WithRedis {
         times(TouchedExpiryPolicy.factoryOf(TIME), "hour", "hour", "hour");
     }
 
-    /** A policy of the test's own, which notes which of its methods is asked. */
+    /** A custom policy that records which of its methods are called. */
     private static final class Own implements ExpiryPolicy {
         final List<String> asked = new CopyOnWriteArrayList<>();
         final Duration time;
@@ -176,12 +176,12 @@ class ExpiryTest extends WithRedis {
         assertNull(onAccess.get(1L));
     }
 
-    /** Time enough for what is done in between on a busy machine; where it wasn't, all is done anew. */
+    /** Long enough for the steps in between, even on a busy machine; if they take longer, the test starts again. */
     private static final long SHORT_MILLIS = 1_200;
     private static final int TRIES = 10;
     private static final Duration SHORT = new Duration(TimeUnit.MILLISECONDS, SHORT_MILLIS);
 
-    /** The policies, and which of six keys are there when the time has passed since they were made, but not since the calls on them. */
+    /** The policies, each with those of six keys that exist when the time has passed since their creation, but not since the later calls. */
     private static Map<Factory<? extends ExpiryPolicy>, String> clockRows() {
         return Map.of(CreatedExpiryPolicy.factoryOf(SHORT), "------", ModifiedExpiryPolicy.factoryOf(SHORT), "-2-4-6",
             AccessedExpiryPolicy.factoryOf(SHORT), "1---5-", TouchedExpiryPolicy.factoryOf(SHORT), "12-456",
@@ -203,7 +203,7 @@ class ExpiryTest extends WithRedis {
         assertEquals(wanted, seen);
     }
 
-    /** Makes the keys, calls, and answers which are there in the end; null where this took too long. */
+    /** Creates the keys, makes the calls, and returns which keys exist at the end, or null if this took too long. */
     private static List<String> seenOf(List<Cache<Long, Long>> caches) throws InterruptedException {
         long from = System.nanoTime();
         for (Cache<Long, Long> it : caches) {

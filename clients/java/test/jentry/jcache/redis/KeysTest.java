@@ -20,7 +20,7 @@ import jentry.jcache.Heard;
 import jentry.jcache.Renewing;
 import org.junit.jupiter.api.Test;
 
-/** clear, removeAll, iterator and destroyCache, which go through the keys; on one server and on three masters. */
+/** Tests clear, removeAll, iterator and destroyCache, which scan the keys; on one server and on three masters. */
 class KeysTest extends WithRedis {
     private static Map<Long, Long> numbers(int count) {
         Map<Long, Long> all = new HashMap<>();

@@ -25,7 +25,7 @@ import jentry.jcache.Renewing;
 import jentry.jcache.Team;
 import org.junit.jupiter.api.Test;
 
-/** What callers see where a server ends, pauses, has no module, or errs. */
+/** Tests what a caller gets if a server ends, pauses, has no module, or replies wrongly. */
 class LostTest extends WithRedis {
     private static final int CALLS = 100;
 
@@ -42,7 +42,7 @@ class LostTest extends WithRedis {
         assertTrue(message.contains("no command JENTRY.APPLY: load the module"), message);
     }
 
-    /** The calls that were done, by what the callers know, and the sum that a server has afterwards. */
+    /** Compares the callers' counts of done and unknown calls with the sum that the server has afterwards. */
     @Test void aServerThatIsKilledAndStartedAgain() throws Exception {
         RedisServer server = open(new RedisServer("--appendonly", "yes", "--appendfsync", "always"));
         Cache<Long, Long> cache = cache(server);
@@ -130,7 +130,7 @@ class LostTest extends WithRedis {
         assertTrue(cause instanceof CallNotSentException || cause instanceof CallOutcomeUnknownException, cause.toString());
     }
 
-    /** Answers what the first calls need, and then these bytes to everything. */
+    /** A stand-in that replies correctly to the first calls, and with these bytes to all others. */
     private static final class StandIn implements AutoCloseable {
         private final ServerSocket listener = new ServerSocket(0);
         private final byte[] wrong;

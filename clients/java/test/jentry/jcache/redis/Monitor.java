@@ -10,7 +10,7 @@ import java.util.regex.Matcher;
 import java.util.regex.Pattern;
 import jentry.jcache.impl.Options;
 
-/** The commands that clients send to a server, by MONITOR; not those that a module calls. */
+/** Records with MONITOR the commands that clients send to a server, but not those that a module calls. */
 final class Monitor implements AutoCloseable {
     private static final Pattern LINE = Pattern.compile("[0-9.]+ \\[0 [0-9.]+:[0-9]+\\] (.*)");
     private static final Pattern WORD = Pattern.compile("\"((?:[^\"\\\\]|\\\\.)*)\"");
@@ -39,7 +39,7 @@ final class Monitor implements AutoCloseable {
                 }
             }
         } catch (IOException e) {
-            // It is closed.
+            // The connection is closed.
         }
     }
 
@@ -51,7 +51,7 @@ final class Monitor implements AutoCloseable {
         return String.join(" ", words);
     }
 
-    /** What came since the last time. */
+    /** Returns the commands since the last call. */
     List<String> commands() throws InterruptedException {
         server.ask("ECHO", MARK);
         List<String> all = new ArrayList<>();

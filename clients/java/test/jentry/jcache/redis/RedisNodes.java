@@ -9,13 +9,13 @@ import java.util.Map;
 import java.util.Set;
 import java.util.stream.Collectors;
 
-/** A cluster of a test's own: three masters, and a replica of each where that is wanted. */
+/** A cluster for one test: three masters, each with a replica if the test wants one. */
 final class RedisNodes implements AutoCloseable {
     private static final int MASTERS = 3;
     private static final int SLOTS = 16_384;
     private static final long PATIENCE_MILLIS = Long.getLong("jentry.test.patience", 60_000);
 
-    /** Milliseconds until a silent node is taken as failed: few where a replica is to follow, but more than a busy machine halts one. */
+    /** The cluster-node-timeout in ms: short where a replica must take over, but longer than the pauses of a busy machine. */
     private static final String SOON = System.getProperty("jentry.test.node", "5000");
     private static final String NEVER = "60000";
 
@@ -78,7 +78,7 @@ final class RedisNodes implements AutoCloseable {
         return URI.create("jentry+redis://" + nodes + "/" + name);
     }
 
-    /** The master that has a slot, once all nodes say so: the bus tells them of a move one after the other. */
+    /** Returns the master of a slot, once all nodes agree: the cluster bus spreads a move from node to node. */
     RedisServer owner(int slot) throws InterruptedException {
         await(() -> all.stream().map(it -> ownerBy(it, slot)).distinct().count() == 1, "nodes that don't agree who has the slot " + slot);
         return ownerBy(master(0), slot);
@@ -96,16 +96,15 @@ final class RedisNodes implements AutoCloseable {
         throw new IllegalStateException("nobody has the slot " + slot);
     }
 
-    /** The masters' epochs, as a node knows them, by their ids. */
+    /** Returns the masters' epochs by node id, as one node knows them. */
     private static Map<String, String> epochs(RedisServer asked) {
         return asked.text("CLUSTER", "NODES").lines().map(line -> line.split(" ")).filter(words -> words[2].contains("master"))
             .collect(Collectors.toMap(words -> words[0], words -> words[6]));
     }
 
     /**
-     * Waits until all nodes know the masters' epochs, which differ then. Redis 7.0 may send a heartbeat 40 ms late: a master that
-     * doesn't know of a newer epoch gets a slot with an older one, the next heartbeat of the slot's old master takes the slot
-     * back, and the new master deletes its keys.
+     * Waits until all nodes know the masters' epochs, which are distinct by then. Redis 7.0 may send a heartbeat 40 ms late: a master that doesn't know of a
+     * newer epoch gets a slot with an older one, the next heartbeat of the slot's old master takes the slot back, and the new master deletes its keys.
      */
     private void awaitEpochs() throws InterruptedException {
         await(() -> {
@@ -114,19 +113,19 @@ final class RedisNodes implements AutoCloseable {
         }, "masters that don't know each other's epochs");
     }
 
-    /** Begins to move a slot: its keys may be at either master. */
+    /** Starts to move a slot: its keys may be at either master. */
     void beginMove(int slot, RedisServer from, RedisServer to) throws InterruptedException {
         awaitEpochs();
         isDone(to.ask("CLUSTER", "SETSLOT", slot, "IMPORTING", id(from)));
         isDone(from.ask("CLUSTER", "SETSLOT", slot, "MIGRATING", id(to)));
     }
 
-    /** A step of a move that a node refuses would leave keys behind. */
+    /** Checks that a node accepts a step of a move; otherwise keys would be left at the old master. */
     private static void isDone(Object reply) {
         assertTrue(String.valueOf(reply).contains("OK"), () -> String.valueOf(reply));
     }
 
-    /** Moves some keys of a slot that is moving, at most so many. */
+    /** Moves at most {@code most} keys of a slot that is moving. */
     int moveKeys(int slot, RedisServer from, RedisServer to, int most) {
         Object[] names = (Object[]) from.ask("CLUSTER", "GETKEYSINSLOT", slot, most);
         if (names.length > 0) {

@@ -17,7 +17,7 @@ import javax.cache.Caching;
 import jentry.jcache.Temporary;
 import jentry.jcache.impl.Options;
 
-/** A redis-server of a test's own, with the module, on a free port. */
+/** A redis-server for one test, with the module, on a free port. */
 public final class RedisServer implements AutoCloseable {
     private static final String MODULE = System.getProperty("jentry.test.module", "");
     private static final int START_MILLIS = 30_000;
@@ -27,7 +27,7 @@ public final class RedisServer implements AutoCloseable {
     private final List<String> words = new ArrayList<>();
     private Process process;
 
-    /** Starts a server with more words of its command line. */
+    /** Starts a server with additional command line arguments. */
     public RedisServer(String... more) {
         this(true, more);
     }
@@ -43,7 +43,7 @@ public final class RedisServer implements AutoCloseable {
         start();
     }
 
-    /** A port that nobody has, whose port of the cluster's bus, 10,000 higher, is one too. */
+    /** Returns a free port such that the port of the cluster bus, 10,000 higher, is free too. */
     private static int freePort() {
         for (int tries = 0; tries < 100; tries++) {
             try (ServerSocket one = new ServerSocket(0)) {
@@ -53,7 +53,7 @@ public final class RedisServer implements AutoCloseable {
                     return port;
                 }
             } catch (IOException e) {
-                // Somebody has the other port.
+                // The other port is in use.
             }
         }
         throw new IllegalStateException("no free port");
@@ -88,7 +88,7 @@ public final class RedisServer implements AutoCloseable {
         }
     }
 
-    /** Ends it as a crash does. */
+    /** Kills the process, like a crash. */
     void kill() {
         process.destroyForcibly();
         try {
@@ -98,7 +98,7 @@ public final class RedisServer implements AutoCloseable {
         }
     }
 
-    /** The pid, for signals. */
+    /** Returns the process id, for signals. */
     long pid() {
         return process.pid();
     }
@@ -107,7 +107,7 @@ public final class RedisServer implements AutoCloseable {
         return URI.create("jentry+redis://127.0.0.1:" + port + "/" + name);
     }
 
-    /** A manager of its own, with these properties: names and values in turn. */
+    /** Creates a separate manager with these properties: names and values alternate. */
     public CacheManager manager(String name, String... properties) {
         return manager(uri(name), properties);
     }
@@ -120,7 +120,7 @@ public final class RedisServer implements AutoCloseable {
         return Caching.getCachingProvider().getCacheManager(uri, new ClassLoader() { }, properties);
     }
 
-    /** Sends one command by a connection of its own. */
+    /** Sends one command on a separate connection, and returns the reply. */
     Object ask(Object... command) {
         try {
             RedisSocket socket = new RedisSocket("127.0.0.1:" + port, new Options(uri(""), new Properties()));
@@ -134,13 +134,13 @@ public final class RedisServer implements AutoCloseable {
         }
     }
 
-    /** The reply as text. */
+    /** Sends one command and returns the reply as text. */
     String text(Object... command) {
         Object reply = ask(command);
         return reply instanceof byte[] ? Replies.text(reply) : String.valueOf(reply);
     }
 
-    /** A number that INFO tells. */
+    /** Returns a number that INFO reports. */
     long number(String section, String field) {
         return text("INFO", section).lines().filter(it -> it.startsWith(field + ":"))
             .mapToLong(it -> Long.parseLong(it.substring(field.length() + 1).trim())).findFirst().orElseThrow();

@@ -16,7 +16,7 @@ import jentry.jcache.Renewing;
 import jentry.jcache.Temporary;
 import org.junit.jupiter.api.Test;
 
-/** Passwords, users and their rights, and TLS. */
+/** Tests passwords, users and their rights, and TLS. */
 class SecureTest extends WithRedis {
     private static String refusal(CacheManager manager) {
         return assertThrows(CacheException.class, () -> manager.createCache("test", types())).getMessage();
@@ -56,7 +56,7 @@ class SecureTest extends WithRedis {
         assertEquals(0, process.waitFor(), told);
     }
 
-    /** Puts and reads an entry by TLS, in a JVM whose trust store is that of the arguments. */
+    /** Puts and reads an entry over TLS, in a JVM whose trust store the arguments name. */
     public static void main(String[] words) {
         try (CacheManager manager = RedisServer.manager(java.net.URI.create(words[0]))) {
             Cache<Long, Long> cache = manager.createCache("test", types());

@@ -15,7 +15,7 @@ import org.junit.jupiter.api.BeforeAll;
 import org.junit.jupiter.api.Tag;
 import org.junit.jupiter.api.Timeout;
 
-/** Tests that start redis-servers of their own; skipped where there is no redis-server or no module. */
+/** The base of tests that start their own redis-servers; they are skipped without a redis-server or the module. */
 @Tag("redis")
 @Timeout(300)
 abstract class WithRedis {
@@ -37,7 +37,7 @@ abstract class WithRedis {
         }
     }
 
-    /** Something that is closed behind the test, the latest first. */
+    /** Registers an object to be closed after the test, the last one first. */
     <T extends AutoCloseable> T open(T it) {
         opened.add(0, it);
         return it;

@@ -12,10 +12,10 @@ import jentry.jcache.Team;
 import org.junit.jupiter.api.Test;
 import org.junit.jupiter.api.Timeout;
 
-/** What becomes of a leader's own call, and of the calls of the round that it sends for the next leader. */
+/** Tests the outcome of a leader's own call if the next round can't be sent, and of the calls of that round. */
 @Timeout(60)
 class LeadTest {
-    /** Tells Done to one put, and its end, once it is let go; the second round can't be written. */
+    /** A transport that replies Done to one put and ends the round once it is released; the second round can't be written. */
     private static final class OneRound implements Transport {
         final CountDownLatch written = new CountDownLatch(1), go = new CountDownLatch(1);
         private final byte[] told = StandIn.join(StandIn.frame(3), StandIn.END);

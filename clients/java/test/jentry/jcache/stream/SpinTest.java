@@ -5,7 +5,7 @@ import static org.junit.jupiter.api.Assertions.assertTrue;
 
 import org.junit.jupiter.api.Test;
 
-/** Which waits look again and again before they sleep. */
+/** Tests which waits poll before they sleep. */
 class SpinTest {
     private static void lookInVain(Spin spin) {
         while (spin.goesOn(false)) {
@@ -27,7 +27,7 @@ class SpinTest {
 
     @Test void aWaitThatFoundSomethingIsFollowedByOneThatLooks() {
         boolean followed = false;
-        // More than one try, since a wait that loses the processor meanwhile is followed by a rest.
+        // Several attempts, because a wait that loses the processor meanwhile is followed by a second without polling.
         for (int i = 0; i < 100 && !followed; i++) {
             Spin spin = new Spin();
             followed = spin.begins() && !spin.goesOn(true) && spin.begins();
