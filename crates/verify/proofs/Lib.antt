@@ -1,4 +1,4 @@
-pub mod Emitting
+pub mod ClassOfBytes
 pub mod Places
 pub mod Counting
 pub mod Named
@@ -6,9 +6,3 @@ pub mod Pushing
 pub mod Switched
 pub mod Linked
 pub mod Widths
-pub mod Extending
-pub mod AbstractStack
-pub mod Owning
-pub mod Standing
-pub mod Staying
-pub mod Offsets

@@ -1,4 +1,4 @@
--- What is known of a class that was accepted.
+-- The invariant of an accepted class.
 use Rattle.std.specs.Prelude.{ℕ, List}
 use Rattle.typecheck.specs.Typing.{Class, IsProcessOf}
 use Rattle.bounds.specs.declared.limits.Bounds.{Bounds}
@@ -11,7 +11,7 @@ use Rattle.vmcode.specs.Linking.{IsLinked, IsEntry}
 use Rattle.vmcode.specs.Numbering.{index_of}
 use Rattle.jtypes.specs.Profile.{Second}
 
--- the class was accepted by its bytes, has these bounds, and is linked so
+-- `Holds` holds if `c` is the class of accepted bytes, and these are its bounds, within the limits, and its linked code.
 pub record Holds (c : Class) (limits : Bounds) (linked : LinkedClass) : Type 0 where
   pub bytes : List ℕ
   pub accepted : IsAccepted Second bytes

@@ -29,7 +29,8 @@ use std::marker::Model;
 use verdict::judge;
 use vmcode::LinkedClass;
 
-/// A class that was accepted, with its linked code. It is seen as the class itself, which its bytes are.
+/// An accepted class, with its bounds and its linked code.
+/// Contracts see it as the class of its bytes.
 #[derive(Drop)]
 pub struct Verified {
     file: ClassFile,
@@ -57,7 +58,7 @@ impl fmt::Debug for Verified {
     }
 }
 
-/// Judges the bytes of a class, and links its instructions.
+/// Checks a class file, and links its code.
 fn judge_and_link(alloc: Global, bytes: &[u8]) -> Result<Verified, Refusal>
     ensures class { IfOk result (λ c. IsClassOf Second bytes.now c) }
     ensures accepted { IfOk result (λ _. IsAccepted Second bytes.now) }
@@ -79,13 +80,15 @@ fn judge_and_link(alloc: Global, bytes: &[u8]) -> Result<Verified, Refusal>
     })
 }
 
-/// Judges the bytes of a class (JVMS §4, §4.10.1), and links its instructions (JVMS §5.4).
+/// Verifies a class file (JVMS §4, §4.10.1), and links its code (JVMS §5.4).
+/// Returns a refusal that applies to the class file, or `Refusal::NoMemory`.
 pub fn verify(alloc: Global, bytes: &[u8]) -> Result<Verified, Refusal>
     ensures class { IfOk result (λ c. IsClassOf Second bytes.now c) }
     ensures accepted { IfOk result (λ _. IsAccepted Second bytes.now) }
     ensures refused { IfErr result (λ r. (r ≡ Refusal.NoMemory) ⊎ IsRefused Second bytes.now r) }
 
-    // What the first profile accepts isn't refused; it is the same class, within the first profile's limit of steps.
+    // A class that the first profile accepts is refused only with `Refusal::NoMemory`.
+    // It is the same class, and its bounds are within the first profile's limit of steps.
     ensures first { IsAccepted First bytes.now → IfErr result (λ r. r ≡ Refusal.NoMemory) }
     ensures first_class { (c : Class) → IsClassOf First bytes.now c → IfOk result (λ d. d ≡ c) }
     ensures first_steps { (c : Class) → IsAccepted First bytes.now → IsClassOf First bytes.now c → IfOk result HasFirstSteps }
@@ -95,7 +98,8 @@ pub fn verify(alloc: Global, bytes: &[u8]) -> Result<Verified, Refusal>
 }
 
 impl Verified {
-    /// What an invocation takes at most. Whatever the call, the class never gets stuck and ends within these.
+    /// Returns the upper bounds of an invocation: steps, words of arrays, slots, and depth of nested activations.
+    /// Each invocation ends within them, and never gets stuck.
     pub fn bounds(&self) -> Bounds
         ensures limits { IsWithinLimits Second result }
         ensures bounds { (j : ℕ) → IsProcessOf self.now j → AreBounds self.now j (bounds_in result) }
@@ -106,7 +110,7 @@ impl Verified {
         self.bounds
     }
 
-    /// Its instructions, linked.
+    /// Returns the linked code of the class.
     pub fn linked(&self) -> &LinkedClass
         ensures code { IsLinked self.now (index_of self.now) result.now }
         ensures process { IsEntry self.now (index_of self.now) result.now.process }
@@ -115,7 +119,7 @@ impl Verified {
     }
 }
 
-/// An accepted class is checked.
+/// Does nothing at run time; the contract says that an accepted class is checked, as type soundness requires.
 pub fn is_checked(class: &Verified)
     ensures { IsChecked class.now }
 {

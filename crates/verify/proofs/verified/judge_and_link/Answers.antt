@@ -3,7 +3,7 @@ use Rattle.typecheck.specs.Typing.{Class}
 use Rattle.bounds.specs.Limits.{IsWithinLimits}
 use Rattle.bounds.specs.Paths.{AreBounds}
 use Rattle.bounds.specs.Rows.{bounds_in}
-use Rattle.verify.proofs.Emitting.{the_class, is_class, laid_as, has_process}
+use Rattle.verify.proofs.ClassOfBytes.{the_class, is_class, laid_as, has_process}
 use Rattle.verify.proofs.Widths.{can_link_all}
 use Rattle.jtypes.specs.Profile.{Second}
 use Rattle.verify.proofs.verified.judge_and_link.Goals as goal
