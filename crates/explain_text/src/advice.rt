@@ -1,11 +1,11 @@
-//! What to write instead.
+//! Advice on what to write instead of refused code.
 
 use jtypes::Refusal;
 
-/// For what javac isn't known to write.
+/// The advice for code that javac is not known to generate.
 const UNSEEN: &str = "No Java source was seen to cause this: compile the class again.";
 
-/// For the layout of the file.
+/// Returns the advice for a refusal of the file layout.
 fn of_layout(refusal: Refusal) -> &'static str {
     match refusal {
         Refusal::TooLarge => {
@@ -17,7 +17,7 @@ fn of_layout(refusal: Refusal) -> &'static str {
     }
 }
 
-/// For the class, its constructor and its methods.
+/// Returns the advice for a refusal of the class, its constructor or its methods.
 fn of_shape(refusal: Refusal) -> &'static str {
     match refusal {
         Refusal::BadDescriptor => {
@@ -42,7 +42,7 @@ fn of_shape(refusal: Refusal) -> &'static str {
     }
 }
 
-/// For an instruction outside the profile, by its opcode.
+/// Returns the advice for an instruction outside the profile, by its opcode.
 fn of_opcode(opcode: u8) -> &'static str {
     match opcode {
         18 | 19 =>
@@ -71,7 +71,7 @@ fn of_opcode(opcode: u8) -> &'static str {
     }
 }
 
-/// For instructions and their types.
+/// Returns the advice for a refusal of an instruction or its types.
 fn of_code(refusal: Refusal) -> &'static str {
     match refusal {
         Refusal::BadOperand =>
@@ -92,7 +92,7 @@ fn of_code(refusal: Refusal) -> &'static str {
     }
 }
 
-/// For the class as a whole.
+/// Returns the advice for a refusal of the class as a whole.
 fn of_bounds(refusal: Refusal) -> &'static str {
     match refusal {
         Refusal::Recursive => {
@@ -110,7 +110,7 @@ fn of_bounds(refusal: Refusal) -> &'static str {
     }
 }
 
-/// One line on what to write instead of what is refused, and on what the compiler `jentry-compile` mends of it.
+/// Returns one line on what to write instead of the refused code, and on what the compiler `jentry-compile` rewrites.
 pub fn advice(refusal: Refusal) -> &'static str {
     match refusal {
         Refusal::OutsideProfile(opcode) => of_opcode(opcode),

@@ -1,11 +1,11 @@
-//! Strangers' text, so that a terminal takes no harm.
+//! Escaping of text from untrusted class files, for output on a terminal.
 
 use crate::writer::Text;
 
-/// How many bytes of a text are shown at most.
+/// The number of bytes after which a text is cut.
 const SHOWN: usize = 200;
 
-/// A unit of text: itself where it is a letter, a digit or a sign of ASCII, and else as Java writes it in ASCII alone (JLS §3.3).
+/// Writes a UTF-16 code unit: printable ASCII except the backslash unchanged, any other as a Unicode escape (JLS §3.3).
 fn put_unit(text: &mut Text, unit: u16) {
     match u8::try_from(unit) {
         Ok(byte @ (0x20..=0x5B | 0x5D..=0x7E)) => text.put_value("", char::from(byte)),
@@ -13,7 +13,7 @@ fn put_unit(text: &mut Text, unit: u16) {
     }
 }
 
-/// The unit of text at the front of bytes, and how many it takes (JVMS §4.4.7); none where they begin otherwise.
+/// Returns the code unit that the bytes begin with, and its length in bytes (JVMS §4.4.7), or none if they begin with no unit.
 fn unit_of(bytes: &[u8]) -> Option<(u16, usize)> {
     match bytes {
         [a, ..] if *a < 0x80 => Some((u16::from(*a), 1)),
@@ -28,7 +28,7 @@ fn unit_of(bytes: &[u8]) -> Option<(u16, usize)> {
     }
 }
 
-/// What stands at the front of bytes, a byte that is no text as two digits; answers how many it takes.
+/// Writes the code unit that the bytes begin with, or the first byte in hexadecimal. Returns the number of bytes consumed.
 fn put_front(text: &mut Text, bytes: &[u8]) -> usize {
     if let Some((unit, takes)) = unit_of(bytes) {
         put_unit(text, unit);
@@ -40,7 +40,7 @@ fn put_front(text: &mut Text, bytes: &[u8]) -> usize {
     1
 }
 
-/// A text of a class file. Of a long one the front is shown.
+/// Writes a text of a class file. A long text is cut and followed by `..`.
 pub fn put_text(text: &mut Text, bytes: &[u8]) {
     let shown = bytes.len().min(SHOWN);
     let mut at = 0usize;

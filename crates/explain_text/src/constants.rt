@@ -1,20 +1,20 @@
-//! Constants of the pool, by what they name.
+//! Constants of the constant pool as text.
 
 use crate::bytes::put_text;
 use crate::writer::Text;
 use constpool::{Constant, Pool};
 
-/// How a constant is written.
+/// The form of a constant as text.
 #[derive(Clone, Copy)]
 enum Shown {
     Word(&'static str),
-    /// A number, behind this word.
+    /// A number, preceded by this word.
     Number(&'static str, i64),
     Utf8(u16),
     Quoted(u16),
     /// A name and a descriptor.
     Pair(u16),
-    /// A member of a class, with this between its name and its descriptor.
+    /// A member of a class: the class, the name and descriptor, and the text between these two.
     Member(u16, u16, &'static str),
 }
 
@@ -22,12 +22,12 @@ fn put_utf8(text: &mut Text, pool: &Pool, i: u16) {
     put_text(text, pool.utf8(i).unwrap_or(&[]));
 }
 
-/// The name of a class or an array type, in its internal form.
+/// Writes the name of a class or an array type, in its internal form.
 pub fn put_class(text: &mut Text, pool: &Pool, i: u16) {
     put_text(text, pool.class(i).unwrap_or(&[]));
 }
 
-/// A name and a descriptor, with this between them.
+/// Writes a name and a descriptor, separated by `between`.
 fn put_pair(text: &mut Text, pool: &Pool, i: u16, between: &str) {
     if let Some(Constant::NameAndType(name, descriptor)) = pool.constant(i) {
         put_utf8(text, pool, *name);
@@ -36,7 +36,7 @@ fn put_pair(text: &mut Text, pool: &Pool, i: u16, between: &str) {
     }
 }
 
-/// How that is written which an index of the pool names.
+/// Returns the form of the constant at this index of the constant pool.
 fn shown_at(pool: &Pool, i: u16) -> Shown {
     let Some(constant) = pool.constant(i) else {
         return Shown::Number("#", i64::from(i));
@@ -59,7 +59,7 @@ fn shown_at(pool: &Pool, i: u16) -> Shown {
     }
 }
 
-/// What an index of the pool names.
+/// Writes the constant at this index of the constant pool.
 pub fn put_constant(text: &mut Text, pool: &Pool, i: u16) {
     match shown_at(pool, i) {
         Shown::Word(word) => text.put(word),

@@ -1,4 +1,4 @@
-//! The frame with which an instruction is checked (JVMS §4.10.1).
+//! The frame before an instruction, as the type checker sees it (JVMS §4.10.1).
 
 ghost use Rattle.std.specs.Prelude.{IfOk};
 ghost use Rattle.transfer.specs.Transfer.{IsCalleeOf};
@@ -15,7 +15,7 @@ use jtypes::{JType, RefType, Refusal};
 use std::alloc::{AllocError, Global};
 use transfer::apply;
 
-/// How many types are shown at most.
+/// The maximum number of types that are shown.
 const SHOWN: usize = 64;
 
 fn class_name(named: RefType) -> &'static str {
@@ -34,7 +34,7 @@ fn class_name(named: RefType) -> &'static str {
     }
 }
 
-/// A type by its name; a local that has none is a dash.
+/// Returns the name of a type, or a dash for a local without a type.
 fn type_name(t: JType) -> &'static str {
     match t {
         JType::Top => "-",
@@ -45,7 +45,7 @@ fn type_name(t: JType) -> &'static str {
     }
 }
 
-/// A type behind those that are shown already.
+/// Writes a type after `count` types of a list.
 fn put_next(text: &mut Text, count: usize, t: JType) {
     if count > 0 {
         text.put(", ");
@@ -53,7 +53,7 @@ fn put_next(text: &mut Text, count: usize, t: JType) {
     text.put(if count < SHOWN { type_name(t) } else { ".." });
 }
 
-/// One more than the number of the last local that has a type.
+/// Returns the number of locals up to the last one that has a type.
 fn used_locals(flow: &Flow, max: usize) -> usize {
     let mut used = 0;
     for n in 0..max {
@@ -65,7 +65,7 @@ fn used_locals(flow: &Flow, max: usize) -> usize {
     used
 }
 
-/// The locals, of which a long is one.
+/// Writes the types of the locals. A long is written once.
 fn put_locals(text: &mut Text, flow: &Flow, max: usize) {
     let mut is_second = false;
     let mut count = 0usize;
@@ -82,7 +82,7 @@ fn put_locals(text: &mut Text, flow: &Flow, max: usize) {
     }
 }
 
-/// The operands, the top last.
+/// Writes the types of the operand stack, the top last.
 fn put_operands(text: &mut Text, flow: &Flow) {
     let count = flow.stack.len();
     if count == 0 {
@@ -94,7 +94,7 @@ fn put_operands(text: &mut Text, flow: &Flow) {
     }
 }
 
-/// The start of a method with these parts; none where its descriptor isn't of the profile, or its parameters have no room.
+/// Returns the start of a method, or none if its descriptor isn't of the profile, or its parameters don't fit its locals.
 fn start_of(
     alloc: Global,
     class: &ClassFile,
@@ -115,7 +115,7 @@ fn start_of(
     }))
 }
 
-/// What an instruction calls, if it is a call.
+/// Returns the callee of an instruction if it is a call.
 fn callee_of(
     alloc: Global,
     view: &MemberView<'_>,
@@ -129,7 +129,7 @@ fn callee_of(
     }
 }
 
-/// The frames that a method's tables declare, and its first.
+/// Returns the first frame of a method, and the frames that its `StackMapTable` declares.
 fn frames_of(
     alloc: Global,
     class: &ClassFile,
@@ -142,17 +142,17 @@ fn frames_of(
     read_frames(alloc, start, &tables, code, &class.view())
 }
 
-/// Makes the flow what is declared, if it is declared for this place; answers whether it is.
+/// Replaces the flow by the declared frame if that is declared for this pc. Returns whether it is.
 fn enter(
     alloc: Global,
     flow: &mut Flow,
     declared: Option<&Declared>,
-    place: usize,
+    pc: usize,
 ) -> Result<bool, AllocError> {
     let Some(d) = declared else {
         return Ok(false);
     };
-    if d.place != place || d.row >= flow.locals.kept_len() {
+    if d.place != pc || d.row >= flow.locals.kept_len() {
         return Ok(false);
     }
     flow.stack = d.stack.copy(alloc)?;
@@ -160,7 +160,7 @@ fn enter(
     Ok(true)
 }
 
-/// Makes the flow into an instruction that out of it; false where none leads on.
+/// Replaces the flow before an instruction by the flow after it. Returns false if the instruction does not type check.
 fn step(
     alloc: Global,
     start: &MethodStart,
@@ -178,14 +178,14 @@ fn step(
     )
 }
 
-/// Makes a method's first flow that into the instruction at a place; false where none leads there.
+/// Advances the first flow of a method to the instruction at a pc. Returns false if no flow reaches it.
 fn advance(
     alloc: Global,
     class: &ClassFile,
     start: &MethodStart,
     code: &[Placed],
     frames: &mut Frames,
-    place: usize,
+    pc: usize,
 ) -> Result<bool, AllocError> {
     let members = MemberView::new(alloc, class)?;
     let mut next = 0usize;
@@ -193,7 +193,7 @@ fn advance(
         if enter(alloc, &mut frames.first, frames.declared.get(next), p.place)? {
             next = next.saturating_add(1);
         }
-        if p.place == place {
+        if p.place == pc {
             return Ok(true);
         }
         if !step(alloc, start, &members, &p.instruction, &mut frames.first)? {
@@ -203,7 +203,7 @@ fn advance(
     Ok(false)
 }
 
-/// Two lines: the locals and the operands of a flow.
+/// Writes two lines: the locals and the operands of a flow.
 fn put_flow(text: &mut Text, flow: &Flow, max_locals: u16) {
     text.put("locals ");
     put_locals(text, flow, usize::from(max_locals));
@@ -212,37 +212,37 @@ fn put_flow(text: &mut Text, flow: &Flow, max_locals: u16) {
     text.put("\n");
 }
 
-/// The lines of the flow into the instruction at a place of a method with this start, where one leads there.
+/// Writes the lines of the flow before the instruction at a pc if a flow reaches it.
 fn put_flow_at(
     alloc: Global,
     text: &mut Text,
     class: &ClassFile,
     parts: &CodeParts,
     start: &MethodStart,
-    place: usize,
+    pc: usize,
 ) {
-    let Some(code) = text.accepted(decode(alloc, parts.code.as_slice(), &class.pool)) else {
+    let Some(code) = text.accepted_value(decode(alloc, parts.code.as_slice(), &class.pool)) else {
         return;
     };
-    let Some(mut frames) = text.accepted(frames_of(alloc, class, parts, start, &code)) else {
+    let Some(mut frames) = text.accepted_value(frames_of(alloc, class, parts, start, &code)) else {
         return;
     };
-    let leads = advance(alloc, class, start, code.as_slice(), &mut frames, place);
-    if let Some(true) = text.known(leads) {
+    let leads = advance(alloc, class, start, code.as_slice(), &mut frames, pc);
+    if let Some(true) = text.value_of(leads) {
         put_flow(text, &frames.first, parts.max_locals);
     }
 }
 
-/// Two lines: the locals and the operands before the instruction at a place, where a flow leads there.
+/// Writes two lines, the locals and the operands before the instruction at a pc, if a flow reaches it.
 pub fn put_frame(
     alloc: Global,
     text: &mut Text,
     class: &ClassFile,
     number: usize,
     parts: &CodeParts,
-    place: usize,
+    pc: usize,
 ) {
-    if let Some(Some(start)) = text.known(start_of(alloc, class, number, parts)) {
-        put_flow_at(alloc, text, class, parts, &start, place);
+    if let Some(Some(start)) = text.value_of(start_of(alloc, class, number, parts)) {
+        put_flow_at(alloc, text, class, parts, &start, pc);
     }
 }

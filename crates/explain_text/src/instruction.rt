@@ -1,4 +1,4 @@
-//! An instruction by its name and its operands (JVMS §6.5).
+//! An instruction as text: its mnemonic and its operands (JVMS §6.5).
 
 use crate::constants::put_constant;
 use crate::mnemonics::mnemonic;
@@ -7,16 +7,16 @@ use crate::writer::Text;
 use constpool::Pool;
 use jtypes::Cursor;
 
-/// What a byte behind an opcode is.
+/// The meaning of an operand of one byte.
 #[derive(Clone, Copy)]
 enum OfByte {
     Number,
-    /// The number of a local, or of dimensions.
+    /// The index of a local, or the number of dimensions.
     Count,
     Constant,
 }
 
-/// What two bytes behind an opcode are.
+/// The meaning of an operand of two bytes.
 #[derive(Clone, Copy)]
 enum OfShort {
     Number,
@@ -25,7 +25,7 @@ enum OfShort {
     Offset,
 }
 
-/// What follows an opcode.
+/// The operands of an opcode.
 #[derive(Clone, Copy)]
 enum Operands {
     Nothing,
@@ -57,7 +57,7 @@ fn operands_of(opcode: u8) -> Operands {
     }
 }
 
-/// The name of an array's element type by its code (JVMS §6.5, `newarray`).
+/// Returns the name of an array's element type by its code (JVMS §6.5, `newarray`).
 fn element_name(code: u8) -> &'static str {
     match code {
         4 => "boolean",
@@ -77,12 +77,12 @@ fn put_named(text: &mut Text, pool: &Pool, i: u16) {
     put_constant(text, pool, i);
 }
 
-/// The place that a branch leads to.
-fn put_target(text: &mut Text, place: usize, offset: i32) {
-    text.put_value(" ", target_of(place, offset));
+/// Writes the pc of a branch target.
+fn put_target(text: &mut Text, pc: usize, offset: i32) {
+    text.put_value(" ", target_of(pc, offset));
 }
 
-/// The type of a new array's elements; false where it is cut off.
+/// Writes the element type of a new array. Returns false if it is cut off.
 fn put_element(text: &mut Text, cursor: &mut Cursor<'_>) -> bool {
     text.put(" ");
     let Ok(code) = cursor.u8() else {
@@ -92,7 +92,7 @@ fn put_element(text: &mut Text, cursor: &mut Cursor<'_>) -> bool {
     true
 }
 
-/// An operand of one byte; false where it is cut off.
+/// Writes an operand of one byte. Returns false if it is cut off.
 fn put_byte(text: &mut Text, pool: &Pool, of: OfByte, cursor: &mut Cursor<'_>) -> bool {
     let Ok(byte) = cursor.u8() else {
         return false;
@@ -105,11 +105,11 @@ fn put_byte(text: &mut Text, pool: &Pool, of: OfByte, cursor: &mut Cursor<'_>) -
     true
 }
 
-/// An operand of two bytes; false where it is cut off.
+/// Writes an operand of two bytes. Returns false if it is cut off.
 fn put_short(
     text: &mut Text,
     pool: &Pool,
-    place: usize,
+    pc: usize,
     of: OfShort,
     cursor: &mut Cursor<'_>,
 ) -> bool {
@@ -120,55 +120,55 @@ fn put_short(
         OfShort::Number => text.put_value(" ", short.cast_signed()),
         OfShort::Local => text.put_value(" ", short),
         OfShort::Constant => put_named(text, pool, short),
-        OfShort::Offset => put_target(text, place, i32::from(short.cast_signed())),
+        OfShort::Offset => put_target(text, pc, i32::from(short.cast_signed())),
     }
     true
 }
 
-/// The place that a branch of four bytes leads to; false where it is cut off.
-fn put_wide_target(text: &mut Text, place: usize, cursor: &mut Cursor<'_>) -> bool {
+/// Writes the target of a branch with an offset of four bytes. Returns false if it is cut off.
+fn put_wide_target(text: &mut Text, pc: usize, cursor: &mut Cursor<'_>) -> bool {
     let Ok(offset) = cursor.u32() else {
         return false;
     };
-    put_target(text, place, offset.cast_signed());
+    put_target(text, pc, offset.cast_signed());
     true
 }
 
-/// What follows `wide`: an opcode, a local, and for `iinc` a number; false where it is cut off.
-fn put_widened(text: &mut Text, pool: &Pool, place: usize, cursor: &mut Cursor<'_>) -> bool {
+/// Writes the operands of `wide`: an opcode, a local, and for `iinc` a number. Returns false if they are cut off.
+fn put_widened(text: &mut Text, pool: &Pool, pc: usize, cursor: &mut Cursor<'_>) -> bool {
     let Ok(opcode) = cursor.u8() else {
         return false;
     };
     text.put(" ");
     put_mnemonic(text, opcode);
-    put_short(text, pool, place, OfShort::Local, cursor)
-        && (opcode != 0x84 || put_short(text, pool, place, OfShort::Number, cursor))
+    put_short(text, pool, pc, OfShort::Local, cursor)
+        && (opcode != 0x84 || put_short(text, pool, pc, OfShort::Number, cursor))
 }
 
-/// The operands of the opcode at a place; false where they are cut off.
+/// Writes the operands of the opcode at a pc. Returns false if they are cut off.
 fn put_operands(
     text: &mut Text,
     pool: &Pool,
-    place: usize,
+    pc: usize,
     opcode: u8,
     cursor: &mut Cursor<'_>,
 ) -> bool {
     match operands_of(opcode) {
         Operands::Nothing => true,
         Operands::Byte(of) => put_byte(text, pool, of, cursor),
-        Operands::Short(of) => put_short(text, pool, place, of, cursor),
-        Operands::WideBranch => put_wide_target(text, place, cursor),
+        Operands::Short(of) => put_short(text, pool, pc, of, cursor),
+        Operands::WideBranch => put_wide_target(text, pc, cursor),
         Operands::Increment => {
             put_byte(text, pool, OfByte::Count, cursor)
                 && put_byte(text, pool, OfByte::Number, cursor)
         }
         Operands::ArrayType => put_element(text, cursor),
         Operands::Dimensions => {
-            put_short(text, pool, place, OfShort::Constant, cursor)
+            put_short(text, pool, pc, OfShort::Constant, cursor)
                 && put_byte(text, pool, OfByte::Count, cursor)
         }
-        Operands::Switch => put_switch(text, opcode, place, cursor),
-        Operands::Widened => put_widened(text, pool, place, cursor),
+        Operands::Switch => put_switch(text, opcode, pc, cursor),
+        Operands::Widened => put_widened(text, pool, pc, cursor),
     }
 }
 
@@ -179,11 +179,11 @@ fn put_mnemonic(text: &mut Text, opcode: u8) {
     }
 }
 
-/// The instruction at a place of a code. Where its operands are cut off, it ends there.
-pub fn put_instruction(text: &mut Text, pool: &Pool, code: &[u8], place: usize) {
-    if let Some(opcode) = code.get(place) {
+/// Writes the instruction at a pc, up to the operand that is cut off if there is one.
+pub fn put_instruction(text: &mut Text, pool: &Pool, code: &[u8], pc: usize) {
+    if let Some(opcode) = code.get(pc) {
         put_mnemonic(text, *opcode);
-        let mut cursor = Cursor::new(&code[place + 1..]);
-        let _ = put_operands(text, pool, place, *opcode, &mut cursor);
+        let mut cursor = Cursor::new(&code[pc + 1..]);
+        let _ = put_operands(text, pool, pc, *opcode, &mut cursor);
     }
 }

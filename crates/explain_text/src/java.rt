@@ -1,4 +1,4 @@
-//! Types and methods as Java's source has them.
+//! Types and methods in the syntax of Java source.
 
 use crate::bytes::put_text;
 use crate::writer::Text;
@@ -8,11 +8,11 @@ use constpool::{names, same_bytes};
 /// ACC_VARARGS (JVMS §4.6).
 const VARARGS: u16 = 0x0080;
 
-/// How many parameters are shown at most.
+/// The maximum number of parameters that are shown.
 const SHOWN: u32 = 64;
 
-/// What stands behind the last of these bytes in a name; the whole name where none does.
-fn behind_last(name: &[u8], byte: u8) -> &[u8] {
+/// Returns the bytes after the last occurrence of `byte`, or the whole name without one.
+fn after_last(name: &[u8], byte: u8) -> &[u8] {
     let mut rest = name;
     for (at, b) in name.iter().enumerate() {
         if *b == byte {
@@ -22,8 +22,8 @@ fn behind_last(name: &[u8], byte: u8) -> &[u8] {
     rest
 }
 
-/// What stands before the first of these bytes, and what stands behind it; none where there is none.
-fn parted(bytes: &[u8], byte: u8) -> Option<(&[u8], &[u8])> {
+/// Returns the bytes before and after the first occurrence of `byte`, or none without one.
+fn split_at_first(bytes: &[u8], byte: u8) -> Option<(&[u8], &[u8])> {
     for (at, b) in bytes.iter().enumerate() {
         if *b == byte {
             return Some((&bytes[..at], &bytes[at + 1..]));
@@ -32,15 +32,15 @@ fn parted(bytes: &[u8], byte: u8) -> Option<(&[u8], &[u8])> {
     None
 }
 
-/// The simple name of a class, with those of the classes around it.
+/// Writes the simple name of a class, after those of its enclosing classes.
 pub fn put_simple(text: &mut Text, name: &[u8]) {
-    let mut rest = behind_last(name, b'/');
+    let mut rest = after_last(name, b'/');
     for _ in 0..name.len() {
-        match parted(rest, b'$') {
-            Some((front, behind)) if !front.is_empty() && !behind.is_empty() => {
+        match split_at_first(rest, b'$') {
+            Some((front, back)) if !front.is_empty() && !back.is_empty() => {
                 put_text(text, front);
                 text.put(".");
-                rest = behind;
+                rest = back;
             }
             _ => break,
         }
@@ -63,19 +63,19 @@ fn primitive(tag: u8) -> Option<&'static str> {
     }
 }
 
-/// A type that is no array at the front of a descriptor, and what stands behind it; none where the bytes begin otherwise.
+/// Writes the type that a descriptor begins with, not an array type, and returns the rest. Returns none if it begins with no such type.
 fn put_element<'a>(text: &mut Text, bytes: &'a [u8]) -> Option<&'a [u8]> {
-    let [tag, behind @ ..] = bytes else {
+    let [tag, rest @ ..] = bytes else {
         return None;
     };
     if let Some(name) = primitive(*tag) {
         text.put(name);
-        return Some(behind);
+        return Some(rest);
     }
     if *tag != b'L' {
         return None;
     }
-    match parted(behind, b';') {
+    match split_at_first(rest, b';') {
         Some((name, rest)) => {
             put_simple(text, name);
             Some(rest)
@@ -84,7 +84,7 @@ fn put_element<'a>(text: &mut Text, bytes: &'a [u8]) -> Option<&'a [u8]> {
     }
 }
 
-/// How many bytes of `[` stand in front, and what stands behind them.
+/// Returns the number of leading `[` bytes, and the bytes after them.
 fn dimensions(bytes: &[u8]) -> (usize, &[u8]) {
     for (at, b) in bytes.iter().enumerate() {
         if *b != b'[' {
@@ -94,10 +94,10 @@ fn dimensions(bytes: &[u8]) -> (usize, &[u8]) {
     (bytes.len(), &[])
 }
 
-/// A type at the front of a descriptor (JVMS §4.3.2), and what stands behind it. The last brackets are dots where `dots` says so.
+/// Writes the type that a descriptor begins with (JVMS §4.3.2), and returns the rest. With `dots` the last brackets are dots.
 fn put_type<'a>(text: &mut Text, bytes: &'a [u8], dots: bool) -> Option<&'a [u8]> {
     let (count, element) = dimensions(bytes);
-    let Some(behind) = put_element(text, element) else {
+    let Some(rest) = put_element(text, element) else {
         return None;
     };
     for _ in 1..count {
@@ -106,19 +106,19 @@ fn put_type<'a>(text: &mut Text, bytes: &'a [u8], dots: bool) -> Option<&'a [u8]
     if count > 0 {
         text.put(if dots { "..." } else { "[]" });
     }
-    Some(behind)
+    Some(rest)
 }
 
-/// Whether what stands behind the first type of these is the end of the parameters.
+/// Returns whether the first type of these parameters is the last one.
 fn is_last(bytes: &[u8]) -> bool {
     match dimensions(bytes).1 {
-        [b'L', name @ ..] => matches!(parted(name, b';'), Some((_, [b')', ..]))),
+        [b'L', name @ ..] => matches!(split_at_first(name, b';'), Some((_, [b')', ..]))),
         [_, b')', ..] => true,
         _ => false,
     }
 }
 
-/// A parameter behind so many others, and what stands behind it; none where the bytes begin otherwise.
+/// Writes a parameter after `others` parameters, and returns the rest. Returns none if the bytes begin with no type.
 fn put_parameter<'a>(
     text: &mut Text,
     bytes: &'a [u8],
@@ -131,7 +131,7 @@ fn put_parameter<'a>(
     put_type(text, bytes, has_dots && is_last(bytes))
 }
 
-/// The parameters of a method's descriptor behind their opening parenthesis; false where it is none.
+/// Writes the parameters of a method descriptor after its opening parenthesis. Returns false if they are malformed.
 fn put_list(text: &mut Text, bytes: &[u8], has_dots: bool) -> bool {
     let mut rest = bytes;
     for count in 0..SHOWN {
@@ -148,26 +148,26 @@ fn put_list(text: &mut Text, bytes: &[u8], has_dots: bool) -> bool {
     true
 }
 
-/// The parameters of a method's descriptor (JVMS §4.3.3), in their parentheses; false where it is none.
+/// Writes the parameters of a method descriptor (JVMS §4.3.3), in parentheses. Returns false if they are malformed.
 fn put_parameters(text: &mut Text, descriptor: &[u8], has_dots: bool) -> bool {
     match descriptor {
-        [b'(', behind @ ..] => {
+        [b'(', rest @ ..] => {
             text.put("(");
-            put_list(text, behind, has_dots)
+            put_list(text, rest, has_dots)
         }
         _ => false,
     }
 }
 
-/// The result of a method's descriptor, and a space.
+/// Writes the return type of a method descriptor, and a space.
 fn put_result(text: &mut Text, descriptor: &[u8]) {
-    let result = behind_last(descriptor, b')');
+    let result = after_last(descriptor, b')');
     if result.len() < descriptor.len() && put_type(text, result, false).is_some() {
         text.put(" ");
     }
 }
 
-/// A method's result and its name, and of a constructor the name of its class.
+/// Writes the return type and the name of a method, or for a constructor the name of its class.
 fn put_head(text: &mut Text, class: &ClassFile, name: &[u8], descriptor: &[u8]) {
     if same_bytes(name, names::INIT) {
         put_simple(text, class.view().name());
@@ -177,7 +177,7 @@ fn put_head(text: &mut Text, class: &ClassFile, name: &[u8], descriptor: &[u8]) 
     }
 }
 
-/// A method's result, its name and its parameters. A descriptor that is none is shown as it is.
+/// Writes the return type, the name and the parameters of a method. Malformed parameters are replaced by the descriptor.
 pub fn put_method(text: &mut Text, class: &ClassFile, method: &Member) {
     let name = class.method_name(method);
     if same_bytes(name, names::CLINIT) {

@@ -1,4 +1,4 @@
-//! What is told of a class, as text for the author of a processor.
+//! Explanations of verdicts as text, for the authors of entry processors.
 #![tactic(auto)]
 
 mod advice;
@@ -8,9 +8,9 @@ mod frame;
 mod instruction;
 mod java;
 mod lines;
+mod locations;
 mod mnemonics;
 mod page;
-mod spots;
 mod switches;
 mod table;
 mod text;

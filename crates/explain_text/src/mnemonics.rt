@@ -1,6 +1,6 @@
-//! The names of instructions (JVMS §6.5, §7).
+//! The mnemonics of instructions (JVMS §6.5, §7).
 
-/// By their opcodes, from 0 on.
+/// The mnemonics by opcode, from 0.
 const MNEMONICS: [&str; 202] = [
     "nop",
     "aconst_null",
@@ -206,7 +206,7 @@ const MNEMONICS: [&str; 202] = [
     "jsr_w",
 ];
 
-/// The name of the instruction with an opcode; none for CA to FF.
+/// Returns the mnemonic of an opcode, or none for 0xCA to 0xFF.
 pub fn mnemonic(opcode: u8) -> Option<&'static str> {
     MNEMONICS.get(usize::from(opcode)).copied()
 }

@@ -1,23 +1,23 @@
-//! Switches by their keys and where these lead (JVMS §6.5, `tableswitch` and `lookupswitch`).
+//! Switches as text: keys and branch targets (JVMS §6.5, `tableswitch` and `lookupswitch`).
 
 use crate::writer::Text;
 use jtypes::Cursor;
 
-/// How many cases are shown at most.
+/// The maximum number of cases that are shown.
 const SHOWN: u8 = 4;
 
-/// What stands before the cases of a switch.
+/// The operands of a switch before its cases.
 #[derive(Clone, Copy)]
 struct Head {
     default: i32,
-    /// The first key of `tableswitch`, whose keys rise by one.
+    /// The first key of a `tableswitch`, whose keys are consecutive.
     low: Option<i32>,
     count: i64,
 }
 
-/// The place that lies so far from an instruction.
-pub fn target_of(place: usize, offset: i32) -> i128 {
-    place as i128 + i128::from(offset)
+/// Returns the branch target at this offset from the pc of an instruction.
+pub fn target_of(pc: usize, offset: i32) -> i128 {
+    pc as i128 + i128::from(offset)
 }
 
 fn read_number(cursor: &mut Cursor<'_>) -> Option<i32> {
@@ -27,15 +27,15 @@ fn read_number(cursor: &mut Cursor<'_>) -> Option<i32> {
     }
 }
 
-/// The bytes between the opcode at a place and the next place that is a multiple of four, and the offset of the default.
-fn read_default(place: usize, cursor: &mut Cursor<'_>) -> Option<i32> {
-    match cursor.part(3 - place % 4) {
+/// Skips the padding after the opcode at a pc, up to a multiple of four, and returns the offset of the default.
+fn read_default(pc: usize, cursor: &mut Cursor<'_>) -> Option<i32> {
+    match cursor.part(3 - pc % 4) {
         Ok(_) => read_number(cursor),
         Err(_) => None,
     }
 }
 
-/// The head of a `tableswitch` with this default. There are no cases, or fewer, where the last key is less than the first.
+/// Reads the head of a `tableswitch` with this default. The count is 0 or negative if the last key is less than the first.
 fn read_keys(default: i32, cursor: &mut Cursor<'_>) -> Option<Head> {
     match (read_number(cursor), read_number(cursor)) {
         (Some(low), Some(high)) => Some(Head {
@@ -47,7 +47,7 @@ fn read_keys(default: i32, cursor: &mut Cursor<'_>) -> Option<Head> {
     }
 }
 
-/// The head of a `lookupswitch` with this default.
+/// Reads the head of a `lookupswitch` with this default.
 fn read_count(default: i32, cursor: &mut Cursor<'_>) -> Option<Head> {
     match read_number(cursor) {
         Some(count) => Some(Head {
@@ -59,16 +59,16 @@ fn read_count(default: i32, cursor: &mut Cursor<'_>) -> Option<Head> {
     }
 }
 
-/// The head of the switch with this opcode at a place.
-fn read_head(opcode: u8, place: usize, cursor: &mut Cursor<'_>) -> Option<Head> {
-    match read_default(place, cursor) {
+/// Reads the head of the switch with this opcode at a pc.
+fn read_head(opcode: u8, pc: usize, cursor: &mut Cursor<'_>) -> Option<Head> {
+    match read_default(pc, cursor) {
         Some(default) if opcode == 0xAA => read_keys(default, cursor),
         Some(default) => read_count(default, cursor),
         None => None,
     }
 }
 
-/// The key of the case with a number.
+/// Returns the key of the case with index `i`.
 fn read_key(head: Head, i: u8, cursor: &mut Cursor<'_>) -> Option<i64> {
     if let Some(low) = head.low {
         return Some(i64::from(low) + i64::from(i));
@@ -79,12 +79,12 @@ fn read_key(head: Head, i: u8, cursor: &mut Cursor<'_>) -> Option<i64> {
     }
 }
 
-/// The case with a number; false where it is cut off.
-fn put_case(text: &mut Text, place: usize, head: Head, i: u8, cursor: &mut Cursor<'_>) -> bool {
+/// Writes the case with index `i`. Returns false if it is cut off.
+fn put_case(text: &mut Text, pc: usize, head: Head, i: u8, cursor: &mut Cursor<'_>) -> bool {
     match (read_key(head, i, cursor), read_number(cursor)) {
         (Some(key), Some(offset)) => {
             text.put_value(" ", key);
-            text.put_value(" -> ", target_of(place, offset));
+            text.put_value(" -> ", target_of(pc, offset));
             text.put(",");
             true
         }
@@ -92,35 +92,35 @@ fn put_case(text: &mut Text, place: usize, head: Head, i: u8, cursor: &mut Curso
     }
 }
 
-/// The first cases of a switch; false where they are cut off.
-fn put_cases(text: &mut Text, place: usize, head: Head, cursor: &mut Cursor<'_>) -> bool {
+/// Writes the first cases of a switch. Returns false if they are cut off.
+fn put_cases(text: &mut Text, pc: usize, head: Head, cursor: &mut Cursor<'_>) -> bool {
     for i in 0..SHOWN {
-        if i64::from(i) < head.count && !put_case(text, place, head, i, cursor) {
+        if i64::from(i) < head.count && !put_case(text, pc, head, i, cursor) {
             return false;
         }
     }
     true
 }
 
-/// How many cases a switch has.
+/// Writes the number of cases of a switch.
 fn put_count(text: &mut Text, count: i64) {
     text.put_value(" of ", count);
     text.put(if count == 1 { " case:" } else { " cases:" });
 }
 
-/// The operands of the switch with this opcode at a place: how many cases, the first of them, and the default; false where they are
-/// cut off.
-pub fn put_switch(text: &mut Text, opcode: u8, place: usize, cursor: &mut Cursor<'_>) -> bool {
-    let Some(head) = read_head(opcode, place, cursor) else {
+/// Writes the operands of the switch with this opcode at a pc: the number of cases, the first cases and the default.
+/// Returns false if they are cut off.
+pub fn put_switch(text: &mut Text, opcode: u8, pc: usize, cursor: &mut Cursor<'_>) -> bool {
+    let Some(head) = read_head(opcode, pc, cursor) else {
         return false;
     };
     put_count(text, head.count);
-    if !put_cases(text, place, head, cursor) {
+    if !put_cases(text, pc, head, cursor) {
         return false;
     }
     if head.count > i64::from(SHOWN) {
         text.put(" ..,");
     }
-    text.put_value(" default -> ", target_of(place, head.default));
+    text.put_value(" default -> ", target_of(pc, head.default));
     true
 }

@@ -1,59 +1,59 @@
-//! A text that is written piece by piece.
+//! A text buffer that records failed allocations.
 
 use jtypes::Refusal;
 use std::alloc::{AllocError, Global};
 use std::fmt::Display;
 
-/// A text that is written piece by piece. Once there is no memory for a piece, it takes no more, and `finish` answers the error.
+/// A text that is written piece by piece. After a failed allocation it drops all pieces, and `finish` returns the error.
 #[derive(Drop)]
 pub struct Text {
     content: String,
-    /// Whether memory was lacking for a piece, or for what was read to be written.
-    is_lacking: bool,
+    /// Whether an allocation failed, for a piece or for a value to be written.
+    is_out_of_memory: bool,
 }
 
 impl Text {
     pub fn new(alloc: Global) -> Text {
         Text {
             content: String::new(alloc),
-            is_lacking: false,
+            is_out_of_memory: false,
         }
     }
 
     pub fn put(&mut self, piece: &str) {
-        self.is_lacking = self.is_lacking || self.content.push_str(piece).is_err();
+        self.is_out_of_memory = self.is_out_of_memory || self.content.push_str(piece).is_err();
     }
 
-    /// A value, as it is displayed, behind this piece.
+    /// Appends `before` and the displayed value.
     pub fn put_value<D: Display + Drop>(&mut self, before: &str, value: D) {
         self.put(before);
-        self.is_lacking = self.is_lacking || write!(self.content, "{value}").is_err();
+        self.is_out_of_memory = self.is_out_of_memory || write!(self.content, "{value}").is_err();
     }
 
-    /// What was read. Without memory for it there is none, and `finish` answers the error.
-    pub fn known<T>(&mut self, read: Result<T, AllocError>) -> Option<T> {
+    /// Returns the value that was read. If out of memory it returns none, and `finish` returns the error.
+    pub fn value_of<T>(&mut self, read: Result<T, AllocError>) -> Option<T> {
         match read {
             Ok(it) => Some(it),
             Err(AllocError) => {
-                self.is_lacking = true;
+                self.is_out_of_memory = true;
                 None
             }
         }
     }
 
-    /// What was read; none where it is refused. Without memory for it there is none either, and `finish` answers the error.
-    pub fn accepted<T>(&mut self, read: Result<T, Refusal>) -> Option<T> {
+    /// Returns the value that was read, or none if it is refused. If out of memory it returns none, and `finish` returns the error.
+    pub fn accepted_value<T>(&mut self, read: Result<T, Refusal>) -> Option<T> {
         match read {
             Ok(it) => Some(it),
             Err(refusal) => {
-                self.is_lacking = self.is_lacking || refusal == Refusal::NoMemory;
+                self.is_out_of_memory = self.is_out_of_memory || refusal == Refusal::NoMemory;
                 None
             }
         }
     }
 
     pub fn finish(self) -> Result<String, AllocError> {
-        if self.is_lacking {
+        if self.is_out_of_memory {
             Err(AllocError)
         } else {
             Ok(self.content)

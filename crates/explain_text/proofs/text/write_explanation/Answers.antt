@@ -5,12 +5,12 @@ use Rattle.std.proofs.lemmas.List.{take_all, drop_all}
 use Rattle.explain_text.specs.Texts.{of_text}
 use Rattle.explain_text.proofs.text.write_explanation.Goals as goal
 
--- the front of a text that there is room for, by the count that is copied: the text's length or the room's, whichever is less
+-- The first `count` bytes of a text are its first `room` bytes if `count` is the lesser of its length and `room`.
 same_front : (text : List ℕ) (room count : ℕ) → (length text < room → count ≡ length text) → (room ≤ length text → count ≡ room) → (length text < room) ⊎ (room ≤ length text) → take count text ≡ take room text
 same_front text room count few many (inl h) = let is = few h in take_all count text (omega (arith, is)) ∙ sym (take_all room text (omega (arith, h)))
 same_front text room count few many (inr h) = ap (λ n. take n text) (many h)
 
--- what is left behind it
+-- The bytes after the first `count` are those after the first `size` if `count` is the lesser of the length and `size`.
 same_back : (before : List ℕ) (size count : ℕ) → (size < length before → count ≡ size) → (length before ≤ size → count ≡ length before) → (size < length before) ⊎ (length before ≤ size) → drop count before ≡ drop size before
 same_back before size count few many (inl h) = ap (λ n. drop n before) (few h)
 same_back before size count few many (inr h) = let is = many h in drop_all count before (omega (arith, is)) ∙ sym (drop_all size before h)

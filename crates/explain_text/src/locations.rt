@@ -1,4 +1,4 @@
-//! Which place of a method is shown.
+//! The pc that is shown for a refusal in a method.
 
 use crate::table::{BadEntry, bad_entry};
 use classfile::{Attribute, ClassFile, CodeParts, Member, contents_named, parts_of_code};
@@ -7,29 +7,29 @@ use jtypes::{Cursor, Refusal};
 use std::alloc::{AllocError, Global};
 use verdict::{Located, Spot};
 
-/// A place of a code, and whether it is an instruction that is refused there; else it stands for the method.
+/// A pc, and whether its instruction is refused. If not, the pc only gives the source line of the method.
 #[derive(Clone, Copy)]
 pub struct Shown {
-    pub place: usize,
+    pub pc: usize,
     pub is_instruction: bool,
 }
 
-/// A place that stands for its method.
-fn of_method(place: usize) -> Shown {
+/// Returns a pc that only gives the source line of its method.
+fn of_method(pc: usize) -> Shown {
     Shown {
-        place,
+        pc,
         is_instruction: false,
     }
 }
 
-fn of_instruction(place: usize) -> Shown {
+fn of_instruction(pc: usize) -> Shown {
     Shown {
-        place,
+        pc,
         is_instruction: true,
     }
 }
 
-/// The content of the first of these attributes with a name.
+/// Returns the content of the first of these attributes with this name.
 fn first_named<'a>(
     alloc: Global,
     class: &ClassFile,
@@ -40,7 +40,7 @@ fn first_named<'a>(
     Ok(contents.first().copied())
 }
 
-/// The content of a method's first Code, where it has one.
+/// Returns the content of the first `Code` attribute of a method if it has one.
 fn code_content<'a>(
     alloc: Global,
     class: &ClassFile,
@@ -49,7 +49,7 @@ fn code_content<'a>(
     first_named(alloc, class, names::CODE, method.attributes.as_slice())
 }
 
-/// The parts of a method's first Code, where it has one.
+/// Returns the parts of the first `Code` attribute of a method if it has one.
 pub fn code_of(
     alloc: Global,
     class: &ClassFile,
@@ -61,7 +61,7 @@ pub fn code_of(
     }
 }
 
-/// Whether an index names Object's constructor.
+/// Returns whether an index of the constant pool is the constructor of `Object`.
 fn is_object_init(class: &ClassFile, i: u16) -> bool {
     match class.pool.method(i) {
         Some(member) => {
@@ -75,8 +75,8 @@ fn index_of(high: u8, low: u8) -> u16 {
     u16::from(high) * 256 + u16::from(low)
 }
 
-/// The first place at which a constructor's code departs from a load of `this`, a call of Object's constructor, and a return.
-fn departure(class: &ClassFile, code: &[u8]) -> Shown {
+/// Returns the first pc where a constructor differs from a load of `this`, a call of the constructor of `Object`, and a return.
+fn constructor_difference(class: &ClassFile, code: &[u8]) -> Shown {
     match code {
         [0x2A, 0xB7, high, low, rest @ ..] if is_object_init(class, index_of(*high, *low)) => {
             match rest {
@@ -89,7 +89,7 @@ fn departure(class: &ClassFile, code: &[u8]) -> Shown {
     }
 }
 
-/// An exception table behind its count of entries (JVMS §4.7.3).
+/// Returns a cursor at the entries of the exception table of a `Code` attribute (JVMS §4.7.3).
 fn exception_table(content: &[u8]) -> Option<Cursor<'_>> {
     let mut cursor = Cursor::new(content);
     let (Ok(_), Ok(length)) = (cursor.part(4), cursor.u32()) else {
@@ -101,7 +101,7 @@ fn exception_table(content: &[u8]) -> Option<Cursor<'_>> {
     }
 }
 
-/// The start and the handler of the first entry of an exception table.
+/// Returns the start pc and the handler pc of the first entry of an exception table.
 fn first_handler(content: &[u8]) -> Option<(usize, usize)> {
     let mut cursor = exception_table(content)?;
     match (cursor.u16(), cursor.u16(), cursor.u16()) {
@@ -110,8 +110,8 @@ fn first_handler(content: &[u8]) -> Option<(usize, usize)> {
     }
 }
 
-/// The place that stands for an exception table: where a monitor is entered before the first entry, there, and else its handler.
-fn guarded(content: &[u8], code: &[u8]) -> Shown {
+/// Returns the pc for an exception table: of the `monitorenter` right before the first entry, or of that entry's handler.
+fn handler_location(content: &[u8], code: &[u8]) -> Shown {
     match first_handler(content) {
         Some((start, _)) if start > 0 && code.get(start - 1) == Some(&0xC2) => {
             of_method(start - 1)
@@ -121,19 +121,19 @@ fn guarded(content: &[u8], code: &[u8]) -> Shown {
     }
 }
 
-fn guarded_of(
+fn handler_location_of(
     alloc: Global,
     class: &ClassFile,
     method: &Member,
     parts: &CodeParts,
 ) -> Result<Shown, AllocError> {
     match code_content(alloc, class, method)? {
-        Some(content) => Ok(guarded(content, parts.code.as_slice())),
+        Some(content) => Ok(handler_location(content, parts.code.as_slice())),
         None => Ok(of_method(0)),
     }
 }
 
-/// The first entry of a code's table of frames with a type that isn't known here.
+/// Returns the first entry of the `StackMapTable` of a method's code with a type outside the profile.
 pub fn bad_entry_of(
     alloc: Global,
     class: &ClassFile,
@@ -146,8 +146,8 @@ pub fn bad_entry_of(
     }
 }
 
-/// The place that is shown of a method in which a refusal stands at no instruction.
-fn place_in_method(
+/// Returns the pc that is shown for a refusal of a method that is at no instruction.
+fn method_location(
     alloc: Global,
     class: &ClassFile,
     method: &Member,
@@ -155,18 +155,18 @@ fn place_in_method(
     refusal: Refusal,
 ) -> Result<Shown, AllocError> {
     match refusal {
-        Refusal::ConstructorForm => Ok(departure(class, parts.code.as_slice())),
-        Refusal::ExceptionTable => guarded_of(alloc, class, method, parts),
+        Refusal::ConstructorForm => Ok(constructor_difference(class, parts.code.as_slice())),
+        Refusal::ExceptionTable => handler_location_of(alloc, class, method, parts),
         Refusal::BadStackMap => match bad_entry_of(alloc, class, parts)? {
-            Some(entry) => Ok(of_instruction(entry.place)),
+            Some(entry) => Ok(of_instruction(entry.pc)),
             None => Ok(of_method(0)),
         },
         _ => Ok(of_method(0)),
     }
 }
 
-/// The place that is shown of the method of a refusal.
-pub fn shown_place(
+/// Returns the pc that is shown for a refusal in a method.
+pub fn shown_location(
     alloc: Global,
     class: &ClassFile,
     method: &Member,
@@ -175,6 +175,6 @@ pub fn shown_place(
 ) -> Result<Shown, AllocError> {
     match located.spot {
         Spot::AtInstruction { method: _, place } => Ok(of_instruction(place)),
-        _ => place_in_method(alloc, class, method, parts, located.refusal),
+        _ => method_location(alloc, class, method, parts, located.refusal),
     }
 }
