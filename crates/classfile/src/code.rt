@@ -1,4 +1,4 @@
-//! The parts of a Code attribute, and attributes by their names.
+//! `Code` attributes, and attributes by name.
 
 ghost use Rattle.std.specs.Prelude.{◌≡◌, IfOk, map, is_some};
 ghost use Rattle.std.specs.List.{list_all};
@@ -45,7 +45,7 @@ fn read_code_parts(alloc: Global, cursor: &mut Cursor<'_>) -> Result<CodeParts, 
     })
 }
 
-/// The parts of a Code attribute with these bytes after its length, where they fill them (JVMS §4.7.3).
+/// Parses the bytes of a `Code` attribute after its length. Returns `None` if its items don't fill them (JVMS §4.7.3).
 #[tactic(auto, unfolding(crate::specs::Code::parts_of_code))]
 pub fn parts_of_code(alloc: Global, content: &[u8]) -> Result<Option<CodeParts>, AllocError>
     ensures { IfOk result (λ found. found ≡ parts_of_code content.now) }
@@ -58,7 +58,7 @@ pub fn parts_of_code(alloc: Global, content: &[u8]) -> Result<Option<CodeParts>,
     }
 }
 
-/// Whether an index names this text.
+/// Returns whether the `Utf8` constant at an index is this name.
 #[tactic(auto, unfolding(crate::specs::Code::is_named))]
 pub fn is_named(pool: &Pool, name: &[u8], i: u16) -> bool
     ensures { result ≡ is_named pool.now name.now i }
@@ -81,7 +81,7 @@ fn have_names(pool: &Pool, attributes: &[Attribute]) -> bool
     attributes.iter().all(|attribute| has_name(pool, attribute))
 }
 
-/// Whether each attribute of a Code has a name.
+/// Returns whether the name of each attribute of a `Code` is a `Utf8` constant. True without parts.
 pub fn attributes_are_named(pool: &Pool, parts: &Option<CodeParts>) -> bool
     ensures { result ≡ attributes_are_named pool.now parts.now }
 {
@@ -91,7 +91,7 @@ pub fn attributes_are_named(pool: &Pool, parts: &Option<CodeParts>) -> bool
     }
 }
 
-/// The contents of the attributes with this name, in their order.
+/// Returns the contents of the attributes with this name, in order.
 pub fn contents_named<'a>(
     alloc: Global,
     pool: &Pool,

@@ -1,4 +1,4 @@
-//! The reading of a class file.
+//! Reading of a class file.
 
 ghost use Rattle.std.specs.Prelude.{◌≡◌, ◌≢◌, [], length, not, ◌||◌, IfOk, IfErr};
 ghost use Rattle.jtypes.specs.declared.refusal.Refusal.{Refusal};
@@ -16,10 +16,10 @@ use constpool::{Pool, names, read_pool};
 use jtypes::{Cursor, Items, Refusal, row};
 use std::alloc::{AllocError, Global};
 
-/// The bytes that a class file may take at most.
+/// The maximum size of a class file in bytes.
 const MOST_BYTES: usize = 65536;
 
-/// The methods that a class may have at most.
+/// The maximum number of methods of a class.
 const MOST_METHODS: u16 = 256;
 
 #[tactic(auto, unfolding(crate::specs::Class::utf8_index))]
@@ -83,7 +83,7 @@ fn read_attributes(
     row(alloc, &AttributeReader { pool }, usize::from(count), cursor)
 }
 
-/// Whether the attribute is no Code, or has parts whose attributes have names, or no parts.
+/// Returns whether the attributes of a `Code` attribute have names. True for any other attribute, and for a `Code` that can't be parsed.
 fn is_well_named(alloc: Global, pool: &Pool, attribute: &Attribute) -> Result<bool, AllocError>
     ensures { IfOk result (λ b. b ≡ (not (is_named pool.now code_name attribute.now.name) || attributes_are_named pool.now (parts_of_code attribute.now.content))) }
 {
@@ -202,7 +202,7 @@ fn read_methods(
     row(alloc, &MethodReader { pool }, usize::from(count), cursor)
 }
 
-/// The magic and the version (JVMS §4.1): 51.0 or 52.0.
+/// Reads the magic number and the version, 51.0 or 52.0 (JVMS §4.1).
 #[tactic(auto, unfolding(crate::specs::Class::header))]
 fn read_header(cursor: &mut Cursor<'_>) -> Result<(), Refusal>
     ensures { Takes (λ x. tt) result (first header cursor.old) cursor.new }
@@ -260,10 +260,10 @@ fn read_whole(alloc: Global, bytes: &[u8]) -> Result<ClassFile, Refusal>
 
 /// Reads a whole class file (JVMS §4.1): at most 65,536 bytes and 256 methods, of version 51.0 or 52.0.
 pub fn read_class(alloc: Global, bytes: &[u8]) -> Result<ClassFile, Refusal>
-    // The bytes, all of them, are this class.
+    // The whole input is this class.
     ensures found { IfOk result (λ c. IsLaidOut (class_file (length bytes.now)) bytes.now (c.pool, c.parts)) }
 
-    // A class is answered only where no refusal stands, and a refusal that is answered stands.
+    // A class is returned only if no refusal applies, and a refusal that is returned applies, except `NoMemory`.
     ensures accepted { IfOk result (λ _. (r : Refusal) → Stands (class_file (length bytes.now)) bytes.now r → ⊥) }
     ensures refused { IfErr result (λ r. r ≢ Refusal.NoMemory → Stands (class_file (length bytes.now)) bytes.now r) }
 {

@@ -1,4 +1,4 @@
-//! What stands in the rows of a class file.
+//! Readers of the items of lists in a class file.
 
 ghost use Rattle.classfile.specs.Class.{attribute, attributes, method_attribute, method_attributes, member, class_index};
 ghost use Rattle.classfile.specs.Code.{plain_attribute};
@@ -12,7 +12,7 @@ use constpool::Pool;
 use jtypes::{Cursor, Reader, Refusal};
 use std::alloc::Global;
 
-/// Reads attributes whose names are not judged.
+/// Reads attributes without a check of their names.
 #[derive(Drop)]
 pub struct PlainAttributeReader;
 
@@ -42,7 +42,7 @@ impl<'a> Reader for AttributeReader<'a> {
     }
 }
 
-/// Reads attributes of a method.
+/// Reads attributes of a method, and checks the names of those in a `Code`.
 #[derive(Drop)]
 pub struct MethodAttributeReader<'a> {
     pub pool: &'a Pool,
@@ -90,7 +90,7 @@ impl<'a> Reader for MethodReader<'a> {
     }
 }
 
-/// Reads indexes of classes.
+/// Reads pool indexes of `Class` constants.
 #[derive(Drop)]
 pub struct ClassIndexReader<'a> {
     pub pool: &'a Pool,

@@ -1,4 +1,4 @@
-//! A class as its methods' instructions see it.
+//! The parts of a class to which its instructions refer.
 
 ghost use Rattle.std.specs.Prelude.{◌≡◌, length, slice_get, option_map};
 ghost use Rattle.classfile.specs.View.{text_at, view_of};
@@ -7,7 +7,7 @@ use crate::{ClassFile, Member};
 use constpool::Pool;
 use std::marker::Model;
 
-/// A method, by what calls of it name.
+/// A method as calls refer to it.
 #[derive(Clone, Copy)]
 pub struct MethodView<'a> {
     pub flags: u16,
@@ -15,7 +15,7 @@ pub struct MethodView<'a> {
     pub descriptor: &'a [u8],
 }
 
-/// The pool of a class, its own name, and its methods in their order.
+/// The constant pool of a class, its name, and its methods in order.
 #[derive(Drop)]
 pub struct ClassView<'a> {
     class: &'a ClassFile,
@@ -36,7 +36,7 @@ impl<'a> ClassView<'a> {
         &self.class.pool
     }
 
-    /// The class's own name (JVMS §4.1, `this_class`).
+    /// Returns the name of the class (JVMS §4.1, `this_class`), or an empty name if the index is invalid.
     pub fn name(&self) -> &'a [u8]
         ensures { result.now ≡ self.now.name }
     {
@@ -65,21 +65,21 @@ impl<'a> ClassView<'a> {
 }
 
 impl ClassFile {
-    /// The class as its methods' instructions see it.
+    /// Returns the parts of the class to which its instructions refer.
     pub fn view(&self) -> ClassView<'_>
         ensures { result ≡ view_of self.now.pool self.now.parts }
     {
         ClassView { class: self }
     }
 
-    /// The name of a method of this class (JVMS §4.6).
+    /// Returns the name of a method of this class (JVMS §4.6), or an empty name if the index is invalid.
     pub fn method_name(&self, method: &Member) -> &[u8]
         ensures { result.now ≡ text_at self.now.pool method.now.name }
     {
         self.pool.utf8(method.name).unwrap_or(&[])
     }
 
-    /// The descriptor of a method of this class (JVMS §4.6).
+    /// Returns the descriptor of a method of this class (JVMS §4.6), or an empty one if the index is invalid.
     pub fn method_descriptor(&self, method: &Member) -> &[u8]
         ensures { result.now ≡ text_at self.now.pool method.now.descriptor }
     {

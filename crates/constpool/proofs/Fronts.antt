@@ -1,4 +1,4 @@
--- What stands at the front of bytes.
+-- Prefixes of byte lists.
 use Rattle.std.proofs.Common.{◌≡◌, ◌≢◌, ℕ, ◌+◌, ◌-◌, suc, Bool, true, false, cond, List, [], ◌∷◌, ◌++◌, length, take, drop, Option, Some, None, option_map, MatchOption, Bor, eqb, refl, sym, ap, subst, ◌∙◌, arith, add-one}
 use Rattle.std.proofs.lemmas.Bool.{eq-eqb, eqb-true}
 use Rattle.std.proofs.lemmas.Bool.Decides.{Decides-eqb}
@@ -31,7 +31,7 @@ no_front : (front bytes : List ℕ) (o : Option (List ℕ)) → after_front fron
 no_front front bytes None e h = refl
 no_front front bytes (Some rest) e h = absurd (h rest (front_of front bytes rest e))
 
--- what taking a front off says
+-- the contract of `strip_prefix`, by `after_front`
 pub after_stripped : (front bytes : List ℕ) (r : Option (Bor (List ℕ))) → MatchOption r (pointwise eqb (take (length front) bytes) front ≡ false) (λ x. (pointwise eqb (take (length front) bytes) front ≡ true) × (x.now ≡ drop (length front) bytes) × (length x.now + length front ≡ length bytes))
     → option_map (λ x. x.now) r ≡ after_front front bytes
 after_stripped front bytes None h = no_front front bytes (after_front front bytes) refl (strip_prefix_is Decides-eqb bytes front None h)
@@ -44,7 +44,7 @@ after_stripped front bytes (Some x) h =
 abbrev pub is_semicolon : ℕ → Bool
 is_semicolon b = eqb b 59
 
--- what is cut at the first semicolon, which is looked for from an index on
+-- `IsCut` holds if `before_semicolon` splits the bytes at this position, counted from `i`
 abbrev pub IsCut : List ℕ → ℕ → Option ℕ → Type 0
 IsCut bytes i None = before_semicolon bytes ≡ None
 IsCut bytes i (Some n) = (k : ℕ) × (n ≡ i + k) × (before_semicolon bytes ≡ Some (take k bytes, drop (suc k) bytes))

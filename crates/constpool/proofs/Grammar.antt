@@ -1,4 +1,4 @@
--- The reading of descriptors is their grammar's.
+-- The parser of descriptors gives exactly the signatures of the grammar.
 use Rattle.std.proofs.Common.{◌≡◌, ◌≢◌, ℕ, ◌≤◌, zero, suc, Bool, true, false, List, [], ◌∷◌, ◌++◌, length, Option, Some, None, eqb, refl, sym, ap, subst, ◌∙◌, arith, append_assoc, length-append, inl, inr, codes}
 use Rattle.std.proofs.lemmas.Bool.{eqb-true, ne_eqb}
 use Rattle.std.proofs.lemmas.List.{append-nil}
@@ -12,7 +12,7 @@ use Rattle.constpool.specs.Descriptor.{type_text, types_text, result_text, sig_t
 use Rattle.constpool.proofs.Fronts.{front_of, only_if_some}
 use Rattle.constpool.proofs.Params.{or_else_cases, bound, type_read, text_length}
 
--- ---- what was read is a descriptor
+-- ---- a parsed text is a descriptor
 
 abbrev pub AreRead : List ℕ → List FieldType × List ℕ → Type 0
 AreRead bytes p = (bytes ≡ types_text p.0 ++ 41 ∷ p.1) × All IsNamed p.0
@@ -87,7 +87,7 @@ sig_found bytes s e =
     let three = bound (read_result two.0.1) (λ r. made two.0.0 r) s two.2 in
     descriptor_found bytes one.0 two.0.1 two.0.0 three.0 s (front_of (codes "(") bytes one.0 one.1) (params_found (length one.0) one.0 two.0 two.1) (result_found two.0.1 three.0 three.1) cc
 
--- ---- a descriptor is read
+-- ---- a descriptor is parsed
 
 cut_again : (name rest : List ℕ) → All (λ b. b ≢ 59) name → before_semicolon ((name ++ 59 ∷ []) ++ rest) ≡ Some (name, rest)
 cut_again [] rest n = refl

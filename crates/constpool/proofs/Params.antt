@@ -1,4 +1,4 @@
--- Reading types one after the other, as a loop does.
+-- Lemmas for the loop that parses the parameter types.
 use Rattle.std.proofs.Common.{◌≡◌, ◌≢◌, ℕ, ◌+◌, ◌≤◌, ◌<◌, zero, suc, Bool, true, false, List, [], ◌∷◌, ◌++◌, length, Option, Some, None, option_map, Result, Ok, Err, eqb, refl, sym, ap, subst, ◌∙◌, arith, append_assoc, length-append, inl, inr, ◌⊎◌, codes}
 use Rattle.std.proofs.lemmas.Bool.{eqb-true, eqb-false}
 use Rattle.std.proofs.lemmas.List.{append-nil}
@@ -28,7 +28,7 @@ mapped : {A B : Type 0} (f : A → B) (o : Option A) (y : B) → option_map f o 
 mapped f (Some x) y e = (x, refl, cc)
 mapped f None y e = absurd cc
 
--- a type that was read is named, and its text stood there
+-- `IsRead` holds if the bytes begin with the text of the type, whose class name is valid
 abbrev pub IsRead : List ℕ → FieldType × List ℕ → Type 0
 IsRead bytes p = (bytes ≡ type_text p.0 ++ p.1) × IsNamed p.0
 
@@ -103,7 +103,7 @@ text_length LongArray = omega arith
 text_length ObjectArray = omega arith
 text_length (Class name) = omega arith
 
--- a type takes at least one byte
+-- a parsed type has at least one byte
 pub shorter : (bytes rest : List ℕ) (t : FieldType) → read_type bytes ≡ Some (t, rest) → length rest < length bytes
 shorter bytes rest t e =
     let r = type_read bytes (t, rest) e in
@@ -125,7 +125,7 @@ open_by most b bytes true h e =
     absurd cc
 open_by most b bytes false h e = rw h refl
 
--- the bytes that begin no closing parenthesis begin a type
+-- without a closing parenthesis, the next bytes are parsed as a type
 pub opened : (most : ℕ) (b : ℕ) (bytes : List ℕ) → after_front (codes ")") (b ∷ bytes) ≡ None → read_params (suc most) (b ∷ bytes) ≡ (read_type (b ∷ bytes) >>= λ t. read_params most t.1 >>= λ ts. Some (t.0 ∷ ts.0, ts.1))
 opened most b bytes e = open_by most b bytes (eqb b 41) refl e
 
@@ -133,7 +133,7 @@ bind_parsed : {A B : Type 0} (o : Option A) (f : A → Option B) → parsed (o >
 bind_parsed (Some x) f = refl
 bind_parsed None f = refl
 
--- what was read before, and what is still read, at most so many types
+-- `Reads` holds if the types parsed before and those of `rest`, at most `most`, give the total
 abbrev pub Reads : List FieldType → ℕ → List ℕ → Result (List FieldType × List ℕ) Refusal → Type 0
 Reads front most rest total = (length rest ≤ most) × (with_front front (parsed (read_params most rest)) ≡ total)
 
@@ -185,20 +185,20 @@ is_cut front most (b ∷ rest) total none so_far = absurd cc
 
 -- ---- the result
 
--- what follows a V is no type
+-- a `V` with bytes after it is no result type
 pub void_trails : (bytes rest : List ℕ) → after_front (codes "V") bytes ≡ Some rest → 0 < length rest → read_result bytes ≡ None
 unfolding read_type
 void_trails bytes [] e n = absurd (omega (arith, n))
 void_trails bytes (r ∷ rest) e n = rw (front_of (codes "V") bytes (r ∷ rest) e) refl
 
--- a refusal of the result is one of the whole
+-- a refusal of the result type is a refusal of the descriptor
 pub signature_fails : (e : Refusal) (bytes rest after : List ℕ) (params : List FieldType) → after_front (codes "(") bytes ≡ Some rest → parsed (read_params (length rest) rest) ≡ Ok (params, after) → Fails e (parsed (read_result after)) → Fails e (parsed (sig_of bytes))
 unfolding sig_of
 signature_fails e bytes rest after params begun found h =
     let made : Option FieldType → Option Sig = λ r. Some (record { params = params; result = r }) in
     rw (begun, parsed_ok (read_params (length rest) rest) (params, after) found, bind_parsed (read_result after) made) (fails_along e _ _ h)
 
--- ---- what a test says
+-- ---- the test for no bytes
 
 pub not_empty : (rest : List ℕ) (b : Bool) → b ≡ eqb (length rest) 0 → b ≡ false → 0 < length rest
 not_empty rest b e f =

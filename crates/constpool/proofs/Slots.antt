@@ -1,4 +1,4 @@
--- Reading the slots one after the other, as a loop does.
+-- Lemmas for the loop that reads the slots.
 use Rattle.std.proofs.Common.{◌≡◌, ℕ, suc, ◌-◌, ◌+◌, ◌≤◌, ◌<◌, Bool, true, false, cond, List, [], ◌∷◌, ◌++◌, Result, Ok, Err, refl, sym, ap, ◌∙◌, arith}
 use Rattle.std.proofs.lemmas.List.{append-nil}
 use Rattle.jtypes.specs.declared.refusal.Refusal.{Refusal}

@@ -1,16 +1,16 @@
-//! Bytes that are compared.
+//! Comparison of bytes.
 
 ghost use Rattle.std.specs.Prelude.{◌≡◌, option_map};
 ghost use Rattle.jtypes.specs.Lists.{same_bytes, after_front};
 
-/// Whether two texts are the same.
+/// Returns whether two byte slices are equal.
 pub fn same_bytes(a: &[u8], b: &[u8]) -> bool
     ensures { result ≡ same_bytes a.now b.now }
 {
     a == b
 }
 
-/// What follows a front, where the bytes begin with it.
+/// Returns the bytes after a prefix, or `None` if the bytes don't begin with it.
 pub fn after_front<'a>(front: &[u8], bytes: &'a [u8]) -> Option<&'a [u8]>
     ensures { option_map (λ rest. rest.now) result ≡ after_front front.now bytes.now }
 {

@@ -1,8 +1,8 @@
-//! What follows from the definitions alone.
+//! Laws of the definitions.
 
 ghost use Rattle.constpool.specs.Descriptor.{ReadsDescriptors};
 
-/// The reading of descriptors is their grammar's (JVMS §4.3.3): a text is read as a signature exactly where it is that signature's text.
+/// A text is parsed as a signature exactly if the grammar of descriptors gives that signature this text (JVMS §4.3.3).
 pub fn descriptors_are_read()
     ensures { ReadsDescriptors }
 {}

@@ -1,4 +1,4 @@
-//! Constants by their index, at their tag.
+//! Lookup of constants by index and tag.
 
 ghost use Rattle.std.specs.Prelude.{◌≡◌, option_map, is_some};
 ghost use Rattle.std.specs.Option.{option_copied};
@@ -6,7 +6,7 @@ ghost use Rattle.constpool.specs.Lookup.{constant_at, utf8_at, integer_at, long_
 
 use crate::{Constant, Pool};
 
-/// A method that a class names in its pool (JVMS §4.4.2).
+/// A method reference of the pool: the names of the class and the method, and the descriptor (JVMS §4.4.2).
 #[derive(Clone, Copy)]
 pub struct MemberRef<'a> {
     pub class: &'a [u8],
@@ -15,7 +15,7 @@ pub struct MemberRef<'a> {
 }
 
 impl Pool {
-    /// The text at an index (JVMS §4.4.7).
+    /// Returns the bytes of the `Utf8` constant at an index (JVMS §4.4.7).
     #[tactic(auto, unfolding(crate::specs::Lookup::utf8_at))]
     pub fn utf8(&self, i: u16) -> Option<&[u8]>
         ensures { option_copied result ≡ utf8_at self.now i }
@@ -26,7 +26,7 @@ impl Pool {
         }
     }
 
-    /// The int at an index (JVMS §4.4.4).
+    /// Returns the value of the `Integer` constant at an index (JVMS §4.4.4).
     #[tactic(auto, unfolding(crate::specs::Lookup::integer_at))]
     pub fn int(&self, i: u16) -> Option<i32>
         ensures { result ≡ integer_at self.now i }
@@ -37,7 +37,7 @@ impl Pool {
         }
     }
 
-    /// The long at an index (JVMS §4.4.5).
+    /// Returns the value of the `Long` constant at an index (JVMS §4.4.5).
     #[tactic(auto, unfolding(crate::specs::Lookup::long_at))]
     pub fn long(&self, i: u16) -> Option<i64>
         ensures { result ≡ long_at self.now i }
@@ -57,14 +57,14 @@ impl Pool {
         }
     }
 
-    /// Whether a class, an interface or an array type stands at an index (JVMS §4.4.1).
+    /// Returns whether the constant at an index is a `Class`: a class, an interface or an array type (JVMS §4.4.1).
     pub fn is_class(&self, i: u16) -> bool
         ensures { result ≡ is_some (class_index_at self.now i) }
     {
         self.class_index(i).is_some()
     }
 
-    /// The name of the class at an index (JVMS §4.4.1).
+    /// Returns the name of the `Class` constant at an index (JVMS §4.4.1).
     #[tactic(auto, unfolding(crate::specs::Lookup::class_at))]
     pub fn class(&self, i: u16) -> Option<&[u8]>
         ensures { option_copied result ≡ class_at self.now i }
@@ -102,7 +102,7 @@ impl Pool {
         })
     }
 
-    /// The method of a class at an index (JVMS §4.4.2).
+    /// Returns the names and the descriptor of the `Methodref` constant at an index (JVMS §4.4.2).
     #[tactic(auto, unfolding(crate::specs::Lookup::method_at))]
     pub fn method(&self, i: u16) -> Option<MemberRef<'_>>
         ensures { option_map (λ m. record { class = m.class.now; name = m.name.now; descriptor = m.descriptor.now }) result ≡ method_at self.now i }
@@ -113,7 +113,7 @@ impl Pool {
         }
     }
 
-    /// The method of an interface at an index (JVMS §4.4.2).
+    /// Returns the names and the descriptor of the `InterfaceMethodref` constant at an index (JVMS §4.4.2).
     #[tactic(auto, unfolding(crate::specs::Lookup::interface_method_at))]
     pub fn interface_method(&self, i: u16) -> Option<MemberRef<'_>>
         ensures { option_map (λ m. record { class = m.class.now; name = m.name.now; descriptor = m.descriptor.now }) result ≡ interface_method_at self.now i }
@@ -135,7 +135,7 @@ impl Pool {
         )
     }
 
-    /// Whether each index in a constant of this pool names one of the tag that it demands.
+    /// Returns whether each pool index in a constant is that of a constant with the required tag.
     #[tactic(auto, unfolding(crate::specs::Lookup::constant_refers))]
     pub(crate) fn constant_refers(&self, constant: &Constant) -> bool
         ensures { result ≡ constant_refers self.now constant.now }

@@ -1,4 +1,4 @@
-//! The names that a class file of the profile may speak of, in their internal form (JVMS §4.2.1).
+//! The names that a class file of the profile may use, in internal form (JVMS §4.2.1).
 
 ghost use Rattle.std.specs.Prelude.{◌≡◌};
 ghost use Rattle.constpool.specs.Names.{object_name, number_name, long_name, integer_name, math_name, mutable_entry_name, entry_processor_name, cache_entry_name, int_array_name, long_array_name, object_array_name, init_name, clinit_name, process_name, process_descriptor, code_name, stack_map_name};
@@ -25,21 +25,21 @@ pub const INT_ARRAY: &[u8] = b"[I";
 pub const LONG_ARRAY: &[u8] = b"[J";
 /// `Object[]`
 pub const OBJECT_ARRAY: &[u8] = b"[Ljava/lang/Object;";
-/// An instance initialization method (JVMS §2.9).
+/// The name of an instance initialization method (JVMS §2.9).
 pub const INIT: &[u8] = b"<init>";
-/// A class initialization method (JVMS §2.9).
+/// The name of a class initialization method (JVMS §2.9).
 pub const CLINIT: &[u8] = b"<clinit>";
 /// `EntryProcessor.process`
 pub const PROCESS: &[u8] = b"process";
 /// The erased descriptor of `EntryProcessor.process`.
 pub const PROCESS_DESCRIPTOR: &[u8] =
     b"(Ljavax/cache/processor/MutableEntry;[Ljava/lang/Object;)Ljava/lang/Object;";
-/// The attribute of a method's instructions (JVMS §4.7.3).
+/// The attribute that holds a method's instructions (JVMS §4.7.3).
 pub const CODE: &[u8] = b"Code";
-/// The attribute of a code's frames (JVMS §4.7.4).
+/// The attribute that holds the stack map frames of a `Code` attribute (JVMS §4.7.4).
 pub const STACK_MAP_TABLE: &[u8] = b"StackMapTable";
 
-/// The names are those that the definitions speak of.
+/// The names equal those in the definitions.
 pub fn are_spelled_so()
     ensures of_object { OBJECT.now ≡ object_name }
     ensures of_number { NUMBER.now ≡ number_name }

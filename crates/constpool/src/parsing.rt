@@ -1,4 +1,4 @@
-//! The reading of descriptors.
+//! Parsing of method descriptors.
 
 ghost use Rattle.std.specs.Prelude.{◌≡◌, ◌≢◌, ◌<◌, ◌==◌, length, None, Some, IfOk, IfErr, option_map};
 ghost use Rattle.std.specs.List.{position};
@@ -11,14 +11,14 @@ use crate::{FieldType, Sig, names};
 use jtypes::{Items, Refusal};
 use std::alloc::Global;
 
-/// Where the first semicolon stands.
+/// Returns the index of the first semicolon.
 fn semicolon(bytes: &[u8]) -> Option<usize>
     ensures { result ≡ position (λ b. b == 59) bytes.now }
 {
     bytes.iter().position(|b| *b == b';')
 }
 
-/// What stands before the first semicolon, and what after it.
+/// Returns the bytes before the first semicolon and those after it.
 fn before_semicolon(bytes: &[u8]) -> Option<(&[u8], &[u8])>
     ensures { option_map (λ p. (p.0.now, p.1.now)) result ≡ before_semicolon bytes.now }
 {
@@ -42,7 +42,7 @@ fn read_class_type(alloc: Global, bytes: &[u8]) -> Result<(FieldType, &[u8]), Re
     Ok((FieldType::Class(name), rest))
 }
 
-/// One type, and what follows it (JVMS §4.3.2).
+/// Parses one type. Returns it with the bytes after it (JVMS §4.3.2).
 #[tactic(auto, unfolding(crate::specs::Descriptor::read_type))]
 fn read_type(alloc: Global, bytes: &[u8]) -> Result<(FieldType, &[u8]), Refusal>
     ensures { Gives (λ x. (x.0, x.1.now)) result (parsed (read_type bytes.now)) }
@@ -68,7 +68,7 @@ fn read_type(alloc: Global, bytes: &[u8]) -> Result<(FieldType, &[u8]), Refusal>
     read_class_type(alloc, bytes)
 }
 
-/// The types up to the closing parenthesis, and what follows it.
+/// Parses the types up to the closing parenthesis. Returns them with the bytes after it.
 fn read_params(alloc: Global, bytes: &[u8]) -> Result<(Items<FieldType>, &[u8]), Refusal>
     ensures { Gives (λ x. (x.0, x.1.now)) result (parsed (read_params (length bytes.now) bytes.now)) }
 {
@@ -115,18 +115,18 @@ fn read_signature(alloc: Global, bytes: &[u8]) -> Result<Sig, Refusal>
     Ok(Sig { params, result })
 }
 
-/// Reads a method's descriptor (JVMS §4.3.3). Types that no class of the profile may use, such as `D` or `[B`, are refused.
+/// Parses a method descriptor (JVMS §4.3.3). Types outside the profile, such as `D` or `[B`, are refused.
 pub fn parse_method_descriptor(alloc: Global, bytes: &[u8]) -> Result<Sig, Refusal>
-    // The signature whose text this is.
+    // The result is the signature of this text.
     ensures found { IfOk result (λ s. sig_of bytes.now ≡ Some s) }
 
-    // A refusal is `BadDescriptor`, of a text that is no descriptor.
+    // A refusal other than `NoMemory` is `BadDescriptor`, and the text is no descriptor.
     ensures refused { IfErr result (λ r. r ≢ Refusal.NoMemory → (r ≡ Refusal.BadDescriptor) × (sig_of bytes.now ≡ None)) }
 {
     read_signature(alloc, bytes)
 }
 
-/// The slots that the parameters take, of which a long takes two (JVMS §4.3.3).
+/// Returns the number of slots of the parameters, 2 for a long, without the receiver (JVMS §4.3.3).
 pub fn param_slots(sig: &Sig) -> usize
     ensures { result ≡ param_slots sig.now }
 {

@@ -1,4 +1,4 @@
-//! The constant pool, by index.
+//! The constant pool.
 
 ghost use Rattle.std.specs.Prelude.{◌≡◌, ◌≢◌, ◌≤◌, length, take, drop, IfOk, IfErr};
 ghost use Rattle.std.specs.Option.{option_copied};
@@ -13,9 +13,9 @@ use jtypes::{Cursor, Refusal};
 use std::alloc::Global;
 use std::marker::Model;
 
-/// A constant pool: what stands at each index from 1 (JVMS §4.4).
+/// A constant pool: a slot for each index from 1 (JVMS §4.4).
 ///
-/// The second index of a `long` or a `double` has no constant (JVMS §4.4.5).
+/// The second index of a `Long` or a `Double` has no constant (JVMS §4.4.5).
 #[derive(Drop)]
 pub struct Pool {
     slots: Vec<Option<Constant>>,
@@ -31,7 +31,7 @@ impl Model for Pool {
 }
 
 impl Pool {
-    /// The constant at an index: none at 0, at the second index of a long, and past the end.
+    /// Returns the constant at an index, or `None` at 0, at the second index of a `Long` or a `Double`, and past the end.
     pub fn constant(&self, i: u16) -> Option<&Constant>
         ensures { option_copied result ≡ constant_at self.now i }
     {
@@ -53,7 +53,7 @@ impl Pool {
         }
     }
 
-    /// Whether each index in a constant names a constant of the tag that it demands.
+    /// Returns whether each pool index in each constant is that of a constant with the required tag.
     #[tactic(auto, unfolding(crate::specs::Lookup::refers))]
     fn refers(&self) -> bool
         ensures { result ≡ refers self.now }
@@ -78,18 +78,18 @@ fn read_whole(alloc: Global, cursor: &mut Cursor<'_>) -> Result<Pool, Refusal>
     Ok(pool)
 }
 
-/// Reads a pool from its count on, and answers how many bytes it takes (JVMS §4.1, §4.4).
+/// Reads a constant pool, which begins with its count. Returns it with its length in bytes (JVMS §4.1, §4.4).
 pub fn read_pool(alloc: Global, bytes: &[u8]) -> Result<(Pool, usize), Refusal>
     ensures used { IfOk result (λ x. x.1 ≤ length bytes.now) }
 
-    // The bytes used are this pool.
+    // The bytes that were read are this pool.
     ensures found { IfOk result (λ x. IsLaidOut pool (take x.1 bytes.now) x.0) }
 
-    // A pool is answered only where no refusal stands, and a refusal that is answered stands.
+    // A pool is returned only if no refusal applies, and a refusal that is returned applies, except `NoMemory`.
     ensures accepted { IfOk result (λ _. (r : Refusal) → Stands pool bytes.now r → ⊥) }
     ensures refused { IfErr result (λ r. r ≢ Refusal.NoMemory → Stands pool bytes.now r) }
 
-    // Which it is: the first.
+    // Of the refusals that apply, the first one in the order of the read is returned.
     ensures exact { Gives (λ x. (x.0, drop x.1 bytes.now)) result (first pool bytes.now) }
 {
     let mut cursor = Cursor::new(bytes);

@@ -1,4 +1,4 @@
-//! The reading of the pool.
+//! Reading of the constant pool.
 
 ghost use Rattle.std.specs.Prelude.{◌≡◌, false};
 ghost use Rattle.std.specs.List.{list_all};
@@ -59,7 +59,7 @@ fn read_method_handle(cursor: &mut Cursor<'_>) -> Result<Constant, Refusal>
     Ok(Constant::MethodHandle(kind, member))
 }
 
-/// What a tag demands (JVMS §4.4, Table 4.4-A).
+/// Reads the bytes of a constant after its tag (JVMS §4.4, Table 4.4-A).
 #[tactic(auto, unfolding(crate::specs::Pool::body, crate::specs::Pool::index_of, crate::specs::Pool::indexes_of))]
 fn read_body(alloc: Global, tag: u8, cursor: &mut Cursor<'_>) -> Result<Constant, Refusal>
     ensures { Takes (λ x. x) result (first (body tag) cursor.old) cursor.new }
@@ -106,7 +106,7 @@ fn read_slot(
     Ok(Some(constant))
 }
 
-/// Whether the constant takes the next index too (JVMS §4.4.5).
+/// Returns whether the constant uses the next index too (JVMS §4.4.5).
 fn takes_two(slot: &Option<Constant>) -> bool
     ensures { result ≡ takes_two slot.now }
 {

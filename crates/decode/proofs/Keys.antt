@@ -1,4 +1,4 @@
--- Keys that rise.
+-- Strictly increasing keys.
 use Rattle.std.proofs.Common.{◌≡◌, ℕ, zero, suc, ◌<◌, ◌≤◌, true, ◌&&◌, List, [], ◌∷◌, length, get_or, drop, int_lt, refl, arith}
 use Rattle.decode.specs.declared.instruction.Case.{Case}
 use Rattle.decode.specs.Code.{keys_rise}

@@ -1,4 +1,4 @@
--- What the two profiles read of the same bytes.
+-- The same bytes read in the two profiles.
 use Rattle.std.proofs.Common.{◌≡◌, ℕ, ◌+◌, ◌<◌, Bool, true, false, ltb, List, [], ◌∷◌, ◌++◌, length, Option, None, refl, sym, ap, ◌∙◌, subst, append_assoc, arith, eqb}
 use Rattle.std.proofs.lemmas.Bool.{eqb-true}
 use Rattle.std.proofs.lemmas.List.{length-append, append-nil}
@@ -18,7 +18,7 @@ use Rattle.decode.proofs.Runs.{takes_one}
 
 -- ---- the table
 
--- an opcode demands the same in both profiles, or the first one has no row for it
+-- `Agrees` holds if an opcode has the same form in both profiles, or is below CA and has none in the first one
 Agrees : ℕ → Type 0
 Agrees opcode = (form_at First opcode ≡ form_at Second opcode) ⊎ ((form_at First opcode ≡ None) × (ltb opcode 0xCA ≡ true))
 
@@ -52,7 +52,7 @@ nothing_outside pool at opcode text i none below h = go (ltb opcode 0xCA) (subst
     go true k = k
     go false k = k
 
--- what the second profile reads as an instruction, the first one reads as the same, or it stops there, whatever follows
+-- an instruction of the second profile is the same in the first one, or a refusal applies there, whatever bytes follow
 one_agrees : (pool : List Slot) (at : ℕ) (front rest : List ℕ) (i : Instruction) → IsLaidOut (one Second pool at) front i
     → IsLaidOut (one First pool at) front i ⊎ ((r : Refusal) × Stands (one First pool at) (front ++ rest) r)
 unfolding one Agrees
@@ -81,7 +81,7 @@ one_goes_on pool at front i (opcode, f, b, e, h, k) = go (agree opcode)
 
 -- ---- a code
 
--- from a place on, the first profile's reading stops in these bytes
+-- `Stops` holds if the read of these bytes from a pc on stops with a refusal in the first profile
 Stops : List Slot → ℕ → List ℕ → Type 0
 Stops pool at bytes =
     (r : Refusal) × (ps : List Placed) × (front : List ℕ) × (back : List ℕ) × (bytes ≡ front ++ back) × IsSequence First pool at front ps × (0 < length back) × Stands (one First pool (at + length front)) back r

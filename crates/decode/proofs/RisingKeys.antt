@@ -1,4 +1,4 @@
--- The keys of each lookup in a sequence of instructions rise.
+-- The keys of each `lookupswitch` in a sequence of instructions are strictly increasing.
 use Rattle.std.proofs.Common.{ℕ, zero, suc, ◌+◌, ◌<◌, Bool, true, false, List, [], ◌∷◌, length, get_or, Option, Some, None, refl, sym, subst, arith}
 use Rattle.std.specs.Prelude.{IsTrue}
 use Rattle.jtypes.specs.Layout.{Layout, known, part_or, followed, judged, stopped, chosen, ended, needed, IsLaidOut}
@@ -17,7 +17,7 @@ use Rattle.decode.specs.Code.{keys_rise, int_constant, long_constant, array_of_c
 use Rattle.decode.specs.Places.{has_rising_keys}
 use Rattle.decode.specs.Reading.{HaveRisingKeys}
 
--- each value that is laid out so is one of these
+-- a structural condition for a property of all values with a layout
 abbrev AllAre : {A : Type 0} → Layout A → (A → Type 0) → Type 0
 AllAre (known x) P = P x
 AllAre (part_or q n) P = (x : List ℕ) → P x
@@ -78,7 +78,7 @@ wide_rises opcode (Some form.Increment) = λ x t h y u k. refl
 wide_rises opcode (Some f) = tt
 wide_rises opcode None = tt
 
--- what is needed holds where something is laid out
+-- the test of `needed` is true if some text has the layout
 holds : (b : Bool) (text : List ℕ) (u : Unit {0}) → IsLaidOut (needed BadOperand b) text u → IsTrue b
 holds true text u h = refl
 holds false text u h = absurd h

@@ -1,4 +1,4 @@
--- Where the targets of a code lead.
+-- The branch targets of a code.
 use Rattle.std.proofs.Common.{Bor, ◌≡◌, ℕ, ℤ, pos, ◌<◌, ◌^◌, List, [], ◌∷◌, length, None, Some, subst, ap, ◌∙◌, refl, arith, get_or, Bool, true, false, eqb, zero, suc, negsuc, ◌≤ℤ◌, FitsSigned, to_z, of_z, rules}
 use Rattle.std.proofs.lemmas.Bool.{eqb-true, eq-eqb, false≢true}
 use Rattle.std.proofs.lemmas.Int.{to_z-of_z}
@@ -18,13 +18,13 @@ use Rattle.decode.specs.Places.{at_place, target_of, cases_of, IsTarget, BranchS
 use Rattle.decode.specs.Reading.{RisesFrom, IsRefusalAt, IsCasesRefusal, IsTargetRefusal}
 use Rattle.decode.proofs.Search.{below_places}
 
--- where no target is refused, none stands
+-- if no branch target is refused, no refusal of branch targets applies
 pub none_stands : (code : List Placed) → AllWithin (λ p. IsTargetRefusal code p None) code 0 (length code) → (r : Refusal) → BranchStands code r → ⊥
 none_stands code h BadTarget (k, x, lt, e, b) = let f = subst (λ (p : Placed). IsTargetRefusal code p None) e (h k x (omega arith) lt) in f.0 b
 none_stands code h BackwardBranch (k, x, lt, e, b) = let f = subst (λ (p : Placed). IsTargetRefusal code p None) e (h k x (omega arith) lt) in f.1 b
 none_stands code h _ b = absurd b
 
--- the target is the place of some instruction
+-- `IsStart` holds if the target is the pc of some instruction
 abbrev pub IsStart : List Placed → ℤ → Type 0
 IsStart code target = Any (λ p. pos p.place ≡ target) code
 
@@ -57,16 +57,16 @@ from_abs : (z : ℤ) (n : ℕ) → pos 0 ≤ℤ z → n ≡ nat_abs z → pos n 
 from_abs (pos k) n le e = ap (λ (m : ℕ). pos m) e
 from_abs (negsuc k) n le e = absurd (omega arith)
 
--- what the conversion of a target to a place says
+-- a target that isn't negative equals the pc to which it is converted
 pub place_from_target : (target : ℤ) (n : ℕ) → FitsSigned w128 target → pos 0 ≤ℤ to_z w128 (of_z w128 target) → n ≡ nat_abs (to_z w128 (of_z w128 target)) → pos n ≡ target
 place_from_target target n fits le e = let same = to_z-of_z w128 target fits in from_abs target n (rw same at le) (rw same at e)
 
--- a reference there is as the value behind it
+-- an option of a reference has a value exactly if its copy has one
 pub some_copied : (o : Option (Bor Placed)) → is_some o ≡ is_some (option_copied o)
 some_copied None = refl
 some_copied (Some x) = refl
 
--- each start fits into memory
+-- the pc of each instruction fits in 64 bits
 pub start_fits : (code : List Placed) (target : ℤ) → RisesFrom 0 code → IsStart code target → (n : ℕ) × (pos n ≡ target) × (n < 2 ^ 64)
 start_fits code target h (k, x, lt, e, p) =
     let b = below_places 0 code h k x lt in
@@ -89,12 +89,12 @@ refuses code p z _ t h = h
 pub case_refuses : (code : List Placed) (p : Placed) (r : Refusal) → IsCasesRefusal code p (Some r) → IsTargetRefusal code p (Some r)
 case_refuses code p r (k, z, e, h) = refuses code p z r (inr (k, e)) h
 
--- a switch has a target beside its keys'
+-- an instruction without `target_of` has no case targets
 has_target : (i : Instruction) → target_of i ≡ None → (k : ℕ) (z : ℤ) → slice_get (cases_of i) k ≡ Some z → ⊥
 has_target (instruction.Switch default cases) e k z h = cc e
 has_target _ e k z h = cc h
 
--- so an instruction without this one leads nowhere
+-- an instruction without `target_of` has no branch targets
 pub no_target : (i : Instruction) (z : ℤ) → target_of i ≡ None → IsTarget i z → ⊥
 no_target i z e (inl f) = cc (f, e)
 no_target i z e (inr (k, f)) = has_target i e k z f

@@ -1,4 +1,4 @@
--- Refusals that no reading of instructions gives.
+-- Refusals that never apply to a code.
 use Rattle.std.specs.Int.{int_gap}
 use Rattle.std.proofs.Common.{zero, suc, pos, Bool, if◌then◌else◌, ◌≡◌, ℕ, true, false, List, Option, Some, None, inl, inr}
 use Rattle.jtypes.specs.declared.refusal.Refusal.{Refusal}
@@ -13,7 +13,7 @@ use Rattle.decode.specs.Places.{CodeStands}
 use Rattle.decode.specs.Table.{form_at}
 use Rattle.jtypes.specs.Profile.{Profile, Second}
 
--- the refusal is none of those that a layout judges
+-- `IsNever` holds if the layout has no part with this refusal
 abbrev IsNever : {A : Type 0} → Refusal → Layout A → Type 0
 IsNever r (known x) = Unit {0}
 IsNever r (part_or q n) = r ≡ q → ⊥

@@ -1,4 +1,4 @@
--- What may not stand behind `wide`.
+-- Opcodes that must not follow `wide`.
 use Rattle.std.proofs.Common.{◌≡◌, ℕ, List, Some, refl, Err}
 use Rattle.jtypes.specs.Layout.{first}
 use Rattle.decode.specs.declared.instruction.Form.{Form}

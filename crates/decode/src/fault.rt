@@ -1,4 +1,4 @@
-//! Where the reading of a code meets a refusal.
+//! A refusal of a code, with its pc.
 
 ghost use Rattle.std.specs.Prelude.{◌≡◌};
 ghost use Rattle.jtypes.specs.declared.refusal.Refusal.TheVariants.{NoMemory};
@@ -6,14 +6,14 @@ ghost use Rattle.jtypes.specs.declared.refusal.Refusal.TheVariants.{NoMemory};
 use jtypes::Refusal;
 use std::alloc::{AllocError, AllocFailed};
 
-/// A refusal, and the place where the instruction begins at which it stands. Of want of memory the place says nothing.
+/// A refusal, and the pc of the instruction to which it applies. The pc of `NoMemory` has no meaning.
 #[derive(Clone, Copy, PartialEq, Eq)]
 pub struct Fault {
     pub refusal: Refusal,
     pub place: usize,
 }
 
-/// Want of memory.
+/// Out of memory.
 const NO_MEMORY: Fault = Fault {
     refusal: Refusal::NoMemory,
     place: 0,

@@ -1,4 +1,4 @@
-//! A code: instructions by their places.
+//! A decoded code: its instructions by pc.
 
 ghost use Rattle.std.specs.Prelude.{ℤ, Some, ◌<◌, slice_get, ◌≡◌, ◌≢◌, ◌==◌, ◌↔◌, length, IsTrue, IfSome, IfNone, Any, pos};
 ghost use Rattle.std.specs.Option.{option_copied};
@@ -12,7 +12,7 @@ use crate::instruction::Placed;
 use jtypes::Refusal;
 use std::marker::Model;
 
-/// The instructions of a code, in the order of their places.
+/// The instructions of a code, in the order of their pcs.
 #[derive(Drop)]
 pub struct Code {
     placed: Vec<Placed>,
@@ -39,8 +39,8 @@ impl Code {
         Code { placed }
     }
 
-    /// The instructions in order: the first stands at 0, and each other one where the one before it ends. The keys of each
-    /// `lookupswitch` rise.
+    /// Returns the instructions in order: the first is at pc 0, and each other one begins at the end of the one before it.
+    /// The keys of each `lookupswitch` are strictly increasing.
     pub fn as_slice(&self) -> &[Placed]
         ensures value { result.now ≡ self.now }
         ensures rising { RisesFrom 0 self.now }
@@ -49,7 +49,7 @@ impl Code {
         self.placed.as_slice()
     }
 
-    /// The number of instructions.
+    /// Returns the number of instructions.
     pub fn len(&self) -> usize
         ensures { result ≡ length self.now }
     {
@@ -62,7 +62,7 @@ impl Code {
         self.placed.is_empty()
     }
 
-    /// The instruction whose opcode stands at a place. The search halves the code each time.
+    /// Returns the instruction at a pc, if one begins there, by binary search.
     pub fn at(&self, place: usize) -> Option<&Placed>
         ensures { option_copied result ≡ at_place self.now place }
     {
@@ -73,7 +73,7 @@ impl Code {
         }
     }
 
-    /// The instruction that ends where a place begins. The search halves the code each time.
+    /// Returns the instruction that ends at a pc, if there is one, by binary search.
     pub fn before(&self, place: usize) -> Option<&Placed>
         ensures { option_copied result ≡ before_place self.now place }
     {
@@ -84,7 +84,7 @@ impl Code {
         }
     }
 
-    /// Whether an instruction stands at a target.
+    /// Returns whether an instruction begins at a target.
     fn has_start(&self, target: i128) -> bool
         requires { RisesFrom 0 self.now }
         ensures { IsTrue result ↔ Any (λ p. pos p.place ≡ target) self.now }
@@ -95,7 +95,7 @@ impl Code {
         }
     }
 
-    /// The refusal of one target of the instruction at a place.
+    /// Returns the refusal of one branch target of the instruction at a pc, if any.
     fn refusal_at(&self, place: usize, target: i128) -> Option<Refusal>
         requires { RisesFrom 0 self.now }
         ensures { IsRefusalAt self.now place target result }
@@ -109,7 +109,7 @@ impl Code {
         }
     }
 
-    /// The refusal of one of the further targets of a switch.
+    /// Returns the refusal of case target `i` of a switch, if any.
     fn refusal_of_case(&self, p: &Placed, i: usize) -> Option<Refusal>
         requires rising { RisesFrom 0 self.now }
         requires there { i < length (cases_of p.now.instruction) }
@@ -118,7 +118,7 @@ impl Code {
         self.refusal_at(p.place, p.instruction.case_target(i))
     }
 
-    /// The refusal of the further targets of a switch.
+    /// Returns the first refusal of a case target of a switch, if any.
     fn refusal_of_cases(&self, p: &Placed) -> Option<Refusal>
         requires { RisesFrom 0 self.now }
         ensures { IsCasesRefusal self.now p.now result }
@@ -131,7 +131,7 @@ impl Code {
         None
     }
 
-    /// The refusal of one instruction's targets.
+    /// Returns the first refusal of a branch target of an instruction, if any.
     fn refusal_of(&self, p: &Placed) -> Option<Refusal>
         requires { RisesFrom 0 self.now }
         ensures { IsTargetRefusal self.now p.now result }
@@ -145,7 +145,7 @@ impl Code {
         }
     }
 
-    /// The first refusal of a target, with the place of its branch.
+    /// Returns the first refusal of a branch target, with the pc of the branch.
     pub(crate) fn target_fault(&self) -> Option<Fault>
         ensures some { IfSome result (λ f. (f.refusal ≢ Refusal.NoMemory) × BranchStandsAt self.now f.place f.refusal) }
         ensures none { IfNone result ((r : Refusal) → BranchStands self.now r → ⊥) }

@@ -1,4 +1,4 @@
-//! The reading of switches (JVMS SE 8 §6.5, `tableswitch` and `lookupswitch`).
+//! Decoding of switches (JVMS §6.5, `tableswitch` and `lookupswitch`).
 
 ghost use Rattle.std.specs.Prelude.{◌≡◌, ◌≤ℤ◌, ℕ, List, pos};
 ghost use Rattle.std.specs.Int.{int_gap};
@@ -12,7 +12,7 @@ use crate::reading::{read_far_target, signed_word};
 use jtypes::{Cursor, Reader, Refusal, row};
 use std::alloc::Global;
 
-/// The targets of the switch at a place.
+/// Reads the targets of the `tableswitch` at pc `place`.
 #[derive(Drop)]
 struct TargetReader {
     place: usize,
@@ -28,7 +28,7 @@ impl Reader for TargetReader {
     }
 }
 
-/// The cases of the switch at a place.
+/// Reads the cases of the `lookupswitch` at pc `place`.
 #[derive(Drop)]
 struct CaseReader {
     place: usize,
@@ -47,14 +47,14 @@ impl Reader for CaseReader {
     }
 }
 
-/// The bytes between the opcode at a place and the next place that is a multiple of four.
+/// Returns the number of bytes between the opcode at pc `place` and the next pc that is a multiple of 4.
 fn padding(place: usize) -> usize
     ensures { result ≡ padding place }
 {
     3 - place % 4
 }
 
-/// How many keys there are from the one to the other.
+/// Returns the number of keys from `low` to `high`, both included.
 fn keys_between(low: i32, high: i32) -> usize
     requires { low ≤ℤ high }
     ensures { result ≡ keys_between low high }
@@ -62,7 +62,7 @@ fn keys_between(low: i32, high: i32) -> usize
     (i64::from(high) - i64::from(low)) as usize + 1
 }
 
-/// A count that isn't negative.
+/// Converts a count that isn't negative.
 fn size_of(count: i32) -> usize
     requires { pos 0 ≤ℤ count }
     ensures { result ≡ int_gap (pos 0) count }
@@ -70,7 +70,7 @@ fn size_of(count: i32) -> usize
     count as usize
 }
 
-/// Whether the keys rise.
+/// Returns whether the keys are strictly increasing.
 fn keys_rise(cases: &[Case]) -> bool
     ensures { result ≡ keys_rise cases.now }
 {
@@ -82,7 +82,7 @@ fn keys_rise(cases: &[Case]) -> bool
     true
 }
 
-/// The operands of `tableswitch`.
+/// Reads the operands of `tableswitch`. Returns `BadOperand` if the low key is above the high one.
 #[tactic(auto, unfolding(crate::specs::Code::operands))]
 pub fn read_table_switch(
     alloc: Global,
@@ -107,7 +107,7 @@ pub fn read_table_switch(
     Ok(Instruction::Switch(default, Cases::Table(low, targets)))
 }
 
-/// The operands of `lookupswitch`.
+/// Reads the operands of `lookupswitch`. Returns `BadOperand` if the count is negative or the keys aren't strictly increasing.
 #[tactic(auto, unfolding(crate::specs::Code::operands))]
 pub fn read_lookup_switch(
     alloc: Global,

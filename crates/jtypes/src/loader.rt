@@ -3,39 +3,40 @@
 ghost use Rattle.std.specs.Prelude.{◌≡◌, false};
 ghost use Rattle.jtypes.specs.declared.loader.LoadAnswer.TheVariants as load;
 
-/// What a loader answered when it was asked.
+/// The answer of a loader to one call.
 #[derive(Clone, Copy, Debug, PartialEq, Eq)]
 pub enum LoadAnswer {
-    /// There is no value.
+    /// The key has no value.
     None,
     Value(i64),
     Failed,
 }
 
-/// A load that failed.
+/// The error of a load that failed.
 #[derive(Clone, Copy, PartialEq, Eq)]
 pub struct LoadFailed;
 
-/// What is asked for the value of a key that has no entry (JSR 107, `CacheLoader`). It returns, and takes no lock and no memory.
+/// Loads the value of a key that has no entry (JSR 107, `CacheLoader`).
+/// An implementation must return, acquire no lock and allocate no memory.
 pub trait Loader {
     ghost use Rattle.std.specs.Prelude.{ℤ, Bool};
     ghost use Rattle.jtypes.specs.declared.loader.LoadAnswer.{LoadAnswer};
     ghost use Rattle.jtypes.specs.Loading.{answer_of};
 
-    /// Whether it is asked at all.
+    /// Whether this loader is ever called.
     const ASKS: bool;
 
     ghost ASKS: { Bool };
 
-    /// The answers that it may give for a key.
+    /// The relation of the answers that `load` may return for a key.
     ghost gives: { Self → ℤ → LoadAnswer → Type 0 };
 
-    /// The value of a key, if there is one.
+    /// Returns the value of a key, or `None` if it has none.
     fn load(&self, key: i64) -> Result<Option<i64>, LoadFailed>
         ensures { gives self.now key (answer_of result) };
 }
 
-/// No loader: none is asked.
+/// No loader: `ASKS` is false, and `load` returns `None`.
 #[derive(Clone, Copy)]
 pub struct NoLoader;
 
@@ -55,7 +56,7 @@ impl LoadAnswer {
     ghost use Rattle.std.specs.Prelude.{◌≡◌};
     ghost use Rattle.jtypes.specs.Loading.{answer_of};
 
-    /// The answer of a `load`.
+    /// Converts the result of `load`.
     pub fn of(answer: Result<Option<i64>, LoadFailed>) -> LoadAnswer
         ensures { result ≡ answer_of answer }
     {
