@@ -1,4 +1,4 @@
--- What one reading of the tables says of the frames that they declare.
+-- The parse of the tables gives exactly the frames that they declare.
 use Rattle.std.proofs.Common.{◌≡◌, ℕ, zero, suc, ◌-◌, ◌<◌, true, false, ltb, List, [], ◌∷◌, ◌++◌, length, get_or, Option, Some, None, Result, Ok, Err, refl, sym, ap, subst, ◌∙◌, append_assoc, arith}
 use Rattle.std.specs.Prelude.{◌==◌}
 use Rattle.std.proofs.lemmas.Bool.{eqb-true, le-ltb}
@@ -41,7 +41,7 @@ entries_found v content es h = go (first (table v) content) refl h
         let value : x.0 ≡ es = cc same in
         whole_found (table v) content es (e ∙ ap (λ (y : List Entry × List ℕ). Ok y) (pair_of x.0 es x.1 [] value none))
 
--- a layout with no judgement and no end
+-- `IsPlain l` holds if the layout has no `judged` and no `ended` part
 abbrev IsPlain : {A : Type 0} → Layout A → Type 0
 IsPlain (known x) = Unit {0}
 IsPlain (part_or r n) = Unit {0}
@@ -51,7 +51,7 @@ IsPlain (stopped r) = Unit {0}
 IsPlain (chosen b l m) = IsPlain l × IsPlain m
 IsPlain ended = ⊥
 
--- what is laid out so is read
+-- a text that a plain layout lays out parses to its value, whatever text follows
 read_back : {A : Type 0} (l : Layout A) (text rest : List ℕ) (v : A) → IsPlain l → IsLaidOut l text v → first l (text ++ rest) ≡ Ok (v, rest)
 read_back (known x) text rest v p h = rw (h.0, h.1) refl
 read_back (part_or r n) text rest v p h =
@@ -148,9 +148,9 @@ declared_again v e code tables ds (with_table content entries frames laid made r
 pub none_declared : (v : ClassView) (e : Environment) (code : List Placed) (tables : List (List ℕ)) (ds : List (ℕ × Frame)) → None ≡ frames_of v e code tables → IsDeclared v e code tables ds → ⊥
 none_declared v e code tables ds h d = let g = declared_again v e code tables ds d in cc (h, g)
 
--- ---- their order
+-- ---- the order of the declared frames
 
--- behind the place before, if there is one
+-- `IsBehind p n` holds if `n` is above the pc before, if there is one
 abbrev IsBehind : Option ℕ → ℕ → Type 0
 IsBehind None n = Unit {0}
 IsBehind (Some q) n = q < n

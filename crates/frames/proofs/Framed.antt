@@ -1,4 +1,4 @@
--- The frames that the entries of a table stand for.
+-- The frames of a table's entries.
 use Rattle.std.proofs.Common.{◌≡◌, ℕ, zero, suc, ◌+◌, ◌-◌, ◌≤◌, ◌<◌, Bool, true, false, List, [], ◌∷◌, ◌++◌, length, drop, take, Option, Some, None, refl, sym, ap, subst, ◌∙◌, append_assoc, arith}
 use Rattle.std.specs.Prelude.{nat_le, map, option_map, option_and_then, is_some, IsSome, slice_index_or, All}
 use Rattle.std.proofs.lemmas.Bool.{le-leb, leb-true}
@@ -25,7 +25,7 @@ use Rattle.frames.proofs.Rows.{drop_at_item, drop_past}
 abbrev listed_with : ℕ → List JType → List JType → Listed
 listed_with place stack locals = record { place = place; locals = locals; stack = stack }
 
--- a change makes its locals and its stack
+-- the frame of a change has the locals `locals_after` and the stack `stack_after`
 by_change : (place : ℕ) (locals : List JType) (c : Change) → frame_of_change place locals c ≡ option_map (listed_with place (stack_after c)) (locals_after locals c)
 by_change place locals Same = refl
 by_change place locals (OneItem t) = refl
@@ -37,7 +37,7 @@ by_change place locals (Chop n) = go (nat_le n (length locals))
 by_change place locals (Append types) = refl
 by_change place locals (Full new stack) = refl
 
--- what four steps give
+-- the intermediate results when `chained` gives a frame
 record Links (s : Option ℕ) (l : Option (List JType)) (w : List JType → Option (List JType)) (k : Option (List JType)) (x : Listed) : Type 0 where
   place : ℕ
   after : List JType
@@ -52,7 +52,7 @@ record Links (s : Option ℕ) (l : Option (List JType)) (w : List JType → Opti
 abbrev chained : Option ℕ → Option (List JType) → (List JType → Option (List JType)) → Option (List JType) → Option Listed
 chained s l w k = option_and_then (λ place. option_and_then (λ after. option_and_then (λ roomy. option_and_then (λ stack. Some (listed_with place stack roomy)) k) (w after)) l) s
 
--- the same, where the locals that have room are one step
+-- `chained` with the new locals and their check as one step
 by_links : (s : Option ℕ) (l : Option (List JType)) (w : List JType → Option (List JType)) (k : Option (List JType))
     → option_and_then (λ place. option_and_then (λ roomy. option_and_then (λ stack. Some (listed_with place stack roomy)) k) (option_and_then w l)) s ≡ chained s l w k
 by_links None l w k = refl
@@ -124,7 +124,7 @@ unmapped : {A B : Type 0} (f : A → B) (o : Option A) → option_map f o ≡ No
 unmapped f None h = refl
 unmapped f (Some x) h = cc
 
--- the frames before, and those that are still to be made
+-- the frames found so far, followed by those of the remaining entries
 abbrev pub with_frames : List (ℕ × Frame) → Option (List (ℕ × Frame)) → Option (List (ℕ × Frame))
 with_frames fs o = option_map (λ gs. fs ++ gs) o
 
@@ -142,7 +142,7 @@ seen_more kept ds now d h = ap (declared_seen kept) h ∙ seen_append kept ds (d
 -- ---- all entries
 
 module _ (e : Environment) (code : List Placed) where
-  -- the rest, after the frame of an entry
+  -- the frames of an entry and of the entries after it
   abbrev pub rest_of : List Entry → Listed → Option (List (ℕ × Frame))
   rest_of es x = option_map (λ ds. declared_of e x ∷ ds) (framed e code (Some x.place) x.locals es)
 
@@ -187,7 +187,7 @@ module _ (e : Environment) (code : List Placed) where
 
   -- ---- the loop over the entries
 
-  -- the next entry's frame behind those before it
+  -- an entry with a frame keeps the loop's invariant, with the frame appended
   pub frames_more : (fs : List (ℕ × Frame)) (es : List Entry) (i : ℕ) (a : Entry) (p : Option ℕ) (locals after stack : List JType) (place : ℕ) (frame : Frame) (total : Option (List (ℕ × Frame))) → i < length es → a ≡ slice_index_or es i a
       → option_map reached (next_listed e code p locals a) ≡ Some (record { place = place; locals = after; stack = stack }) → frame ≡ frame_with e.max_locals after stack
       → with_frames fs (framed e code p locals (drop i es)) ≡ total → with_frames (fs ++ (place, frame) ∷ []) (framed e code (Some place) after (drop (i + 1) es)) ≡ total
@@ -201,7 +201,7 @@ module _ (e : Environment) (code : List Placed) where
       let whole : framed e code p locals (drop i es) ≡ option_map (λ ds. d ∷ ds) (framed e code (Some place) after rest) = rw (drop_at_item es i a l h, r.1, next, here) refl in
       sym (ap (with_frames fs) whole ∙ regrouped fs d (framed e code (Some place) after rest)) ∙ so_far
 
-  -- an entry with no frame
+  -- an entry without a frame makes the result `None`
   pub frames_none : (fs : List (ℕ × Frame)) (es : List Entry) (i : ℕ) (a : Entry) (p : Option ℕ) (locals : List JType) (total : Option (List (ℕ × Frame))) → i < length es → a ≡ slice_index_or es i a
       → option_map reached (next_listed e code p locals a) ≡ None → with_frames fs (framed e code p locals (drop i es)) ≡ total → None ≡ total
   frames_none fs es i a p locals total l h f so_far =

@@ -1,4 +1,4 @@
--- The locals that entries list, and the rows that are kept of them.
+-- The locals of the entries, and the kept ones.
 use Rattle.std.proofs.Common.{◌≡◌, ℕ, zero, suc, ◌+◌, ◌-◌, ◌<◌, ◌≤◌, Bool, true, false, List, [], ◌∷◌, ◌++◌, length, take, drop, replicate, Option, Some, None, refl, sym, ap, ◌∙◌, append_assoc, arith}
 use Rattle.std.specs.Prelude.{nat_le, slice_index_or, option_and_then}
 use Rattle.std.proofs.lemmas.Bool.{le-leb, lt-leb, leb-true, leb-false}
@@ -56,21 +56,21 @@ tail_whole ts zero = ap (λ (n : ℕ). take n ts) (let e : length ts - 0 ≡ len
 tail_whole [] (suc k) = ap (λ (n : ℕ). take n []) (let e : length {A = JType} [] - suc k ≡ 0 = omega arith in e)
 tail_whole (t ∷ ts) (suc k) = ap (λ (n : ℕ). take n (drop k ts)) (let e : length (t ∷ ts) - suc k ≡ length ts - k = omega arith in e) ∙ tail_whole ts k
 
--- the locals that the types from a place on take
+-- the number of locals that the types from index `k` on fill
 pub tail_length : (ts now listed : List JType) (k : ℕ) → now ≡ ts → listed ≡ locals_of_types (take (length now - k) (drop k now)) → length listed ≡ slots (drop k ts)
 tail_length ts now listed k e h =
     spread_written (drop k ts) listed (h ∙ ap locals_of_types (tail_whole now k ∙ ap (λ (l : List JType). drop k l) e))
 
--- ---- rows
+-- ---- padded locals
 
--- a blank row with the first types
+-- a write of the first types to blank locals gives their padded locals
 pub row_started : (max : ℕ) (ts listed row : List JType) → listed ≡ locals_of_types ts → slots ts ≤ max → row ≡ written (replicate max Top) 0 listed → row ≡ row_with max ts
 row_started max ts listed row e h w =
     let all : max - 0 ≡ max = omega arith in
     let bare : padded Top max [] ≡ replicate max Top = ap (λ (n : ℕ). replicate n Top) all in
     w ∙ ap (written (replicate max Top) 0) e ∙ ap (λ (r : List JType). written r 0 (locals_of_types ts)) (sym bare) ∙ append_written [] (locals_of_types ts) max (omega (arith, h, spread_length ts))
 
--- types listed behind others
+-- a write of more types after the listed ones gives the padded locals of all
 pub row_longer : (max : ℕ) (ts us row next : List JType) (at : ℕ) → row ≡ row_with max ts → at ≡ slots ts → slots ts + slots us ≤ max → next ≡ written row at (locals_of_types us) → next ≡ row_with max (ts ++ us)
 row_longer max ts us row next at e f h w =
     let place : at ≡ length (locals_of_types ts) = f ∙ sym (spread_length ts) in
@@ -78,7 +78,7 @@ row_longer max ts us row next at e f h w =
     ∙ append_written (locals_of_types ts) (locals_of_types us) max (omega (arith, h, spread_length ts, spread_length us))
     ∙ ap (padded Top max) (sym (spread_append ts us))
 
--- the last types gone
+-- a write of `Top` over the last types gives the padded locals of the remaining ones
 pub row_shorter : (max : ℕ) (ts us row next : List JType) (at gone : ℕ) → row ≡ row_with max (ts ++ us) → at ≡ slots ts → gone ≡ slots us → slots ts + slots us ≤ max → next ≡ written row at (replicate gone Top) → next ≡ row_with max ts
 row_shorter max ts us row next at gone e f g h w =
     let place : at ≡ length (locals_of_types ts) = f ∙ sym (spread_length ts) in
@@ -92,7 +92,7 @@ blanks : (a b : ℕ) → replicate a Top ++ replicate b Top ≡ replicate (a + b
 blanks zero b = ap (λ (n : ℕ). replicate n Top) (let e : b ≡ 0 + b = omega arith in e)
 blanks (suc a) b = ap (λ (r : List JType). Top ∷ r) (blanks a b) ∙ ap (λ (n : ℕ). replicate n Top) (let e : suc (a + b) ≡ suc a + b = omega arith in e)
 
--- what is written at the front stands before what was left behind it
+-- a write at index 0 replaces the front and keeps the rest
 written_front : (row types : List JType) → length types ≤ length row → written row 0 types ≡ types ++ drop (length types) row
 written_front [] [] h = refl
 written_front [] (t ∷ types) h = absurd (omega (arith, h))
@@ -121,14 +121,14 @@ replaced xs ys max h k =
     ∙ append_assoc ys (replicate (length xs - length ys) Top) (replicate behind Top)
     ∙ ap (λ (r : List JType). ys ++ r) (blanks (length xs - length ys) behind ∙ ap (λ (n : ℕ). replicate n Top) sum)
 
--- other types in the place of all
+-- a write of other types, padded to the old length, gives their padded locals
 pub row_replaced : (max : ℕ) (ts us row next new : List JType) (at : ℕ) → row ≡ row_with max ts → at ≡ slots ts → slots ts ≤ max → slots us ≤ max → new ≡ padded Top at (locals_of_types us) → next ≡ written row 0 new → next ≡ row_with max us
 row_replaced max ts us row next new at e f h k g w =
     let place : at ≡ length (locals_of_types ts) = f ∙ sym (spread_length ts) in
     w ∙ ap (λ (r : List JType). written r 0 new) e ∙ ap (written (row_with max ts) 0) (g ∙ ap (λ (n : ℕ). padded Top n (locals_of_types us)) place)
     ∙ replaced (locals_of_types ts) (locals_of_types us) max (omega (arith, h, spread_length ts)) (omega (arith, k, spread_length us))
 
--- ---- room
+-- ---- limits
 
 pub roomy : (ts : List JType) (max : ℕ) → slots ts ≤ max → within max ts ≡ Some ts
 roomy ts max h = rw (le-leb (slots ts) max h) refl
@@ -142,14 +142,14 @@ overflows us max b f g = not_roomy us max (leb-false (slots us) max (sym f ∙ g
 pub fits_room : (us : List JType) (max : ℕ) (b : Bool) → b ≡ nat_le (slots us) max → b ≡ true → slots us ≤ max
 fits_room us max b f g = leb-true (slots us) max (sym f ∙ g)
 
--- types padded up to what was listed before have room
+-- types padded to the old number of locals fit in `max`
 pub front_fits : (us new : List JType) (at max : ℕ) → new ≡ padded Top at (locals_of_types us) → slots us ≤ max → at ≤ max → length new ≤ max
 front_fits us new at max e h k =
     let len : length new ≡ length (locals_of_types us) + (at - length (locals_of_types us)) =
     ap (λ (l : List JType). length l) e ∙ length-append (locals_of_types us) (replicate (at - length (locals_of_types us)) Top) ∙ ap (λ (n : ℕ). length (locals_of_types us) + n) (length-replicate (at - length (locals_of_types us)) Top) in
     omega (arith, len, h, k, spread_length us)
 
--- no room behind others
+-- if appended types don't fit in the remaining slots, all types together exceed `max`
 pub append_overflows : (max at : ℕ) (ts us : List JType) (b : Bool) → at ≡ slots ts → at ≤ max → b ≡ nat_le (slots us) (max - at) → b ≡ false → within max (ts ++ us) ≡ None
 append_overflows max at ts us b e h f g =
     let over : max - at < slots us = leb-false (slots us) (max - at) (sym f ∙ g) in
@@ -171,7 +171,7 @@ is_listing l ts h e row count = record {
   room = omega (arith, h, count);
 }
 
--- types were listed that have room
+-- types that fit satisfy `IsAfter`
 pub is_after : (l next : Listing) (ts : List JType) → slots ts ≤ l.max_locals → next.types.items ≡ ts → next.locals.row ≡ row_with l.max_locals ts → next.slots ≡ slots ts → next.locals.kept ≡ l.locals.kept → next.max_locals ≡ l.max_locals
     → IsAfter l (within l.max_locals ts) true next
 is_after l next ts h e row count kept max = record {
@@ -181,7 +181,7 @@ is_after l next ts h e row count kept max = record {
   max = max;
 }
 
--- the last types went
+-- dropped types satisfy `IsAfter` for `Chop`
 pub is_chopped : (l next : Listing) (n k gone : ℕ) → IsListing l → n ≤ length l.types.items → k ≡ length l.types.items - n → gone ≡ slots (drop k l.types.items) → next.types.items ≡ take k l.types.items
     → next.locals.row ≡ written l.locals.row next.slots (replicate gone Top) → next.slots ≡ l.slots - gone → next.locals.kept ≡ l.locals.kept → next.max_locals ≡ l.max_locals
     → IsAfter l (option_and_then (within l.max_locals) (locals_after l.types.items (Chop n))) true next
@@ -197,19 +197,19 @@ is_chopped l next n k gone h le e g types row count kept max =
     let done = is_after l next front fits types shorter at kept max in
     record { types = after ∙ done.types; listing = done.listing; kept = done.kept; max = done.max }
 
--- types were listed that have none
+-- without types to list, `IsAfter` holds with `false`
 pub not_after : (l next : Listing) (listed : Option (List JType)) → listed ≡ None → next.locals.kept ≡ l.locals.kept → next.max_locals ≡ l.max_locals → IsAfter l listed false next
 not_after l next listed e kept max = record { types = e; listing = λ u. cc; kept = kept; max = max }
 
--- ---- rows that are kept
+-- ---- kept locals
 
--- a row that was kept behind the others
+-- the last kept locals are at the index `length kept`
 pub kept_last : (kept next : List (List JType)) (row : List JType) (n : ℕ) → next ≡ kept ++ row ∷ [] → n ≡ length kept → (n < length next) × (slice_index_or next n [] ≡ row)
 kept_last kept next row n e f =
     let len : length next ≡ length kept + 1 = ap (λ (l : List (List JType)). length l) e ∙ length-append kept (row ∷ []) in
     (omega (arith, f, len), ap (λ (l : List (List JType)). slice_index_or l n []) e ∙ get_or_push kept row [] n (sym f))
 
--- the first row that was kept is that of the first frame
+-- `BeginsWith e kept` holds if the locals kept first are those of the initial frame
 pub record BeginsWith (e : Environment) (kept : List (List JType)) : Type 0 where
   pub there : 0 < length kept
   pub is : slice_index_or kept 0 [] ≡ locals_of e e.signature.params

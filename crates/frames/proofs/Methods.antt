@@ -1,4 +1,4 @@
--- The methods of a class, one after the other.
+-- The search among the methods of a class, in order.
 use Rattle.std.proofs.Common.{◌≡◌, ◌≢◌, ◌<◌, ◌+◌, ℕ, suc, add-one, true, false, if◌then◌else◌, List, [], ◌∷◌, length, drop, drop-cons, Option, Some, None, sym, ap, ◌∙◌}
 use Rattle.std.specs.Prelude.{slice_get}
 use Rattle.std.proofs.lemmas.Option.{slice_get_within, get_or_from_slice_get, slice_get-get_or}
@@ -10,7 +10,7 @@ drop_at : {A : Type 0} (xs : List A) (k : ℕ) (x : A) → slice_get xs k ≡ So
 drop_at xs k x e =
     drop-cons xs k x (slice_get_within xs k x e) ∙ ap (λ y. y ∷ drop (suc k) xs) (get_or_from_slice_get xs k x x e) ∙ ap (λ n. x ∷ drop n xs) (sym (add-one k))
 
--- the method at a number is the one that the member names, or what is looked for comes later
+-- the search from index `k` on finds the method at `k`, or continues at `k + 1`
 at_number : (methods : List MethodView) (m : MemberRef) (k : ℕ) (v : MethodView) → slice_get methods k ≡ Some v
     → numbered k (drop k methods) m ≡ (if is_method m v then Some (k, v) else numbered (k + 1) (drop (k + 1) methods) m)
 at_number methods m k v e =

@@ -1,4 +1,4 @@
--- The methods of one name.
+-- Methods with the same name.
 use Rattle.std.proofs.Common.{◌≡◌, ◌<◌, ◌+◌, ℕ, zero, suc, Bool, true, false, not, ◌&&◌, List, [], ◌∷◌, ◌++◌, length, drop, take, Option, Some, None, refl, sym, ap, ◌∙◌, subst, inl, inr, arith}
 use Rattle.std.specs.Prelude.{◌==◌, ◌⊎◌, slice_get, get_or, map, All, IfSome, option_map, option_and_then}
 use Rattle.std.proofs.lemmas.Bool.{and_parts, eqb-true}
@@ -26,7 +26,7 @@ bytes_are (x ∷ xs) (y ∷ ys) h =
 bytes_are [] (y ∷ ys) h = cc
 bytes_are (x ∷ xs) [] h = cc
 
--- ---- a list with one element more
+-- ---- a list after a push
 
 stays : {A : Type 0} (xs : List A) (y x : A) (i : ℕ) → slice_get xs i ≡ Some x → slice_get (xs ++ y ∷ []) i ≡ Some x
 stays [] y x i h = cc
@@ -42,7 +42,7 @@ was_or_is_last (z ∷ xs) y x (suc i) h = elim (was_or_is_last xs y x i h) [
   | inr last ↦ inr (ap suc last.0, last.1)
 ]
 
--- ---- the methods that were signed so far
+-- ---- the methods with signatures so far
 
 namesake_stays : (ms : List SignedMethod) (s : SignedMethod) (name : List ℕ) (j : ℕ) → IsNamesake ms name j → IsNamesake (ms ++ s ∷ []) name j
 namesake_stays ms s name j is = (is.0, stays ms s is.0 j is.1, is.2)
@@ -85,7 +85,7 @@ one_more v k ms s are at signature namesake = record {
 abbrev pub names_asked : List ℕ → List SignedMethod → List Bool
 names_asked name ms = map (λ s. same_bytes name s.method.name.now) ms
 
--- what was asked of a namesake is the answer for its method
+-- the comparison with a namesake has the result of the comparison with its method
 pub asked_before : (name : List ℕ) (ms : List SignedMethod) (k j : ℕ) (s : SignedMethod) → AreNamesakes ms → slice_get ms k ≡ Some s → s.namesake ≡ Some j
     → slice_get (names_asked name (take k ms)) j ≡ Some (same_bytes name s.method.name.now)
 asked_before name ms k j s are at is =

@@ -1,4 +1,4 @@
--- Places and slots, as the readers of a table count them.
+-- Pcs and slots, as the readers of a table count them.
 use Rattle.std.proofs.Common.{◌≡◌, ℕ, ◌+◌, ◌^◌, ◌≤◌, ◌<◌, true, false, List, [], ◌∷◌, ◌++◌, length, drop, Some, None, refl, sym, ap, ◌∙◌, append_assoc, arith}
 use Rattle.std.specs.Prelude.{nat_le, reverse, option_map, slice_index_or}
 use Rattle.std.proofs.lemmas.Bool.{ne_eqb, le-leb, lt-leb}
@@ -11,7 +11,7 @@ use Rattle.decode.specs.Reading.{RisesFrom}
 use Rattle.frames.specs.Reading.{standing, within}
 use Rattle.frames.proofs.Rows.{drop_at_item, drop_past}
 
--- no instruction stands where no number of 64 bits reaches
+-- no instruction starts at a pc of 2 ^ 64 or more
 pub none_far : (q : ℕ) (code : List Placed) (n : ℕ) → RisesFrom q code → 2 ^ 64 ≤ n → at_place code n ≡ None
 none_far q [] n h le = refl
 none_far q (x ∷ xs) n (e, l, f, h) le = rw (ne_eqb x.place n (λ s. omega arith)) (none_far x.next xs n h le)
@@ -19,7 +19,7 @@ none_far q (x ∷ xs) n (e, l, f, h) le = rw (ne_eqb x.place n (λ s. omega arit
 pub not_standing : (code : List Placed) (n : ℕ) → RisesFrom 0 code → 2 ^ 64 ≤ n → standing code n ≡ None
 not_standing code n h le = rw (none_far 0 code n h le) refl
 
--- the slots of the items from a place on
+-- the number of slots of the types
 abbrev pub slots : List JType → ℕ
 slots ts = slots_by is_long ts
 
@@ -35,7 +35,7 @@ has_room ts max h = le-leb (slots ts) max h
 pub lacks_room : (ts : List JType) (max : ℕ) → max < slots ts → nat_le (slots ts) max ≡ false
 lacks_room ts max h = lt-leb (slots ts) max h
 
--- ---- a stack that grows by the types in their order
+-- ---- a stack after pushes of the types in their order
 
 pub stacked_more : (ts stack all : List JType) (i : ℕ) (t : JType) → i < length ts → t ≡ slice_index_or ts i t → reverse (drop i ts) ++ stack ≡ all → reverse (drop (i + 1) ts) ++ (t ∷ stack) ≡ all
 stacked_more ts stack all i t h e so_far =

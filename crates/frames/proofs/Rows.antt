@@ -1,4 +1,4 @@
--- Rows that grow, as a loop builds them.
+-- Lists that a loop builds by pushes.
 use Rattle.std.proofs.Common.{◌≡◌, ℕ, zero, suc, ◌+◌, ◌-◌, ◌≤◌, ◌<◌, add-one, drop-cons, List, [], ◌∷◌, ◌++◌, length, drop, Option, Some, None, refl, sym, ap, ◌∙◌, append_assoc, replicate, arith}
 use Rattle.std.specs.Prelude.{slice_index_or, option_map}
 use Rattle.std.proofs.lemmas.List.{append-nil}
@@ -8,7 +8,7 @@ use Rattle.jtypes.specs.Types.{is_long, as_locals}
 use Rattle.constpool.specs.declared.descriptor.FieldType.{FieldType}
 use Rattle.frames.specs.Signatures.{field_type, field_types}
 
--- the locals of types
+-- the types as locals: `Top` follows each long
 abbrev pub locals_of_types : List JType → List JType
 locals_of_types ts = as_locals is_long (λ t. t) Top ts
 
@@ -21,11 +21,11 @@ blanks_more xs now next x i n e f h =
     let k : suc (i - n) ≡ i + 1 - n = omega arith in
     f ∙ ap (λ l. l ++ x ∷ []) e ∙ append_assoc xs (replicate (i - n) x) (x ∷ []) ∙ ap (λ l. xs ++ l) (replicate_more (i - n) x ∙ ap (λ m. replicate m x) k)
 
--- the items from a place on
+-- the list from index `i` on is the item at `i` and the list from `i + 1` on
 pub drop_at_item : {A : Type 0} (xs : List A) (i : ℕ) (x : A) → i < length xs → x ≡ slice_index_or xs i x → drop i xs ≡ x ∷ drop (i + 1) xs
 drop_at_item xs i x h e = drop-cons xs i x h ∙ ap (λ y. y ∷ drop (suc i) xs) (sym e) ∙ ap (λ n. x ∷ drop n xs) (sym (add-one i))
 
--- what was found before, and the types that are still to be found
+-- the types found so far, followed by those of the remaining field types
 abbrev pub found_before : List ℕ → List JType → List FieldType → Option (List JType)
 found_before own found rest = option_map (λ us. found ++ us) (field_types own rest)
 

@@ -1,4 +1,4 @@
--- Members, methods, the library's rows and declared frames of the code, as the definitions see them.
+-- The models of the code's members, methods, library methods and declared frames.
 use Rattle.std.specs.Prelude.{◌≡◌, ◌<◌, ◌^◌, ℕ, List, [], length, map, get_or, slice_index_or, All}
 use Rattle.jtypes.specs.declared.types.JType.{JType}
 use Rattle.constpool.specs.declared.lookup.MemberRef.{MemberRef}
@@ -25,7 +25,7 @@ row_seen r = record { kind = r.kind; class = r.class.now; name = r.name.now; des
 abbrev pub frame_seen : Flow → Frame
 frame_seen f = record { locals = f.locals.row; stack = f.stack }
 
--- the frame of a declared one, by the rows of locals that were kept
+-- the declared frame, with its locals from the kept ones
 abbrev pub frame_kept : List (List JType) → Declared → Frame
 frame_kept kept d = record { locals = slice_index_or kept d.row []; stack = d.stack }
 
@@ -35,16 +35,16 @@ declared_seen kept ds = map (λ d. (d.place, frame_kept kept d)) ds
 abbrev pub frames_seen : Frames → List (ℕ × Frame)
 frames_seen fs = declared_seen fs.first.locals.kept fs.declared.items
 
--- the row of each declared frame was kept
+-- `AreKept kept ds` holds if the locals of each declared frame are among the kept ones
 abbrev pub AreKept : List (List JType) → List Declared → Type 0
 AreKept kept ds = All (λ d. d.row < length kept) ds
 
--- declared frames whose places rise and fit into memory
+-- `AreInOrder ds` holds if the pcs of the declared frames increase and are below 2 ^ 64
 pub record AreInOrder (ds : List Declared) : Type 0 where
   pub rise : (i j : ℕ) (d : Declared) → i < j → j < length ds → (get_or ds i d).place < (get_or ds j d).place
   pub fit : (i : ℕ) (d : Declared) → i < length ds → (get_or ds i d).place < 2 ^ 64
 
--- what a method's tables are read as: its first frame flows, and the declared ones are kept beside it
+-- `AreRead e fs` holds if `fs` has the method's initial frame, which keeps the locals of the declared ones, and their pcs are below 2 ^ 64
 pub record AreRead (e : Environment) (fs : Frames) : Type 0 where
   pub first : frame_seen fs.first ≡ first_frame e
   pub rows : AreKept fs.first.locals.kept fs.declared.items

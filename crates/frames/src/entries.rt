@@ -9,7 +9,8 @@ use classfile::ClassView;
 use jtypes::{Cursor, Items, JType, Reader, Refusal, row};
 use std::alloc::Global;
 
-/// How an entry's frame differs from the one before it. The stack's bottom comes first, and a long is one local.
+/// The change from the frame before an entry to the entry's frame. `Chop` has the number of dropped locals.
+/// `Full` has the locals, then the operands with the bottom first. A long is one local here.
 #[derive(Drop)]
 pub enum Change {
     Same,
@@ -19,7 +20,7 @@ pub enum Change {
     Full(Items<JType>, Items<JType>),
 }
 
-/// An entry of a StackMapTable (JVMS §4.7.4).
+/// An entry of a StackMapTable: its `offset_delta`, and the change of the frame (JVMS §4.7.4).
 #[derive(Drop)]
 pub struct Entry {
     pub delta: u16,
@@ -165,7 +166,7 @@ fn read_full(alloc: Global, view: &ClassView<'_>, cursor: &mut Cursor<'_>) -> Re
     Ok(Entry { delta, change })
 }
 
-/// An entry, by the byte that it begins with (JVMS §4.7.4, `stack_map_frame`).
+/// Reads an entry, by its first byte, the `frame_type` (JVMS §4.7.4, `stack_map_frame`).
 #[tactic(auto, unfolding(crate::specs::StackMap::entry))]
 fn read_entry(
     alloc: Global,
@@ -190,7 +191,7 @@ fn read_entry(
     }
 }
 
-/// The entries of a table at the front of bytes.
+/// Reads a table from the front of the bytes: a 16-bit count, then the entries.
 #[tactic(auto, unfolding(crate::specs::StackMap::table))]
 pub fn read_table(
     alloc: Global,

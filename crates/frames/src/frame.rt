@@ -1,4 +1,4 @@
-//! Frames.
+//! Frames, and the environment of a method.
 
 ghost use Rattle.std.specs.Prelude.{◌≡◌, IfOk, Some, None, nat_le, if◌then◌else◌};
 ghost use Rattle.jtypes.specs.Lists.{padded};
@@ -12,7 +12,7 @@ use locals::Locals;
 use std::alloc::{AllocError, Global};
 use std::marker::Model;
 
-/// What an instruction knows of its method (JVMS §4.10.1.6).
+/// The environment of a method's instructions (JVMS §4.10.1.6). Both limits count slots.
 #[derive(Drop)]
 pub struct Environment {
     pub signature: Signature,
@@ -20,7 +20,7 @@ pub struct Environment {
     pub max_locals: u16,
 }
 
-/// The environment of a method whose parameters have room among its locals, so that it has a first frame (JVMS §4.10.1.6).
+/// The environment of a method whose parameters fit in its locals, so that its initial frame exists (JVMS §4.10.1.6).
 #[derive(Drop)]
 pub struct MethodStart {
     environment: Environment,
@@ -37,15 +37,15 @@ impl Model for MethodStart {
     ghost invariant = { λ s. HasRoom s.environment };
 }
 
-/// A frame that is written in place: the types of a method's locals, of which there are max_locals, and of its operands (JVMS
-/// §4.10.1.4). A long is one operand, and two locals of which the second is `Top`.
+/// A mutable frame: the types of a method's `max_locals` locals and of its operands (JVMS §4.10.1.4).
+/// A long is one operand, but two locals, the second of which is `Top`.
 #[derive(Drop)]
 pub struct Flow {
     pub locals: Locals,
     pub stack: TypeStack,
 }
 
-/// Whether so many slots have room for the types.
+/// Checks that the types fit in this number of slots.
 pub fn have_room(types: &[JType], slots: usize) -> bool
     ensures { result ≡ nat_le (slots_by is_long types.now) slots }
 {
@@ -60,7 +60,7 @@ pub fn have_room(types: &[JType], slots: usize) -> bool
     true
 }
 
-/// The locals that these types take.
+/// Returns the types as locals: `Top` follows each long.
 pub fn as_locals(alloc: Global, types: &[JType]) -> Result<Vec<JType>, AllocError>
     ensures { IfOk result (λ locals. locals.items ≡ as_locals is_long (λ t. t) Top types.now) }
 {
@@ -74,7 +74,7 @@ pub fn as_locals(alloc: Global, types: &[JType]) -> Result<Vec<JType>, AllocErro
     Ok(locals)
 }
 
-/// The locals with `Top` up to this count.
+/// Appends `Top` up to this number of locals.
 pub fn padded(mut locals: Vec<JType>, count: usize) -> Result<Vec<JType>, AllocError>
     ensures { IfOk result (λ all. all.items ≡ padded Top count locals.items) }
 {
@@ -85,7 +85,7 @@ pub fn padded(mut locals: Vec<JType>, count: usize) -> Result<Vec<JType>, AllocE
 }
 
 impl MethodStart {
-    /// The start of a method, unless its parameters have no room.
+    /// Returns the start of a method, or `None` if its parameters don't fit in its locals.
     pub fn new(environment: Environment) -> Option<MethodStart>
         ensures { result ≡ (if nat_le (slots_by is_long environment.signature.params) environment.max_locals then Some environment else None) }
     {

@@ -1,4 +1,4 @@
-//! The locals of a table's entries.
+//! The locals of a table's frames, computed entry by entry.
 
 ghost use Rattle.std.specs.Prelude.{◌≡◌, ◌<◌, ◌++◌, ◌∷◌, [], true, length, slice_index_or, option_map, option_and_then, reverse, IfOk};
 ghost use Rattle.frames.specs.Frames.{row_with};
@@ -13,22 +13,22 @@ use jtypes::JType;
 use locals::Locals;
 use std::alloc::{AllocError, Global};
 
-/// The locals that the entries of a table list, one entry behind the other: those of the last as the table lists them and as a
-/// row, and the rows of all that were kept.
+/// The locals of a table's frames, computed entry by entry.
+/// `types` has the current locals with a long as one; `locals` has them padded to `max_locals`, and keeps those of all entries.
 #[derive(Drop)]
 pub struct Listing {
     alloc: Global,
     max_locals: usize,
     types: Vec<JType>,
-    /// How many locals the types take.
+    /// The number of locals that `types` fill; a long fills two.
     slots: usize,
     locals: Locals,
-    /// The number of the last row among those that were kept.
+    /// The index of the last kept locals.
     number: usize,
 }
 
 impl Listing {
-    /// The method's parameters, kept as its first row.
+    /// Returns the method's parameters, kept at index 0.
     pub fn at_start(alloc: Global, start: &MethodStart) -> Result<Listing, AllocError>
         ensures listing { IfOk result (λ l. IsListing l × IsKept l) }
         ensures types { IfOk result (λ l. (l.types.items ≡ start.now.signature.params) × (l.max_locals ≡ start.now.max_locals)) }
@@ -51,7 +51,7 @@ impl Listing {
         })
     }
 
-    /// Drops the last types. False where there are fewer.
+    /// Drops the last `count` types. Returns false if there are fewer.
     fn chop(&mut self, count: u8) -> Result<bool, AllocError>
         requires { IsListing self.old }
         ensures { IfOk result (λ yes. IsAfter self.old (option_and_then (within self.old.max_locals) (locals_after self.old.types.items (Chop count))) yes self.new) }
@@ -69,7 +69,7 @@ impl Listing {
         Ok(true)
     }
 
-    /// Lists types behind the others, where they have room.
+    /// Appends types. Returns false if all of them exceed `max_locals`.
     fn append(&mut self, types: &[JType]) -> Result<bool, AllocError>
         requires { IsListing self.old }
         ensures { IfOk result (λ yes. IsAfter self.old (within self.old.max_locals (self.old.types.items ++ types.now)) yes self.new) }
@@ -84,7 +84,7 @@ impl Listing {
         Ok(true)
     }
 
-    /// Lists types in the place of the others, where they have room.
+    /// Replaces the types. Returns false if the new ones exceed `max_locals`.
     fn replace(&mut self, types: &[JType]) -> Result<bool, AllocError>
         requires { IsListing self.old }
         ensures { IfOk result (λ yes. IsAfter self.old (within self.old.max_locals types.now) yes self.new) }
@@ -102,7 +102,7 @@ impl Listing {
         Ok(true)
     }
 
-    /// Keeps the row.
+    /// Keeps the current locals at a new index.
     fn keep(&mut self) -> Result<(), AllocError>
         ensures kept { IfOk result (λ _. self.new.locals.kept ≡ self.old.locals.kept ++ self.old.locals.row ∷ []) }
         ensures number { IfOk result (λ _. self.new.number ≡ length self.old.locals.kept) }
@@ -114,8 +114,8 @@ impl Listing {
         self.locals.keep()
     }
 
-    /// Makes the locals those of an entry's frame, and keeps their row where the entry lists others than the one before. False
-    /// where fewer are listed than are chopped, or they have no room.
+    /// Changes the locals to those of an entry's frame, and keeps them unless the entry repeats the locals before it.
+    /// Returns false if more types are chopped than there are, or if the new ones exceed `max_locals`.
     pub fn change(&mut self, change: &Change) -> Result<bool, AllocError>
         requires listing { IsListing self.old }
         requires kept { IsKept self.old }
@@ -133,14 +133,14 @@ impl Listing {
         Ok(changed)
     }
 
-    /// The number of the row of the types that are listed.
+    /// Returns the index of the last kept locals.
     pub fn number(&self) -> usize
         ensures { result ≡ self.now.number }
     {
         self.number
     }
 
-    /// The method's first frame, with all rows that were kept.
+    /// Returns the method's initial frame, the locals kept first and no operands. It has all kept locals.
     pub fn into_first(self) -> Flow
         requires { 0 < length self.locals.kept }
         ensures row { result.locals.row ≡ slice_index_or self.locals.kept 0 [] }
@@ -156,7 +156,7 @@ impl Listing {
     }
 }
 
-/// The stack with these types, of which the bottom comes first, where so many slots have room for them.
+/// Returns the stack of these types, given with the bottom first, or `None` if they exceed `max` slots.
 fn stack_with(alloc: Global, types: &[JType], max: u16) -> Result<Option<TypeStack>, AllocError>
     ensures { IfOk result (λ stack. stack ≡ option_map reverse (within max types.now)) }
 {
@@ -169,7 +169,7 @@ fn stack_with(alloc: Global, types: &[JType], max: u16) -> Result<Option<TypeSta
     Ok(Some(stack))
 }
 
-/// The stack of an entry's frame.
+/// Returns the operand stack of an entry's frame, or `None` if it exceeds `max` slots.
 pub fn stack_of(alloc: Global, change: &Change, max: u16) -> Result<Option<TypeStack>, AllocError>
     ensures { IfOk result (λ stack. stack ≡ option_map reverse (within max (stack_after change.now))) }
 {

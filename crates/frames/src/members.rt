@@ -13,15 +13,15 @@ use constpool::{MemberRef, Pool, names, same_bytes};
 use jtypes::{Invoke, Items, JType, Native, RefType};
 use std::alloc::{AllocError, Global};
 
-/// What a call reaches.
+/// The target of a call.
 #[derive(Clone, Copy, PartialEq, Eq)]
 pub enum Reached {
     Library(Native),
-    /// A method of the class, by its number.
+    /// A method of the class, by its index from 0.
     Own(usize),
 }
 
-/// A method that is called: what it takes, the receiver first, and what it gives.
+/// The method that a call resolves to: its target, its parameter types with the receiver first, and its result type.
 #[derive(Drop)]
 pub struct Callee {
     pub reached: Reached,
@@ -29,7 +29,7 @@ pub struct Callee {
     pub result: Option<JType>,
 }
 
-/// A library call, and how it is named.
+/// A library method, with the kind of its call instruction and its symbolic reference.
 struct LibraryRow {
     kind: Invoke,
     class: &'static [u8],
@@ -185,7 +185,7 @@ static LIBRARY: [LibraryRow; 19] = [
     },
 ];
 
-/// The first of these rows that a member names.
+/// Returns the first of these library methods that the call kind and the member name.
 fn row_in<'a>(
     rows: &'a [LibraryRow],
     kind: Invoke,
@@ -201,7 +201,7 @@ fn row_in<'a>(
     None
 }
 
-/// The library call that a member names.
+/// Returns the library method that the call kind and the member name.
 #[tactic(auto, unfolding(crate::specs::Members::library_rows))]
 fn row_of(kind: Invoke, member: &MemberRef<'_>) -> Option<&'static LibraryRow>
     ensures { option_map (λ r. row_seen r.now) result ≡ row_of library_rows kind (member_seen member.now) }
@@ -209,7 +209,8 @@ fn row_of(kind: Invoke, member: &MemberRef<'_>) -> Option<&'static LibraryRow>
     row_in(&LIBRARY, kind, member)
 }
 
-/// The parameters of a library call, the receiver before them where there is one.
+/// Returns the parameter types of a library method, with the receiver first unless the call is static.
+/// Returns `None` if a receiver is required and its class is unknown.
 fn library_params(
     alloc: Global,
     kind: Invoke,
@@ -248,8 +249,8 @@ fn library_callee(alloc: Global, own: &[u8], row: &LibraryRow) -> Result<Option<
     }))
 }
 
-/// Whether a call of this kind may reach a method with these flags: `invokestatic` a static one, `invokevirtual` an
-/// instance method that is not private, `invokespecial` a private one.
+/// Checks that a call of this kind may reach a method with these flags: `invokestatic` a static method,
+/// `invokevirtual` an instance method that isn't private, `invokespecial` a private instance method.
 fn pairs_with(kind: Invoke, flags: u16) -> bool
     ensures { result ≡ pairs_with kind flags }
 {
@@ -261,7 +262,7 @@ fn pairs_with(kind: Invoke, flags: u16) -> bool
     }
 }
 
-/// Whether a method has this name, which those before it have or have not.
+/// Checks that a method has this name. `named` has the result for each method before it.
 fn is_named(method: &SignedMethod<'_>, name: &[u8], named: &[bool]) -> bool
     requires { (j : ℕ) → method.now.namesake ≡ Some j → slice_get named.now j ≡ Some (same_bytes name.now method.now.method.name.now) }
     ensures { result ≡ same_bytes name.now method.now.method.name.now }
@@ -274,7 +275,7 @@ fn is_named(method: &SignedMethod<'_>, name: &[u8], named: &[bool]) -> bool
     same_bytes(name, method.method.name)
 }
 
-/// A method of the class by its name and descriptor, by its number. Methods of one name are compared with it once.
+/// Returns the index of the method with the member's name and descriptor. Compares each distinct name once.
 fn numbered(
     alloc: Global,
     methods: &[SignedMethod<'_>],
@@ -326,7 +327,7 @@ fn own_callee(
     }))
 }
 
-/// The member that a call of this kind names.
+/// Returns the member that a call of this kind refers to at an index of the constant pool.
 fn member_at(pool: &Pool, kind: Invoke, i: u16) -> Option<MemberRef<'_>>
     ensures { option_map member_seen result ≡ member_at pool.now kind i }
 {
@@ -336,8 +337,8 @@ fn member_at(pool: &Pool, kind: Invoke, i: u16) -> Option<MemberRef<'_>>
     }
 }
 
-/// The method that a call of this kind and index reaches: a library call of the profile, or a method of the class
-/// (JVMS §5.4.3.3, §6.5). None where it is not known.
+/// Resolves the method that a call of this kind refers to at an index of the constant pool (JVMS §5.4.3.3, §6.5).
+/// Returns `None` unless it is a library method of the profile or a method of the class.
 #[tactic(auto, unfolding(crate::specs::Members::callee_at))]
 pub fn callee_at(
     alloc: Global,

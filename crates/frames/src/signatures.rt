@@ -8,7 +8,8 @@ use constpool::{FieldType, names, parse_method_descriptor, same_bytes};
 use jtypes::{Items, JType, RefType, Refusal};
 use std::alloc::{AllocError, Global};
 
-/// The types of a method's parameters, the receiver first, and of its result (JVMS §4.3.3). A boolean is an int.
+/// The types of a method's parameters and of its result (JVMS §4.3.3). A boolean is an int.
+/// `signature_of` leaves the receiver out; `method_signature` has it as the first parameter of an instance method.
 #[derive(Drop)]
 pub struct Signature {
     pub params: Items<JType>,
@@ -17,7 +18,7 @@ pub struct Signature {
     pub is_boolean: bool,
 }
 
-/// A known class or interface, by its name.
+/// Returns the type of a known class or interface name.
 fn known_class(name: &[u8]) -> Option<RefType>
     ensures { result ≡ by_text known_classes name.now }
 {
@@ -40,7 +41,7 @@ fn known_class(name: &[u8]) -> Option<RefType>
     }
 }
 
-/// An array type, as a Class constant names it (JVMS §4.4.1).
+/// Returns the array type that a Class constant names (JVMS §4.4.1).
 fn known_array(name: &[u8]) -> Option<RefType>
     ensures { result ≡ by_text known_arrays name.now }
 {
@@ -55,7 +56,7 @@ fn known_array(name: &[u8]) -> Option<RefType>
     }
 }
 
-/// The type of a class or an interface, in the class of this name.
+/// Returns the type of a class or interface name, as seen in the class `own`.
 #[tactic(auto, unfolding(crate::specs::Signatures::class_type))]
 pub fn class_type(own: &[u8], name: &[u8]) -> Option<RefType>
     ensures { result ≡ class_type own.now name.now }
@@ -67,7 +68,7 @@ pub fn class_type(own: &[u8], name: &[u8]) -> Option<RefType>
     }
 }
 
-/// The type that a Class constant names, of a cast or a frame (JVMS §4.4.1).
+/// Returns the type that a Class constant names, as in `checkcast`, `instanceof` and frames (JVMS §4.4.1).
 #[tactic(auto, unfolding(crate::specs::Signatures::constant_type))]
 pub fn constant_type(view: &ClassView<'_>, i: u16) -> Option<RefType>
     ensures { result ≡ constant_type view.now i }
@@ -126,7 +127,8 @@ fn result_type(own: &[u8], found: &Option<FieldType>) -> Option<Option<JType>>
     }
 }
 
-/// The signature of a descriptor of the profile, in the class of this name; none where it is outside the profile.
+/// Returns the signature of a method descriptor, as seen in the class `own`, without a receiver.
+/// Returns `None` for a descriptor outside the profile.
 #[tactic(auto, unfolding(crate::specs::Signatures::signature_of))]
 pub fn signature_of(
     alloc: Global,
@@ -154,7 +156,7 @@ pub fn signature_of(
     }))
 }
 
-/// Whether a flag is set (JVMS §4.1, §4.6).
+/// Checks that a flag is set (JVMS §4.1, §4.6).
 fn has_flag(flag: u16, flags: u16) -> bool
     requires { 0 < flag }
     ensures { result ≡ has_flag flag flags }
@@ -192,7 +194,7 @@ pub fn is_abstract(flags: u16) -> bool
     has_flag(0x0400, flags)
 }
 
-/// The parameters with the receiver before them, where the method is not static.
+/// Returns the parameters, with the receiver first unless the method is static.
 fn with_receiver(
     alloc: Global,
     flags: u16,
@@ -209,8 +211,8 @@ fn with_receiver(
     Ok(Items::new(all))
 }
 
-/// The signature of a method of the class, its receiver among the parameters; none where its descriptor is outside
-/// the profile.
+/// Returns the signature of a method of the class, with the receiver as the first parameter unless the method is static.
+/// Returns `None` for a descriptor outside the profile.
 #[tactic(auto, unfolding(crate::specs::Signatures::method_signature))]
 pub fn method_signature(
     alloc: Global,

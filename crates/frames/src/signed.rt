@@ -1,4 +1,4 @@
-//! A class with what the calls of its methods ask for.
+//! A class with the signatures of its methods, for the resolution of calls.
 
 ghost use Rattle.std.specs.Prelude.{◌≡◌, IfOk, IfSome};
 ghost use Rattle.classfile.specs.View.{view_of};
@@ -11,17 +11,17 @@ use constpool::{Pool, same_bytes};
 use std::alloc::{AllocError, Global};
 use std::marker::Model;
 
-/// A method with its signature, which is none where its descriptor is outside the profile.
+/// A method and its signature, which is `None` if the descriptor is outside the profile.
 #[derive(Drop)]
 pub struct SignedMethod<'a> {
     pub method: MethodView<'a>,
     pub signature: Option<Signature>,
-    /// The first method of the same name, if that isn't this one.
+    /// The index of the first method with the same name, if it isn't this one.
     pub namesake: Option<usize>,
 }
 
-/// A class as its methods' instructions see it, with its methods' signatures and equal names found once: 64 KB have room for
-/// thousands of calls of a method whose name or descriptor is half as long.
+/// A class for the resolution of its methods' calls. It has each signature and finds equal names once,
+/// since 64 KB can hold thousands of calls of a method whose name or descriptor is half as long.
 #[derive(Drop)]
 pub struct MemberView<'a> {
     class: ClassView<'a>,
@@ -48,7 +48,7 @@ impl<'a> MemberView<'a> {
         Ok(MemberView { class, methods })
     }
 
-    /// The class alone.
+    /// Returns the class without the signatures.
     pub fn class(&self) -> &ClassView<'a>
         ensures { result.now ≡ self.now }
     {
@@ -61,7 +61,7 @@ impl<'a> MemberView<'a> {
         self.class.pool()
     }
 
-    /// The methods of the class, in their order.
+    /// Returns the methods of the class, in class file order.
     pub(crate) fn methods(&self) -> &[SignedMethod<'a>]
         ensures { AreSigned self.now result.now }
     {
@@ -69,7 +69,7 @@ impl<'a> MemberView<'a> {
     }
 }
 
-/// The first of these methods that has this name.
+/// Returns the index of the first of these methods with this name.
 fn namesake(methods: &[SignedMethod<'_>], name: &[u8]) -> Option<usize>
     ensures { IfSome result (IsNamesake methods.now name.now) }
 {
@@ -82,7 +82,7 @@ fn namesake(methods: &[SignedMethod<'_>], name: &[u8]) -> Option<usize>
     None
 }
 
-/// The methods of a class with their signatures.
+/// Returns the methods of a class with their signatures, in class file order.
 fn signed<'a>(alloc: Global, class: &ClassView<'a>) -> Result<Vec<SignedMethod<'a>>, AllocError>
     ensures { IfOk result (λ methods. AreSigned class.now methods.items) }
 {

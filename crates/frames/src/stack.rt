@@ -1,4 +1,4 @@
-//! The types of operands.
+//! The types on the operand stack.
 
 ghost use Rattle.std.specs.Prelude.{◌≡◌, ◌==◌, length, nat_le, [], ◌∷◌, IfOk, OnErr, if◌then◌else◌, MatchOption, slice_get};
 ghost use Rattle.jtypes.specs.Types.{slots_by, is_long};
@@ -7,8 +7,8 @@ use jtypes::JType;
 use std::alloc::{AllocError, Global};
 use std::marker::Model;
 
-/// The types of a method's operands, seen as their list with the top first; a long is one of them, and takes two
-/// slots (JVMS §2.6.2).
+/// The types on a method's operand stack; contracts see the list with the top first.
+/// A long is one operand, and fills two slots (JVMS §2.6.2).
 #[derive(Drop)]
 pub struct TypeStack {
     types: Vec<JType>,
@@ -27,7 +27,7 @@ impl Model for TypeStack {
     ghost invariant = { λ s. slots_by is_long (reverse s.types.items) ≡ s.slots };
 }
 
-/// The slots of a type.
+/// Returns the number of slots of a type: 2 for a long, else 1.
 pub fn slots_of(t: JType) -> u16
     ensures { result ≡ slots_by is_long (t ∷ []) }
 {
@@ -47,7 +47,7 @@ impl TypeStack {
         }
     }
 
-    /// How many operands there are; a long is one.
+    /// Returns the number of operands; a long is one.
     pub fn len(&self) -> usize
         ensures { result ≡ length self.now }
     {
@@ -60,14 +60,14 @@ impl TypeStack {
         self.types.is_empty()
     }
 
-    /// The slots that the operands take.
+    /// Returns the number of slots that the operands fill.
     pub fn slots(&self) -> u16
         ensures { result ≡ slots_by is_long self.now }
     {
         self.slots
     }
 
-    /// The operand at a place, counted from the top.
+    /// Returns the operand at index `i` from the top, which has index 0.
     pub fn peek(&self, i: usize) -> Option<JType>
         ensures { result ≡ slice_get self.now i }
     {
@@ -78,7 +78,7 @@ impl TypeStack {
         }
     }
 
-    /// Takes the top.
+    /// Pops the top operand.
     pub fn pop(&mut self) -> Option<JType>
         ensures { MatchOption result ((self.old ≡ []) × (self.new ≡ [])) (λ t. self.old ≡ t ∷ self.new) }
     {
@@ -87,7 +87,7 @@ impl TypeStack {
         Some(t)
     }
 
-    /// Puts an operand onto the others, and tells whether all of them have room in so many slots.
+    /// Pushes an operand. Returns false, and changes nothing, if the operands would exceed `max` slots.
     pub fn push(&mut self, t: JType, max: u16) -> Result<bool, AllocError>
         ensures room { IfOk result (λ fits. fits ≡ nat_le (slots_by is_long (t ∷ self.old)) max) }
         ensures pushed { IfOk result (λ fits. self.new ≡ (if fits then t ∷ self.old else self.old)) }
@@ -102,7 +102,7 @@ impl TypeStack {
         Ok(true)
     }
 
-    /// The same operands.
+    /// Returns a copy of the stack.
     pub fn copy(&self, alloc: Global) -> Result<TypeStack, AllocError>
         ensures { IfOk result (λ s. s ≡ self.now) }
     {

@@ -1,4 +1,4 @@
-//! The frames that a StackMapTable declares.
+//! The frames that a StackMapTable attribute declares.
 
 ghost use Rattle.std.specs.Prelude.{◌≡◌, ◌≢◌, ◌⊎◌, ◌<◌, ◌^◌, ℕ, List, map, option_map, true, IfOk, IfErr, IfSome};
 ghost use Rattle.jtypes.specs.declared.refusal.Refusal.{Refusal};
@@ -16,23 +16,23 @@ use decode::Code;
 use jtypes::{Cursor, Items, Refusal};
 use std::alloc::{AllocError, Global};
 
-/// A frame, and the place of the instruction that it is declared for (JVMS §4.7.4). Its locals are a row that was kept.
+/// A declared frame and the pc of its instruction (JVMS §4.7.4). `Frames::first` keeps its locals.
 #[derive(Drop)]
 pub struct Declared {
     pub place: usize,
-    /// The number of the row.
+    /// The index of the frame's locals among those that `Frames::first` keeps.
     pub row: usize,
     pub stack: TypeStack,
 }
 
-/// The frames that a method's tables declare, by rising places, and the method's first frame. Their rows are kept in its locals.
+/// The frames that a method's StackMapTable declares, by increasing pc, and the method's initial frame, which keeps their locals.
 #[derive(Drop)]
 pub struct Frames {
     pub declared: Vec<Declared>,
     pub first: Flow,
 }
 
-/// The entries of a table, where they fill its bytes.
+/// Reads the entries of a table. Returns `None` for a malformed table and for trailing bytes, an error if out of memory.
 fn entries_of(
     alloc: Global,
     view: &ClassView<'_>,
@@ -52,8 +52,8 @@ fn entries_of(
     }
 }
 
-/// The place of an entry, where an instruction stands there: the first place is its delta, and a later one that much and
-/// one more behind the one before.
+/// Returns the pc of an entry's frame, if an instruction starts there.
+/// The first pc is `delta`, and a later one is `delta + 1` after the pc before.
 fn place_of(code: &Code, before: Option<usize>, delta: u16) -> Option<usize>
     ensures place { result ≡ standing code.now (place_after before delta) }
     ensures fits { IfSome result (λ place. place < 2 ^ 64) }
@@ -64,7 +64,7 @@ fn place_of(code: &Code, before: Option<usize>, delta: u16) -> Option<usize>
     let delta = usize::from(delta);
     let place = match before {
         None => delta,
-        // Each instruction stands before a sum that doesn't fit.
+        // A sum that overflows is past the pc of every instruction.
         Some(place) => place.checked_add(delta + 1)?,
     };
     match code.at(place) {
@@ -73,15 +73,15 @@ fn place_of(code: &Code, before: Option<usize>, delta: u16) -> Option<usize>
     }
 }
 
-/// The place of an entry's frame, and its stack.
+/// The pc and the operand stack of an entry's frame.
 #[derive(Drop)]
 struct Next {
     place: usize,
     stack: TypeStack,
 }
 
-/// The place and the stack of an entry's frame, whose locals become the listed ones; none where it stands at no instruction or
-/// has no room.
+/// Returns the pc and the operand stack of an entry's frame, and makes `listing` the frame's locals.
+/// Returns `None` if no instruction starts at the pc, too few locals exist to chop, or the frame exceeds the method's limits.
 #[tactic(auto, unfolding(crate::specs::Reading::next_listed))]
 fn next_frame(
     alloc: Global,
@@ -110,7 +110,7 @@ fn next_frame(
     }
 }
 
-/// The frames of the entries; none where one has no place or no room.
+/// Returns the frames of the entries, and the initial frame. Returns `None` if one of the entries gives no valid frame.
 fn frames_from(
     alloc: Global,
     start: &MethodStart,
@@ -138,7 +138,7 @@ fn frames_from(
     Ok(Some(Frames { declared, first }))
 }
 
-/// The frames of the one table, if there is one; none where it declares no frames, or there are two.
+/// Returns the frames of at most one table. Returns `None` for two tables, or for a table that declares no valid frames.
 fn frames_of(
     alloc: Global,
     start: &MethodStart,
@@ -159,7 +159,8 @@ fn frames_of(
     }
 }
 
-/// The frames that a method's StackMapTable attributes declare, of which there may be one, and its first frame.
+/// Reads the frames that a method's StackMapTable attributes declare, and the method's initial frame.
+/// At most one attribute is allowed; two of them or a malformed one give the error `BadStackMap`.
 pub fn read_frames(
     alloc: Global,
     start: &MethodStart,
@@ -167,13 +168,13 @@ pub fn read_frames(
     code: &Code,
     view: &ClassView<'_>,
 ) -> Result<Frames, Refusal>
-    // The declared frames, by rising places, and the first.
+    // The declared frames, by increasing pc, and the initial frame.
     ensures declared { IfOk result (λ fs. IsDeclared view.now start.now code.now (map (λ t. t.now) tables.now) (frames_seen fs)) }
     ensures order { IfOk result (λ fs. AreInOrder fs.declared.items) }
     ensures first { IfOk result (λ fs. frame_seen fs.first ≡ first_frame start.now) }
     ensures rows { IfOk result (λ fs. AreKept fs.first.locals.kept fs.declared.items) }
 
-    // The one refusal says that no frames are declared.
+    // Besides `NoMemory` the only error is `BadStackMap`: the attributes declare no frames.
     ensures one { IfErr result (λ r. (r ≡ Refusal.NoMemory) ⊎ (r ≡ Refusal.BadStackMap)) }
     ensures refusal { IfErr result (λ r. r ≢ Refusal.NoMemory → (r ≡ Refusal.BadStackMap) × ((ds : List (ℕ × Frame)) → IsDeclared view.now start.now code.now (map (λ t. t.now) tables.now) ds → ⊥)) }
 {

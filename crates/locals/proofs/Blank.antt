@@ -1,4 +1,4 @@
--- Blank rows by their pages.
+-- Blank lists of types, by their pages.
 use Rattle.std.proofs.Common.{◌≡◌, ℕ, zero, suc, ◌+◌, ◌*◌, ◌/◌, ◌%◌, ◌<◌, ◌≤◌, Bool, true, false, List, [], ◌∷◌, ◌++◌, length, set, replicate, refl, sym, ap, ◌∙◌, append_assoc, subst, arith}
 use Rattle.std.specs.Prelude.{nat_lt, if◌then◌else◌}
 use Rattle.std.proofs.lemmas.List.Elements.{All-append, All-replicate, All-cons, All-nil}
@@ -7,7 +7,7 @@ use Rattle.jtypes.specs.declared.types.JType.{JType}
 use Rattle.jtypes.specs.declared.types.JType.TheVariants.{Top}
 use Rattle.locals.specs.Held.{row_of, blank_pages, AreInside, AreCut}
 
--- the numbers of the row's pages
+-- the page numbers of a blank list
 pub blank_numbers : (k : ℕ) → set {A = ℕ} (replicate (k + 1) 1) k 0 ≡ replicate k 1 ++ 0 ∷ []
 blank_numbers zero = refl
 blank_numbers (suc k) =

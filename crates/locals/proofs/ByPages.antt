@@ -1,4 +1,4 @@
--- Rows by their pages.
+-- Lists of types, by their pages.
 use Rattle.std.proofs.Common.{◌≡◌, ℕ, zero, suc, ◌+◌, ◌<◌, ◌≤◌, Bool, true, false, ◌&&◌, List, [], ◌∷◌, ◌++◌, length, take, drop, get_or, set, refl, sym, ap, ◌∙◌, arith, subst, map, inl, inr}
 use Rattle.std.specs.Prelude.{slice_get, All}
 use Rattle.std.proofs.lemmas.List.{length-append, get_or_append_left, get_or_push, get_or-set_same, get_or-set_other, length-set}
@@ -14,7 +14,7 @@ use Rattle.locals.specs.Written.{written}
 use Rattle.locals.proofs.Writing.{written_left, written_right}
 use Rattle.locals.specs.Held.{page, row_of, cut_of, AreInside, IsCutAs, AreCut, AreFitting, IsPlace}
 
--- ---- what fits
+-- ---- assignability
 
 ref_fits_self : (r : RefType) → ref_assignable r r ≡ true
 ref_fits_self ref.Object = refl
@@ -36,12 +36,12 @@ type_fits_self Long = refl
 type_fits_self Null = refl
 type_fits_self (Ref r) = ref_fits_self r
 
--- a row may stand for itself
+-- a list is assignable to itself
 pub fits_self : (ts : List JType) → each_fits ts ts ≡ true
 fits_self [] = refl
 fits_self (t ∷ ts) = ap (λ b. b && each_fits ts ts) (type_fits_self t) ∙ fits_self ts
 
--- a row fits another, part by part
+-- assignability of two lists, by parts of the same length
 pub fits_parts : (ts us rest more : List JType) → length ts ≡ length us → each_fits (ts ++ rest) (us ++ more) ≡ (each_fits ts us && each_fits rest more)
 fits_parts [] [] rest more e = refl
 fits_parts [] (u ∷ us) rest more e = absurd (omega (arith, e))
@@ -52,7 +52,7 @@ fits_parts (t ∷ ts) (u ∷ us) rest more e = go (assignable t u) (fits_parts t
     go true e = e
     go false e = refl
 
--- what is left of two rows that are cut in the same places, by a page and what is behind
+-- assignability of two suffixes with pages of the same lengths, by the first page and the rest
 pub fits_from : (pages : List (List JType)) (row declared : List ℕ) (i : ℕ) → i < length row → cut_of pages declared ≡ cut_of pages row
     → each_fits (row_of pages (drop i row)) (row_of pages (drop i declared)) ≡ (each_fits (page pages (get_or row i 0)) (page pages (get_or declared i 0)) && each_fits (row_of pages (drop (suc i) row)) (row_of pages (drop (suc i) declared)))
 fits_from pages [] declared i l e = absurd (omega (arith, l))
@@ -85,7 +85,7 @@ cut_lengths pages (a ∷ row) (d ∷ declared) e =
     let rest : cut_of pages declared ≡ cut_of pages row = cc in
     ap suc (cut_lengths pages row declared rest)
 
--- ---- places
+-- ---- indexes
 
 length_one_more : (pages : List (List JType)) (row : List ℕ) (i : ℕ) → i < length row → length (row_of pages (take (suc i) row)) ≡ length (row_of pages (take i row)) + length (page pages (get_or row i 0))
 length_one_more pages [] i l = absurd (omega (arith, l))
@@ -93,7 +93,7 @@ length_one_more pages (a ∷ row) zero l = omega (arith, length-append (page pag
 length_one_more pages (a ∷ row) (suc i) l =
     omega (arith, length-append (page pages a) (row_of pages (take (suc i) row)), length-append (page pages a) (row_of pages (take i row)), length_one_more pages row i (omega (arith, l)))
 
--- one page more
+-- the number of types with one page more
 pub length_more : (pages : List (List JType)) (row : List ℕ) (i : ℕ) → i < length row → length (row_of pages (take (i + 1) row)) ≡ length (row_of pages (take i row)) + length (page pages (get_or row i 0))
 length_more pages row i l =
     let next : i + 1 ≡ suc i = omega arith in
@@ -110,7 +110,7 @@ get_right (x ∷ xs) ys k =
     let e : suc (length xs) + k ≡ suc (length xs + k) = omega arith in
     ap (λ n. slice_get (x ∷ (xs ++ ys)) n) e ∙ get_right xs ys k
 
--- the item at a place, by its page
+-- the type at an index, by its page
 pub get_at : (pages : List (List JType)) (row : List ℕ) (i at : ℕ) → i < length row → at < length (page pages (get_or row i 0))
     → slice_get (row_of pages row) (length (row_of pages (take i row)) + at) ≡ slice_get (page pages (get_or row i 0)) at
 get_at pages [] i at l h = absurd (omega (arith, l))
@@ -119,7 +119,7 @@ get_at pages (a ∷ row) (suc i) at l h =
     let front : length (page pages a ++ row_of pages (take i row)) + at ≡ length (page pages a) + (length (row_of pages (take i row)) + at) = omega (arith, length-append (page pages a) (row_of pages (take i row))) in
     ap (λ n. slice_get (page pages a ++ row_of pages row) n) front ∙ get_right (page pages a) (row_of pages row) (length (row_of pages (take i row)) + at) ∙ get_at pages row i at (omega (arith, l)) h
 
--- rows that have their pages stay the same where a page is added
+-- a page doesn't change if another is added
 pub same_page : (pages : List (List JType)) (new : List JType) (n : ℕ) → n < length pages → page (pages ++ new ∷ []) n ≡ page pages n
 same_page pages new n l = get_or_append_left pages (new ∷ []) [] n l
 
@@ -129,7 +129,7 @@ same_row pages new (a ∷ row) h =
     ap (λ p. p ++ row_of (pages ++ new ∷ []) row) (same_page pages new a (All-head (λ n. n < length pages) a row h))
     ∙ ap (λ r. page pages a ++ r) (same_row pages new row (All-tail (λ n. n < length pages) a row h))
 
--- types written over a part of a page, by a page that has them
+-- a write in a page replaces its number by that of the page with the types
 pub write_at : (pages : List (List JType)) (new : List JType) (row : List ℕ) (i at : ℕ) (types : List JType) → AreInside pages row → i < length row → at + length types ≤ length (page pages (get_or row i 0))
     → new ≡ written (page pages (get_or row i 0)) at types → page (pages ++ new ∷ []) (length pages) ≡ new → row_of (pages ++ new ∷ []) (set row i (length pages)) ≡ written (row_of pages row) (length (row_of pages (take i row)) + at) types
 write_at pages new [] i at types h l k e f = absurd (omega (arith, l))
@@ -145,7 +145,7 @@ write_at pages new (a ∷ row) (suc i) at types h l k e f =
     ∙ sym (written_right (page pages a) (row_of pages row) types (length (row_of pages (take i row)) + at))
     ∙ ap (λ n. written (page pages a ++ row_of pages row) n types) front
 
--- types that a page has already
+-- a write of types that a page has already changes nothing
 there_at : (pages : List (List JType)) (row : List ℕ) (i at : ℕ) (types : List JType) → i < length row → at + length types ≤ length (page pages (get_or row i 0))
     → written (page pages (get_or row i 0)) at types ≡ page pages (get_or row i 0) → written (row_of pages row) (length (row_of pages (take i row)) + at) types ≡ row_of pages row
 there_at pages [] i at types l k e = absurd (omega (arith, l))
@@ -157,7 +157,7 @@ there_at pages (a ∷ row) (suc i) at types l k e =
     ap (λ n. written (page pages a ++ row_of pages row) n types) front ∙ written_right (page pages a) (row_of pages row) types (length (row_of pages (take i row)) + at)
     ∙ ap (λ r. page pages a ++ r) (there_at pages row i at types (omega (arith, l)) k e)
 
--- ---- all rows, where a page is added
+-- ---- the current types and the snapshots, if a page is added
 
 inside_more : (pages : List (List JType)) (new : List JType) (row : List ℕ) → AreInside pages row → AreInside (pages ++ new ∷ []) row
 inside_more pages new row h k d l = omega (arith, h k d l, length-append pages (new ∷ []))
@@ -181,7 +181,7 @@ set_cut pages new (a ∷ row) (suc i) h l e =
     ap (λ p. length p ∷ cut_of (pages ++ new ∷ []) (set row i (length pages))) (same_page pages new a (All-head (λ n. n < length pages) a row h))
     ∙ ap (λ r. length (page pages a) ∷ r) (set_cut pages new row i (All-tail (λ n. n < length pages) a row h) (omega (arith, l)) e)
 
--- the rows are still cut in the same places
+-- the lists still have pages of the same lengths
 pub still_cut : (pages more : List (List JType)) (new : List JType) (kept : List (List ℕ)) (row : List ℕ) (i : ℕ) → AreCut pages kept row → i < length row → length new ≡ length (page pages (get_or row i 0))
     → more ≡ pages ++ new ∷ [] → AreCut more kept (set row i (length pages))
 still_cut pages more new kept row i h l e f =
@@ -194,31 +194,31 @@ still_cut pages more new kept row i h l e f =
       };
     })
 
--- the rows that were kept stay as they were
+-- the snapshots don't change
 pub still_kept : (pages more : List (List JType)) (new : List JType) (kept : List (List ℕ)) (row : List ℕ) → All (IsCutAs pages row) kept → more ≡ pages ++ new ∷ [] → map (row_of more) kept ≡ map (row_of pages) kept
 still_kept pages more new [] row h f = refl
 still_kept pages more new (ns ∷ kept) row h f =
     let one : row_of more ns ≡ row_of pages ns = ap (λ m. row_of m ns) f ∙ same_row pages new ns (All-head (IsCutAs pages row) ns kept h).inside in
     ap (λ r. r ∷ map (row_of more) kept) one ∙ ap (λ r. row_of pages ns ∷ r) (still_kept pages more new kept row (All-tail (IsCutAs pages row) ns kept h) f)
 
--- and the row has the types from their place on
+-- the current list has the written types
 pub now_written : (pages more : List (List JType)) (new : List JType) (row : List ℕ) (n i at : ℕ) (types : List JType) → AreInside pages row → IsPlace pages row n i at → at + length types ≤ length (page pages (get_or row i 0))
     → new ≡ written (page pages (get_or row i 0)) at types → more ≡ pages ++ new ∷ [] → row_of more (set row i (length pages)) ≡ written (row_of pages row) n types
 now_written pages more new row n i at types h p k e f =
     ap (λ m. row_of m (set row i (length pages))) f ∙ write_at pages new row i at types h p.index k e (added_page pages new) ∙ ap (λ m. written (row_of pages row) m types) (sym p.sum)
 
--- types that are there already from their place on
+-- a write of types that the list has there changes nothing
 pub now_there : (pages : List (List JType)) (row : List ℕ) (n i at : ℕ) (types : List JType) → IsPlace pages row n i at → at + length types ≤ length (page pages (get_or row i 0))
     → written (page pages (get_or row i 0)) at types ≡ page pages (get_or row i 0) → written (row_of pages row) n types ≡ row_of pages row
 now_there pages row n i at types p k e = ap (λ m. written (row_of pages row) m types) p.sum ∙ there_at pages row i at types p.index k e
 
--- a type read at its place
+-- the type at an index is the one at its offset in its page
 pub now_got : (pages : List (List JType)) (row : List ℕ) (n i at : ℕ) → IsPlace pages row n i at → slice_get (page pages (get_or row i 0)) at ≡ slice_get (row_of pages row) n
 now_got pages row n i at p = sym (ap (λ m. slice_get (row_of pages row) m) p.sum ∙ get_at pages row i at p.index p.inside)
 
--- ---- what is known to fit
+-- ---- pages that are known to be assignable
 
--- what fits is still known where a page is found to fit another
+-- `AreFitting` still holds if a page that is assignable to another is recorded
 pub found_fitting : (pages : List (List JType)) (fitting : List ℕ) (a d : ℕ) → AreFitting pages fitting → a < length pages → d < length pages → each_fits (page pages a) (page pages d) ≡ true → AreFitting pages (set fitting d a)
 found_fitting pages fitting a d h l m e = record {
   len = length-set fitting d a ∙ h.len;
@@ -231,7 +231,7 @@ found_fitting pages fitting a d h l m e = record {
   ];
 }
 
--- and where a page is added, which fits itself
+-- `AreFitting` still holds if a page is added, with its own number
 pub more_fitting : (pages more : List (List JType)) (new : List JType) (fitting longer : List ℕ) (n : ℕ) → AreFitting pages fitting → more ≡ pages ++ new ∷ [] → longer ≡ fitting ++ n ∷ [] → n ≡ length pages → AreFitting more longer
 more_fitting pages more new fitting longer n h f g e =
     let bare : AreFitting (pages ++ new ∷ []) (fitting ++ length pages ∷ []) = record {

@@ -1,4 +1,4 @@
--- Types that are the same.
+-- Equality of types.
 use Rattle.std.proofs.Common.{◌≡◌, ◌≢◌, Bool, true, false, List, length, take, drop, refl, sym, ap, ◌∙◌, MatchBool, rules}
 use Rattle.std.specs.Prelude.{◌+◌, ◌≤◌, ℕ, Decides}
 use Rattle.std.specs.Cmp.Lexicographic.{pointwise}
@@ -53,7 +53,7 @@ type_same_self (Ref r) = true_same the_type r r refl
 type_decides : (t u : JType) → Decides (eq-value.it t u) (t ≡ u)
 type_decides t u = (one_same t u, λ e. ap (λ x. eq-value.it t x) (sym e) ∙ type_same_self t)
 
--- the part of a row from a place on is compared with types, and so is what writing them there gives with the row
+-- the types from an index on equal these types exactly if a write of them there changes nothing
 pub part_same : (row types : List JType) (at n : ℕ) (b : Bool) → at + length types ≤ length row → n ≡ length types → b ≡ pointwise eq-value.it (take n (drop at row)) types → MatchBool b (written row at types ≡ row) (written row at types ≢ row)
 part_same row types at n b l k e = go b (slice_eq-Decides type_decides (take n (drop at row)) types b e)
   where

@@ -24,7 +24,7 @@ length-written (x ∷ row) (t ∷ types) zero = ap suc (length-written row types
 
 -- ---- types written part by part
 
--- types written behind others that were
+-- two consecutive writes are one write
 pub written_split : (row front more : List JType) (at : ℕ) → written (written row at front) (at + length front) more ≡ written row at (front ++ more)
 written_split [] front more at = refl
 written_split (x ∷ row) front more (suc at) =
@@ -35,7 +35,7 @@ written_split (x ∷ row) (t ∷ front) more zero =
     let e : zero + suc (length front) ≡ suc (zero + length front) = omega arith in
     ap (λ n. written (t ∷ written row zero front) n more) e ∙ ap (λ r. t ∷ r) (written_split row front more zero)
 
--- the types from a place on are written, up to a later place
+-- a write of the first `done` types and of the next `n` types is a write of the first `done + n` types
 pub written_on : (row types : List JType) (at done n : ℕ) → done ≤ length types → written (written row at (take done types)) (at + done) (take n (drop done types)) ≡ written row at (take (done + n) types)
 written_on row types at done n l =
     let front : length (take done types) ≡ done = length-take-le done types l in
@@ -43,13 +43,13 @@ written_on row types at done n l =
     ∙ written_split row (take done types) (take n (drop done types)) at
     ∙ ap (λ ts. written row at ts) (sym (take-add done n types))
 
--- one type is written as it is set
+-- a write of one type is `set`
 pub written_one : (row : List JType) (at : ℕ) (t : JType) → written row at (t ∷ []) ≡ set row at t
 written_one [] at t = refl
 written_one (x ∷ row) zero t = ap (λ r. t ∷ r) (written_none row)
 written_one (x ∷ row) (suc at) t = ap (λ r. x ∷ r) (written_one row at t)
 
--- ---- types written in a part of a row
+-- ---- types written in a part of a list
 
 pub written_left : (front rest types : List JType) (at : ℕ) → at + length types ≤ length front → written (front ++ rest) at types ≡ written front at types ++ rest
 written_left [] rest [] zero l = written_none rest
@@ -65,7 +65,7 @@ written_right (x ∷ front) rest types at =
     let e : suc (length front) + at ≡ suc (length front + at) = omega arith in
     ap (λ n. written (x ∷ (front ++ rest)) n types) e ∙ ap (λ r. x ∷ r) (written_right front rest types at)
 
--- a row has types from a place on where writing them there changes nothing
+-- a write of types that the list has there changes nothing
 pub has_written : (row types : List JType) (at : ℕ) → take (length types) (drop at row) ≡ types → written row at types ≡ row
 has_written [] types at e = refl
 has_written (x ∷ row) types (suc at) e = ap (λ r. x ∷ r) (has_written row types at e)
@@ -83,7 +83,7 @@ written_there (x ∷ row) types (suc at) l = written_there row types at (omega (
 written_there (x ∷ row) [] zero l = refl
 written_there (x ∷ row) (t ∷ types) zero l = ap (λ r. t ∷ r) (written_there row types zero (omega (arith, l)))
 
--- the front, the types and what is behind them
+-- a write gives the types before the index, the written types, and the types after them
 pub written_parts : (row types : List JType) (at : ℕ) → at + length types ≤ length row → written row at types ≡ take at row ++ types ++ drop (at + length types) row
 written_parts row types zero l =
     let e : length types ≡ zero + length types = omega arith in
@@ -99,7 +99,7 @@ written_parts (x ∷ row) types (suc at) l =
     let e : suc (at + length types) ≡ suc at + length types = omega arith in
     ap (λ r. x ∷ r) (written_parts row types at (omega (arith, l))) ∙ ap (λ n. x ∷ (take at row ++ types ++ drop n (x ∷ row))) e
 
--- ---- what entries of a table write, where the rows are padded
+-- ---- writes of stack map frames to padded lists
 
 written_behind : (front rest types : List JType) → written (front ++ rest) (length front) types ≡ front ++ written rest zero types
 written_behind [] rest types = refl
@@ -115,7 +115,7 @@ blanks : (a b : ℕ) → replicate a Top ++ replicate b Top ≡ replicate (a + b
 blanks zero b = ap (λ n. replicate n Top) (let e : b ≡ zero + b = omega arith in e)
 blanks (suc a) b = ap (λ r. Top ∷ r) (blanks a b) ∙ ap (λ n. replicate n Top) (let e : suc (a + b) ≡ suc a + b = omega arith in e)
 
--- types listed behind others
+-- a write after the listed types appends to them
 pub append_written : (front more : List JType) (count : ℕ) → length front + length more ≤ count → written (padded Top count front) (length front) more ≡ padded Top count (front ++ more)
 append_written front more count h =
     let k : count - length front ≡ length more + (count - length (front ++ more)) = omega (arith, h, length-append front more) in
@@ -125,7 +125,7 @@ append_written front more count h =
     ∙ ap (λ r. front ++ r) (written_over (replicate (length more) Top) (replicate (count - length (front ++ more)) Top) more (sym (length-replicate (length more) Top)))
     ∙ sym (append_assoc front more (replicate (count - length (front ++ more)) Top))
 
--- types taken off the end
+-- a write of Top over the last listed types removes them
 pub chop_written : (front gone : List JType) (count : ℕ) → length front + length gone ≤ count → written (padded Top count (front ++ gone)) (length front) (replicate (length gone) Top) ≡ padded Top count front
 chop_written front gone count h =
     let left = count - length (front ++ gone) in

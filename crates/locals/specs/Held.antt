@@ -1,4 +1,4 @@
--- The locals of a method: one row of types that is written, and rows that were kept, by number.
+-- The types of a method's local variables: the current ones, and numbered snapshots of them.
 use Rattle.std.specs.Prelude.{◌≡◌, ℕ, ◌<◌, ◌+◌, List, [], ◌∷◌, ◌++◌, length, take, All, slice_index_or, true, ◌%◌, nat_lt, if◌then◌else◌, replicate}
 use Rattle.jtypes.specs.declared.types.JType.{JType}
 use Rattle.jtypes.specs.declared.types.JType.TheVariants.{Top}
@@ -12,41 +12,41 @@ pub record Held : Type 0 where
 abbrev pub page : List (List JType) → ℕ → List JType
 page pages n = slice_index_or pages n []
 
--- the row whose pages have these numbers
+-- the types of the pages with these numbers
 abbrev pub row_of : List (List JType) → List ℕ → List JType
 row_of pages [] = []
 row_of pages (n ∷ ns) = page pages n ++ row_of pages ns
 
--- the lengths of a row's pages
+-- the lengths of the pages with these numbers
 abbrev pub cut_of : List (List JType) → List ℕ → List ℕ
 cut_of pages [] = []
 cut_of pages (n ∷ ns) = length (page pages n) ∷ cut_of pages ns
 
--- the pages of a blank row of so many locals: its last one and, where there are others, one that stands for all of them
+-- the pages of `count` local variables of type Top: the last page and, if there are others, one full page for all of them
 abbrev pub blank_pages : ℕ → List (List JType)
 blank_pages count = replicate (count % 256) Top ∷ (if nat_lt count 256 then [] else replicate 256 Top ∷ [])
 
--- there is a page with each of these numbers
+-- `AreInside` holds if there is a page with each of these numbers
 abbrev pub AreInside : List (List JType) → List ℕ → Type 0
 AreInside pages ns = All (λ n. n < length pages) ns
 
--- numbers of pages, of which each is as long as that of the other row
+-- `IsCutAs` holds if the page numbers exist, and the pages have the lengths of those of `row`
 pub record IsCutAs (pages : List (List JType)) (row : List ℕ) (ns : List ℕ) : Type 0 where
   pub inside : AreInside pages ns
   pub cut : cut_of pages ns ≡ cut_of pages row
 
--- each row has its pages, and all rows are cut in the same places
+-- `AreCut` holds if all page numbers exist, and the snapshots have pages of the same lengths as the current types
 pub record AreCut (pages : List (List JType)) (kept : List (List ℕ)) (row : List ℕ) : Type 0 where
   pub inside : AreInside pages row
   pub others : All (IsCutAs pages row) kept
 
--- a place of a row, by the number of pages before it and the place in its page
+-- `IsPlace` holds if the index `n` is at offset `at` in the page at position `i`
 pub record IsPlace (pages : List (List JType)) (row : List ℕ) (n : ℕ) (i : ℕ) (at : ℕ) : Type 0 where
   pub index : i < length row
   pub inside : at < length (page pages (slice_index_or row i 0))
   pub sum : n ≡ length (row_of pages (take i row)) + at
 
--- of each page a number is known of a page that may stand for it
+-- `AreFitting` holds if `fitting` has, for each page, the number of a page that is assignable to it
 pub record AreFitting (pages : List (List JType)) (fitting : List ℕ) : Type 0 where
   pub len : length fitting ≡ length pages
   pub inside : AreInside pages fitting

@@ -1,4 +1,4 @@
-//! Which type may stand for which.
+//! Assignability of verification types.
 
 ghost use Rattle.std.specs.Prelude.{◌≡◌};
 ghost use Rattle.jtypes.specs.Types.{assignable, ref_assignable, is_array};
@@ -21,7 +21,7 @@ fn is_array(r: RefType) -> bool
     }
 }
 
-/// Whether a reference of the first type may stand where the second is declared (JVMS §4.10.1.2).
+/// Returns whether a reference type is assignable to the declared one (JVMS §4.10.1.2).
 pub fn ref_assignable(r: RefType, declared: RefType) -> bool
     ensures { result ≡ ref_assignable r declared }
 {
@@ -38,7 +38,7 @@ pub fn ref_assignable(r: RefType, declared: RefType) -> bool
     }
 }
 
-/// Whether the first type may stand where the second is declared (JVMS §4.10.1.2).
+/// Returns whether a type is assignable to the declared one (JVMS §4.10.1.2).
 pub fn assignable(t: JType, declared: JType) -> bool
     ensures { result ≡ assignable t declared }
 {

@@ -1,4 +1,4 @@
-//! Pages compared.
+//! Comparison of pages.
 
 ghost use Rattle.std.specs.Prelude.{◌≡◌};
 ghost use Rattle.locals.specs.Fits.{each_fits};
@@ -6,7 +6,7 @@ ghost use Rattle.locals.specs.Fits.{each_fits};
 use crate::assignability::assignable;
 use jtypes::JType;
 
-/// Whether each type may stand where the other page has its own.
+/// Returns whether the pages have one length and each type is assignable to the declared one at its index.
 pub fn each_assignable(types: &[JType], declared: &[JType]) -> bool
     ensures { result ≡ each_fits types.now declared.now }
 {

@@ -1,4 +1,4 @@
-//! A method's locals, cut into pages.
+//! The types of a method's local variables, stored in pages.
 #![tactic(auto)]
 
 mod assignability;

@@ -1,4 +1,4 @@
-//! A method's locals.
+//! The types of a method's local variables.
 
 ghost use Rattle.std.specs.Prelude.{◌≡◌, ◌<◌, ◌≤◌, ◌+◌, ◌^◌, ◌++◌, ◌∷◌, [], length, take, replicate, slice_get, slice_set, slice_index_or, IfOk, OnErr};
 ghost use Rattle.jtypes.specs.declared.types.JType.TheVariants.{Top};
@@ -10,15 +10,15 @@ use jtypes::{Items, JType};
 use std::alloc::{AllocError, Global};
 use std::marker::Model;
 
-/// The types of a method's locals, which can be written, and rows of types that were kept, by number.
+/// The current types of a method's local variables, and numbered snapshots of them.
 ///
-/// A row is cut into pages, which are never written: a page that is changed is a new one, and what two rows have in common
-/// they share. So equal numbers are equal pages.
+/// The types are stored in immutable pages, by page number: a change adds a page, and snapshots share the pages that they have
+/// in common. So pages with the same number are equal.
 #[derive(Drop)]
 pub struct Locals {
     alloc: Global,
     pages: Vec<Items<JType>>,
-    /// Of each page, one that was found to fit where it is declared.
+    /// For each page, the number of a page whose types are known to be assignable to its types.
     fitting: Vec<usize>,
     kept: Vec<Items<usize>>,
     row: Vec<usize>,
@@ -36,7 +36,7 @@ impl Model for Locals {
 }
 
 impl Locals {
-    /// So many locals, all of them `Top`, and no row that was kept.
+    /// Returns `count` local variables of type `Top`, without snapshots.
     pub fn new(alloc: Global, count: usize) -> Result<Locals, AllocError>
         ensures row { IfOk result (λ l. l.row ≡ replicate count Top) }
         ensures kept { IfOk result (λ l. l.kept ≡ []) }
@@ -53,7 +53,7 @@ impl Locals {
         })
     }
 
-    /// The type of a local.
+    /// Returns the type of the local variable `n`, or `None` if `n` is out of range.
     pub fn get(&self, n: usize) -> Option<JType>
         ensures { result ≡ slice_get self.now.row n }
     {
@@ -61,7 +61,7 @@ impl Locals {
         self.pages[self.row[i]].get(at)
     }
 
-    /// Puts a type in a local.
+    /// Sets the type of the local variable `n`, which must exist. If memory runs out, no type changes.
     pub fn set(&mut self, n: usize, t: JType) -> Result<(), AllocError>
         requires { n < length self.old.row }
         ensures ok { IfOk result (λ _. self.new.row ≡ slice_set self.old.row n t) }
@@ -72,8 +72,8 @@ impl Locals {
         Ok(())
     }
 
-    /// Puts as many types as lie in the page of the first one's place, and answers how many these are. No page is made where
-    /// the page has them already.
+    /// Sets the types from index `at` on, up to the end of the page of `at`. Returns how many it sets, at least 1.
+    /// Adds no page if the page already has these types.
     fn put_front(&mut self, at: usize, types: &[JType]) -> Result<usize, AllocError>
         requires some { 0 < length types.now }
         requires there { at + length types.now ≤ length self.old.row }
@@ -100,7 +100,7 @@ impl Locals {
         Ok(count)
     }
 
-    /// Puts types in the locals from a place on.
+    /// Sets the types from index `at` on. If memory runs out, some of them may be set.
     pub fn put(&mut self, at: usize, types: &[JType]) -> Result<(), AllocError>
         requires there { at + length types.now ≤ length self.old.row }
         requires fits { at + length types.now < 2 ^ 64 }
@@ -114,7 +114,7 @@ impl Locals {
         Ok(())
     }
 
-    /// Keeps the row; its number is how many were kept before.
+    /// Adds a snapshot of the current types. Its number is the number of earlier snapshots.
     pub fn keep(&mut self) -> Result<(), AllocError>
         ensures row { self.new.row ≡ self.old.row }
         ensures ok { IfOk result (λ _. self.new.kept ≡ self.old.kept ++ self.old.row ∷ []) }
@@ -125,14 +125,14 @@ impl Locals {
         Ok(())
     }
 
-    /// How many rows were kept.
+    /// Returns the number of snapshots.
     pub fn kept_len(&self) -> usize
         ensures { result ≡ length self.now.kept }
     {
         self.kept.len()
     }
 
-    /// Makes the locals those of a row that was kept.
+    /// Sets the current types to those of a snapshot.
     pub fn enter(&mut self, number: usize)
         requires { number < length self.old.kept }
         ensures row { self.new.row ≡ slice_index_or self.old.kept number [] }
@@ -141,7 +141,7 @@ impl Locals {
         self.row.copy_from_slice(self.kept[number].as_slice());
     }
 
-    /// Whether each local may stand where a row that was kept has its own.
+    /// Returns whether each current type is assignable to the type at its index in a snapshot.
     pub fn fits(&mut self, number: usize) -> bool
         requires { number < length self.old.kept }
         ensures fits { result ≡ each_fits self.old.row (slice_index_or self.old.kept number []) }

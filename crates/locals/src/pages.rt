@@ -1,4 +1,4 @@
-//! Rows of types by the numbers of their pages.
+//! Lists of types as lists of page numbers.
 
 ghost use Rattle.std.specs.Prelude.{◌≡◌, ◌<◌, ◌≤◌, ◌+◌, ◌%◌, ◌/◌, ◌∷◌, ◌++◌, [], nat_lt, replicate, if◌then◌else◌, ◌≢◌, length, IfOk, MatchBool, MatchOption};
 ghost use Rattle.jtypes.specs.declared.types.JType.TheVariants.{Top};
@@ -10,11 +10,11 @@ use crate::compare::each_assignable;
 use jtypes::{Items, JType};
 use std::alloc::{AllocError, Global};
 
-/// The locals of a page.
+/// The number of local variables of a full page.
 const WIDTH: usize = 256;
 
-/// Whether a page may stand where another is declared. It is the same where the numbers are, and what was found to fit before
-/// still does: what is found now is kept for the next time.
+/// Returns whether the types of page `a` are assignable to those of page `declared`.
+/// Pages with the same number, and pairs that `fitting` records, aren't compared. A new pair is recorded.
 fn page_fits(pages: &[Items<JType>], fitting: &mut [usize], a: usize, declared: usize) -> bool
     requires inside { a < length pages.now }
     requires declared_inside { declared < length pages.now }
@@ -35,7 +35,7 @@ fn page_fits(pages: &[Items<JType>], fitting: &mut [usize], a: usize, declared: 
     true
 }
 
-/// Whether a row may stand where another is declared, which is cut in the same places.
+/// Returns whether each type of a list is assignable to the declared one. The lists have pages of the same lengths.
 pub fn rows_fit(
     pages: &[Items<JType>],
     fitting: &mut [usize],
@@ -58,7 +58,7 @@ pub fn rows_fit(
     true
 }
 
-/// The page in which a place of a row lies, by its place among the row's pages, and the place in the page.
+/// Returns the position in `row` of the page that has index `n`, and the offset in that page. `None` if `n` is past the end.
 pub fn find(pages: &[Items<JType>], row: &[usize], n: usize) -> Option<(usize, usize)>
     requires { AreInside pages.now row.now }
     ensures { MatchOption result (length (row_of pages.now row.now) ≤ n) (λ p. IsPlace pages.now row.now n p.0 p.1) }
@@ -74,7 +74,7 @@ pub fn find(pages: &[Items<JType>], row: &[usize], n: usize) -> Option<(usize, u
     None
 }
 
-/// Whether a page has these types already, from a place on.
+/// Returns whether a page has these types from index `at` on.
 pub fn has(page: &[JType], at: usize, types: &[JType]) -> bool
     requires { at + length types.now ≤ length page.now }
     ensures { MatchBool result (written page.now at types.now ≡ page.now) (written page.now at types.now ≢ page.now) }
@@ -82,7 +82,7 @@ pub fn has(page: &[JType], at: usize, types: &[JType]) -> bool
     &page[at..at + types.len()] == types
 }
 
-/// A page with types put into it, from a place on.
+/// Returns a copy of a page with these types from index `at` on.
 pub fn page_with(
     alloc: Global,
     page: &[JType],
@@ -99,7 +99,7 @@ pub fn page_with(
     Ok(Items::new(new))
 }
 
-/// The pages of a blank row of so many locals: its last one and, where there are others, one that is used for all of them.
+/// Returns the pages of `count` local variables of type `Top`: the last page and, if there are others, one full page for all of them.
 pub fn blank_pages(alloc: Global, count: usize) -> Result<Vec<Items<JType>>, AllocError>
     ensures { IfOk result (λ pages. pages.items ≡ blank_pages count) }
 {
@@ -112,7 +112,7 @@ pub fn blank_pages(alloc: Global, count: usize) -> Result<Vec<Items<JType>>, All
     Ok(pages)
 }
 
-/// The row of those pages.
+/// Returns the page numbers of `count` local variables of type `Top`.
 pub fn blank_row(alloc: Global, count: usize) -> Result<Vec<usize>, AllocError>
     ensures { IfOk result (λ row. row.items ≡ replicate (count / 256) 1 ++ 0 ∷ []) }
 {
@@ -121,7 +121,7 @@ pub fn blank_row(alloc: Global, count: usize) -> Result<Vec<usize>, AllocError>
     Ok(row)
 }
 
-/// Of each page its own number: at first a page is known to fit itself.
+/// Returns the number of each page: at first, each page is known to be assignable to itself.
 pub fn own_numbers(alloc: Global, pages: &[Items<JType>]) -> Result<Vec<usize>, AllocError>
     ensures { IfOk result (λ fitting. AreFitting pages.now fitting.items) }
 {

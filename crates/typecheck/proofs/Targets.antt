@@ -1,4 +1,4 @@
--- All the targets of an instruction.
+-- All targets of an instruction.
 use Rattle.std.proofs.Common.{◌≡◌, ℕ, zero, suc, Bool, true, false, ◌||◌, List, [], ◌∷◌, length, Option, Some, None, refl, sym, ap, ◌∙◌, arith, drop, ◌⊎◌, inl, inr}
 use Rattle.std.specs.Prelude.{slice_get, ℤ, pos, negsuc}
 use Rattle.std.proofs.lemmas.Bool.{false≢true}
@@ -31,12 +31,12 @@ neither_holds : (x y : Bool) → (x || y) ≡ false → (x ≡ false) × (y ≡ 
 neither_holds true y e = absurd (false≢true (sym e))
 neither_holds false y e = (refl, e)
 
--- an instruction without a target isn't a switch
+-- an instruction without a target has no cases
 pub no_cases : (i : Instruction) → target_of i ≡ None → cases_of i ≡ []
 no_cases (instruction.Switch default cases) e = cc e
 no_cases _ e = refl
 
--- the targets from one on
+-- the targets from index `k` on are the one at `k` and those from `k + 1` on
 pub drop_at : (xs : List ℤ) (k : ℕ) (z : ℤ) → slice_get xs k ≡ Some z → drop k xs ≡ z ∷ drop (suc k) xs
 drop_at [] k z e = cc e
 drop_at (x ∷ xs) zero z e = let same : x ≡ z = cc e in ap (λ (y : ℤ). y ∷ xs) same
@@ -45,7 +45,7 @@ drop_at (x ∷ xs) (suc k) z e = drop_at xs k z e
 pub drop_on : (xs : List ℤ) (k : ℕ) (z : ℤ) → slice_get xs k ≡ Some z → drop k xs ≡ z ∷ drop (k + 1) xs
 drop_on xs k z e = let next : suc k ≡ k + 1 = omega arith in drop_at xs k z e ∙ ap (λ (n : ℕ). z ∷ drop n xs) next
 
--- one more of the places where a switch leads
+-- the test from case `k` on is that of case `k` or that from `k + 1` on
 pub row_step : (ds : List Declared) (zs : List ℤ) (k : ℕ) (z : ℤ) (b : Bool) → slice_get zs k ≡ Some z → b ≡ not (is_some (target_row ds z)) → lacks_cases_row ds (drop k zs) ≡ (b || lacks_cases_row ds (drop (k + 1) zs))
 row_step ds zs k z b e h = ap (lacks_cases_row ds) (drop_on zs k z e) ∙ ap (λ c. c || lacks_cases_row ds (drop (k + 1) zs)) (sym h)
 
@@ -69,7 +69,7 @@ module _ (m : Method) (g : Frame) where
       go (inl h) later = let t = misfit_target (Some z) h in (0, t.0, t.1, t.2)
       go (inr h) later = let t = later h in (suc t.0, t.1, t.2, t.3)
 
-  -- an outcome that misfits does so at some target
+  -- a frame that doesn't fit all targets misfits at some target
   pub misfit_is : (i : Instruction) → misfits_targets m g i ≡ true → (q : ℕ) × IsTarget i (pos q) × (misfits g (declared_at m q) ≡ true)
   misfit_is i b = go (one_of (misfits_target m g (target_of i)) (misfits_cases m g (cases_of i)) b)
     where
@@ -88,7 +88,7 @@ module _ (m : Method) (g : Frame) where
   is_misfit i z (inl e) h = first_holds _ _ (ap (misfits_target m g) e ∙ h)
   is_misfit i z (inr (k, e)) h = second_holds _ _ (case_misfits (cases_of i) k z e h)
 
-  -- where it misfits at none, it fits at each
+  -- a frame that misfits at no target fits at each
   pub fits_each : (i : Instruction) (z : ℤ) → misfits_targets m g i ≡ false → IsTarget i z → misfits_target m g (Some z) ≡ false
   fits_each i z n t = go (misfits_target m g (Some z)) refl
     where

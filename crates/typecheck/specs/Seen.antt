@@ -1,4 +1,4 @@
--- What the parts of the check answer: the pass by its results.
+-- The results of the parts of the type checker, and of the pass.
 use Rattle.std.specs.Prelude.{◌≡◌, ℕ, ◌==◌, min, Bool, false, not, ◌&&◌, ◌||◌, List, [], ◌∷◌, Option, Some, None, is_some, Result, Ok, Err, ℤ, pos, negsuc, if◌then◌else◌}
 use Rattle.jtypes.specs.declared.refusal.Refusal.{Refusal}
 use Rattle.jtypes.specs.declared.refusal.Refusal.TheVariants.{BadStackMap, TypeMismatch, FallsOff}
@@ -15,16 +15,16 @@ use Rattle.frames.specs.Seen.{frame_seen}
 use Rattle.typecheck.specs.Typing.{Method}
 use Rattle.typecheck.specs.Pass.{frame_fits}
 
--- a method by the rows of the code
+-- a method with this code and these declared frames
 abbrev pub method_of : Environment → List Placed → List (ℕ × Frame) → Method
 method_of e code ds = record { environment = e; code = code; declared = ds }
 
--- the declared frame of a place, by its row
+-- the declared frame at a pc, as the code stores it
 abbrev pub declared_row : List Declared → ℕ → Option Declared
 declared_row [] p = None
 declared_row (d ∷ ds) p = if d.place == p then Some d else declared_row ds p
 
--- the frame declared at a branch's target
+-- the frame declared at a branch target
 abbrev pub target_frame : List (ℕ × Frame) → ℤ → Option Frame
 target_frame ds (pos q) = frame_in ds q
 target_frame ds (negsuc n) = None
@@ -33,17 +33,17 @@ abbrev pub target_row : List Declared → ℤ → Option Declared
 target_row ds (pos q) = declared_row ds q
 target_row ds (negsuc n) = None
 
--- the frame that flows, if one does
+-- the frame that flows to the next instruction, if one does
 abbrev pub flowing : Bool → Flow → Option Frame
 flowing flows f = if flows then Some (frame_seen f) else None
 
--- ---- lacking frames
+-- ---- missing frames
 
 abbrev pub lacks_target : List (ℕ × Frame) → Option ℤ → Bool
 lacks_target ds None = false
 lacks_target ds (Some z) = not (is_some (target_frame ds z))
 
--- or where one of a switch's keys leads
+-- whether a case target of a switch has no declared frame
 abbrev pub lacks_cases : List (ℕ × Frame) → List ℤ → Bool
 lacks_cases ds [] = false
 lacks_cases ds (z ∷ cases) = lacks_target ds (Some z) || lacks_cases ds cases
@@ -51,11 +51,11 @@ lacks_cases ds (z ∷ cases) = lacks_target ds (Some z) || lacks_cases ds cases
 abbrev pub lacks_targets : List (ℕ × Frame) → Instruction → Bool
 lacks_targets ds i = lacks_target ds (target_of i) || lacks_cases ds (cases_of i)
 
--- no frame is declared at an instruction's target, or behind it where it doesn't fall through
+-- whether a target of an instruction has no declared frame, or the next instruction after one that doesn't fall through
 abbrev pub lacks_at : List Placed → List (ℕ × Frame) → Placed → Bool
 lacks_at code ds p = lacks_targets ds p.instruction || (not (falls_through p.instruction) && (is_some (at_place code p.next) && not (is_some (frame_in ds p.next))))
 
--- the same by the rows
+-- the same for declared frames as the code stores them
 abbrev pub lacks_target_row : List Declared → Option ℤ → Bool
 lacks_target_row ds None = false
 lacks_target_row ds (Some z) = not (is_some (target_row ds z))
@@ -75,7 +75,7 @@ lacks_row_at code ds p = lacks_targets_row ds p.instruction || (not (falls_throu
 abbrev pub mismatch_at : ℕ → Refusal
 mismatch_at place = TypeMismatch (min place 4294967295)
 
--- the frame with which an instruction is checked, from what flows there from a place and what is declared
+-- the frame with which an instruction is checked, by the frame that comes from the pc `from` and the declared one
 abbrev pub entered : ℕ → Option Frame → Option Frame → Result Frame Refusal
 entered from None None = Err BadStackMap
 entered from None (Some d) = Ok d
@@ -85,19 +85,19 @@ entered from (Some f) (Some d) = if frame_fits f d then Ok d else Err (mismatch_
 abbrev pub flows : Placed → Frame → Option Frame
 flows p g = if falls_through p.instruction then Some g else None
 
--- the outcome meets what is declared at a target, before what is said of others
+-- the check of the frame `g` after an instruction at one target, followed by the result `others` of the remaining targets
 abbrev pub met : Placed → Frame → Option Frame → Result (Option Frame) Refusal → Result (Option Frame) Refusal
 met p g None others = Err BadStackMap
 met p g (Some d) others = if frame_fits g d then others else Err (mismatch_at p.place)
 
--- the outcome fits at a target, whatever is said of others; or there it is refused
+-- `IsMet` holds if the frame `g` fits at the target, and `IsUnmet` if the check there fails with `r`, whatever the remaining targets give
 abbrev pub IsMet : List (ℕ × Frame) → Placed → Frame → ℤ → Type 0
 IsMet ds p g target = (others : Result (Option Frame) Refusal) → met p g (target_frame ds target) others ≡ others
 
 abbrev pub IsUnmet : List (ℕ × Frame) → Placed → Frame → ℤ → Refusal → Type 0
 IsUnmet ds p g target r = (others : Result (Option Frame) Refusal) → met p g (target_frame ds target) others ≡ Err r
 
--- and where the keys of a switch lead
+-- the check at the case targets of a switch
 abbrev pub branched_cases : List (ℕ × Frame) → Placed → Frame → List ℤ → Result (Option Frame) Refusal
 branched_cases ds p g [] = Ok (flows p g)
 branched_cases ds p g (z ∷ cases) = met p g (target_frame ds z) (branched_cases ds p g cases)
@@ -114,7 +114,7 @@ abbrev pub after : ClassView → Environment → List (ℕ × Frame) → Placed 
 after v e ds p (Err r) = Err r
 after v e ds p (Ok f) = left ds p (transfer v e p.instruction f)
 
--- what flows on after one instruction
+-- the frame that flows to the next instruction after one instruction, or an error
 abbrev pub advanced : ClassView → Environment → List (ℕ × Frame) → Placed → ℕ → Option Frame → Result (Option Frame) Refusal
 advanced v e ds p from flow = after v e ds p (entered from flow (frame_in ds p.place))
 

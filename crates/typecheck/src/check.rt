@@ -25,7 +25,7 @@ use jtypes::Refusal;
 use std::alloc::{AllocError, Global};
 use transfer::apply;
 
-/// The frame that is declared at a place. The search halves the row each time.
+/// Returns the frame declared at a pc, by binary search.
 fn declared_at(declared: &[Declared], place: usize) -> Option<&Declared>
     requires { AreInOrder declared.now }
     ensures { option_copied result ≡ declared_row declared.now place }
@@ -44,7 +44,7 @@ fn is_declared(declared: &[Declared], place: usize) -> bool
     declared_at(declared, place).is_some()
 }
 
-/// The frame declared at the target of an instruction that has one.
+/// Returns the frame declared at a branch target.
 fn declared_at_target(declared: &[Declared], target: i128) -> Option<&Declared>
     requires { AreInOrder declared.now }
     ensures { option_copied result ≡ target_row declared.now target }
@@ -62,7 +62,7 @@ fn lacks_one(declared: &[Declared], target: i128) -> bool
     declared_at_target(declared, target).is_none()
 }
 
-/// Whether a place where one of a switch's keys leads has no declared frame.
+/// Checks whether a case target of a switch has no declared frame.
 fn lacks_case(declared: &[Declared], instruction: &Instruction) -> bool
     requires { AreInOrder declared.now }
     ensures { result ≡ lacks_cases_row declared.now (cases_of instruction.now) }
@@ -75,7 +75,7 @@ fn lacks_case(declared: &[Declared], instruction: &Instruction) -> bool
     false
 }
 
-/// Whether a place to which an instruction may branch has no declared frame.
+/// Checks whether a target of an instruction has no declared frame.
 fn lacks_target(declared: &[Declared], instruction: &Instruction) -> bool
     requires { AreInOrder declared.now }
     ensures { result ≡ lacks_targets_row declared.now instruction.now }
@@ -86,7 +86,8 @@ fn lacks_target(declared: &[Declared], instruction: &Instruction) -> bool
     }
 }
 
-/// Whether a branch target of an instruction, or what follows a goto, a switch or a return, has no declared frame (JVMS §4.10.1).
+/// Checks whether a target of an instruction, or the instruction after a goto, a switch or a return, has no declared frame
+/// (JVMS §4.10.1).
 fn lacks_at(code: &Code, declared: &[Declared], p: &Placed) -> bool
     requires { AreInOrder declared.now }
     ensures { result ≡ lacks_row_at code.now declared.now p.now }
@@ -97,7 +98,7 @@ fn lacks_at(code: &Code, declared: &[Declared], p: &Placed) -> bool
             && !is_declared(declared, p.next))
 }
 
-/// Whether an instruction of a method lacks a declared frame.
+/// Checks whether a declared frame is missing at some instruction of a method.
 fn lacks_frame(code: &Code, declared: &[Declared]) -> bool
     requires { AreInOrder declared.now }
     ensures some { IsTrue result → (e : Environment) (rows : List (List JType)) → LacksFrame (method_of e code.now (declared_seen rows declared.now)) }
@@ -111,15 +112,16 @@ fn lacks_frame(code: &Code, declared: &[Declared]) -> bool
     false
 }
 
-/// The refusal of the instruction at a place.
+/// Returns the refusal of the instruction at a pc. It has the pc as a `u32`, and `u32::MAX` for larger ones.
 fn mismatch(place: usize) -> Refusal
     ensures { result ≡ mismatch_at place }
 {
     Refusal::TypeMismatch(u32::try_from(place).unwrap_or(u32::MAX))
 }
 
-/// Makes the flow the frame with which an instruction is checked: the declared one, which what flows in has to fit. Where it
-/// doesn't, the place that it comes from is named.
+/// Makes `flow` the frame with which an instruction is checked: the declared one, else the incoming one.
+/// If the incoming frame isn't assignable to the declared one, the error has the pc `from`, where it comes from.
+/// Without either frame the error is `BadStackMap`.
 fn enter(
     alloc: Global,
     from: usize,
@@ -147,7 +149,7 @@ fn enter(
     Ok(())
 }
 
-/// That the outcome of the instruction fits what is declared at one of its targets.
+/// Checks that the frame after an instruction is assignable to the frame declared at one of its targets.
 fn meet(declared: &[Declared], p: &Placed, target: i128, outcome: &mut Flow) -> Result<(), Refusal>
     requires order { AreInOrder declared.now }
     requires rows { AreKept outcome.old.locals.kept declared.now }
@@ -164,8 +166,8 @@ fn meet(declared: &[Declared], p: &Placed, target: i128, outcome: &mut Flow) -> 
     Ok(())
 }
 
-/// That it fits at a target that stands behind one where it does. The same target isn't compared again: thousands of keys may
-/// lead to one place, whose frame has thousands of operands.
+/// Checks one target after another one, `before`, that fits. An equal target isn't compared again:
+/// thousands of cases can have one target, whose frame has thousands of operands.
 fn meet_next(
     declared: &[Declared],
     p: &Placed,
@@ -187,7 +189,7 @@ fn meet_next(
     }
 }
 
-/// That it fits where the keys of a switch lead, when it fits where the switch leads without a key.
+/// Checks the case targets of a switch, whose default target fits.
 fn meet_cases(
     declared: &[Declared],
     p: &Placed,
@@ -210,7 +212,7 @@ fn meet_cases(
     Ok(())
 }
 
-/// That it fits at all its targets.
+/// Checks all targets of an instruction.
 fn meet_targets(declared: &[Declared], p: &Placed, outcome: &mut Flow) -> Result<(), Refusal>
     requires order { AreInOrder declared.now }
     requires rows { AreKept outcome.old.locals.kept declared.now }
@@ -227,7 +229,7 @@ fn meet_targets(declared: &[Declared], p: &Placed, outcome: &mut Flow) -> Result
     }
 }
 
-/// Whether an instruction's outcome flows on from it. It has to fit what is declared at the instruction's targets.
+/// Checks all targets of an instruction. Returns whether its frame flows to the next instruction.
 fn leave(declared: &[Declared], p: &Placed, outcome: &mut Flow) -> Result<bool, Refusal>
     requires order { AreInOrder declared.now }
     requires rows { AreKept outcome.old.locals.kept declared.now }
@@ -239,7 +241,7 @@ fn leave(declared: &[Declared], p: &Placed, outcome: &mut Flow) -> Result<bool, 
     Ok(p.instruction.falls_through())
 }
 
-/// What an instruction calls, if it is a call.
+/// Returns the method that an instruction calls; `None` if it isn't a call or doesn't resolve.
 fn called_by<'c>(calls: &'c [Called], p: &Placed) -> Option<&'c Callee>
     ensures { (v : ClassView) → AreRising calls.now → callee_in calls.now p.now.place ≡ called_by v p.now.instruction → IsCalleeOf v p.now.instruction (option_copied result) }
 {
@@ -249,7 +251,8 @@ fn called_by<'c>(calls: &'c [Called], p: &Placed) -> Option<&'c Callee>
     }
 }
 
-/// Makes what flows in from a place, if anything does, what flows on after one instruction, if anything does.
+/// Checks one instruction. `flows` says whether `flow` comes in, from the instruction at the pc `from`.
+/// Makes `flow` the frame after the instruction, and returns whether it flows to the next one.
 fn advance(
     alloc: Global,
     environment: &Environment,
@@ -276,7 +279,7 @@ fn advance(
     }
 }
 
-/// One pass over the instructions, in order, from the method's first frame.
+/// Checks the instructions in order, in one pass from the method's initial frame.
 fn pass(
     alloc: Global,
     environment: &Environment,
@@ -329,8 +332,8 @@ fn places_of(alloc: Global, declared: &[Declared]) -> Result<Vec<usize>, AllocEr
     Ok(places)
 }
 
-/// Checks the types of one method, whose members are known: with its environment, its StackMapTable attributes, its
-/// instructions and their calls.
+/// Type checks one method: its environment, its StackMapTable attributes, its instructions and the methods that these call.
+/// The error is `BadStackMap`, `TypeMismatch` with the first pc that fails, or `FallsOff`, besides `NoMemory`.
 pub fn check_method(
     alloc: Global,
     number: usize,
@@ -343,16 +346,16 @@ pub fn check_method(
 ) -> Result<Typed, Refusal>
     requires calls { AreCallsOf view.now code calls.items }
 
-    // What is answered is the method that was given.
+    // The result has the given method.
     ensures method { IfOk result (λ t. (t.number ≡ number) × (t.is_process ≡ is_process)) }
     ensures body { IfOk result (λ t. (t.environment ≡ start) × (t.code ≡ code)) }
 
-    // The method with the frames that its tables declare is well typed; and what is refused stands: its frames are bad, or
-    // they are not and the first place that fails is named, or it falls off its end.
+    // The method is well typed with the frames that its attributes declare. An error is justified: the frames are bad,
+    // or they aren't and the error has the first pc that fails, or the method falls off its end.
     ensures typed { IfOk result (λ _. (ds : List (ℕ × Frame)) × IsDeclared view.now start code (map (λ t. t.now) tables.now) ds × IsWellTyped view.now (record { environment = start; code = code; declared = ds })) }
     ensures refused { IfErr result (CheckRefuses view.now start code (map (λ t. t.now) tables.now)) }
 
-    // An instruction stands at its start; the calls are answered, and the places of the frames that its tables declare.
+    // An instruction starts at pc 0. The result has the calls of its code, and the pcs of the declared frames.
     ensures starts { IfOk result (λ t. IsSome (at_place t.code 0)) }
     ensures calls { IfOk result (λ t. AreCallsOf view.now t.code t.calls.items) }
     ensures declared { IfOk result (λ t. (ds : List (ℕ × Frame)) × IsDeclared view.now start code (map (λ t. t.now) tables.now) ds × ArePlacesOf ds t.declared.items) }
