@@ -1,4 +1,4 @@
--- The cells of a method are a table's costs, cut off.
+-- The cells of a method are a table's costs, saturated.
 use Rattle.std.proofs.Common.{◌≡◌, ◌≢◌, ℕ, zero, suc, ◌+◌, ◌-◌, ◌<◌, ◌≤◌, Bool, true, false, cond, eqb, List, [], ◌∷◌, length, drop, Option, Some, None, refl, sym, ap, ◌∙◌, subst, arith, inl, inr}
 use Rattle.std.specs.Prelude.{slice_get, slice_set, ℤ, IsSome, is_some, ◌&&◌}
 use Rattle.std.proofs.lemmas.Bool.{eqb-true, eqb-false, eq-eqb, ne_eqb}
@@ -19,7 +19,7 @@ use Rattle.bounds.specs.Cells.{Cell, cut, capped, no_path, either, one_before, c
 use Rattle.bounds.specs.Rows.{IsRowOf, AreKnown, IsCostOf, is_known, are_known}
 use Rattle.bounds.proofs.Greatest.{some_is}
 
--- ---- what is cut off
+-- ---- saturation
 
 abbrev cell : ℕ → ℕ → ℕ → ℕ → Cell
 cell s w x d = record { steps = s; words = w; slots = x; depth = d }
@@ -82,7 +82,7 @@ and_right : (a b : Bool) → a && b ≡ true → b ≡ true
 and_right true b e = e
 and_right false b e = cc
 
--- where the callees of all calls are known, that of each is
+-- if the costs of all callees are known, so is that of each call's
 each_known : (known : List (Option Cell)) (calls : List Called) → are_known known calls ≡ true → (place : ℕ) → is_known known (own_of (callee_in calls place)) ≡ true
 each_known known [] all place = refl
 each_known known (x ∷ calls) all place = go (each_known known calls (and_right (is_known known (own_number x.callee.reached)) (are_known known calls) all) place) (eqb x.place place)
@@ -124,11 +124,11 @@ module _ (c : Class) (t : Costs) (row : Typed) (m : Method) (own : own_slots m �
   words_are place (instruction.CheckCast x) = refl
   words_are place (instruction.InstanceOf x) = refl
 
-  -- an instruction that takes words and nothing else
+  -- an instruction that costs words and one step
   plain_is : (p : Placed) (i : Instruction) (cells : List Cell) → p.instruction ≡ i → cell_at cells p.next ≡ capped (t row.number p.next) → one_before (words_by row p.place i) (cell_at cells p.next) ≡ capped (after_one (words_at m p.place p.instruction) (t row.number p.next))
   plain_is p i cells e h = one_is (words_by row p.place i) (words_at m p.place p.instruction) (cell_at cells p.next) (t row.number p.next) (words_are p.place i ∙ ap (λ (x : Instruction). cut (words_at m p.place x)) (sym e)) h
 
-  -- where a switch leads
+  -- the maximum over a switch's targets is the table's, saturated
   among_is : (cells : List Cell) (zs : List ℤ) (x : Cell) (k : Cost) → x ≡ capped k → ((n : ℕ) (z : ℤ) → slice_get zs n ≡ Some z → cell_at_target cells z ≡ capped (t row.number (place_of z))) → cell_among cells zs x ≡ capped (cost_among t row.number zs k)
   among_is cells [] x k e each = e
   among_is cells (z ∷ zs) x k e each =
@@ -164,7 +164,7 @@ module _ (c : Class) (t : Costs) (row : Typed) (m : Method) (own : own_slots m �
   row_is p (instruction.CheckCast x) cells e next target call is = plain_is p (instruction.CheckCast x) cells e (next refl)
   row_is p (instruction.InstanceOf x) cells e next target call is = plain_is p (instruction.InstanceOf x) cells e (next refl)
 
--- ---- the last place
+-- ---- the last pc
 
 last_at : (q : ℕ) (code : List Placed) (n : ℕ) → RisesFrom q code → length code ≡ suc n → (x : ℕ) (p : Placed) → at_place code x ≡ Some p → (l : Placed) × (slice_get code n ≡ Some l) × (x ≤ l.place)
 last_at q [] n rising many x p e = cc
@@ -186,7 +186,7 @@ last_at q (y ∷ z ∷ zs) (suc n) (first, up, fits, rising) many x p e = go (la
         (later.0, later.1, omega (arith, same, far, start, up))
     go behind false is f = behind x p f
 
--- each place is below the size
+-- each pc is below the size
 pub below_size : (code : List Placed) → RisesFrom 0 code → (x : ℕ) (p : Placed) → at_place code x ≡ Some p → x < size_by (slice_get code (length code - 1))
 below_size [] rising x p e = cc
 below_size (y ∷ ys) rising x p e =
@@ -218,7 +218,7 @@ module _ (c : Class) (set : ℕ → Bool) (on : LeadsOn c set) (t : Costs) (tabl
   in_row : (x : ℕ) → IsSome (instruction_at m x) → (p : Placed) × (at_place row.code x ≡ Some p)
   in_row x h = let y = some_is (instruction_at m x) h in (y.0, ap (λ (l : List Placed). at_place l x) (sym is.method.3) ∙ y.1)
 
-  -- the row of an instruction, whose cells behind it are the table's
+  -- the cell of an instruction is the table's cost, if the cells after it are
   put_is : (p : Placed) (rest : List Placed) → at_place row.code p.place ≡ Some p → ((x : ℕ) → p.place < x → at_place row.code x ≡ at_place rest x) → AreCells rest → cell_by row p (cells_of row known size rest) known p.instruction ≡ capped (t row.number p.place)
   put_is p rest here behind cells =
       let s : StandsAt c row.number p.place m p = record { method = is.method.1; instruction = in_method p.place (Some p) here } in
@@ -246,7 +246,7 @@ module _ (c : Class) (set : ℕ → Bool) (on : LeadsOn c set) (t : Costs) (tabl
       go true i = let k = below y.place y (first_stands y rest) in let j : y.place ≡ z = eqb-true y.place z i in omega (arith, k, j)
       go false i = below z w (ap (λ (b : Bool). cond b (Some y) (at_place rest z)) i ∙ f)
 
-  -- one more instruction
+  -- the claim for another instruction, after its cell is written
   put_cells : (y : Placed) (rest : List Placed) → y.place < size → cell_by row y (cells_of row known size rest) known y.instruction ≡ capped (t row.number y.place) → AreCells rest → AreCells (y ∷ rest)
   put_cells y rest below value cells x p e = go (eqb y.place x) refl e
     where
@@ -268,14 +268,14 @@ module _ (c : Class) (set : ℕ → Bool) (on : LeadsOn c set) (t : Costs) (tabl
       let cells : AreCells rest = filled y.next rest rising (λ z l. behind z (omega (arith, l, up))) (rest_below y rest below) in
       put_cells y rest (below y.place y (first_stands y rest)) (put_is y rest here behind cells) cells
 
--- what stands at a method's start when all of it is filled
+-- the cell at the start of a method is the table's cost, when all cells are filled
 pub start_is : (c : Class) (set : ℕ → Bool) (t : Costs) (row : Typed) (known : List (Option Cell)) → LeadsOn c set → IsTable c set t → IsRowOf c row → set row.number ≡ true → AreKnown t known → are_known known row.calls.items ≡ true → RisesFrom 0 row.code
     → cell_at (cells_of row known (size_by (slice_get row.code (length row.code - 1))) row.code) 0 ≡ capped (t row.number 0)
 start_is c set t row known on table is member right ready rising =
     let y = some_is (at_place row.code 0) is.starts in
     filled c set on t table row is member known right ready (size_by (slice_get row.code (length row.code - 1))) 0 row.code rising (λ x l. refl) (below_size row.code rising) 0 y.0 y.1
 
--- the same of a list that was filled
+-- the same for the list that a loop fills
 pub cost_is : (row : Typed) (known : List (Option Cell)) (code : List Placed) (cells : List Cell) (left : ℕ) (x : Cell) → code ≡ row.code → RisesFrom 0 row.code → left ≤ 0 → (AreRising row.calls.items → cells ≡ cells_of row known (size_by (slice_get row.code (length row.code - 1))) (drop left code)) → x ≡ cell_at cells 0 → IsCostOf row known x
 cost_is row known code cells left x same rising none filling at c set t on table is member right ready =
     let start : left ≡ 0 = omega (arith, none) in

@@ -1,4 +1,4 @@
--- Rounds over the rows: more becomes known, or the rows whose costs aren't known make a circle.
+-- Rounds over the methods: another cost becomes known, or the methods with unknown costs form a cycle.
 use Rattle.std.proofs.Common.{◌≡◌, ◌≢◌, ℕ, zero, suc, ◌+◌, ◌<◌, ◌≤◌, Bool, true, false, not, List, [], ◌∷◌, length, get_or, take, ◌++◌, Option, Some, None, refl, sym, ap, ◌∙◌, subst, arith, inl, inr}
 use Rattle.std.specs.Prelude.{Result, Ok, Err, IfErr, min, max, slice_set, IsSome, is_some, ◌&&◌, ◌⊎◌}
 use Rattle.std.proofs.lemmas.Bool.{cases_lt}
@@ -40,7 +40,7 @@ learnt_no_more rows i row old mid new false h g e = (g.0 ∙ h.0, λ k d l. go k
         let same : k ≡ i = omega (arith, more, l) in
         subst (λ (n : ℕ). IsSettled old (get_or rows n d)) (sym same) (subst (IsSettled old) (e d) (subst (λ (known : List (Option Cell)). IsSettled known row) h.0 g.1))
 
--- ---- circles
+-- ---- cycles
 
 record Unready (known : List (Option Cell)) (calls : List Called) : Type 0 where
   at : ℕ

@@ -1,4 +1,4 @@
--- A table of costs, filled in rounds: where ranks fall at calls and places rise within methods, so many rounds fill it.
+-- A table of costs, filled in rounds: if ranks fall at calls and pcs increase within methods, enough rounds fill it.
 use Rattle.std.proofs.Common.{◌≡◌, ℕ, zero, suc, ◌+◌, ◌-◌, ◌*◌, ◌<◌, ◌≤◌, max, Bool, true, List, [], ◌∷◌, length, Option, Some, None, refl, sym, ap, ◌∙◌, subst, arith, ◌⊎◌, inl, inr}
 use Rattle.std.specs.Prelude.{slice_get, ℤ}
 use Rattle.std.proofs.lemmas.Bool.{cases_lt}
@@ -10,7 +10,7 @@ use Rattle.bounds.specs.Paths.{Cost, StandsAt, words_at, after_one, after_call}
 use Rattle.bounds.specs.Table.{Costs, greater, place_of, cost_among, cost_through, cost_by, IsTable, LeadsOn, EachHasTable}
 use Rattle.bounds.proofs.Greatest.{through, Leads, returns, goes, branches, follows, leads, top_of, below_top, some_is}
 
--- ---- rows by the costs of what follows
+-- ---- equations by the costs of successors
 
 abbrev nothing : Cost
 nothing = record { steps = 0; words = 0; slots = 0; depth = 0 }
@@ -34,7 +34,7 @@ same_among : (t u : Costs) (j : ℕ) (zs : List ℤ) (a b : Cost) → ((n : ℕ)
 same_among t u j [] a b each e = e
 same_among t u j (z ∷ zs) a b each e = ap (λ x. greater x (cost_among t j zs a)) (each 0 z refl) ∙ ap (greater (u j (place_of z))) (same_among t u j zs a b (λ n y f. each (suc n) y f) e)
 
--- a row is the same where what follows costs the same
+-- the equation of an instruction gives the same cost if its successors have the same costs
 same_row : (c : Class) (t u : Costs) (j q : ℕ) (m : Method) (p : Placed) → (falls_through p.instruction ≡ true → t j p.next ≡ u j p.next) → ((z : ℤ) → IsTarget p.instruction z → t j (place_of z) ≡ u j (place_of z)) → ((k : ℕ) → call_of c.view p.instruction ≡ Some k → t k 0 ≡ u k 0) → cost_by c t m j q p p.instruction ≡ cost_by c u m j q p p.instruction
 same_row c t u j q m p next target call = go (leads c m j q p p.instruction)
   where
@@ -50,7 +50,7 @@ same_row c t u j q m p next target call = go (leads c m j q p p.instruction)
 
 -- ---- numbers
 
--- the greatest of the first few
+-- the maximum of the first `n` values
 abbrev most : (ℕ → ℕ) → ℕ → ℕ
 most f zero = 0
 most f (suc n) = max (f n) (most f n)
@@ -86,7 +86,7 @@ on_to_callee a b top q n l low high = omega (arith, l, low, high)
 within_rounds : (a b top q : ℕ) → a ≤ b → a + (top - q) < suc (b + top)
 within_rounds a b top q l = omega (arith, l)
 
--- ---- so many rounds
+-- ---- the rounds
 
 module _ (c : Class) (set : ℕ → Bool) (on : LeadsOn c set) where
   abbrev top : ℕ
@@ -98,7 +98,7 @@ module _ (c : Class) (set : ℕ → Bool) (on : LeadsOn c set) where
   inside : (j q : ℕ) (m : Method) (p : Placed) → StandsAt c j q m p → q < top
   inside j q m p s = let low = below_top m.code q p s.instruction in let high = tops_is c.methods j m s.method in omega (arith, low, high)
 
-  -- a further round changes nothing, where there were enough
+  -- a round after enough rounds changes nothing
   stable : (n j q : ℕ) (m : Method) (p : Placed) → set j ≡ true → StandsAt c j q m p → weight j + (top - q) < n → filled c n j q ≡ filled c (suc n) j q
   stable zero j q m p member s low = absurd (omega (arith, low))
   stable (suc n) j q m p member s low =

@@ -1,4 +1,4 @@
--- A table's costs are the greatest of all paths.
+-- A table's costs are the maximum of all paths.
 use Rattle.std.proofs.Common.{◌≡◌, ℕ, zero, suc, ◌+◌, ◌<◌, ◌≤◌, max, Bool, true, false, List, [], ◌∷◌, Option, Some, None, refl, sym, ap, ◌∙◌, subst, arith, ◌⊎◌, inl, inr}
 use Rattle.std.specs.Prelude.{slice_get, ℤ, pos, ◌==◌, cond, IsSome}
 use Rattle.std.proofs.lemmas.Bool.{eqb-true, cases_lt}
@@ -11,9 +11,9 @@ use Rattle.typecheck.specs.Typing.{Method, Class, instruction_at, call_of}
 use Rattle.bounds.specs.Paths.{Cost, Path, StandsAt, IsWithin, SomePathTakes, words_at, last_cost, after_one, after_call, ends, jumps, falls, calls}
 use Rattle.bounds.specs.Table.{Costs, bounds_of, greater, place_of, cost_among, cost_through, cost_by, IsTable, LeadsOn, TablesAreBounds}
 
--- ---- no path exceeds
+-- ---- no path exceeds them
 
--- a cost that another isn't below in any measure
+-- `IsBelow k b` holds if `k` is at most `b` in each measure
 abbrev IsBelow : Cost → Cost → Type 0
 IsBelow k b = IsWithin k (bounds_of b)
 
@@ -54,7 +54,7 @@ call_within m e k a b h g =
 same_within : (k : Cost) → IsBelow k k
 same_within k = record { steps = omega arith; words = omega arith; slots = omega arith; depth = omega arith }
 
--- an instruction that falls through and doesn't branch costs what the next one does and its own
+-- the cost of an instruction that falls through and has no target is its own, its callee's and the next instruction's
 pub through : (c : Class) (t : Costs) (m : Method) (j q : ℕ) (p : Placed) (i : Instruction) → falls_through i ≡ true → target_of i ≡ None → cost_by c t m j q p i ≡ cost_through t m j q p (call_of c.view i)
 through c t m j q p (instruction.Goto z) e n = cc
 through c t m j q p (instruction.Branch a z) e n = cc
@@ -77,11 +77,11 @@ through c t m j q p instruction.ArrayLength e n = refl
 through c t m j q p (instruction.CheckCast x) e n = refl
 through c t m j q p (instruction.InstanceOf x) e n = refl
 
--- an instruction with one target
+-- an instruction without cases has no case target
 no_case : (i : Instruction) (n : ℕ) (z : ℤ) → cases_of i ≡ [] → slice_get (cases_of i) n ≡ Some z → ⊥
 no_case i n z e f = let none : None ≡ Some z = ap (λ (l : List ℤ). slice_get l n) (sym e) ∙ f in cc none
 
--- what an instruction is, by where it leads
+-- the kinds of instructions, by their successors
 pub data Leads (c : Class) (m : Method) (j q : ℕ) (p : Placed) (i : Instruction) : Type 0 where
   returns : is_return i ≡ true → falls_through i ≡ false → target_of i ≡ None → call_of c.view i ≡ None → ((t : Costs) → cost_by c t m j q p i ≡ last_cost m) → Leads c m j q p i
   goes : (z : ℤ) → is_return i ≡ false → falls_through i ≡ false → target_of i ≡ Some z → call_of c.view i ≡ None → ((t : Costs) → cost_by c t m j q p i ≡ after_one 0 (cost_among t j (cases_of i) (t j (place_of z)))) → Leads c m j q p i
@@ -114,7 +114,7 @@ module _ (c : Class) (set : ℕ → Bool) (on : LeadsOn c set) (t : Costs) (tabl
   within_of : (k a b : Cost) → a ≡ b → IsBelow k b → IsBelow k a
   within_of k a b e h = subst (IsBelow k) (sym e) h
 
-  -- the greatest of the places where a switch leads isn't below any
+  -- the maximum over a switch's targets is at least the cost of each
   below_default : (j : ℕ) (zs : List ℤ) (k b : Cost) → IsBelow k b → IsBelow k (cost_among t j zs b)
   below_default j [] k b h = h
   below_default j (z ∷ zs) k b h = right_within k (t j (place_of z)) (cost_among t j zs b) (below_default j zs k b h)
@@ -126,7 +126,7 @@ module _ (c : Class) (set : ℕ → Bool) (on : LeadsOn c set) (t : Costs) (tabl
       left_within k (t j (place_of y)) (cost_among t j zs b) (subst (λ x. IsBelow k (t j (place_of x))) (sym same) h)
   below_case j (y ∷ zs) (suc n) z k b e h = right_within k (t j (place_of y)) (cost_among t j zs b) (below_case j zs n z k b e h)
 
-  -- the ways on from an instruction take at most what its row says
+  -- a path from an instruction costs at most the result of its equation
   return_row : (m : Method) (j q : ℕ) (p : Placed) (i : Instruction) → is_return i ≡ true → IsBelow (last_cost m) (cost_by c t m j q p i)
   return_row m j q p i e = go (leads c m j q p i)
     where
@@ -179,7 +179,7 @@ module _ (c : Class) (set : ℕ → Bool) (on : LeadsOn c set) (t : Costs) (tabl
 
 -- ---- some path reaches each
 
--- a measure that goes by the same measure of the costs behind
+-- `IsMeasure part` holds if `part` of a cost depends only on `part` of the successors' costs
 record IsMeasure (part : Cost → ℕ) : Type 0 where
   one : (w : ℕ) (a b : Cost) → part a ≡ part b → part (after_one w a) ≡ part (after_one w b)
   call : (m : Method) (e a k b : Cost) → part e ≡ part a → part k ≡ part b → part (after_call m e k) ≡ part (after_call m a b)
@@ -204,7 +204,7 @@ by_slots = record { one = λ w a b e. e; call = λ m e a k b x y. omega (arith, 
 by_depth : IsMeasure (λ k. k.depth)
 by_depth = record { one = λ w a b e. e; call = λ m e a k b x y. omega (arith, x, y); most = λ a b. max_is a.depth b.depth }
 
--- a place behind all instructions
+-- a pc after all instructions
 abbrev pub top_of : List Placed → ℕ
 top_of [] = 0
 top_of (x ∷ code) = max (suc x.place) (top_of code)
@@ -228,7 +228,7 @@ module _ (part : Cost → ℕ) (measure : IsMeasure part) (c : Class) (set : ℕ
   abbrev AttainsRow : ℕ → ℕ → Cost → Type 0
   AttainsRow j q row = (k : Cost) × Path c j q k × (part k ≡ part row)
 
-  -- the greatest of the places where a switch leads is one of them
+  -- the maximum over a switch's targets is the cost of some target
   abbrev IsOneOf : ℕ → List ℤ → Cost → Type 0
   IsOneOf j zs b = (part (cost_among t j zs b) ≡ part b) ⊎ ((n : ℕ) × (z : ℤ) × (slice_get zs n ≡ Some z) × (part (cost_among t j zs b) ≡ part (t j (place_of z))))
 
@@ -241,7 +241,7 @@ module _ (part : Cost → ℕ) (measure : IsMeasure part) (c : Class) (set : ℕ
       go (inr e) (inl f) = inl (e ∙ f)
       go (inr e) (inr (n, y, at, f)) = inr (suc n, y, at, e ∙ f)
 
-  -- where what follows is attained, an instruction's row is
+  -- if the costs of the successors are reached, so is that of the instruction
   attains_at : (j q : ℕ) (m : Method) (p : Placed) → StandsAt c j q m p → (falls_through p.instruction ≡ true → Attains j p.next) → ((z : ℤ) → IsTarget p.instruction z → (r : ℕ) × (z ≡ pos r) × Attains j r) → ((k : ℕ) → call_of c.view p.instruction ≡ Some k → Attains k 0) → AttainsRow j q (cost_by c t m j q p p.instruction)
   attains_at j q m p s next target call = go (leads c m j q p p.instruction)
     where
@@ -283,7 +283,7 @@ module _ (part : Cost → ℕ) (measure : IsMeasure part) (c : Class) (set : ℕ
       go (branches z a b d n f w g) = of _ (g t) (either z b d f w (measure.most (after_one 0 (t j p.next)) (after_one 0 (t j (place_of z)))))
       go (follows a b d) = of _ (through c t m j q p p.instruction b d) (by_call b d (call_of c.view p.instruction) refl)
 
-  -- within a method, whose callees are attained
+  -- the costs within a method are reached, if those of its callees are
   attains_in : (j : ℕ) (m : Method) → set j ≡ true → slice_get c.methods j ≡ Some m → ((q k : ℕ) (p : Placed) → instruction_at m q ≡ Some p → call_of c.view p.instruction ≡ Some k → Attains k 0) → (left q : ℕ) → top_of m.code ≤ q + left → IsSome (instruction_at m q) → Attains j q
   attains_in j m member known callees zero q long inside = let x = some_is (instruction_at m q) inside in let low = below_top m.code q x.0 x.1 in absurd (omega (arith, low, long))
   attains_in j m member known callees (suc left) q long inside =

@@ -1,4 +1,4 @@
--- Methods whose costs are known are in no set in which each calls another of the set.
+-- No method with a known cost is in a closed set.
 use Rattle.std.proofs.Common.{◌≡◌, ℕ, zero, suc, Bool, true, false, eqb, List, [], ◌∷◌, get_or, Option, Some, None, refl, sym, ap, ◌∙◌, subst}
 use Rattle.std.specs.Prelude.{Result, Ok, Err, IfOk, IfErr, replicate, cond, ◌==◌, slice_get, slice_set, IsSome, ◌&&◌}
 use Rattle.std.proofs.lemmas.Bool.{eqb-true, eqb-false}
@@ -12,7 +12,7 @@ use Rattle.typecheck.specs.declared.typed.Typed.{Typed}
 use Rattle.bounds.specs.Cells.{Cell, known_at}
 use Rattle.bounds.specs.Rows.{AreRowsOf, AreGrounded, StaysGrounded, AreAllKnown, AreNotRecursive, is_known, are_known}
 
--- where the callees' costs are known, that of an own callee is
+-- if the callees' costs are known, so is that of an own callee
 callee_known : (known : List (Option Cell)) (calls : List Called) (q k : ℕ) → are_known known calls ≡ true → own_of (callee_in calls q) ≡ Some k → IsSome (known_at known k)
 callee_known known [] q k e o = cc
 callee_known known (x ∷ calls) q k e o = go (is_known known (own_number x.callee.reached)) refl (x.place == q) (callee_known known calls q k) e o

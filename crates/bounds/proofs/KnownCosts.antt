@@ -1,4 +1,4 @@
--- What is known of the methods' costs, and the answer for the class.
+-- The known costs of methods, and the result for the class.
 use Rattle.std.proofs.Common.{◌≡◌, ◌≢◌, ℕ, zero, suc, ◌<◌, Bool, true, false, eqb, List, length, get_or, Option, Some, None, refl, sym, ap, ◌∙◌, subst, arith, ◌⊎◌, inl, inr}
 use Rattle.std.specs.Prelude.{slice_set, replicate, IsSome, Result, Ok, Err, IfOk}
 use Rattle.std.specs.Global.{Vec}
@@ -21,7 +21,7 @@ use Rattle.bounds.proofs.Greatest.{tables_are_bounds}
 use Rattle.bounds.proofs.FilledTables.{each_has_table}
 use Rattle.jtypes.specs.Profile.{Second}
 
--- ---- learning
+-- ---- new costs
 
 pub stays : (row : Typed) (known : List (Option Cell)) → StaysKnown row known known
 stays row known c set t on table is member right = right
@@ -59,7 +59,7 @@ row_at c set rows i row are l e = subst (IsRowOf c) (sym e) (are.each i row l)
 pub row_within : (c : Class) (set : ℕ → Bool) (rows : List Typed) (i : ℕ) (row : Typed) → AreRowsOf c set rows → i < length rows → row ≡ get_or rows i row → set row.number ≡ true
 row_within c set rows i row are l e = subst (λ (r : Typed). set r.number ≡ true) (sym e) (are.within i row l)
 
--- ---- the answer
+-- ---- the result
 
 abbrev made : ℕ → ℕ → ℕ → ℕ → Bounds
 made s w x d = record { steps = s; words = w; slots = x; depth = d }
@@ -91,7 +91,7 @@ judged c j k x (Err r) are same exceeding = record {
     either (inl l) = inl (exceeds c j k.slots slot_limit x.slots (λ y. y.slots) are.slots (ap (λ (y : Cell). y.slots) same) l)
     either (inr l) = inr (exceeds c j k.depth depth_limit x.depth (λ y. y.depth) are.depth (ap (λ (y : Cell). y.depth) same) l)
 
--- by the row of `process`, whose cost is known
+-- the result for `process`, whose cost is known
 pub answers : (rows : List Typed) (i : ℕ) (row : Typed) (known : List (Option Cell)) (x : Cell) (r : Result declared.Bounds Refusal) → i < length rows → row ≡ get_or rows i row → row.is_process ≡ true
     → ((c : Class) (set : ℕ → Bool) (t : Costs) → LeadsOn c set → IsTable c set t → AreRowsOf c set rows → AreKnown t known) → Some x ≡ known_at known row.number → Judges x r
     → (c : Class) (set : ℕ → Bool) → LeadsOn c set → AreRowsOf c set rows → IsAnswerFor c r
@@ -106,7 +106,7 @@ answers rows i row known x r l e process right at judges c set on are j named =
     let same : row.number ≡ j = cc both in
     subst (λ (n : ℕ). IsAnswerOf c n r) same (judged c row.number (t row.number 0) x r bounds ((right c set t on filled.1 are).each row.number x (sym at)) judges)
 
--- no limit is refused otherwise
+-- any refusal other than a limit's satisfies `IsAnswerFor`
 pub other_refusal : (r : Refusal) → r ≢ StepLimit → r ≢ WordLimit → r ≢ FrameLimit → (c : Class) → IsAnswerFor c (Err r)
 other_refusal r s w f c j named = record { steps = λ e. absurd (s e); words = λ e. absurd (w e); frames = λ e. absurd (f e) }
 
@@ -122,7 +122,7 @@ length_refusal = other_refusal LengthNotConstant (λ e. cc) (λ e. cc) (λ e. cc
 pub process_refusal : (c : Class) → IsAnswerFor c (Err NoProcess)
 process_refusal = other_refusal NoProcess (λ e. cc) (λ e. cc) (λ e. cc)
 
--- ---- what is told of each method
+-- ---- the costs of each method
 
 known_is : {A : Type 0} (o : Option A) → IsSome o → (x : A) × (o ≡ Some x)
 known_is None s = cc

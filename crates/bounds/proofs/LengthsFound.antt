@@ -1,4 +1,4 @@
--- The lengths of new arrays, by the tests of single instructions.
+-- The lengths of new arrays, by tests of single instructions.
 use Rattle.std.proofs.Common.{◌≡◌, ◌≢◌, ℕ, zero, suc, ◌<◌, ◌≤◌, Bool, true, false, cond, not, ◌&&◌, ◌||◌, List, [], ◌∷◌, length, get_or, Option, Some, None, refl, sym, ap, ◌∙◌, subst, arith, ◌⊎◌, inl, inr}
 use Rattle.std.specs.Prelude.{Contains, ◌==◌, Result, Ok, Err, is_ok, MatchResult, T, ℤ, pos}
 use Rattle.std.specs.Int.Signed.{le_z}
@@ -19,7 +19,7 @@ use Rattle.typecheck.proofs.LackingFrames.{rising_is_consecutive, element_stands
 use Rattle.bounds.specs.Lengths.{HasLengths, OneLacksLength, is_length, is_among, has_length}
 use Rattle.bounds.specs.Told.{LacksLengthAt, OneLacksLengthAt}
 
--- ---- the search among places
+-- ---- the search among pcs
 
 among_at : (xs : List ℕ) (q i d : ℕ) → i < length xs → get_or xs i d ≡ q → is_among xs q ≡ true
 among_at [] q i d l e = absurd (omega (arith, l))
@@ -81,7 +81,7 @@ length_is (Some n) e =
 is_length_of : (o : Option ℤ) (n : ℤ) → o ≡ Some n → IsLength n → is_length o ≡ true
 is_length_of o n e l = ap is_length e ∙ ap (λ b. b && le_z n (pos 65_535)) (true_is (le_z (pos 0) n) l.0.le) ∙ true_is (le_z n (pos 65_535)) l.1.le
 
--- one newarray
+-- a `newarray`
 new_has : (row : Typed) (p : Placed) (k : ArrayKind) → has_length row p (NewArray k) ≡ true → HasLength row.code p.place × (Contains row.declared.items p.place → ⊥)
 new_has row p k e = go (is_length (pushed_before row.code p.place)) refl (is_among row.declared.items p.place) refl e
   where
@@ -98,7 +98,7 @@ new_lacks row p k e = go (is_length (pushed_before row.code p.place)) refl (is_a
     go true x true y f = inr (is_contained row.declared.items p.place y)
     go true x false y f = cc
 
--- ---- the instructions of a row
+-- ---- the instructions of a typed method
 
 stands_at : (code : List Placed) (q : ℕ) (p : Placed) → at_place code q ≡ Some p → p.place ≡ q
 stands_at [] q p e = cc
@@ -127,6 +127,6 @@ one_lacks row items k p same rises l is e =
     let here : at_place row.code p.place ≡ Some p = subst (λ (x : Placed). at_place row.code x.place ≡ Some x) (sym element) stands.1 in
     kind_of row p p.instruction refl here e
 
--- what is lacking at a place is lacking
+-- a length that is missing at a pc is missing in some method
 pub lacks_somewhere : (rows : List Typed) (number place : ℕ) → OneLacksLengthAt rows number place → OneLacksLength rows
 lacks_somewhere rows number place (i, row, l, is, of, lacks) = (i, row, l, is, λ rise. let h = lacks rise in (place, h.0, h.1, h.2, h.3, h.4))

@@ -97,7 +97,7 @@ at_most : (f : ℕ → Bool) (m : ℕ) → count f m ≤ m
 at_most f zero = omega arith
 at_most f (suc m) = let later = at_most f m in let now = one_at_most (f m) in omega (arith, later, now)
 
--- where all that pass the one test pass the other, the two are the same, or more pass the other
+-- if `f` implies `g`, they agree below `m`, or more numbers below `m` pass `g`
 same_or_more : (f g : ℕ → Bool) → ((k : ℕ) → f k ≡ true → g k ≡ true) → (m : ℕ) → (count f m ≤ count g m) × (((j : ℕ) → j < m → f j ≡ g j) ⊎ (count f m < count g m))
 same_or_more f g up zero = (omega arith, inl (λ j l. absurd (omega (arith, l))))
 same_or_more f g up (suc m) = go (f m) (g m) refl refl (same_or_more f g up m)
@@ -130,10 +130,10 @@ same_or_more f g up (suc m) = go (f m) (g m) refl refl (same_or_more f g up m)
         let k : one_if (g m) ≡ 0 = ap one_if y in
         (omega (arith, n, k, l), inr (omega (arith, n, k, more)))
 
--- ---- chains of calls, from the list of each one's callees
+-- ---- chains of calls, by the callees of each method
 
 module _ (calls : ℕ → List ℕ) where
-  -- no chain of calls from j is longer than n
+  -- whether no chain of calls from `j` is longer than `n`
   abbrev within : ℕ → ℕ → Bool
   within zero j = is_nil (calls j)
   within (suc n) j = all_pass (within n) (calls j)
@@ -146,7 +146,7 @@ module _ (calls : ℕ → List ℕ) where
   without_callees zero j e = ap is_nil e
   without_callees (suc n) j e = ap (all_pass (within n)) e
 
-  -- from some length on no more are within it
+  -- for some length `i`, `within i` and `within (suc i)` agree below `m`
   settles : (fuel n m : ℕ) → m ≤ count (within n) m + fuel → (i : ℕ) × ((j : ℕ) → j < m → within i j ≡ within (suc i) j)
   settles zero n m h = go (same_or_more (within n) (within (suc n)) (grows n) m).1
     where
@@ -159,7 +159,7 @@ module _ (calls : ℕ → List ℕ) where
       go later (inl same) = (n, same)
       go later (inr more) = later (omega (arith, h, more))
 
-  -- a length behind which nothing changes, where those past a bound call nothing
+  -- for some length the two agree everywhere, if the methods from `m` on have no calls
   settled : (m : ℕ) → ((j : ℕ) → m ≤ j → calls j ≡ []) → (i : ℕ) × ((j : ℕ) → within i j ≡ within (suc i) j)
   settled m none = (found.0, λ j. go j (cases_lt j m))
     where
@@ -170,7 +170,7 @@ module _ (calls : ℕ → List ℕ) where
       go j (inl l) = found.1 j l
       go j (inr l) = without_callees found.0 j (none j l) ∙ sym (without_callees (suc found.0) j (none j l))
 
-  -- how many lengths below n are too small for j
+  -- the number of lengths below `n` that are too small for `j`
   abbrev misses : ℕ → ℕ → ℕ
   misses zero j = 0
   misses (suc n) j = one_if (not (within n j)) + misses n j
@@ -201,7 +201,7 @@ abbrev calls_by : ClassView → Option Placed → List ℕ
 calls_by v None = []
 calls_by v (Some p) = result_list (call_of v p.instruction)
 
--- the calls at the places of these instructions
+-- the calls at the pcs of these instructions
 abbrev calls_in : ClassView → List Placed → List Placed → List ℕ
 calls_in v all [] = []
 calls_in v all (x ∷ code) = calls_by v (at_place all x.place) ++ calls_in v all code

@@ -1,4 +1,4 @@
--- The lengths of new arrays, as the rows of methods have them.
+-- The lengths of new arrays in typed methods.
 use Rattle.std.specs.Prelude.{◌≡◌, ℕ, ◌<◌, length, get_or, ◌==◌, Bool, true, false, not, ◌&&◌, ◌||◌, List, [], ◌∷◌, Contains, Option, Some, None, ℤ, pos, ◌⊎◌}
 use Rattle.std.specs.Int.Signed.{le_z}
 use Rattle.jtypes.specs.declared.operations.ArrayKind.{ArrayKind}
@@ -10,15 +10,15 @@ use Rattle.typecheck.specs.Mismatch.{HasLength}
 use Rattle.typecheck.specs.DeclaredPlaces.{ArePlacesRising}
 use Rattle.typecheck.specs.declared.typed.Typed.{Typed}
 
--- each newarray of a row has a constant length, and no declared frame
+-- `HasLengths row` holds if each `newarray` of a typed method has a constant length, and no declared frame
 abbrev pub HasLengths : Typed → Type 0
 HasLengths row = (q : ℕ) (p : Placed) (k : ArrayKind) → at_place row.code q ≡ Some p → p.instruction ≡ NewArray k → HasLength row.code q × (Contains row.declared.items q → ⊥)
 
--- a newarray of a row has no constant length, or a declared frame
+-- `LacksLengthIn row` holds if a `newarray` of a typed method has no constant length, or has a declared frame
 abbrev pub LacksLengthIn : Typed → Type 0
 LacksLengthIn row = (q : ℕ) × (p : Placed) × (k : ArrayKind) × (at_place row.code q ≡ Some p) × (p.instruction ≡ NewArray k) × ((HasLength row.code q → ⊥) ⊎ Contains row.declared.items q)
 
--- for rows whose frames' places rise
+-- the same for each typed method whose frames' pcs increase
 abbrev pub HaveLengths : List Typed → Type 0
 HaveLengths rows = (i : ℕ) (d : Typed) → i < length rows → ArePlacesRising (get_or rows i d).declared.items → HasLengths (get_or rows i d)
 

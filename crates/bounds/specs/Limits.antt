@@ -7,21 +7,21 @@ use Rattle.bounds.specs.declared.limits.Bounds.{Bounds}
 use Rattle.bounds.specs.Paths.{step_limit, word_limit, slot_limit, depth_limit}
 use Rattle.jtypes.specs.Profile.{Profile, Second}
 
--- none of the four bounds exceeds its limit
+-- `IsWithinLimits profile b` holds if none of the four bounds exceeds its limit
 pub record IsWithinLimits (profile : Profile) (b : Bounds) : Type 0 where
   pub steps : b.steps ≤ step_limit profile
   pub words : b.words ≤ word_limit
   pub slots : b.slots ≤ slot_limit
   pub depth : b.depth ≤ depth_limit
 
--- a cost exceeds the limit that a refusal speaks of
+-- `Exceeds k r` holds if the cost exceeds the limit of the refusal
 abbrev pub Exceeds : Cost → Refusal → Type 0
 Exceeds k StepLimit = step_limit Second < k.steps
 Exceeds k WordLimit = word_limit < k.words
 Exceeds k FrameLimit = (slot_limit < k.slots) ⊎ (depth_limit < k.depth)
 Exceeds k _ = ⊥
 
--- the cost is answered where it is within the limits, and else a limit that it exceeds
+-- `Judges k result` holds if the result is the bounds of the cost within the limits, or the refusal of a limit that it exceeds
 abbrev pub Judges : Cost → Result Bounds Refusal → Type 0
 Judges k (Ok b) = IsWithinLimits Second b × (b.steps ≡ k.steps) × (b.words ≡ k.words) × (b.slots ≡ k.slots) × (b.depth ≡ k.depth)
 Judges k (Err r) = Exceeds k r
@@ -32,7 +32,7 @@ IsLimit WordLimit = Unit {0}
 IsLimit FrameLimit = Unit {0}
 IsLimit _ = ⊥
 
--- what may be refused where bounds are looked for
+-- `IsOfBounds r` holds for the refusals that the computation of bounds can return
 abbrev pub IsOfBounds : Refusal → Type 0
 IsOfBounds NoMemory = Unit {0}
 IsOfBounds LengthNotConstant = Unit {0}

@@ -1,4 +1,4 @@
-//! What the paths of one method take at most.
+//! The maximum cost of the paths through one method.
 
 ghost use Rattle.std.specs.Prelude.{◌≡◌, ◌+◌, min, max, ◌-◌, length, slice_get, slice_set, IfOk};
 ghost use Rattle.decode.specs.Places.{cases_of, pushed_before};
@@ -14,7 +14,7 @@ use frames::Reached;
 use std::alloc::{AllocError, Global};
 use typecheck::Typed;
 
-/// Steps and words, and the greatest slots and depth of nested activations. Sums saturate, far above every limit.
+/// The steps and words of a path, and the maximum slots and depth of its nested activations. Sums saturate, far above every limit.
 #[derive(Clone, Copy, PartialEq, Eq)]
 pub struct Cost {
     pub steps: u32,
@@ -24,7 +24,7 @@ pub struct Cost {
 }
 
 impl Cost {
-    /// No path.
+    /// The cost without a path.
     const NONE: Cost = Cost {
         steps: 0,
         words: 0,
@@ -32,7 +32,7 @@ impl Cost {
         depth: 0,
     };
 
-    /// The greater of each.
+    /// Returns the maximum of each measure.
     fn or(self, other: Cost) -> Cost
         ensures { result ≡ either self other }
     {
@@ -44,7 +44,7 @@ impl Cost {
         }
     }
 
-    /// One instruction before, and so many words.
+    /// Returns the cost with one instruction before it, which allocates this number of words.
     fn after_one(self, words: u32) -> Cost
         ensures { result ≡ one_before words self }
     {
@@ -56,7 +56,7 @@ impl Cost {
         }
     }
 
-    /// A call and its callee before, in an activation of so many slots.
+    /// Returns the cost with a call and its callee before it, in an activation of `own_slots` slots.
     fn after_call(self, own_slots: u32, callee: Cost) -> Cost
         ensures { result ≡ call_before own_slots callee self }
     {
@@ -69,14 +69,14 @@ impl Cost {
     }
 }
 
-/// The slots of one activation.
+/// Returns the slots of one activation: its locals and its operands.
 fn own_slots(method: &Typed) -> u32
     ensures { result ≡ slots_of method.now }
 {
     u32::from(method.environment.max_locals) + u32::from(method.environment.max_stack)
 }
 
-/// The words of a new array whose length is the constant before; other instructions take none.
+/// Returns the words of a new array, one more than the constant length before it; 0 for other instructions.
 fn words_at(method: &Typed, p: &Placed) -> u32
     ensures { result ≡ words_by method.now p.now.place p.now.instruction }
 {
@@ -89,14 +89,14 @@ fn words_at(method: &Typed, p: &Placed) -> u32
     }
 }
 
-/// The int constant pushed directly before a place.
+/// Returns the int constant that is pushed directly before a pc.
 fn pushed_before(method: &Typed, place: usize) -> Option<i32>
     ensures { result ≡ pushed_before method.now.code place }
 {
     method.code.before(place)?.instruction.pushed_int()
 }
 
-/// Whether an array may have a length: from 0 to 65,535.
+/// Checks that an array length is constant and from 0 to 65,535.
 fn is_length(length: Option<i32>) -> bool
     ensures { result ≡ is_length length }
 {
@@ -106,14 +106,14 @@ fn is_length(length: Option<i32>) -> bool
     }
 }
 
-/// Whether a frame is declared at a place. The search halves the row each time.
+/// Checks that a frame is declared at a pc, by binary search.
 fn is_declared(method: &Typed, place: usize) -> bool
     ensures { ArePlacesRising method.now.declared.items → result ≡ is_among method.now.declared.items place }
 {
     method.declared.binary_search(&place).is_ok()
 }
 
-/// Whether a newarray has a constant length before it, and no declared frame. Of other instructions nothing is asked.
+/// Checks that a `newarray` has a constant length before it and no declared frame. Returns true for other instructions.
 pub fn has_length(method: &Typed, p: &Placed) -> bool
     ensures { ArePlacesRising method.now.declared.items → result ≡ has_length method.now p.now p.now.instruction }
 {
@@ -125,7 +125,7 @@ pub fn has_length(method: &Typed, p: &Placed) -> bool
     }
 }
 
-/// The cost from a place on, in the row of the costs by places.
+/// Returns the cost from a pc on; `costs` has an entry for each pc.
 fn cost_at(costs: &[Cost], place: usize) -> Cost
     ensures { result ≡ cell_at costs.now place }
 {
@@ -141,7 +141,7 @@ fn cost_at_target(costs: &[Cost], target: i128) -> Cost
     }
 }
 
-/// The greatest of the costs of the places where the keys of a switch lead, and another.
+/// Returns the maximum of `default` and the costs at the case targets of a switch.
 fn cost_of_cases(p: &Placed, costs: &[Cost], default: Cost) -> Cost
     ensures { result ≡ cell_among costs.now (cases_of p.now.instruction) default }
 {
@@ -154,7 +154,7 @@ fn cost_of_cases(p: &Placed, costs: &[Cost], default: Cost) -> Cost
     greatest
 }
 
-/// The cost of the method with a number, if it is known.
+/// Returns the cost of a method by its index, if it is known.
 pub fn known_at(known: &[Option<Cost>], number: usize) -> Option<Cost>
     ensures { result ≡ known_at known.now number }
 {
@@ -164,7 +164,7 @@ pub fn known_at(known: &[Option<Cost>], number: usize) -> Option<Cost>
     }
 }
 
-/// The cost of the method that an own call reaches, if it is known; of other calls none is asked.
+/// Returns the cost of the own method that is called at a pc, if it is known; `None` for a library method.
 fn callee_cost(method: &Typed, place: usize, known: &[Option<Cost>]) -> Option<Cost>
     ensures { AreRising method.now.calls.items → result ≡ callee_cell method.now place known.now }
 {
@@ -177,7 +177,7 @@ fn callee_cost(method: &Typed, place: usize, known: &[Option<Cost>]) -> Option<C
     }
 }
 
-/// The cost from one instruction on, from the costs behind it.
+/// Returns the cost from an instruction on, by the costs at the pcs after it.
 fn cost_of(method: &Typed, p: &Placed, costs: &[Cost], known: &[Option<Cost>]) -> Cost
     ensures { AreRising method.now.calls.items → result ≡ cell_by method.now p.now costs.now known.now p.now.instruction }
 {
@@ -203,7 +203,7 @@ fn cost_of(method: &Typed, p: &Placed, costs: &[Cost], known: &[Option<Cost>]) -
     }
 }
 
-/// Whether what a call reaches is of the library, or its cost is known.
+/// Checks that a call reaches a library method, or an own method whose cost is known.
 fn is_known(known: &[Option<Cost>], reached: Reached) -> bool
     ensures { result ≡ is_known known.now (own_number reached) }
 {
@@ -213,7 +213,7 @@ fn is_known(known: &[Option<Cost>], reached: Reached) -> bool
     }
 }
 
-/// Whether each own call of a method reaches one whose cost is known.
+/// Checks that each own call of a method reaches a method whose cost is known.
 pub fn is_ready(method: &Typed, known: &[Option<Cost>]) -> bool
     ensures { result ≡ are_known known.now method.now.calls.items }
 {
@@ -225,7 +225,7 @@ pub fn is_ready(method: &Typed, known: &[Option<Cost>]) -> bool
     true
 }
 
-/// One more than the place of the last instruction.
+/// Returns the pc of the last instruction plus 1, or 0 without instructions.
 fn size_of(code: &Code) -> usize
     ensures { result ≡ size_by (slice_get code.now (length code.now - 1)) }
 {
@@ -235,7 +235,7 @@ fn size_of(code: &Code) -> usize
     }
 }
 
-/// Writes the cost of an instruction.
+/// Writes the cost at a pc; does nothing past the end.
 fn put(costs: &mut [Cost], place: usize, cost: Cost)
     ensures { costs.new ≡ slice_set costs.old place cost }
 {
@@ -244,8 +244,8 @@ fn put(costs: &mut [Cost], place: usize, cost: Cost)
     }
 }
 
-/// What the paths of a method take at most, from what those of the methods that it calls do: one pass from its end to its start,
-/// since every branch goes forward.
+/// Returns the maximum cost of a method's paths, by those of the methods that it calls.
+/// One pass from the last instruction to the first is enough, since every branch goes forward.
 pub fn greatest(alloc: Global, method: &Typed, known: &[Option<Cost>]) -> Result<Cost, AllocError>
     ensures { IfOk result (λ cost. IsCostOf method.now known.now cost) }
 {

@@ -2,9 +2,9 @@
 
 ghost use Rattle.bounds.specs.Table.{EachHasTable, TablesAreBounds};
 
-/// A table that has a cost for each place, by one equation an instruction, has the bounds of each method at its start: no
-/// path takes more, and some path takes as much by each of the four measures. There is such a table, where each
-/// instruction leads on. It speaks of the definitions alone.
+/// A table of costs satisfies one equation for each instruction. Its cost at a method's start is the method's bounds:
+/// no path costs more, and some path costs as much in each of the four measures.
+/// A table exists if the methods satisfy `LeadsOn`. The laws are about the definitions only.
 pub fn tables_are_bounds()
     ensures bounds { TablesAreBounds }
     ensures table { EachHasTable }

@@ -8,7 +8,7 @@ ghost use Rattle.bounds.specs.Told.{LacksLengthAt, OneLacksLengthAt};
 use crate::costs::has_length;
 use typecheck::Typed;
 
-/// The place of a method's first newarray that has no constant length.
+/// Returns the pc of a method's first `newarray` that has no constant length or has a declared frame.
 fn lacking_in(method: &Typed) -> Option<usize>
     ensures some { IfSome result (λ place. ArePlacesRising method.now.declared.items → LacksLengthAt method.now place) }
     ensures none { IfNone result (ArePlacesRising method.now.declared.items → HasLengths method.now) }
@@ -21,7 +21,7 @@ fn lacking_in(method: &Typed) -> Option<usize>
     None
 }
 
-/// The first newarray of the methods that has no constant length: its method's number and its place.
+/// Returns the index of the method and the pc of the first `newarray` that has no constant length or has a declared frame.
 pub fn lacking_length(methods: &[Typed]) -> Option<(usize, usize)>
     ensures some { IfSome result (λ s. OneLacksLengthAt methods.now s.0 s.1) }
     ensures none { IfNone result (HaveLengths methods.now) }
@@ -34,7 +34,7 @@ pub fn lacking_length(methods: &[Typed]) -> Option<(usize, usize)>
     None
 }
 
-/// Whether each newarray of the methods has a constant length.
+/// Checks that each `newarray` of the methods has a constant length and no declared frame.
 pub fn all_have_lengths(methods: &[Typed]) -> bool
     ensures have { IsTrue result → HaveLengths methods.now }
     ensures lack { IsFalse result → OneLacksLength methods.now }

@@ -17,29 +17,29 @@ use jtypes::Refusal;
 use std::alloc::Global;
 use typecheck::Typed;
 
-/// What an invocation of a class takes at most.
+/// The maximum cost of an invocation of a class.
 #[derive(Clone, Copy, Debug, PartialEq, Eq)]
 pub struct Bounds {
-    /// Instructions.
+    /// Executed instructions.
     pub steps: u32,
-    /// Words of arrays: one more than its elements for each.
+    /// Words of arrays: n + 1 for an array of n elements.
     pub words: u32,
-    /// Locals and operands of nested activations.
+    /// Slots of nested activations: their locals and operands.
     pub slots: u32,
     /// Nested activations.
     pub depth: u32,
 }
 
-/// The most instructions of an invocation.
+/// The limit of executed instructions in an invocation.
 pub const STEP_LIMIT: u32 = 4_000_000;
-/// The most words of its arrays.
+/// The limit of words of its arrays.
 pub const WORD_LIMIT: u32 = 65_536;
-/// The most slots of its activations.
+/// The limit of slots of its nested activations.
 pub const SLOT_LIMIT: u32 = 8_192;
-/// The most nested activations.
+/// The limit of nested activations.
 pub const DEPTH_LIMIT: u32 = 64;
 
-/// One method whose callees are known becomes known. Answers whether it wasn't known before.
+/// Computes the cost of a method whose callees' costs are known. Returns whether it wasn't known before.
 fn learn_one(alloc: Global, method: &Typed, known: &mut [Option<Cost>]) -> Result<bool, Refusal>
     requires { method.now.number < length known.old }
     ensures table { StaysKnown method.now known.old known.new }
@@ -55,7 +55,7 @@ fn learn_one(alloc: Global, method: &Typed, known: &mut [Option<Cost>]) -> Resul
     Ok(true)
 }
 
-/// One more round over the methods: those whose callees are known become known. Answers whether there was one.
+/// Computes the costs of the methods whose callees' costs are known, in one round. Returns whether any is new.
 fn learn(alloc: Global, methods: &[Typed], known: &mut [Option<Cost>]) -> Result<bool, Refusal>
     requires { AreBelow methods.now (length known.old) }
     ensures table { (c : Class) (set : ℕ → Bool) (t : Costs) → LeadsOn c set → IsTable c set t → AreRowsOf c set methods.now → AreKnown t known.old → AreKnown t known.new }
@@ -72,7 +72,7 @@ fn learn(alloc: Global, methods: &[Typed], known: &mut [Option<Cost>]) -> Result
     Ok(learnt)
 }
 
-/// One more than the greatest of the methods' numbers.
+/// Returns the greatest index of a method plus 1, or 0 without methods.
 fn count_of(methods: &[Typed]) -> usize
     ensures { result < 2 ^ 64 - 1 → AreBelow methods.now result }
 {
@@ -83,7 +83,7 @@ fn count_of(methods: &[Typed]) -> usize
     count
 }
 
-/// Whether the cost of each method is known.
+/// Checks that the cost of each method is known.
 fn are_all_known(methods: &[Typed], known: &[Option<Cost>]) -> bool
     ensures all { IsTrue result → AreAllKnown methods.now known.now }
     ensures one { IsFalse result → OneIsUnknown methods.now known.now }
@@ -96,7 +96,7 @@ fn are_all_known(methods: &[Typed], known: &[Option<Cost>]) -> bool
     true
 }
 
-/// The costs of the methods, by their numbers; `Recursive` where own calls make a circle.
+/// Returns the costs of the methods, by index. The error is `Recursive` if own calls form a cycle.
 fn costs_of(alloc: Global, methods: &[Typed]) -> Result<Vec<Option<Cost>>, Refusal>
     ensures table { IfOk result (λ known. (c : Class) (set : ℕ → Bool) (t : Costs) → LeadsOn c set → IsTable c set t → AreRowsOf c set methods.now → AreKnown t known.items) }
     ensures grounded { IfOk result (λ known. (c : Class) (set : ℕ → Bool) → AreRowsOf c set methods.now → AreGrounded c known.items) }
@@ -115,7 +115,7 @@ fn costs_of(alloc: Global, methods: &[Typed]) -> Result<Vec<Option<Cost>>, Refus
     }
 }
 
-/// The bounds, where they are within the limits.
+/// Returns the bounds if they are within the limits, else the refusal of a limit.
 fn within_limits(cost: Cost) -> Result<Bounds, Refusal>
     ensures { Judges cost result }
 {
@@ -135,21 +135,21 @@ fn within_limits(cost: Cost) -> Result<Bounds, Refusal>
     }
 }
 
-/// The bounds of a class, from its methods but the constructor: the greatest over all paths of `process`.
+/// Returns the bounds of a class, the maximum over all paths of `process`, from its methods except the constructor.
 pub fn bound(alloc: Global, methods: &[Typed]) -> Result<Bounds, Refusal>
     ensures limits { IfOk result (IsWithinLimits Second) }
-    // Where these are the rows of a class's methods: the bounds are the class's, and a limit is exceeded by some path.
+    // For typed methods of a class: the bounds are the class's, and some path exceeds a limit that is refused.
     ensures answer { (c : Class) (set : ℕ → Bool) → LeadsOn c set → AreRowsOf c set methods.now → IsAnswerFor c result }
-    // Where they are the rows of all of them, the class is recursive where that is answered.
+    // For all of its typed methods, the class is recursive if the error is `Recursive`.
     ensures recursive { IfErr result (λ r. r ≡ Refusal.Recursive → IsCircleIn methods.now) }
-    // Where there are bounds, each newarray has its length, and no own calls of these methods make a circle.
+    // With bounds, each `newarray` has its length, and no own calls of these methods form a cycle.
     ensures lengths { IfOk result (λ _. HaveLengths methods.now) }
     ensures ordered { IfOk result (λ _. AreNotRecursive methods.now) }
-    // The same holds where a limit is refused; and lengths are judged before all else.
+    // The second also holds if a limit is refused, and the first for every error except `LengthNotConstant`, which is checked first.
     ensures limit { IfErr result (λ r. IsLimit r → AreNotRecursive methods.now) }
     ensures judged { IfErr result (λ r. r ≢ Refusal.LengthNotConstant → HaveLengths methods.now) }
     ensures refusal { IfErr result IsOfBounds }
-    // The other refusals: a newarray lacks its length, or there is no `process`.
+    // The remaining refusals: a `newarray` has no length, or there is no `process`.
     ensures lacking { result ≡ Err Refusal.LengthNotConstant → OneLacksLength methods.now }
     ensures process { result ≡ Err Refusal.NoProcess → (i : ℕ) (d : Typed) → i < length methods.now → (get_or methods.now i d).is_process ≡ false }
 {
@@ -167,10 +167,10 @@ pub fn bound(alloc: Global, methods: &[Typed]) -> Result<Bounds, Refusal>
     Err(Refusal::NoProcess)
 }
 
-/// The costs of the methods of a class but its constructor, by their numbers, whatever the limits; `Recursive` where own calls
-/// make a circle.
+/// Returns the costs of a class's methods except the constructor, by index, without a check of the limits.
+/// The error is `Recursive` if own calls form a cycle.
 pub fn costs_by_number(alloc: Global, methods: &[Typed]) -> Result<Vec<Option<Cost>>, Refusal>
-    // Where these are the rows of a class's methods: of each what its paths take at most, with what passes 32 bits cut off.
+    // For typed methods of a class: each cost is the maximum of the method's paths, saturated at 32 bits.
     ensures costs { IfOk result (λ known. (c : Class) (set : ℕ → Bool) → LeadsOn c set → AreRowsOf c set methods.now → AreCostsOf c methods.now known.items) }
     ensures all { IfOk result (λ known. AreAllKnown methods.now known.items) }
     ensures err { IfErr result (λ r. r ≢ Refusal.NoMemory → (r ≡ Refusal.Recursive) × IsCircleIn methods.now) }

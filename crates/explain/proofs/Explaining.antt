@@ -1,4 +1,4 @@
--- What is told of a class that was judged up to its types.
+-- The explanation of a class whose methods are typed.
 use Rattle.std.proofs.Common.{◌≢◌, ◌≡◌, ℕ, ◌<◌, Bool, true, List, length, get_or, Some, refl, sym, ap, ◌∙◌, subst, arith, ◌⊎◌, inl, inr}
 use Rattle.std.specs.Prelude.{slice_get, Contains, IsSome, Result, Ok, Err, IfOk}
 use Rattle.std.specs.declared.alloc.AllocError.{AllocError}
@@ -115,7 +115,7 @@ module _ (bytes : List ℕ) (pool : List Slot) (p : Parts) (rows : List Typed) (
   lacking_in l (refusal, number, place, spot, lacks) =
       subst (λ (r : Refusal). IsAtSpot Second bytes r l.spot) (sym refusal) (subst (IsAtSpot Second bytes LengthNotConstant) (sym spot) (length_at number place lacks))
 
-  -- what has its lengths lacks none
+  -- If all array lengths are constant, no `newarray` lacks one.
   pub not_both : HaveLengths rows → OneLacksLength rows → ⊥
   not_both have (i, row, l, is, lacks) =
       let typed = t.typed.each i row l in
@@ -129,7 +129,7 @@ module _ (bytes : List ℕ) (pool : List Slot) (p : Parts) (rows : List Typed) (
       go h (inl none) = none h.0
       go h (inr some) = h.1 some
 
-  -- ---- what is refused
+  -- ---- refusals
 
   pub circle_refused : HaveLengths rows → IsCircleIn rows → IsRefused Second bytes Recursive
   circle_refused lengths circle = go (bounds_refused bytes pool p t.constructor t.codes t.shape t.items t.found rows t.typed t.file Recursive tt (λ _. lengths) (λ h. absurd h) (λ _. circle) (λ e. cc e) (λ e. cc e) (λ c set on are. early_refusal Recursive (λ _. refl) c))
@@ -138,14 +138,14 @@ module _ (bytes : List ℕ) (pool : List Slot) (p : Parts) (rows : List Typed) (
       go (inl e) = cc e
       go (inr s) = s
 
--- ---- what is told of a refusal
+-- ---- explanations of refusals
 
 pub told_refused : (bytes : List ℕ) (l : Located) (r : Result Explained AllocError) → IsToldOf bytes l → IfOk r (λ x. (x ≡ told.Refused l) × (l.refusal ≢ NoMemory)) → IfOk r (IsExplanation bytes)
 told_refused bytes l (Err e) is h = tt
 told_refused bytes l (Ok x) (inl e) h = absurd (h.1 e)
 told_refused bytes l (Ok x) (inr is) h = subst (IsExplanation bytes) (sym h.0) is
 
--- of the class as a whole
+-- A refusal of the class as a whole.
 pub whole_told : (bytes : List ℕ) (r : Refusal) (l : Located) → l.refusal ≡ r → l.spot ≡ Whole → (r ≡ NoMemory) ⊎ IsRefused Second bytes r → (r ≢ NoMemory → IsOfWhole r) → IsToldOf bytes l
 whole_told bytes r l is at (inl e) whole = inl (is ∙ e)
 whole_told bytes NoMemory l is at (inr s) whole = inl is

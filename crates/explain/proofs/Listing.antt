@@ -1,4 +1,4 @@
--- The costs of methods, row by row, and calls that were looked up.
+-- Lists of the costs of methods, and calls that were looked up.
 use Rattle.std.proofs.Common.{◌≡◌, ℕ, zero, suc, ◌+◌, ◌<◌, ◌≤◌, Bool, true, false, not, List, [], ◌∷◌, ◌++◌, length, get_or, Option, Some, None, sym, ap, ◌∙◌, subst, arith, ◌⊎◌, inl, inr}
 use Rattle.std.specs.Prelude.{IfSome, ◌==◌}
 use Rattle.std.proofs.lemmas.Bool.{cases_lt, eqb-true}
@@ -19,7 +19,7 @@ use Rattle.explain.specs.Listed.{AreListed, AreCostsListed}
 
 -- ---- costs
 
--- one more row is listed
+-- One more method is listed.
 pub listed_more : (rows : List Typed) (known : List (Option Cell)) (n : ℕ) (costs : List MethodCost) (row : Typed) (m : MethodCost) → row ≡ get_or rows n row → n < length rows → m.number ≡ row.number → known_at known row.number ≡ Some m.cost → AreListed rows known n costs → AreListed rows known (n + 1) (costs ++ m ∷ [])
 listed_more rows known n costs row m is l number found so_far = record { count = count; each = each }
   where
@@ -63,7 +63,7 @@ call_among rows row j place callee (Some k) among found e = (row, among, λ rise
 pub same_call : (rows : List Typed) (j place k number : ℕ) → IsCallAmong rows j place k → (k == number) ≡ true → IsCallAmong rows j place number
 same_call rows j place k number call e = subst (IsCallAmong rows j place) (eqb-true k number e) call
 
--- the first calls of a circle
+-- `AreCallsUpTo` holds if each of the first `n` calls reaches the method of the next call in the cycle.
 abbrev pub AreCallsUpTo : List Typed → List OwnCall → ℕ → Type 0
 AreCallsUpTo rows calls n = (i : ℕ) (d : OwnCall) → i < n → IsCallAmong rows (get_or calls i d).method (get_or calls i d).place (get_or calls (next_of (length calls) i) d).method
 

@@ -1,4 +1,4 @@
--- What is told of the bytes of a class.
+-- Explanations of the verdict on a class file.
 use Rattle.std.specs.Prelude.{ℕ, List}
 use Rattle.jtypes.specs.declared.refusal.Refusal.TheVariants.{Recursive}
 use Rattle.jtypes.specs.Profile.{Second}
@@ -13,11 +13,11 @@ use Rattle.explain.specs.declared.explained.Explained.TheVariants as told
 use Rattle.explain.specs.Costs.{AreCostsOf}
 use Rattle.explain.specs.Circles.{IsCircle}
 
--- what each method of the class of these bytes takes at most
+-- `AreCostsIn` holds if these are the costs of the methods of the class in these bytes.
 abbrev pub AreCostsIn : List ℕ → List MethodCost → Type 0
 AreCostsIn bytes costs = (c : Class) → IsClassOf Second bytes c → AreCostsOf c costs
 
--- what an explanation says of the bytes
+-- `IsExplanation` holds if the explanation is correct for the bytes.
 abbrev pub IsExplanation : List ℕ → Explained → Type 0
 IsExplanation bytes (told.Accepted bounds methods) =
     IsAccepted Second bytes × ((c : Class) (j : ℕ) → IsClassOf Second bytes c → IsProcessOf c j → AreBounds c j (bounds_in bounds)) × AreCostsIn bytes methods.items

@@ -1,4 +1,4 @@
-//! Own calls that make a circle.
+//! Cycles of calls among the methods of a class.
 
 ghost use Rattle.std.specs.Prelude.{◌≡◌, ◌<◌, length, IsTrue, IfOk, IfSome};
 ghost use Rattle.typecheck.specs.Typing.{own_number};
@@ -8,14 +8,14 @@ use frames::Reached;
 use std::alloc::{AllocError, Global};
 use typecheck::Typed;
 
-/// A call of one of the class's own methods: the number of the method that it stands in, and its place.
+/// A call of one of the class's own methods: the number of the calling method, and the pc of the call.
 #[derive(Clone, Copy, PartialEq, Eq)]
 pub struct OwnCall {
     pub method: usize,
     pub place: usize,
 }
 
-/// The number of the method that a call reaches, where it is an own one.
+/// Returns the number of the method that a call reaches if it is one of the class's own.
 fn own_number(reached: Reached) -> Option<usize>
     ensures { result ≡ own_number reached }
 {
@@ -25,7 +25,7 @@ fn own_number(reached: Reached) -> Option<usize>
     }
 }
 
-/// Whether a method is left: it has an own call of one that is left.
+/// Returns whether a method is left. After `left_of` the methods are left from which a cycle can be reached.
 fn is_left(left: &[bool], number: usize) -> bool {
     match left.get(number) {
         Some(is) => *is,
@@ -33,7 +33,7 @@ fn is_left(left: &[bool], number: usize) -> bool {
     }
 }
 
-/// The first call of a method that reaches one that is left, with that one's number.
+/// Returns the first call of a method that reaches a method that is left, and that method's number.
 fn call_on(method: &Typed, left: &[bool]) -> Option<(OwnCall, usize)> {
     for called in &method.calls {
         if let Some(k) = own_number(called.callee.reached) {
@@ -56,7 +56,7 @@ fn mark(left: &mut [bool], number: usize, is: bool) {
     }
 }
 
-/// One more round: a method that calls none that is left isn't left. Answers whether there was one.
+/// Marks each method that calls no method that is left as not left. Returns whether there was one.
 fn take_away(methods: &[Typed], left: &mut [bool]) -> bool {
     let mut took = false;
     for method in methods {
@@ -68,7 +68,7 @@ fn take_away(methods: &[Typed], left: &mut [bool]) -> bool {
     took
 }
 
-/// The methods from which own calls lead into a circle, by their numbers.
+/// Returns, by number, whether a cycle of own calls can be reached from a method.
 fn left_of(alloc: Global, methods: &[Typed]) -> Result<Vec<bool>, AllocError> {
     let mut count = 0usize;
     for method in methods {
@@ -86,7 +86,7 @@ fn left_of(alloc: Global, methods: &[Typed]) -> Result<Vec<bool>, AllocError> {
     Ok(left)
 }
 
-/// The row of the method with a number.
+/// Returns the method with this number.
 fn row_of(methods: &[Typed], number: usize) -> Option<&Typed>
     ensures { IfSome result (λ row. IsRowAmong methods.now row.now number) }
 {
@@ -98,7 +98,7 @@ fn row_of(methods: &[Typed], number: usize) -> Option<&Typed>
     None
 }
 
-/// The row of the first method that is left.
+/// Returns the first method that is left.
 fn first_left<'a>(methods: &'a [Typed], left: &[bool]) -> Option<&'a Typed> {
     for method in methods {
         if is_left(left, method.number) {
@@ -108,7 +108,7 @@ fn first_left<'a>(methods: &'a [Typed], left: &[bool]) -> Option<&'a Typed> {
     None
 }
 
-/// The place among calls of the one that stands in a method.
+/// Returns the index of the call that this method makes.
 fn place_in(calls: &[OwnCall], method: usize) -> Option<usize>
     ensures { IfSome result (λ at. at < length calls.now) }
 {
@@ -120,7 +120,7 @@ fn place_in(calls: &[OwnCall], method: usize) -> Option<usize>
     None
 }
 
-/// Calls from one method that is left to the next, until one reaches a method that was met: the calls from that one on.
+/// Follows calls between methods that are left, until one reaches a method met before. Returns the calls from that method on.
 fn walk(alloc: Global, methods: &[Typed], left: &[bool]) -> Result<Vec<OwnCall>, AllocError> {
     let mut path: Vec<OwnCall> = Vec::new(alloc);
     let mut here = first_left(methods, left);
@@ -140,7 +140,7 @@ fn walk(alloc: Global, methods: &[Typed], left: &[bool]) -> Result<Vec<OwnCall>,
     Ok(path)
 }
 
-/// The number of the method that the call at a place reaches.
+/// Returns the number of the own method that a call reaches.
 fn reached_by(methods: &[Typed], call: OwnCall) -> Option<usize>
     ensures { IfSome result (IsCallAmong methods.now call.method call.place) }
 {
@@ -149,7 +149,7 @@ fn reached_by(methods: &[Typed], call: OwnCall) -> Option<usize>
     own_number(callee.reached)
 }
 
-/// Whether a call reaches the method with a number.
+/// Returns whether a call reaches the method with this number.
 fn reaches(methods: &[Typed], call: OwnCall, number: usize) -> bool
     ensures { IsTrue result → IsCallAmong methods.now call.method call.place number }
 {
@@ -159,7 +159,7 @@ fn reaches(methods: &[Typed], call: OwnCall, number: usize) -> bool
     }
 }
 
-/// The number of the next of so many, and after the last one the first.
+/// Returns the index after `i`, which is 0 after the last of `count`.
 fn next_of(count: usize, i: usize) -> usize
     requires { i < count }
     ensures next { result ≡ next_of count i }
@@ -168,7 +168,7 @@ fn next_of(count: usize, i: usize) -> usize
     if i + 1 < count { i + 1 } else { 0 }
 }
 
-/// Whether each of these calls reaches the method of the next one, and the last one that of the first.
+/// Returns whether each of these calls reaches the method of the next one, and the last one that of the first.
 fn is_circle(methods: &[Typed], calls: &[OwnCall]) -> bool
     ensures { IsTrue result → IsCircleAmong methods.now calls.now }
 {
@@ -181,7 +181,7 @@ fn is_circle(methods: &[Typed], calls: &[OwnCall]) -> bool
     !calls.is_empty()
 }
 
-/// Own calls of these methods that make a circle, where they do.
+/// Returns own calls of these methods that form a cycle, or none if it finds none.
 pub fn circle_of(alloc: Global, methods: &[Typed]) -> Result<Option<Vec<OwnCall>>, AllocError>
     ensures { IfOk result (λ found. IfSome found (λ calls. IsCircleAmong methods.now calls.items)) }
 {

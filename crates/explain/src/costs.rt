@@ -1,4 +1,4 @@
-//! What each method takes.
+//! The costs of methods.
 
 ghost use Rattle.std.specs.Prelude.{◌≡◌, length, IfOk};
 ghost use Rattle.bounds.specs.Cells.{known_at};
@@ -9,15 +9,15 @@ use bounds::Cost;
 use std::alloc::{AllocError, Global};
 use typecheck::Typed;
 
-/// What the paths of a method take at most, with what passes 32 bits cut off.
+/// The maximum cost of the paths of a method, each measure capped at 32 bits.
 #[derive(Clone, Copy, PartialEq, Eq)]
 pub struct MethodCost {
-    /// Its number among the methods of its class, from 0.
+    /// The number of the method in its class, from 0.
     pub number: usize,
     pub cost: Cost,
 }
 
-/// The cost of the method with a number, if it is known.
+/// Returns the cost of the method with this number if it is known.
 fn known_at(known: &[Option<Cost>], number: usize) -> Option<Cost>
     ensures { result ≡ known_at known.now number }
 {
@@ -27,7 +27,7 @@ fn known_at(known: &[Option<Cost>], number: usize) -> Option<Cost>
     }
 }
 
-/// The costs of these methods, in their order, from those by numbers.
+/// Returns the costs of these methods, in their order, from the costs by number.
 pub fn listed(
     alloc: Global,
     methods: &[Typed],

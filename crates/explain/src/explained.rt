@@ -1,4 +1,4 @@
-//! What is told of the bytes of a class.
+//! Explanations of the verdict on a class file.
 
 ghost use Rattle.std.specs.Prelude.{◌≡◌, ◌≢◌, ℕ, Bool, IsTrue, IfOk, IfErr};
 ghost use Rattle.typecheck.specs.Typing.{Class};
@@ -17,26 +17,26 @@ use std::alloc::{AllocError, Global};
 use typecheck::Typed;
 use verdict::{Located, Spot, type_class};
 
-/// What is told of the bytes of a class.
+/// The explanation of the verdict on a class file.
 #[derive(Drop)]
 pub enum Explained {
-    /// It is accepted, with these bounds, and its methods but the constructor take so much each.
+    /// The class is accepted, with these bounds and with these costs of its methods except the constructor.
     Accepted {
         bounds: Bounds,
         methods: Vec<MethodCost>,
     },
-    /// It is refused, and where.
+    /// The class is refused, at this location.
     Refused(Located),
-    /// Its own calls make a circle: each of these reaches the method that the next one stands in, and the last one that of the first.
+    /// Own calls form a cycle: each call reaches the method of the next one, and the last one that of the first.
     Recursive(Vec<OwnCall>),
-    /// A limit is passed, and its methods but the constructor take so much each.
+    /// The class exceeds a limit, with these costs of its methods except the constructor.
     PastLimit {
         refusal: Refusal,
         methods: Vec<MethodCost>,
     },
 }
 
-/// A newarray without a constant length, where it stands.
+/// Returns the location of a `newarray` without a constant length.
 fn lacking(methods: &[Typed]) -> Located
     requires { HaveLengths methods.now → ⊥ }
     ensures { IsLackingAmong methods.now result }
@@ -51,7 +51,7 @@ fn lacking(methods: &[Typed]) -> Located
     }
 }
 
-/// What each method takes, where own calls make no circle.
+/// Returns the costs of the methods if own calls form no cycle.
 fn costs_of(alloc: Global, methods: &[Typed]) -> Result<Vec<MethodCost>, Refusal>
     ensures ok { IfOk result (λ costs. (c : Class) (set : ℕ → Bool) → LeadsOn c set → AreRowsOf c set methods.now → AreCostsListed c methods.now costs.items) }
     ensures err { IfErr result (λ r. r ≢ Refusal.NoMemory → (r ≡ Refusal.Recursive) × IsCircleIn methods.now) }
@@ -69,7 +69,7 @@ fn is_limit(refusal: Refusal) -> bool
     )
 }
 
-/// What is told of a refusal that stands at a spot. Want of memory is nothing to be told.
+/// Returns the explanation of a refusal at a location. Out of memory is an error.
 fn refused(located: Located) -> Result<Explained, AllocError>
     ensures { IfOk result (λ told. (told ≡ Explained.Refused located) × (located.refusal ≢ Refusal.NoMemory)) }
 {
@@ -79,9 +79,9 @@ fn refused(located: Located) -> Result<Explained, AllocError>
     }
 }
 
-/// Judges the bytes of a class as `verdict::judge` does, and tells where what is refused stands, or what each method takes.
+/// Judges a class file as `verdict::judge` does, and explains where it is refused, or what each method costs.
 pub fn explain(alloc: Global, bytes: &[u8]) -> Result<Explained, AllocError>
-    // What is told is so, by the definitions.
+    // The explanation is correct by the definitions.
     ensures { IfOk result (IsExplanation bytes.now) }
 {
     let typed = match type_class(alloc, bytes) {

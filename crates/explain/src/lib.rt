@@ -1,4 +1,4 @@
-//! Why a class is refused, and where; and what the methods of one take that isn't.
+//! Explains why and where a class is refused, or what the methods of a class cost.
 #![tactic(auto)]
 
 mod circle;

@@ -1,4 +1,4 @@
--- What was judged of the bytes of a class says that they are accepted.
+-- The bytes of a class that passes the checks are accepted.
 use Rattle.std.proofs.Common.{ℕ, Bool, List, length, sym, subst, arith, ◌⊎◌, inl, inr}
 use Rattle.std.specs.Prelude.{Ok}
 use Rattle.jtypes.specs.declared.refusal.Refusal.{Refusal}

@@ -1,4 +1,4 @@
--- A method's only Code.
+-- Lemmas about a method's only `Code` attribute.
 use Rattle.std.proofs.Common.{◌≡◌, ℕ, zero, suc, true, false, ◌||◌, List, [], ◌∷◌, length, Some, None, Result, Ok, Err, refl, sym, ap, ◌∙◌, subst, arith, ◌⊎◌, inl, inr}
 use Rattle.std.specs.Prelude.{Contains, option_and_then, nat_eq}
 use Rattle.std.proofs.lemmas.Bool.{eqb-true, eq-eqb, cases_Bool, false≢true}
@@ -19,7 +19,7 @@ use Rattle.verdict.specs.Shape.{HasCode, HasSomeCode, HasNoBody, HasBadCode, mor
 use Rattle.verdict.specs.Shaping.{ArePartsGood, PartsStand, MethodCodeStands, HasGoodCode}
 use Rattle.verdict.proofs.Readable.{code_is_read}
 
--- ---- contents that are a code's parts, and those that are none
+-- ---- contents that parse as a `Code` attribute, and contents that don't
 
 parts_are : (content : List ℕ) (c : CodeParts) → parts_of_code content ≡ Some c → IsLaidOut code_parts content c
 unfolding parts_of_code
@@ -52,7 +52,7 @@ some_is_only pool m c d h k =
 pub has_some : (pool : List Slot) (m : Member) (c : CodeParts) → HasCode pool m c → HasSomeCode pool m c
 has_some pool m c h = (h.0, subst (λ (cs : List (List ℕ)). Contains cs h.0) (sym h.1) (first_of h.0 []), h.2)
 
--- ---- a method with a body, and one without
+-- ---- methods with and without a body
 
 lacks_body : (pool : List Slot) (m : Member) (n : ℕ) → n ≡ length (codes_of pool m) → (is_abstract m.flags || is_native m.flags || nat_eq n 0) ≡ true → HasNoBody pool m
 lacks_body pool m n same h = go (codes_of pool m) refl (cases_Bool (is_abstract m.flags)) (cases_Bool (is_native m.flags))
@@ -83,7 +83,7 @@ has_body pool m n same h (inr (inr e)) = go (cases_Bool (is_abstract m.flags)) (
     go (inr a) (inl b) = false≢true (sym (rw (a, b) at h))
     go (inr a) (inr b) = false≢true (sym (rw (a, b, z) at h))
 
--- ---- the only Code, and its parts
+-- ---- the only `Code` attribute and its parts
 
 pub bad_only : (pool : List Slot) (m : Member) (cs : List (List ℕ)) (n : ℕ) → cs ≡ codes_of pool m → n ≡ length cs → (is_abstract m.flags || is_native m.flags || nat_eq n 0) ≡ false
     → option_and_then parts_of_code (only cs) ≡ None → HasBadCode pool m

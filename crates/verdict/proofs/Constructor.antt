@@ -1,4 +1,4 @@
--- The constructor that passes the tests.
+-- Lemmas about the constructor that passes the check.
 use Rattle.std.proofs.Common.{◌≡◌, ℕ, ◌+◌, ◌*◌, ◌<◌, ◌≤◌, Bool, true, false, not, ◌&&◌, List, [], ◌∷◌, length, get_or, Option, Some, None, refl, sym, ap, ◌∙◌, subst, arith}
 use Rattle.std.specs.Prelude.{slice_get, codes, nat_le, nat_eq, ◌==◌}
 use Rattle.std.specs.List.{AllZip}

@@ -1,4 +1,4 @@
--- A constructor's code is a sequence of three instructions.
+-- The code of a constructor decodes to three instructions.
 use Rattle.std.proofs.Common.{◌≡◌, ℕ, ◌+◌, ◌*◌, Bool, true, false, List, [], ◌∷◌, Some, refl, sym, ap, ◌∙◌, subst, arith}
 use Rattle.std.specs.Prelude.{is_some}
 use Rattle.byteorder.specs.Endian.{big_number}

@@ -1,4 +1,4 @@
--- A descriptor that is refused.
+-- Lemmas about refused descriptors.
 use Rattle.std.proofs.Common.{◌≡◌, ◌≢◌, List, ℕ, None, refl, ap, sym, ◌∙◌, ◌⊎◌, inl, inr}
 use Rattle.std.specs.Prelude.{IsNone}
 use Rattle.jtypes.specs.declared.refusal.Refusal.{Refusal}

@@ -1,4 +1,4 @@
--- The header that passes the test.
+-- Lemmas about the check of the header.
 use Rattle.std.proofs.Common.{◌≡◌, ℕ, Bool, true, false, not, ◌&&◌, List, Some, refl, sym, ◌∙◌}
 use Rattle.std.specs.Prelude.{Any}
 use Rattle.std.specs.List.{list_any}

@@ -1,4 +1,4 @@
--- What is known of instructions and types that were judged.
+-- Lemmas about checked instructions and types.
 use Rattle.std.proofs.Common.{◌≡◌, ℕ, suc, ◌<◌, true, false, List, [], ◌∷◌, ◌++◌, length, get_or, Some, refl, sym, ap, ◌∙◌, subst, append_assoc, append-nil, arith}
 use Rattle.std.specs.Prelude.{Bool, Any, All, map, Result, Ok, Err, IfOk, IsSome, slice_get, option_map}
 use Rattle.std.proofs.lemmas.Bool.{false≢true, false_from_ne_true}
@@ -45,7 +45,7 @@ good_code v bytes code sequence none known = record { sequence = sequence; none_
 
 -- ---- types
 
--- nothing is wrong with a method of a class whose shape is good
+-- No refusal applies to a method of a class with a good shape.
 good_method : (pool : List Slot) (p : Parts) (n : ℕ) (codes : List CodeParts) → HasGoodShape pool p codes n → (k : ℕ) (m : Member) (c : CodeParts) → slice_get p.methods k ≡ Some m → HasCode pool m c → HasGoodMethod pool p m c
 good_method pool p n codes shape k m c at has = record { has_code = has; none_stands = none }
   where
@@ -56,7 +56,7 @@ good_method pool p n codes shape k m c at has = record { has_code = has; none_st
     none ExceptionTable h = shape.none_stands ExceptionTable (any_from _ p.methods k m at h)
     none r h = h
 
--- what was found of a method's instructions, beside its member
+-- The instructions that were found for a method are those of its parts.
 pub has_instructions : (pool : List Slot) (p : Parts) (n : ℕ) (codes : List CodeParts) (f : Found) (parts : CodeParts) → HasGoodShape pool p codes n → IsFoundIn (view_of pool p) codes f → slice_get codes f.number ≡ Some parts → (f.number ≡ n → ⊥) → HasInstructionsOf pool p f.number parts f.code
 has_instructions pool p n codes f parts shape found here not_it =
     let both : Some found.parts ≡ Some parts = sym found.there ∙ here in
@@ -70,7 +70,7 @@ has_instructions pool p n codes f parts shape found here not_it =
       good = subst (λ (x : CodeParts). IsGoodCode (view_of pool p) x.code f.code) same found.good;
     }
 
--- what is judged is the method's body
+-- `IsBody` holds of the method whose types are checked.
 pub body_judged : (pool : List Slot) (p : Parts) (number : ℕ) (parts : CodeParts) (code : List Placed) → HasInstructionsOf pool p number parts code → (m : Member) → slice_get p.methods number ≡ Some m → (e : Environment) → method_signature (view_of pool p) (method_view pool m) ≡ Some e.signature → e.max_stack ≡ parts.max_stack → e.max_locals ≡ parts.max_locals
     → (tables : List (List ℕ)) → tables ≡ tables_of pool parts → IsBody Second pool p m e code tables
 body_judged pool p number parts code h m there e signature stack locals tables are =
@@ -78,7 +78,7 @@ body_judged pool p number parts code h m there e signature stack locals tables a
     let same : h.member ≡ m = cc both in
     record { parts = parts; has_code = subst (λ (x : Member). HasCode pool x parts) same h.shaped.has_code; signature = signature; max_stack = stack; max_locals = locals; sequence = h.good.sequence; tables_are = are }
 
--- the member that a look-up gives is the method's
+-- The view at an index of the class view is that of the member at this index.
 pub same_view : (pool : List Slot) (p : Parts) (number : ℕ) (m : Member) (w : MethodView) → slice_get p.methods number ≡ Some m → Some w ≡ slice_get (view_of pool p).methods number → method_view pool m ≡ w
 same_view pool p number m w there viewed =
     let both : Some (method_view pool m) ≡ Some w = sym (slice_get-map (method_view pool) p.methods number ∙ ap (option_map (method_view pool)) there) ∙ sym viewed in
@@ -106,7 +106,7 @@ row_judged pool p number code m there e tables made b process (Ok t) method body
       places = (places.0, subst (λ (x : Environment). IsDeclared (view_of pool p) x t.code tables places.0) (sym body.0) (subst (λ (c : List Placed). IsDeclared (view_of pool p) e c tables places.0) (sym body.1) places.1), places.2);
     }
 
--- ---- rows in their order
+-- ---- `Typed` values in order
 
 pub first_of : {A : Type 0} (P : A → Type 0) (items rest : List A) (x : A) → All P items → items ≡ x ∷ rest → P x
 first_of P items rest x h e = subst (All P) e h 0 x (omega arith)

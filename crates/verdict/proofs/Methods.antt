@@ -1,4 +1,4 @@
--- Methods judged one after the other.
+-- Lemmas about the check of all methods.
 use Rattle.std.proofs.Common.{◌≡◌, ℕ, zero, suc, ◌+◌, ◌<◌, List, [], ◌∷◌, ◌++◌, length, take, get_or, Some, Result, Ok, Err, refl, sym, ap, ◌∙◌, subst, ◌⊎◌, inl, inr}
 use Rattle.std.specs.Prelude.{Any, slice_get}
 use Rattle.std.specs.List.{AllZip}
@@ -32,7 +32,7 @@ method_judged pool p m slots (Ok c) good h = record { has_code = h.has_code; non
 method_judged pool p m slots (Err r) good (inl e) = inl e
 method_judged pool p m slots (Err r) good (inr s) = inr (code_stands pool p m r s)
 
--- ---- lists that are joined place by place
+-- ---- lists related element by element
 
 zip_more : {A B : Type 0} (R : A → B → Type 0) (xs : List A) (ys : List B) (x : A) (y : B) → AllZip R xs ys → R x y → AllZip R (xs ++ x ∷ []) (ys ++ y ∷ [])
 zip_more R [] [] x y h r = (r, tt)
@@ -66,7 +66,7 @@ zip_count R [] (d ∷ ys) h = absurd h
 zip_count R (c ∷ xs) [] h = absurd h
 zip_count R (c ∷ xs) (d ∷ ys) h = ap suc (zip_count R xs ys h.1)
 
--- where each element has one, there is a list of them
+-- If each element has a related one, there is a list of related elements.
 pub zip_of : {A B : Type 0} (R : A → B → Type 0) (xs : List A) → ((n : ℕ) (x : A) → slice_get xs n ≡ Some x → (y : B) × R x y) → (ys : List B) × AllZip R xs ys
 zip_of R [] each = ([], tt)
 zip_of R (x ∷ xs) each =
@@ -74,7 +74,7 @@ zip_of R (x ∷ xs) each =
     let rest = zip_of R xs (λ n y e. each (suc n) y e) in
     (first.0 ∷ rest.0, (first.1, rest.1))
 
--- by an element of the second list
+-- An element of the second list has a related element in the first one.
 pub zip_back : {A B : Type 0} (R : A → B → Type 0) (xs : List A) (ys : List B) (n : ℕ) (y : B) → AllZip R xs ys → slice_get ys n ≡ Some y → (x : A) × (slice_get xs n ≡ Some x) × R x y
 zip_back R [] [] n y h b = absurd cc
 zip_back R [] (d ∷ ys) n y h b = absurd h
@@ -82,11 +82,11 @@ zip_back R (c ∷ xs) [] n y h b = absurd h
 zip_back R (c ∷ xs) (d ∷ ys) zero y h b = let first : d ≡ y = cc b in (c, refl, subst (R c) first h.0)
 zip_back R (c ∷ xs) (d ∷ ys) (suc n) y h b = zip_back R xs ys n y h.1 b
 
--- an element that some test is true of, by its place
+-- If `Any` holds, `P` holds of the element at some index.
 pub any_at : {A : Type 0} (P : A → Type 0) (xs : List A) → Any P xs → (n : ℕ) × (x : A) × (slice_get xs n ≡ Some x) × P x
 any_at P xs h = (h.0, h.1, slice_get-get_or xs h.0 h.1 h.2 ∙ ap (λ z. Some z) h.3, h.4)
 
--- by an element that it is true of
+-- If `P` holds of the element at an index, `Any` holds.
 pub any_from : {A : Type 0} (P : A → Type 0) (xs : List A) (k : ℕ) (x : A) → slice_get xs k ≡ Some x → P x → Any P xs
 any_from P xs k x e h = (k, x, slice_get_within xs k x e, get_or_from_slice_get xs k x x e, h)
 

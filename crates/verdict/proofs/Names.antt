@@ -1,4 +1,4 @@
--- The methods by their names.
+-- Lemmas about the check of method names.
 use Rattle.std.proofs.Common.{◌≡◌, ℕ, zero, suc, ◌<◌, Bool, true, false, not, ◌&&◌, List, [], ◌∷◌, length, Option, Some, None, refl, sym, ap, ◌∙◌, subst, arith, ◌⊎◌, inl, inr}
 use Rattle.std.specs.Prelude.{Any, slice_get, map, option_map}
 use Rattle.std.specs.List.{list_any}
@@ -30,7 +30,7 @@ pub no_initialiser : (pool : List Slot) (ms : List Member) → list_any (is_init
 no_initialiser pool ms h a =
     false≢true (sym h ∙ list_any-from_Any (is_initialiser pool) ms (a.0, a.1, a.2, a.3, is_same (text_at pool a.1.name) clinit_name a.4))
 
--- ---- process
+-- ---- `process`
 
 four_hold : (a b c d : Bool) → ((a && b) && c && not d) ≡ true → (a ≡ true) × (b ≡ true) × (c ≡ true) × (d ≡ false)
 four_hold true true true false h = (refl, refl, refl, refl)
@@ -62,7 +62,7 @@ process_is pool ms h =
     let within : a.0 < length (map (method_view pool) ms) = omega (arith, a.2, length-map ms (method_view pool)) in
     (a.0, method_view pool a.1, within, get_or-map (method_view pool) ms a.0 a.1 ∙ ap (method_view pool) a.3, process_seen pool a.1 a.4)
 
--- what stands at a place of the views stands at the place of the methods
+-- The view at an index of the views is that of the method at this index.
 at_views : (pool : List Slot) (ms : List Member) (k : ℕ) (v : MethodView) → slice_get (map (method_view pool) ms) k ≡ Some v → (m : Member) × (slice_get ms k ≡ Some m) × (method_view pool m ≡ v)
 at_views pool ms k v h = go (slice_get ms k) refl
   where
@@ -82,7 +82,7 @@ no_process pool ms h any =
     let good = seen_process pool it.0 (subst IsProcess (sym it.2) a.3) in
     false≢true (sym h ∙ any_is (is_good_process pool) ms a.0 it.0 it.1 good)
 
--- ---- doubles
+-- ---- duplicate methods
 
 record Pair (pool : List Slot) (ms : List Member) : Type 0 where
   i : ℕ

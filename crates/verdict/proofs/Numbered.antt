@@ -1,4 +1,4 @@
--- Elements by the numbers of methods.
+-- Lemmas about elements by method index.
 use Rattle.std.proofs.Common.{◌≡◌, ℕ, zero, suc, ◌+◌, ◌<◌, ◌≤◌, Bool, true, false, cond, List, [], ◌∷◌, ◌++◌, length, length-append, get_or, ◌-◌, refl, sym, ap, ◌∙◌, subst, arith, ◌⊎◌, inl, inr}
 use Rattle.std.specs.Prelude.{map, All, ◌==◌}
 use Rattle.std.proofs.lemmas.Bool.{ne_eqb, eq-eqb, cases_lt}
@@ -14,7 +14,7 @@ pub map_more : {A : Type 0} (f : A → ℕ) (xs : List A) (x : A) → map f (xs 
 map_more f [] x = refl
 map_more f (y ∷ xs) x = ap (λ (l : List ℕ). f y ∷ l) (map_more f xs x)
 
--- one more element
+-- An element for the next number extends the list.
 pub next_numbered : {A : Type 0} (number : A → ℕ) (P : A → Type 0) (c n : ℕ) (xs : List A) (x : A) → AreNumbered number P c n xs → (n ≡ c → ⊥) → number x ≡ n → P x → AreNumbered number P c (n + 1) (xs ++ x ∷ [])
 next_numbered number P c n xs x h other is p =
     let more : AreNumbered number P c (suc n) (xs ++ x ∷ []) = record {
@@ -23,7 +23,7 @@ next_numbered number P c n xs x h other is p =
     } in
     subst (λ (k : ℕ). AreNumbered number P c k (xs ++ x ∷ [])) (omega arith) more
 
--- none for the one number
+-- The excluded number needs no element.
 pub skip_numbered : {A : Type 0} (number : A → ℕ) (P : A → Type 0) (c n : ℕ) (xs : List A) → AreNumbered number P c n xs → n ≡ c → AreNumbered number P c (n + 1) xs
 skip_numbered number P c n xs h same =
     let more : AreNumbered number P c (suc n) xs = record {
@@ -37,7 +37,7 @@ skip_numbered number P c n xs h same =
 abbrev one_but : ℕ → ℕ → List ℕ
 one_but c n = cond (n == c) [] (n ∷ [])
 
--- an element of two rows is one of the first or of the second
+-- An element of a concatenation is in the first or in the second list.
 at_left : (xs ys : List ℕ) (i : ℕ) → i < length xs → get_or (xs ++ ys) i 0 ≡ get_or xs i 0
 at_left [] ys i l = absurd (omega (arith, l))
 at_left (x ∷ xs) ys zero l = refl
@@ -48,7 +48,7 @@ at_right [] ys i k e = ap (λ (j : ℕ). get_or ys j 0) (omega (arith, e))
 at_right (x ∷ xs) ys i zero e = absurd (omega (arith, e))
 at_right (x ∷ xs) ys i (suc k) e = at_right xs ys i k (omega (arith, e))
 
--- the last number, if there is one
+-- The last number of the range, unless it is excluded.
 last_is : (c n i : ℕ) → i < length (one_but c n) → (get_or (one_but c n) i 0 ≡ n) × (i ≡ 0) × (n ≡ c → ⊥)
 last_is c n i l = go (n == c) refl l
   where
@@ -80,7 +80,7 @@ at c (suc n) i l = go (cases_lt i (length (numbers_but c n))) (at c n i)
         let is = last.0 in
         record { below = omega (arith, here, is); other = λ e. last.2 (sym is ∙ sym here ∙ e) }
 
--- a number of the row is not the one
+-- No number of the list is the excluded one.
 pub rest_other : (c n : ℕ) (front : List ℕ) (k : ℕ) (rest : List ℕ) → front ++ k ∷ rest ≡ numbers_but c n → k ≡ c → ⊥
 rest_other c n front k rest e is =
     let whole : length (front ++ k ∷ rest) ≡ length front + length (k ∷ rest) = length-append front (k ∷ rest) in

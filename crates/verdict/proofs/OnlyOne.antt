@@ -8,7 +8,7 @@ use Rattle.std.proofs.lemmas.Option.{slice_get-get_or}
 use Rattle.jtypes.specs.Lists.{only}
 use Rattle.verdict.specs.Shaping.{IsOnlyAt}
 
--- what a loop has found among the elements so far
+-- The result of a search after the elements `front`: none passes, or only the one at index `n`.
 abbrev pub FoundSoFar : {X : Type 0} → (X → Bool) → List X → List X → Option ℕ → Type 0
 FoundSoFar test front xs None = filter test front ≡ []
 FoundSoFar {X} test front xs (Some n) = (x : X) × (slice_get xs n ≡ Some x) × (filter test front ≡ x ∷ [])
@@ -100,6 +100,6 @@ alone {X = X} test (x ∷ xs) k a b h at t = go (test x) refl h k at (λ k f i. 
     go false e f zero i others = let same : x ≡ b = cc i in absurd (false≢true (sym e ∙ ap test same ∙ t))
     go false e f (suc k) i others = others k f i
 
--- an element that passes is the only one that does
+-- If only one element passes, an element that passes is that one.
 pub the_only : {X : Type 0} (test : X → Bool) (xs : List X) (a : X) → only (filter test xs) ≡ Some a → (k : ℕ) (b : X) → slice_get xs k ≡ Some b → test b ≡ true → b ≡ a
 the_only test xs a h k b at t = alone test xs k a b (only_is_one (filter test xs) a h) at t

@@ -1,4 +1,4 @@
--- The class's own methods: calls that reach them, and `process`.
+-- The class's own methods: calls of them, and `process`.
 use Rattle.std.proofs.Common.{◌≡◌, ℕ, zero, suc, ◌+◌, ◌≤◌, Bool, true, false, not, List, [], ◌∷◌, Option, Some, None, refl, sym, ap, ◌∙◌, subst, arith}
 use Rattle.std.specs.Prelude.{slice_get, option_map, cond}
 use Rattle.std.proofs.lemmas.Bool.{and_parts, false≢true}
@@ -39,7 +39,7 @@ number_found n (v ∷ methods) m k w e = go (number_found (suc n) methods m k w)
         let r = later f in
         (suc r.0, omega (arith, r.1), r.2, r.3)
 
--- what an own call reaches: a method of the class with this number, which isn't a constructor
+-- `Reaches` holds if the class has a method with index `k` that isn't a constructor.
 abbrev pub Reaches : ClassView → ℕ → Type 0
 Reaches v k = (w : MethodView) × (slice_get v.methods k ≡ Some w) × (w.name ≡ init_name → ⊥)
 
@@ -88,7 +88,7 @@ own_call v (instruction.Invoke kind i) k e = go (callee_at v kind i) refl e
         by_row p.0 callee (row_of library_rows kind p.0) p.2 f
 own_call v _ k e = cc
 
--- ---- process
+-- ---- `process`
 
 pub process_found : (n : ℕ) (methods : List MethodView) (k : ℕ) → process_from n methods ≡ Some k → (w : MethodView) × (i : ℕ) × (k ≡ n + i) × (slice_get methods i ≡ Some w) × (is_process w ≡ true)
 process_found n [] k e = cc
@@ -100,7 +100,7 @@ process_found n (v ∷ methods) k e = go (process_found (suc n) methods k) (is_p
         let r = later f in
         (r.0, suc r.1, omega (arith, r.2), r.3, r.4)
 
--- where one is `process`, the first that is stands at it or before it
+-- If method `i` is `process`, the first `process` has an index of at most `i`.
 pub first_process : (n : ℕ) (methods : List MethodView) (i : ℕ) (w : MethodView) → slice_get methods i ≡ Some w → is_process w ≡ true → (k : ℕ) × (process_from n methods ≡ Some (n + k)) × (k ≤ i)
 first_process n [] i w e is = cc
 first_process n (v ∷ methods) i w e is = go (is_process v) refl i e (λ k f. first_process (suc n) methods k w f is)
@@ -113,7 +113,7 @@ first_process n (v ∷ methods) i w e is = go (is_process v) refl i e (λ k f. f
         let low = r.2 in
         (suc r.0, r.1 ∙ ap (λ (x : ℕ). Some x) (omega arith), omega (arith, low))
 
--- where none is the first, none is
+-- If there is no first `process`, no method is `process`.
 pub none_is_process : (n : ℕ) (methods : List MethodView) (i : ℕ) (w : MethodView) → process_from n methods ≡ None → slice_get methods i ≡ Some w → is_process w ≡ false
 none_is_process n [] i w none e = cc
 none_is_process n (x ∷ methods) i w none e = go (is_process x) refl none i e (λ k f. none_is_process (suc n) methods k w f)

@@ -1,4 +1,4 @@
--- Room for a method's parameters among its locals.
+-- The parameters of a method fit into its local variables.
 use Rattle.std.proofs.Common.{◌≡◌, ℕ, ◌+◌, ◌<◌, ◌≤◌, Bool, true, false, List, [], ◌∷◌, Option, Some, None, refl, sym, ap, ◌∙◌, subst, arith, ◌⊎◌, inl, inr}
 use Rattle.std.specs.Prelude.{slice_get, option_map, cond, nat_le, Contains}
 use Rattle.std.proofs.lemmas.Bool.{cases_lt, le-leb}
@@ -57,7 +57,7 @@ fields_slots own (t ∷ ts) us e =
         let rest : slots_by is_long vs ≡ slots_by is_long_type ts = later vs refl in
         subst (λ x. slots_by is_long x ≡ slots_if (is_long_type t) + slots_by is_long_type ts) same (ap (λ x. x + slots_by is_long vs) one ∙ ap (λ x. slots_if (is_long_type t) + x) rest)
 
--- the parameters of a descriptor take the slots that its grammar counts
+-- The parameters of a signature take the number of slots that the descriptor has.
 signature_slots : (own d : List ℕ) (s : Signature) → signature_of own d ≡ Some s → (x : Sig) × (sig_of d ≡ Some x) × (slots_by is_long s.params ≡ param_slots x)
 unfolding signature_of
 signature_slots own d s e =
@@ -86,7 +86,7 @@ signed_slots v w s e = go (signature_of v.name w.descriptor) (signature_slots v.
 pub one_contains : (xs : List (List ℕ)) (x : List ℕ) → xs ≡ x ∷ [] → Contains xs x
 one_contains xs x e = subst (λ ys. Contains ys x) (sym e) (0, omega arith, refl)
 
--- a method whose instructions were judged has room for its parameters
+-- The parameters of a method with checked instructions fit into its local variables.
 pub judged_room : (pool : List Slot) (p : Parts) (number : ℕ) (parts : CodeParts) (code : List Placed) → HasInstructionsOf pool p number parts code → (m : Member) → slice_get p.methods number ≡ Some m → (e : Environment)
     → method_signature (view_of pool p) (method_view pool m) ≡ Some e.signature → e.max_locals ≡ parts.max_locals → HasRoom e
 judged_room pool p number parts code h m there e signed locals = go (cases_lt e.max_locals (slots_by is_long e.signature.params))

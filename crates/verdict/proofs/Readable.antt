@@ -1,4 +1,4 @@
--- Layouts in which only the bytes' end is judged: what is laid out so is read.
+-- Layouts that only the end of the bytes can violate.
 use Rattle.std.proofs.Common.{◌≡◌, ℕ, zero, suc, List, [], ◌++◌, Ok, sym, ap, ◌∙◌, subst, arith, append_assoc, inl, inr}
 use Rattle.std.proofs.Math.ListN.{length-append}
 use Rattle.std.proofs.lemmas.List.{append-nil}
@@ -17,7 +17,7 @@ IsPlain (stopped r) = ⊥
 IsPlain (chosen b l m) = ⊥
 IsPlain ended = ⊥
 
--- nothing stands in what is laid out so, whatever follows
+-- No refusal of such a layout applies to bytes that have it, whatever bytes follow.
 fine : {A : Type 0} (l : Layout A) → IsPlain l → (text rest : List ℕ) (v : A) → IsLaidOut l text v → (r : Refusal) → Stands l (text ++ rest) r → ⊥
 fine (known x) p text rest v h r s = s
 fine (part_or q n) p text rest v h r s = omega (arith, h.0, s.1, length-append text rest)

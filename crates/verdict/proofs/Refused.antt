@@ -1,4 +1,4 @@
--- What is refused stands.
+-- A reported refusal applies to the bytes.
 use Rattle.std.proofs.Common.{◌≡◌, ◌≢◌, ℕ, zero, suc, ◌<◌, Bool, true, false, cond, List, [], ◌∷◌, length, get_or, Option, Some, None, refl, sym, ap, ◌∙◌, subst, arith, ◌⊎◌, inl, inr}
 use Rattle.std.specs.Prelude.{slice_get, map, is_some, IsSome, Contains, Err, ◌==◌}
 use Rattle.std.proofs.lemmas.Bool.{and_from, eqb-true, false≢true, eq-eqb}
@@ -39,7 +39,7 @@ use Rattle.verdict.proofs.Verdicts.{types_stand, instructions_stand, class_not_r
 use Rattle.bounds.specs.declared.limits.Bounds as declared
 use Rattle.jtypes.specs.Profile.{Second}
 
--- a frame is declared at each of the places
+-- A frame is declared at each pc of the list.
 pub frame_among : (ds : List (ℕ × Frame)) (q i d : ℕ) → i < length (map (λ (d : ℕ × Frame). d.0) ds) → get_or (map (λ (d : ℕ × Frame). d.0) ds) i d ≡ q → IsSome (frame_in ds q)
 frame_among [] q i d l e = absurd (omega (arith, l))
 frame_among (x ∷ ds) q zero d l e = ap (λ b. is_some (cond b (Some x.1) (frame_in ds q))) (eq-eqb x.0 q e)
@@ -49,7 +49,7 @@ frame_among (x ∷ ds) q (suc i) d l e = go (x.0 == q) (frame_among ds q i d (om
     go true h = refl
     go false h = h
 
--- where a call stands there is an instruction
+-- There is an instruction at the pc of each call.
 pub called_stands : (calls : List Called) (code : List Placed) → ((i : ℕ) (d : Called) → i < length calls → IsSome (at_place code (get_or calls i d).place)) → (place : ℕ) → IsSome (callee_in calls place) → IsSome (at_place code place)
 called_stands [] code h place s = cc
 called_stands (x ∷ calls) code h place s = go (x.place == place) refl s (called_stands calls code (λ i d l. h (suc i) d (omega (arith, l))) place)
@@ -137,7 +137,7 @@ module _ (bytes : List ℕ) (pool : List Slot) (p : Parts) (n : ℕ) (codes : Li
       on : LeadsOn c (members c)
       on = class_leads_on pool p n codes shape rows are c class (instructions_stand pool p n codes shape items are_found) none
 
-      -- a limit that is refused
+      -- A reported refusal of a limit applies.
       answered : (r : Refusal) → ((c : Class) (set : ℕ → Bool) → LeadsOn c set → AreRowsOf c set rows → IsAnswerFor c (Err r)) → IsLimit r → ClassStands Second c r
       answered StepLimit answer h = let j = process_exists in (class_not_recursive pool p n codes shape rows are c class none, (j.0, j.1, (answer c (members c) on (are_rows pool p n codes shape rows are c class) j.0 j.1).steps refl))
       answered WordLimit answer h = let j = process_exists in (class_not_recursive pool p n codes shape rows are c class none, (j.0, j.1, (answer c (members c) on (are_rows pool p n codes shape rows are c class) j.0 j.1).words refl))

@@ -1,4 +1,4 @@
--- Looking for the row of a method.
+-- Lemmas about the search for a method.
 use Rattle.std.proofs.Common.{◌≡◌, ◌≢◌, ℕ, ◌<◌, true, false, cond, ltb, eqb, List, [], ◌∷◌, length, get_or, Some, None, refl, sym, ap, ◌∙◌, subst, drop, drop-cons, suc}
 use Rattle.std.specs.List.Sorted.{IsPartitionPoint}
 use Rattle.decode.proofs.Search.{first_by, found, missing}
@@ -19,6 +19,6 @@ none_there all rows same rise n i point other =
     let rising : NumbersRise rows = subst NumbersRise (sym same) rise in
     sym (ap (λ (x : List Typed). row_in x n) (sym same) ∙ in_is_first rows n ∙ missing (λ (x : Typed). x.number) rows n i rising point other)
 
--- the row of `process` from a place on
+-- The search for `process` from index `i` finds it there.
 pub process_here : (rows : List Typed) (i : ℕ) (d : Typed) → i < length rows → (get_or rows i d).is_process ≡ true → process_row (drop i rows) ≡ Some (get_or rows i d)
 process_here rows i d lt e = ap process_row (drop-cons rows i d lt) ∙ ap (λ b. cond b (Some (get_or rows i d)) (process_row (drop (suc i) rows))) e

@@ -1,4 +1,4 @@
--- The rows of the methods that were judged, as those of the class.
+-- The typed methods that the check found are those of the class.
 use Rattle.std.proofs.Common.{◌≡◌, ℕ, ◌+◌, ◌<◌, ◌≤◌, true, false, not, List, length, get_or, Option, Some, None, refl, sym, ap, ◌∙◌, subst, arith, ◌⊎◌, inl, inr}
 use Rattle.std.specs.Prelude.{slice_get, option_map}
 use Rattle.std.proofs.lemmas.Bool.{and_parts, false≢true, false_from_ne_true, cases_lt}
@@ -39,7 +39,7 @@ use Rattle.verdict.proofs.Numbered.{not_the_one, each_has_one}
 use Rattle.verdict.proofs.OwnCalls.{process_found, first_process}
 use Rattle.jtypes.specs.Profile.{Second}
 
--- ---- a method has one body
+-- ---- a method has at most one body
 
 abbrev environment_of : Signature → (stack locals : ℕ) → Environment
 environment_of s stack locals = record { signature = s; max_stack = stack; max_locals = locals }
@@ -62,7 +62,7 @@ method_of e code ds = record { environment = e; code = code; declared = ds }
 pub same_method : (e f : Environment) (code other : List Placed) (ds others : List (ℕ × Frame)) → e ≡ f → code ≡ other → ds ≡ others → method_of e code ds ≡ method_of f other others
 same_method e f code other ds others a b c = ap (λ x. method_of x code ds) a ∙ ap (λ x. method_of f x ds) b ∙ ap (λ x. method_of f other x) c
 
--- the method of a class that a row is of
+-- The method of the class that `row` describes.
 pub record RowMethod (c : Class) (row : Typed) : Type 0 where
   pub method : Method
   pub there : slice_get c.methods row.number ≡ Some method
@@ -85,7 +85,7 @@ module _ (pool : List Slot) (p : Parts) (n : ℕ) (codes : List CodeParts) (shap
   view_at : (k : ℕ) (m : Member) → slice_get p.methods k ≡ Some m → slice_get view.methods k ≡ Some (method_view pool m)
   view_at k m e = slice_get-map (method_view pool) p.methods k ∙ ap (option_map (method_view pool)) e
 
-  -- a member of the view is of a member of the file
+  -- A view in the class view is that of a member of the class file.
   file_at : (k : ℕ) (w : MethodView) → slice_get view.methods k ≡ Some w → (m : Member) × (slice_get p.methods k ≡ Some m) × (method_view pool m ≡ w)
   file_at k w e = go (slice_get p.methods k) refl (sym (slice_get-map (method_view pool) p.methods k) ∙ e)
     where
@@ -93,7 +93,7 @@ module _ (pool : List Slot) (p : Parts) (n : ℕ) (codes : List CodeParts) (shap
       go None a f = cc
       go (Some m) a f = let same : method_view pool m ≡ w = cc f in (m, a, same)
 
-  -- a row of each method that isn't a constructor
+  -- Each method other than a constructor has a `Typed`.
   pub row_of : (k : ℕ) (m : Member) → slice_get p.methods k ≡ Some m → is_constructor pool m ≡ false → (i : ℕ) × (i < length rows) × ((d : Typed) → (get_or rows i d).number ≡ k)
   row_of k m e other =
       let below : k < length codes = (let inside = slice_get_within p.methods k m e in let count = zip_count (HasCode pool) p.methods codes shape.codes_are in omega (arith, inside, count)) in
@@ -109,7 +109,7 @@ module _ (pool : List Slot) (p : Parts) (n : ℕ) (codes : List CodeParts) (shap
   pub not_constructor : (i : ℕ) (d : Typed) → (l : i < length rows) → is_constructor pool (row_at i d l).member ≡ false
   not_constructor i d l = false_from_ne_true _ (λ e. not_the_one (λ (t : Typed). t.number) (IsTypedRow pool p) n (length codes) rows are i d l (shape.constructor_is.no_other (get_or rows i d).number (row_at i d l).member (row_at i d l).there e))
 
-  -- no two methods have one name and one descriptor
+  -- No two methods have the name and the descriptor of `process`.
   one_process : (i j : ℕ) (v w : MethodView) → slice_get view.methods i ≡ Some v → slice_get view.methods j ≡ Some w → is_process v ≡ true → is_process w ≡ true → i < j → ⊥
   one_process i j v w a b e f l =
       let x = and_parts (same_bytes v.name process_name) (same_bytes v.descriptor process_descriptor) e in
@@ -145,7 +145,7 @@ module _ (pool : List Slot) (p : Parts) (n : ℕ) (codes : List CodeParts) (shap
     in_class : (k : ℕ) (w : MethodView) → slice_get view.methods k ≡ Some w → slice_get c.view.methods k ≡ Some w
     in_class k w e = subst (λ (v : ClassView). slice_get v.methods k ≡ Some w) (sym class.view) e
 
-    -- a method that isn't the constructor has a row
+    -- Each method other than the constructor has a `Typed`, by its view.
     pub row_of_view : (k : ℕ) (w : MethodView) → slice_get c.view.methods k ≡ Some w → (w.name ≡ init_name → ⊥) → (i : ℕ) × (i < length rows) × ((d : Typed) → (get_or rows i d).number ≡ k)
     row_of_view k w e other =
         let m = file_at k w (viewed k w e) in
@@ -161,14 +161,14 @@ module _ (pool : List Slot) (p : Parts) (n : ℕ) (codes : List CodeParts) (shap
     pub member_of_view : (k : ℕ) (w : MethodView) → slice_get c.view.methods k ≡ Some w → (w.name ≡ init_name → ⊥) → members c k ≡ true
     member_of_view k w e other = ap is_other e ∙ ap not (false_from_ne_true (same_bytes w.name init_name) (λ is. other (same_is w.name init_name is)))
 
-    -- the view of a row's method
+    -- The view of the method that a `Typed` describes.
     pub view_of_row : (i : ℕ) (d : Typed) (l : i < length rows) → slice_get c.view.methods (get_or rows i d).number ≡ Some (method_view pool (row_at i d l).member)
     view_of_row i d l = in_class (get_or rows i d).number (method_view pool (row_at i d l).member) (view_at (get_or rows i d).number (row_at i d l).member (row_at i d l).there)
 
     pub row_is_member : (i : ℕ) (d : Typed) → i < length rows → members c (get_or rows i d).number ≡ true
     row_is_member i d l = ap is_other (view_of_row i d l) ∙ ap not (not_constructor i d l)
 
-    -- a row that says so is of `process`
+    -- A `Typed` that is marked as `process` describes `process`.
     pub process_is : (i : ℕ) (d : Typed) → i < length rows → (get_or rows i d).is_process ≡ true → IsProcessOf c (get_or rows i d).number
     process_is i d l e =
         let k = (get_or rows i d).number in

@@ -1,4 +1,4 @@
--- The shape as a whole.
+-- Lemmas about the whole shape.
 use Rattle.std.proofs.Common.{◌≡◌, ℕ, List, [], length, refl, sym, ap, subst, ◌⊎◌, inl, inr}
 use Rattle.std.specs.Prelude.{Any}
 use Rattle.std.specs.List.{AllZip}
@@ -60,7 +60,7 @@ good_shape pool p cs n header methods constructor names =
     none ExceptionTable h = good_methods pool p p.methods cs ExceptionTable methods h
     none r h = h
 
--- ---- the shape of the class that bytes are
+-- ---- the shape of the class of given bytes
 
 pub the_file : (bytes : List ℕ) (a pool : List Slot) (b p : Parts) → IsLaidOut (class_file (length bytes)) bytes (a, b) → IsClassFile bytes pool p → (a ≡ pool) × (b ≡ p)
 the_file bytes a pool b p h file =

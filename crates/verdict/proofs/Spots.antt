@@ -1,4 +1,4 @@
--- Where what is refused stands.
+-- Lemmas about the spots of refusals.
 use Rattle.std.proofs.Common.{◌≡◌, ◌≢◌, ℕ, false, List, length, Some, refl, sym, ap, ◌∙◌, subst, arith, ◌⊎◌, inl, inr}
 use Rattle.std.specs.Prelude.{slice_get, Any}
 use Rattle.std.specs.List.{AllWithin}
@@ -37,7 +37,7 @@ use Rattle.verdict.proofs.Methods.{any_at, any_from, zip_back}
 use Rattle.verdict.proofs.Texts.{same_is, is_same}
 use Rattle.verdict.proofs.Verdicts.{instructions_stand}
 
--- ---- spots as they are told
+-- ---- reported spots
 
 pub told : (Stands : Refusal → Type 0) (pool : List Slot) (p : Parts) (l : Located) (r : Refusal) (s : Spot) → l.refusal ≡ r → l.spot ≡ s → Stands r → StandsIn Second pool p r s → IsLocated Stands pool p l
 told Stands pool p l r s is at stands there =
@@ -93,13 +93,13 @@ pub instruction_stands : (v : ClassView) (bytes : List ℕ) (place : ℕ) (r : R
 instruction_stands v bytes place UnknownMember (code, s, q, at, unknown) = let k = faults.element code place q at in (code, s, (k.0, q, k.1, k.2, unknown))
 instruction_stands v bytes place r h = faults.code_stands Second v.pool bytes place r h
 
--- a refusal of the reading
+-- A refusal of the decoder applies at its pc.
 pub code_located : (v : ClassView) (bytes : List ℕ) (place : ℕ) (r : Refusal) → (r ≢ NoMemory → CodeStandsAt Second v.pool bytes place r) → (r ≡ NoMemory) ⊎ InstructionStandsAt Second v bytes place r
 code_located v bytes place NoMemory h = inl refl
 code_located v bytes place UnknownMember h = absurd (members_unread Second v.pool bytes (faults.code_stands Second v.pool bytes place UnknownMember (h (λ e. cc e))))
 code_located v bytes place r h = inr (h (λ e. cc e))
 
--- what an instruction names is unknown
+-- The refusal of an unknown member applies at its pc.
 pub unknown_stands : (v : ClassView) (bytes : List ℕ) (code : List Placed) → IsSequence Second v.pool 0 bytes code → (p : Placed) → at_place code p.place ≡ Some p → (f : Fault) → (f.refusal ≡ NoMemory) ⊎ IsUnknownAt v p f
     → (f.refusal ≡ NoMemory) ⊎ InstructionStandsAt Second v bytes f.place f.refusal
 unknown_stands v bytes code sequence p at f (inl none) = inl none
@@ -116,7 +116,7 @@ instruction_located pool p n codes shape k parts at other f (inr s) l is spot =
     (any_from _ p.methods k m.0 m.1 (not_one, (parts, m.2, instruction_stands (view_of pool p) parts.code f.place f.refusal s)))
     (inl (m.0, m.1, (not_one, parts, m.2, s)))
 
--- ---- the whole
+-- ---- all levels
 
 spot_in : (bytes : List ℕ) (pool : List Slot) (p : Parts) (r : Refusal) (s : Spot) → IsClassFile bytes pool p → StandsIn Second pool p r s → IsAtSpot Second bytes r s
 spot_in bytes pool p r Whole file h = inr h
@@ -136,7 +136,7 @@ types_told bytes pool p n codes items l file shape are_found (inl e) = inl e
 types_told bytes pool p n codes items l file shape are_found (inr (s, at)) =
     inr (by_types pool p file (record { none_stands = shape.none_stands }) (record { none_stands = instructions_stand pool p n codes shape items are_found }) s, spot_in bytes pool p l.refusal l.spot file at)
 
--- what is told stands
+-- A reported refusal applies to the bytes, or is `NoMemory`.
 pub refused_is : (bytes : List ℕ) (l : Located) → IsToldOf bytes l → (l.refusal ≡ NoMemory) ⊎ IsRefused Second bytes l.refusal
 refused_is bytes l (inl e) = inl e
 refused_is bytes l (inr h) = inr h.0

@@ -1,4 +1,4 @@
--- A refusal of the types stands.
+-- A reported refusal of the types applies.
 use Rattle.std.proofs.Common.{◌≡◌, ℕ, ◌+◌, ◌<◌, ◌≤◌, Bool, true, false, cond, List, [], ◌∷◌, length, length-append, Option, Some, None, refl, sym, ap, ◌∙◌, subst, arith, ◌⊎◌, inl, inr}
 use Rattle.std.specs.Prelude.{slice_get, min, ◌==◌, is_some, IsSome}
 use Rattle.std.proofs.lemmas.Bool.{eqb-true, eq-eqb, cases_lt}
@@ -29,9 +29,9 @@ use Rattle.verdict.proofs.Codes.{has_some}
 use Rattle.verdict.proofs.Methods.{any_from}
 use Rattle.jtypes.specs.Profile.{Second}
 
--- ---- places
+-- ---- pcs
 
--- a place of an instruction is within the bytes
+-- The pc of an instruction is less than the end of its bytes.
 place_within : (pool : List Slot) (at : ℕ) (text : List ℕ) (code : List Placed) → IsSequence Second pool at text code → (q : ℕ) (x : Placed) → at_place code q ≡ Some x → q < at + length text
 place_within pool at text [] s q x e = cc
 place_within pool at text (p ∷ code) s q x e = go (p.place == q) refl e (place_within pool (at + length s.1) s.2 code s.6 q x)
@@ -55,14 +55,14 @@ itself q l = omega (arith, l)
 
 -- ---- members
 
--- a code that isn't empty begins at 0
+-- Nonempty code has an instruction at pc 0.
 begins : (pool : List Slot) (bytes : List ℕ) (code : List Placed) → IsSequence Second pool 0 bytes code → (code ≡ [] → ⊥) → IsSome (at_place code 0)
 begins pool bytes [] s some = absurd (some refl)
 begins pool bytes (p ∷ code) s some = ap (λ b. is_some (cond b (Some p) (at_place code 0))) (eq-eqb p.place 0 s.0)
 
 -- ---- a method
 
--- its descriptor is of the profile
+-- The descriptor of a checked method has a signature.
 pub signature_is : (pool : List Slot) (p : Parts) (number : ℕ) (parts : CodeParts) (code : List Placed) → HasInstructionsOf pool p number parts code → (m : Member) → slice_get p.methods number ≡ Some m → (w : MethodView) → method_view pool m ≡ w → (o : Option Signature) → o ≡ method_signature (view_of pool p) w → ((s : Signature) → o ≡ Some s → ⊥) → ⊥
 signature_is pool p number parts code h m there w viewed None is none =
     let both : Some h.member ≡ Some m = sym h.there ∙ there in
@@ -75,7 +75,7 @@ module _ (pool : List Slot) (p : Parts) (number : ℕ) (parts : CodeParts) (code
   bad_code : HasBadCode pool h.member → ⊥
   bad_code bad = h.shaped.none_stands BadCode bad
 
-  -- a code isn't longer than the places that a refusal can name
+  -- The code is short enough for the pc that a refusal has.
   short : length parts.code < 65_536
   short = go (cases_lt 65_535 (length parts.code))
     where
@@ -101,7 +101,7 @@ module _ (pool : List Slot) (p : Parts) (number : ℕ) (parts : CodeParts) (code
       let same : h.member ≡ m = cc both in
       ap (is_constructor pool) (sym same) ∙ h.other
 
-  -- an instruction stands where the types fail
+  -- There is an instruction at the pc of a type mismatch.
   stands : (q : ℕ) → HasMismatch (view_of pool p) e code tables q → IsSome (at_place code q)
   stands q fails = go (fails_somewhere (view_of pool p) (record { environment = e; code = code; declared = fails.1.0 }) q fails.1.2)
     where
@@ -112,7 +112,7 @@ module _ (pool : List Slot) (p : Parts) (number : ℕ) (parts : CodeParts) (code
   located : (r : Refusal) → TypesStand Second pool p r → StandsIn Second pool p r (type_spot number r) → (l : Located) → l.refusal ≡ r → l.spot ≡ type_spot number r → IsLocated (TypesStand Second pool p) pool p l
   located r s at l is spot = told (TypesStand Second pool p) pool p l r (type_spot number r) is spot s at
 
-  -- what is refused of a method stands where it is told to
+  -- A refusal of the types of a method applies at the reported spot.
   pub types_located : (r : Refusal) → CheckRefuses (view_of pool p) e code tables r → (l : Located) → l.refusal ≡ r → l.spot ≡ type_spot number r → IsLocated (TypesStand Second pool p) pool p l
   types_located NoMemory s l is spot = inl is
   types_located BadStackMap s l is spot = located BadStackMap (any_from _ p.methods number m there (other, (e, code, tables, body, s))) (m, there, (other, e, code, tables, body, s)) l is spot

@@ -1,4 +1,4 @@
--- A class that was judged is accepted: no refusal stands, and the rows are the class's.
+-- A class that passes the checks is accepted, and the typed methods are those of the class.
 use Rattle.std.proofs.Common.{◌≡◌, ℕ, zero, suc, ◌<◌, ◌≤◌, Bool, true, false, List, [], ◌∷◌, length, get_or, Option, Some, None, refl, sym, ap, ◌∙◌, subst, arith, ◌⊎◌, inl, inr}
 use Rattle.std.specs.Prelude.{slice_get, map, is_some, IsSome, Any, Contains, ℤ, pos, T}
 use Rattle.std.proofs.lemmas.Bool.{and_parts, false≢true, cases_lt, le-leb}
@@ -52,7 +52,7 @@ use Rattle.verdict.proofs.OwnCalls.{own_call, process_found}
 use Rattle.verdict.proofs.RowsOfClass.{one_body, method_of, row_of, not_constructor, method_at, row_of_view, row_of_member, member_of_view, view_of_row, process_is, are_rows}
 use Rattle.jtypes.specs.Profile.{Second}
 
--- an element of a list, by its place
+-- The element at an index of a list.
 pub item_of : {A : Type 0} (xs : List A) (i : ℕ) → i < length xs → (x : A) × ((d : A) → get_or xs i d ≡ x)
 item_of [] i l = absurd (omega (arith, l))
 item_of (x ∷ xs) zero l = (x, λ d. refl)
@@ -91,7 +91,7 @@ module _ (pool : List Slot) (p : Parts) (n : ℕ) (codes : List CodeParts) (shap
   -- ---- the types
 
   module _ (lengths : HaveLengths rows) where
-    -- nothing stands in a row's method
+    -- No refusal of the types applies to the method of a `Typed`.
     row_stands : (i : ℕ) (d : Typed) (l : i < length rows) (r : Refusal) → BodyStands view (get_or rows i d).environment (get_or rows i d).code (are.each i d l).tables r → ⊥
     row_stands i d l = stands
       where
@@ -150,7 +150,7 @@ module _ (pool : List Slot) (p : Parts) (n : ℕ) (codes : List CodeParts) (shap
   -- ---- the class
 
   module _ (c : Class) (class : IsClassOfFile Second pool p c) where
-    -- a row of a member
+    -- The `Typed` of method `j`.
     record RowOf (j : ℕ) (m : Method) : Type 0 where
       index : ℕ
       default : Typed
@@ -187,7 +187,7 @@ module _ (pool : List Slot) (p : Parts) (n : ℕ) (codes : List CodeParts) (shap
         let item = item_of rows i.0 i.1 in
         none c (members c) r.0 (are_rows pool p n codes shape rows are c class) r.2 i.0 item.0 i.1 (ap r.0 (i.2 item.0) ∙ next.2)
 
-    -- ---- each instruction leads on
+    -- ---- successors of instructions
 
     module _ (instructions : (r : Refusal) → InstructionsStand Second pool p r → ⊥) where
       forward : (i : ℕ) (d : Typed) → i < length rows → (q t : ℕ) (x : Placed) → at_place (get_or rows i d).code q ≡ Some x → x.place ≡ q → IsTarget x.instruction (pos t) → t ≤ q → ⊥
@@ -232,7 +232,7 @@ module _ (pool : List Slot) (p : Parts) (n : ℕ) (codes : List CodeParts) (shap
               let r = method_at pool p n codes shape rows are c class row is in
               (member_of_view pool p n codes shape rows are c class k to.0 to.1 to.2, (r.method, ap (slice_get c.methods) (sym (i.2 item.0)) ∙ r.there, subst (λ (code : List Placed). IsSome (at_place code 0)) (sym r.code) is.starts))
 
-    -- ---- the rows are the class's
+    -- ---- the typed methods are those of the class
 
     pub class_judged : (b : declared.Bounds) → IsJudgedAs c (record { pool = pool; parts = p; methods = rows; bounds = b })
     class_judged b = record {
@@ -280,7 +280,7 @@ module _ (pool : List Slot) (p : Parts) (n : ℕ) (codes : List CodeParts) (shap
                 let same : method_view pool (are.each i d l).member ≡ w = cc both in
                 (are.each i d l).process ∙ ap is_process same ∙ is
 
-  -- ---- there is such a class
+  -- ---- the existence of the class
 
   signed : (k : ℕ) (m : Member) → slice_get p.methods k ≡ Some m → (s : Signature) × (method_signature view (method_view pool m) ≡ Some s)
   signed k m e = go (method_signature view (method_view pool m)) refl

@@ -1,4 +1,4 @@
--- What type soundness asks of a class, its bytes forgotten.
+-- The premises of type soundness on a class, independent of its bytes.
 use Rattle.std.specs.Prelude.{◌≡◌, ℕ, ◌<◌, ◌≤◌, Bool, false, not, List, [], ◌∷◌, length, Option, Some, None, slice_get, IsNone, pos}
 use Rattle.jtypes.specs.declared.types.JType.{JType}
 use Rattle.jtypes.specs.declared.types.JType.TheVariants.{Top}
@@ -17,12 +17,12 @@ use Rattle.typecheck.specs.Mismatch.{HasLength}
 use Rattle.bounds.specs.Recursion.{IsOrdered}
 use Rattle.verdict.specs.Shape.{reserved_names}
 
--- no type of the list is Top
+-- `NoTop` holds if no type in the list is `Top`.
 abbrev pub NoTop : List JType → Type 0
 NoTop [] = Unit {0}
 NoTop (t ∷ ts) = (t ≡ Top → ⊥) × NoTop ts
 
--- what is asked of a method beside its typing
+-- `IsFormed` holds if the method satisfies the premises other than well-typedness.
 pub record IsFormed (m : Method) : Type 0 where
   pub params : NoTop m.environment.signature.params
   pub result : NoTop (result_list m.environment.signature.result)
@@ -36,11 +36,11 @@ abbrev pub is_other : Option MethodView → Bool
 is_other None = false
 is_other (Some v) = not (same_bytes v.name init_name)
 
--- the numbers of the methods but the constructor
+-- The indices of the methods except the constructor.
 abbrev pub members : Class → ℕ → Bool
 members c j = is_other (slice_get c.view.methods j)
 
--- a method with its view, but the constructor
+-- `IsMember` holds if method `j` has this view and isn't the constructor.
 pub record IsMember (c : Class) (j : ℕ) (v : MethodView) (m : Method) : Type 0 where
   pub view : slice_get c.view.methods j ≡ Some v
   pub method : slice_get c.methods j ≡ Some m

@@ -1,4 +1,4 @@
--- A class that was accepted, as contracts see it.
+-- The model of an accepted class in contracts.
 use Rattle.std.specs.Prelude.{◌≡◌, ℕ, ◌<◌, ◌==◌, true, List, [], ◌∷◌, length, get_or, slice_get, Option, Some, None, IsSome, if◌then◌else◌}
 use Rattle.constpool.specs.Lookup.{Slot}
 use Rattle.constpool.specs.Names.{init_name}
@@ -10,35 +10,35 @@ use Rattle.typecheck.specs.Calls.{AreCallsOf}
 use Rattle.typecheck.specs.declared.typed.Typed.{Typed}
 use Rattle.bounds.specs.declared.limits.Bounds.{Bounds}
 
--- its pool and its parts, the rows of its methods but the constructor, and what an invocation of it takes at most
+-- The constant pool and the parts of the class file, a `Typed` for each method except the constructor, and the bounds of an invocation.
 pub record Judged : Type 0 where
   pub pool : List Slot
   pub parts : Parts
   pub methods : List Typed
   pub bounds : Bounds
 
--- the numbers of the rows rise
+-- `NumbersRise` holds if the method indices are in ascending order.
 abbrev pub NumbersRise : List Typed → Type 0
 NumbersRise rows = (i j : ℕ) (d : Typed) → i < j → j < length rows → (get_or rows i d).number < (get_or rows j d).number
 
--- the row with a number
+-- The first `Typed` with method index `k`.
 abbrev pub row_in : List Typed → ℕ → Option Typed
 row_in [] k = None
 row_in (x ∷ rows) k = if x.number == k then Some x else row_in rows k
 
--- the row of `process`
+-- The first `Typed` that is marked as `process`.
 abbrev pub process_row : List Typed → Option Typed
 process_row [] = None
 process_row (x ∷ rows) = if x.is_process then Some x else process_row rows
 
--- a row is of the class's method with its number: it has its environment and its code, and what its calls reach
+-- `IsRowIn` holds if `row` has the environment, the code and the callees of the method of `c` with its index.
 pub record IsRowIn (c : Class) (row : Typed) : Type 0 where
   pub method : (m : Method) × (slice_get c.methods row.number ≡ Some m) × (m.environment ≡ row.environment) × (m.code ≡ row.code)
   pub starts : IsSome (at_place row.code 0)
   pub calls : AreCallsOf c.view row.code row.calls.items
   pub process : row.is_process ≡ true → IsProcessOf c row.number
 
--- what was judged is this class: by rising numbers there is a row of each of its methods but the constructor, and one of `process`
+-- `IsJudgedAs` holds if `v` describes class `c`: it has a `Typed` for each method except the constructor, by ascending method index.
 pub record IsJudgedAs (c : Class) (v : Judged) : Type 0 where
   pub view : c.view ≡ view_of v.pool v.parts
   pub each : (i : ℕ) (d : Typed) → i < length v.methods → IsRowIn c (get_or v.methods i d)

@@ -1,4 +1,4 @@
--- What the functions that judge instructions and types answer.
+-- The results of the functions that check instructions and types.
 use Rattle.std.specs.Prelude.{◌≡◌, ℕ, false, zero, suc, ◌==◌, List, [], ◌∷◌, ◌++◌, map, All, Some, IsSome, slice_get, if◌then◌else◌}
 use Rattle.jtypes.specs.declared.refusal.Refusal.{Refusal}
 use Rattle.jtypes.specs.declared.refusal.Refusal.TheVariants.{UnknownMember}
@@ -23,33 +23,33 @@ use Rattle.verdict.specs.Shaping.{is_named_process, HasGoodMethod}
 use Rattle.verdict.specs.Verdict.{InstructionStands, IsBody, is_known}
 use Rattle.jtypes.specs.Profile.{Second}
 
--- ---- elements by the numbers of methods
+-- ---- elements by method index
 
--- the numbers below a count, but one
+-- The numbers below `n` except `c`, in ascending order.
 abbrev pub numbers_but : ℕ → ℕ → List ℕ
 numbers_but c zero = []
 numbers_but c (suc n) = numbers_but c n ++ (if n == c then [] else n ∷ [])
 
--- an element of which this holds for each of those numbers, in their order
+-- `AreNumbered` holds if the elements have these numbers, in this order, and `P` holds of each.
 pub record AreNumbered {A : Type 0} (number : A → ℕ) (P : A → Type 0) (c n : ℕ) (xs : List A) : Type 0 where
   pub numbers : map number xs ≡ numbers_but c n
   pub each : All P xs
 
 -- ---- instructions
 
--- the bytes are this code, and no refusal of the instructions stands in them
+-- `IsGoodCode` holds if the bytes decode to this code, and no refusal of the instructions applies to them.
 pub record IsGoodCode (v : ClassView) (bytes : List ℕ) (code : List Placed) : Type 0 where
   pub sequence : IsSequence Second v.pool 0 bytes code
   pub none_stands : (r : Refusal) → InstructionStands Second v bytes r → ⊥
 
--- the instructions of the method with this number
+-- `IsFoundIn` holds if `f` has the instructions and the calls of the method with its index.
 pub record IsFoundIn (v : ClassView) (codes : List CodeParts) (f : Found) : Type 0 where
   pub parts : CodeParts
   pub there : slice_get codes f.number ≡ Some parts
   pub good : IsGoodCode v parts.code f.code
   pub calls : AreCallsOf v f.code f.calls.items
 
--- what an instruction names is unknown, and the fault says so
+-- `IsUnknownAt` holds if the instruction names an unknown member, and the fault reports this at its pc.
 pub record IsUnknownAt (v : ClassView) (p : Placed) (f : Fault) : Type 0 where
   pub refusal : f.refusal ≡ UnknownMember
   pub place : f.place ≡ p.place
@@ -60,7 +60,7 @@ AreFound v codes c n found = AreNumbered (λ f. f.number) (IsFoundIn v codes) c 
 
 -- ---- types
 
--- a method, not the constructor, whose shape is good has these parts, of which these are the instructions; nothing is wrong with them
+-- `HasInstructionsOf` holds if method `number` isn't the constructor, has a good shape and these parts, and its bytes decode to this code.
 pub record HasInstructionsOf (pool : List Slot) (p : Parts) (number : ℕ) (parts : CodeParts) (code : List Placed) : Type 0 where
   pub member : Member
   pub there : slice_get p.methods number ≡ Some member
@@ -68,7 +68,7 @@ pub record HasInstructionsOf (pool : List Slot) (p : Parts) (number : ℕ) (part
   pub shaped : HasGoodMethod pool p member parts
   pub good : IsGoodCode (view_of pool p) parts.code code
 
--- a row is of the method with its number, which is well typed
+-- `IsTypedRow` holds if `t` describes the method with its index, and the method is well typed.
 pub record IsTypedRow (pool : List Slot) (p : Parts) (t : Typed) : Type 0 where
   pub member : Member
   pub there : slice_get p.methods t.number ≡ Some member

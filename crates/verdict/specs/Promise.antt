@@ -1,4 +1,4 @@
--- What is promised of the bytes that are accepted.
+-- The guarantees for accepted bytes.
 use Rattle.std.specs.Prelude.{ℕ, List}
 use Rattle.typecheck.specs.Typing.{Class, IsProcessOf}
 use Rattle.bounds.specs.Recursion.{IsOrdered}
@@ -8,11 +8,11 @@ use Rattle.verdict.specs.Checked.{IsChecked}
 use Rattle.verdict.specs.Sound.{IsSafe}
 use Rattle.jtypes.specs.Profile.{Second}
 
--- every accepted class is safe within its bounds
+-- Each accepted class is safe within its bounds.
 abbrev pub TypeSoundness : Type 0
 TypeSoundness = (bytes : List ℕ) (c : Class) (j : ℕ) (b : Bounds) → IsAccepted Second bytes → IsClassOf Second bytes c → IsProcessOf c j → AreBounds c j b → IsSafe c b
 
--- what lies between the two: an accepted class whose calls have ranks is checked, and a class that is not recursive has ranks
+-- The two steps from accepted to checked: an accepted class with ranks is checked, and an accepted class has ranks.
 abbrev pub AcceptedIsChecked : Type 0
 AcceptedIsChecked = (bytes : List ℕ) (c : Class) (rank : ℕ → ℕ) → IsAccepted Second bytes → IsClassOf Second bytes c → IsOrdered c rank → IsChecked c
 

@@ -1,4 +1,4 @@
--- What each function that judges a shape answers.
+-- The results of the functions that check the shape.
 use Rattle.std.specs.Prelude.{◌≡◌, ◌⊎◌, ◌<◌, ◌≤◌, ◌+◌, ◌*◌, ◌==◌, length, filter, slice_get, ℕ, Bool, true, false, not, ◌&&◌, ◌||◌, List, [], ◌∷◌, Option, Some, None, Result, Ok, Err, codes, nat_le, nat_eq}
 use Rattle.std.specs.List.{AllZip, list_any}
 use Rattle.jtypes.specs.declared.refusal.Refusal.{Refusal}
@@ -16,12 +16,12 @@ use Rattle.classfile.specs.View.{ClassView, MethodView, class_name_at, method_vi
 use Rattle.frames.specs.Signatures.{is_public, is_static}
 use Rattle.verdict.specs.Shape.{has_other_kind, reserved_names, slots_taken, HasCode, HasBadDescriptor, HasNoBody, HasBadCode, HasExceptions, HasConstructor, ShapeStands, is_constructor}
 
--- a value that is good, or a refusal that stands, unless memory ran out
+-- `Judges` holds if the result is a good value, a refusal that applies, or `NoMemory`.
 abbrev pub Judges : {A : Type 0} → (A → Type 0) → (Refusal → Type 0) → Result A Refusal → Type 0
 Judges IsGood Stands (Ok x) = IsGood x
 Judges IsGood Stands (Err r) = (r ≡ NoMemory) ⊎ Stands r
 
--- ---- the header, and methods by their names
+-- ---- the header, and methods by name
 
 abbrev pub is_named_process : List Slot → Member → Bool
 is_named_process pool m = same_bytes (text_at pool m.name) process_name && same_bytes (text_at pool m.descriptor) process_descriptor
@@ -38,16 +38,16 @@ has_header pool p =
 abbrev pub DescriptorStands : ClassView → MethodView → Refusal → Type 0
 DescriptorStands v m r = (r ≡ BadDescriptor) × HasBadDescriptor v m
 
--- the slots of the parameters of a method whose descriptor is good
+-- `HasSlots` holds if the method has a good descriptor, and its parameters take this number of slots with the receiver.
 pub record HasSlots (v : ClassView) (m : MethodView) (slots : ℕ) : Type 0 where
   pub sig : Sig
   pub is : sig_of m.descriptor ≡ Some sig
   pub slots_are : slots ≡ slots_taken m.flags sig
   pub good : HasBadDescriptor v m → ⊥
 
--- ---- codes
+-- ---- `Code` attributes
 
--- a method's only Code, whose parameters take so many slots
+-- `ArePartsGood` holds if the parts of a `Code` attribute are valid for parameters of this number of slots.
 pub record ArePartsGood (slots : ℕ) (c : CodeParts) : Type 0 where
   pub some : 0 < length c.code
   pub within : length c.code ≤ 65_535
@@ -59,7 +59,7 @@ PartsStand slots c BadCode = (length c.code ≡ 0) ⊎ (65_535 < length c.code) 
 PartsStand slots c ExceptionTable = 0 < c.exceptions
 PartsStand slots c _ = ⊥
 
--- a refusal of a method's Codes
+-- `MethodCodeStands` holds if the refusal applies to the method's `Code` attributes.
 abbrev pub MethodCodeStands : List Slot → Member → Refusal → Type 0
 MethodCodeStands pool m NoBody = HasNoBody pool m
 MethodCodeStands pool m BadCode = HasBadCode pool m
@@ -72,7 +72,7 @@ pub record HasGoodCode (pool : List Slot) (m : Member) (c : CodeParts) : Type 0 
 
 -- ---- methods
 
--- a refusal of one method
+-- `MethodStands` holds if the refusal applies to the method's descriptor or `Code` attributes.
 abbrev pub MethodStands : List Slot → Parts → Member → Refusal → Type 0
 MethodStands pool p m BadDescriptor = HasBadDescriptor (view_of pool p) (method_view pool m)
 MethodStands pool p m r = MethodCodeStands pool m r
@@ -87,7 +87,7 @@ abbrev pub is_object_init : Option MemberRef → Bool
 is_object_init None = false
 is_object_init (Some m) = same_bytes m.class object_name && same_bytes m.name init_name && same_bytes m.descriptor (codes "()V")
 
--- aload_0, invokespecial java/lang/Object.<init>()V, return
+-- Whether the code is `aload_0`, `invokespecial java/lang/Object.<init>()V`, `return`.
 abbrev pub calls_object_init : List Slot → List ℕ → Bool
 calls_object_init pool (load ∷ call ∷ high ∷ low ∷ back ∷ []) =
     load == 0x2A && call == 0xB7 && back == 0xB1 && is_object_init (method_at pool (high * 256 + low))
@@ -99,7 +99,7 @@ has_constructor_code pool c = calls_object_init pool c.code && nat_le 1 c.max_st
 abbrev pub has_constructor_type : List Slot → Member → Bool
 has_constructor_type pool m = not (is_static m.flags) && same_bytes (text_at pool m.descriptor) (codes "()V")
 
--- the place of the only element that passes a test
+-- `IsOnlyAt` holds if the element at index `n` is the only one that passes the test.
 pub record IsOnlyAt {X : Type 0} (test : X → Bool) (xs : List X) (n : ℕ) : Type 0 where
   pub found : X
   pub is : slice_get xs n ≡ Some found
@@ -109,14 +109,14 @@ abbrev pub FindsOnly : {X : Type 0} → (X → Bool) → List X → Option ℕ �
 FindsOnly test xs None = only (filter test xs) ≡ None
 FindsOnly test xs (Some n) = IsOnlyAt test xs n
 
--- the number of the method that is the constructor, and no other is
+-- `IsTheConstructor` holds if method `n` is the constructor, and no other method is one.
 pub record IsTheConstructor (pool : List Slot) (p : Parts) (n : ℕ) : Type 0 where
   pub has : HasConstructor pool p
   pub is : slice_get p.methods n ≡ Some has.0
   pub named : is_constructor pool has.0 ≡ true
   pub no_other : (k : ℕ) (m : Member) → slice_get p.methods k ≡ Some m → is_constructor pool m ≡ true → k ≡ n
 
--- ---- the methods by their names
+-- ---- methods by name
 
 abbrev pub are_doubles : List Slot → Member → Member → Bool
 are_doubles pool m n = same_bytes (text_at pool m.name) (text_at pool n.name) && same_bytes (text_at pool m.descriptor) (text_at pool n.descriptor)
@@ -144,7 +144,7 @@ NamesStand pool methods _ = ⊥
 
 -- ---- the shape
 
--- no refusal of the shape stands; the methods' codes, and the number of the constructor
+-- `HasGoodShape` holds if no refusal of the shape applies, and these are the `Code` parts of the methods and the constructor's index.
 pub record HasGoodShape (pool : List Slot) (p : Parts) (parts : List CodeParts) (constructor : ℕ) : Type 0 where
   pub none_stands : (r : Refusal) → ShapeStands pool p r → ⊥
   pub codes_are : AllZip (HasCode pool) p.methods parts

@@ -1,4 +1,4 @@
--- Where a refusal stands in a class: in the class as a whole, in one of its methods, or at an instruction.
+-- The spot of a refusal in a class: the class as a whole, a method, or an instruction.
 use Rattle.std.specs.Prelude.{◌≡◌, ℕ, true, List, length, Some, IsSome, IsFalse, slice_get, ◌⊎◌}
 use Rattle.jtypes.specs.declared.refusal.Refusal.{Refusal}
 use Rattle.jtypes.specs.declared.refusal.Refusal.TheVariants.{NoMemory, BadDescriptor, BadHeader, ConstructorForm, ClassInitialiser, NoProcess, DuplicateMethod, NoBody, BadCode, ExceptionTable, UnknownMember, BadStackMap, TypeMismatch, FallsOff, LengthNotConstant, Recursive, StepLimit, WordLimit, FrameLimit}
@@ -26,7 +26,7 @@ use Rattle.verdict.specs.Verdict.{is_known, IsBody, IsClassFile, IsRefused}
 
 -- ---- in the class as a whole
 
--- beside the refusals of the layout, those that may be told of no method
+-- The refusals, besides those of the layout, whose spot may be the class as a whole.
 abbrev pub IsOfWhole : Refusal → Type 0
 IsOfWhole BadHeader = Unit {0}
 IsOfWhole ConstructorForm = Unit {0}
@@ -40,24 +40,24 @@ IsOfWhole _ = ⊥
 
 -- ---- in a method
 
--- this holds of the method with a number
+-- `OfMethod` holds if `P` holds of method `j`.
 abbrev pub OfMethod : Parts → ℕ → (Member → Type 0) → Type 0
 OfMethod p j P = (m : Member) × (slice_get p.methods j ≡ Some m) × P m
 
--- this holds of the code of a method, which is not the constructor
+-- `OfCode` holds if method `j` isn't the constructor, and `P` holds of its code.
 abbrev pub OfCode : List Slot → Parts → ℕ → (CodeParts → Type 0) → Type 0
 OfCode pool p j P = OfMethod p j (λ m. IsFalse (is_constructor pool m) × (c : CodeParts) × HasCode pool m c × P c)
 
--- this holds of the environment, the instructions and the tables of frames of a method, which is not the constructor
+-- `OfBody` holds if method `j` isn't the constructor, and `P` holds of its environment, its instructions and its stack map tables.
 abbrev pub OfBody : Profile → List Slot → Parts → ℕ → (Environment → List Placed → List (List ℕ) → Type 0) → Type 0
 OfBody profile pool p j P =
     OfMethod p j (λ m. IsFalse (is_constructor pool m) × (e : Environment) × (code : List Placed) × (tables : List (List ℕ)) × IsBody profile pool p m e code tables × P e code tables)
 
--- a method that is called as the constructor is, where the class hasn't the one constructor that it must have
+-- `IsWrongConstructor` holds if method `j` has the constructor's name, and the class lacks the one constructor that it must have.
 abbrev pub IsWrongConstructor : List Slot → Parts → ℕ → Type 0
 IsWrongConstructor pool p j = (HasConstructor pool p → ⊥) × OfMethod p j (λ m. is_constructor pool m ≡ true)
 
--- a method that has the name and the descriptor of an earlier one
+-- `IsDouble` holds if method `j` has the name and the descriptor of an earlier one.
 abbrev pub IsDouble : ClassView → ℕ → Type 0
 IsDouble v j = (i : ℕ) × (m : MethodView) × (n : MethodView) × AreDoubles v i j m n
 
@@ -75,23 +75,23 @@ StandsInMethod profile pool p j _ = ⊥
 
 -- ---- at an instruction
 
--- the instruction at a place of a code that is read to its end names an unknown member
+-- `NamesUnknownAt` holds if all bytes decode, and the instruction at the pc names an unknown member.
 abbrev pub NamesUnknownAt : Profile → ClassView → List ℕ → ℕ → Type 0
 NamesUnknownAt profile v bytes place =
     (code : List Placed) × IsSequence profile v.pool 0 bytes code × (q : Placed) × (at_place code place ≡ Some q) × IsFalse (is_known v q.instruction)
 
--- a refusal of the instructions, at the one that begins at a place of the bytes of a code
+-- `InstructionStandsAt` holds if the refusal of the instructions applies at the pc.
 abbrev pub InstructionStandsAt : Profile → ClassView → List ℕ → ℕ → Refusal → Type 0
 InstructionStandsAt profile v bytes place UnknownMember = NamesUnknownAt profile v bytes place
 InstructionStandsAt profile v bytes place r = CodeStandsAt profile v.pool bytes place r
 
--- the newarray at this place lacks a constant length, or has a declared frame
+-- `LacksLengthAt` holds if the `newarray` at the pc lacks a constant length, or has a declared frame.
 abbrev pub LacksLengthAt : ClassView → ℕ → Environment → List Placed → List (List ℕ) → Type 0
 LacksLengthAt v place e code tables =
     (q : Placed) × (k : ArrayKind) × (at_place code place ≡ Some q) × (q.instruction ≡ NewArray k)
     × ((HasLength code place → ⊥) ⊎ HasFrame v e code tables place)
 
--- a refusal of the types, at the instruction at a place
+-- `BodyStandsAt` holds if the refusal of the types applies at the pc.
 abbrev pub BodyStandsAt : ClassView → ℕ → Refusal → Environment → List Placed → List (List ℕ) → Type 0
 BodyStandsAt v place (TypeMismatch at) e code tables = (at ≡ place) × IsSome (at_place code place) × HasMismatch v e code tables place
 BodyStandsAt v place LengthNotConstant e code tables = LacksLengthAt v place e code tables
@@ -103,21 +103,21 @@ StandsAtInstruction profile pool p j place r =
 
 -- ---- a spot
 
--- a refusal stands in a class at a spot
+-- `StandsIn` holds if the refusal applies to the method or the instruction of the spot, or if the spot may be `Whole`.
 abbrev pub StandsIn : Profile → List Slot → Parts → Refusal → Spot → Type 0
 StandsIn profile pool p r Whole = IsOfWhole r
 StandsIn profile pool p r (InMethod j) = StandsInMethod profile pool p j r
 StandsIn profile pool p r (AtInstruction j place) = StandsAtInstruction profile pool p j place r
 
--- a refusal stands in the layout of the bytes, or at a spot of the class that they are
+-- `IsAtSpot` holds if the refusal applies to the layout of the bytes, or has this spot in their class.
 abbrev pub IsAtSpot : Profile → List ℕ → Refusal → Spot → Type 0
 IsAtSpot profile bytes r Whole = Stands (class_file (length bytes)) bytes r ⊎ IsOfWhole r
 IsAtSpot profile bytes r spot = (pool : List Slot) × (p : Parts) × IsClassFile bytes pool p × StandsIn profile pool p r spot
 
--- what is refused of bytes stands in them at the spot, but for want of memory
+-- `IsToldOf` holds if the refusal applies to the bytes and has the reported spot, or is `NoMemory`.
 abbrev pub IsToldOf : List ℕ → Located → Type 0
 IsToldOf bytes l = (l.refusal ≡ NoMemory) ⊎ (IsRefused Second bytes l.refusal × IsAtSpot Second bytes l.refusal l.spot)
 
--- a refusal of one level stands in a class at the spot, but for want of memory
+-- `IsLocated` holds if the refusal of a level applies to the class and has the reported spot, or is `NoMemory`.
 abbrev pub IsLocated : (Refusal → Type 0) → List Slot → Parts → Located → Type 0
 IsLocated Stands pool p l = (l.refusal ≡ NoMemory) ⊎ (Stands l.refusal × StandsIn Second pool p l.refusal l.spot)

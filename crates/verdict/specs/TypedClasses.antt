@@ -1,4 +1,4 @@
--- A class that was judged up to the types of its methods.
+-- A class that is checked up to the types of its methods.
 use Rattle.std.specs.Prelude.{ℕ, List, length}
 use Rattle.jtypes.specs.declared.refusal.Refusal.{Refusal}
 use Rattle.jtypes.specs.declared.refusal.Refusal.TheVariants.{TypeMismatch}
@@ -14,7 +14,8 @@ use Rattle.verdict.specs.Shaping.{HasGoodShape}
 use Rattle.verdict.specs.Judging.{AreFound, AreTyped}
 use Rattle.verdict.specs.Verdict.{IsClassFile}
 
--- The bytes are this class; nothing is wrong with its layout, its shape and its instructions, and its methods, but the constructor, are well typed.
+-- `IsTypedClass` holds if the bytes are this class, no refusal of its layout, shape or instructions applies,
+-- and its methods except the constructor are well typed.
 pub record IsTypedClass (bytes : List ℕ) (pool : List Slot) (p : Parts) (rows : List Typed) : Type 0 where
   pub file : IsClassFile bytes pool p
   pub constructor : ℕ
@@ -24,7 +25,7 @@ pub record IsTypedClass (bytes : List ℕ) (pool : List Slot) (p : Parts) (rows 
   pub found : AreFound (view_of pool p) codes constructor (length codes) items
   pub typed : AreTyped pool p constructor (length codes) rows
 
--- where a refusal of the types of a method stands
+-- The spot of a refusal of the types of method `j`.
 abbrev pub type_spot : ℕ → Refusal → Spot
 type_spot j (TypeMismatch place) = AtInstruction j place
 type_spot j _ = InMethod j

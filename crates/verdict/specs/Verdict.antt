@@ -1,4 +1,4 @@
--- The verdict: which refusals stand in the bytes of a class.
+-- The verdict: the refusals that apply to the bytes of a class.
 use Rattle.std.specs.Prelude.{◌≡◌, ℕ, Bool, true, List, length, Any, Some, IsFalse, is_some, ◌⊎◌}
 use Rattle.std.specs.List.{AllZip}
 use Rattle.jtypes.specs.declared.refusal.Refusal.{Refusal}
@@ -26,36 +26,36 @@ use Rattle.bounds.specs.Recursion.{IsRecursive}
 use Rattle.bounds.specs.Paths.{SomePathExceeds, step_limit, word_limit, slot_limit, depth_limit}
 use Rattle.verdict.specs.Shape.{is_constructor, HasCode, ShapeStands}
 
--- ---- level A: the bytes are laid out as a class file
+-- ---- level A: the bytes have the layout of a class file
 
--- the bytes are a class file with this pool and these parts, and nothing is wrong with its layout
+-- `IsClassFile` holds if the bytes are a class file with this constant pool and these parts, and no refusal of the layout applies.
 pub record IsClassFile (bytes : List ℕ) (pool : List Slot) (p : Parts) : Type 0 where
   pub laid_out : IsLaidOut (class_file (length bytes)) bytes (pool, p)
   pub none_stands : (r : Refusal) → Stands (class_file (length bytes)) bytes r → ⊥
 
--- ---- level B: its shape
+-- ---- level B: the shape
 
 pub record HasShape (pool : List Slot) (p : Parts) : Type 0 where
   pub none_stands : (r : Refusal) → ShapeStands pool p r → ⊥
 
--- ---- level C: the instructions of its methods but the constructor
+-- ---- level C: the instructions of the methods except the constructor
 
--- one of the methods, but the constructor
+-- `SomeMethod` holds if `P` holds of a method other than the constructor.
 abbrev pub SomeMethod : List Slot → Parts → (Member → Type 0) → Type 0
 SomeMethod pool p P = Any (λ m. IsFalse (is_constructor pool m) × P m) p.methods
 
--- whether the member that an instruction names is known
+-- Whether the member or type that an instruction names is known.
 abbrev pub is_known : ClassView → Instruction → Bool
 is_known v (Invoke kind i) = is_some (callee_at v kind i)
 is_known v (CheckCast i) = is_some (constant_type v i)
 is_known v (InstanceOf i) = is_some (constant_type v i)
 is_known v _ = true
 
--- an unknown member in a code that is read to its end
+-- `NamesUnknown` holds if all bytes decode, and an instruction names an unknown member.
 abbrev pub NamesUnknown : Profile → ClassView → List ℕ → Type 0
 NamesUnknown profile v bytes = (code : List Placed) × IsSequence profile v.pool 0 bytes code × Any (λ p. IsFalse (is_known v p.instruction)) code
 
--- a refusal of the level, in the bytes of a code
+-- `InstructionStands` holds if the refusal applies to the bytes of a code at this level.
 abbrev pub InstructionStands : Profile → ClassView → List ℕ → Refusal → Type 0
 InstructionStands profile v bytes UnknownMember = NamesUnknown profile v bytes
 InstructionStands profile v bytes r = CodeStands profile v.pool bytes r
@@ -66,9 +66,9 @@ InstructionsStand profile pool p r = SomeMethod pool p (λ m. (c : CodeParts) ×
 pub record HasInstructions (profile : Profile) (pool : List Slot) (p : Parts) : Type 0 where
   pub none_stands : (r : Refusal) → InstructionsStand profile pool p r → ⊥
 
--- ---- level D: the types of those methods
+-- ---- level D: the types of these methods
 
--- a method's environment, its instructions, and its tables of frames
+-- `IsBody` holds if the method has this environment, these instructions and these stack map tables.
 pub record IsBody (profile : Profile) (pool : List Slot) (p : Parts) (m : Member) (e : Environment) (code : List Placed) (tables : List (List ℕ)) : Type 0 where
   pub parts : CodeParts
   pub has_code : HasCode pool m parts
@@ -99,7 +99,7 @@ pub record IsMethodOf (profile : Profile) (pool : List Slot) (p : Parts) (m : Me
   pub body : IsBody profile pool p m method.environment method.code tables
   pub declared : IsDeclared (view_of pool p) method.environment method.code tables method.declared
 
--- the class of a class file
+-- `IsClassOfFile` holds if `c` is the class of the class file.
 pub record IsClassOfFile (profile : Profile) (pool : List Slot) (p : Parts) (c : Class) : Type 0 where
   pub view : c.view ≡ view_of pool p
   pub methods : AllZip (IsMethodOf profile pool p) p.methods c.methods
@@ -116,7 +116,7 @@ ClassStands profile c r = (IsRecursive c → ⊥) × ((j : ℕ) × IsProcessOf c
 
 -- ---- the verdict
 
--- A refusal stands in the bytes: at its level, where none of an earlier level does.
+-- `IsRefused` holds if the refusal applies at its level, and no refusal of an earlier level applies.
 pub data IsRefused (profile : Profile) (bytes : List ℕ) (r : Refusal) : Type 0 where
   by_layout : Stands (class_file (length bytes)) bytes r → IsRefused profile bytes r
   by_shape : (pool : List Slot) (p : Parts) → IsClassFile bytes pool p → ShapeStands pool p r → IsRefused profile bytes r
@@ -125,11 +125,11 @@ pub data IsRefused (profile : Profile) (bytes : List ℕ) (r : Refusal) : Type 0
   by_class : (pool : List Slot) (p : Parts) (c : Class) → IsClassFile bytes pool p → HasShape pool p → HasInstructions profile pool p → HasTypes profile pool p
       → IsClassOfFile profile pool p c → ClassStands profile c r → IsRefused profile bytes r
 
--- a class is accepted where no refusal stands
+-- `IsAccepted` holds if no refusal applies to the bytes.
 abbrev pub IsAccepted : Profile → List ℕ → Type 0
 IsAccepted profile bytes = (r : Refusal) → IsRefused profile bytes r → ⊥
 
--- the class of these bytes
+-- `IsClassOf` holds if `c` is the class of these bytes.
 pub record IsClassOf (profile : Profile) (bytes : List ℕ) (c : Class) : Type 0 where
   pub pool : List Slot
   pub parts : Parts

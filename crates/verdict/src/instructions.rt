@@ -1,4 +1,4 @@
-//! The instructions of a class's methods.
+//! Decodes the code of a class's methods and resolves the members that it names.
 
 ghost use Rattle.std.specs.Prelude.{◌≡◌, ◌⊎◌, true, length, IfOk, IfErr};
 ghost use Rattle.jtypes.specs.declared.refusal.Refusal.{Refusal};
@@ -19,7 +19,7 @@ use jtypes::Refusal;
 use std::alloc::Global;
 use typecheck::Called;
 
-/// The instructions of the method with a number, and their calls.
+/// The instructions of the method with index `number`, and their calls.
 #[derive(Drop)]
 pub struct Found {
     pub number: usize,
@@ -27,7 +27,7 @@ pub struct Found {
     pub calls: Vec<Called>,
 }
 
-/// The refusal of an instruction that names something unknown.
+/// Returns the fault `UnknownMember` at the pc of the instruction.
 fn unknown(p: &Placed) -> Fault
     ensures refusal { result.refusal ≡ Refusal.UnknownMember }
     ensures place { result.place ≡ p.now.place }
@@ -38,7 +38,8 @@ fn unknown(p: &Placed) -> Fault
     }
 }
 
-/// The call of an instruction, if it is one. What an instruction names has to be known.
+/// Returns the resolved call if the instruction is an invoke, otherwise `None`.
+/// Fails with `UnknownMember` if a method or type that the instruction names is unknown.
 fn call_of(alloc: Global, view: &MemberView<'_>, p: &Placed) -> Result<Option<Called>, Fault>
     ensures call { IfOk result (λ call. call ≡ call_at view.now p.now) }
     ensures known { IfOk result (λ _. is_known view.now p.now.instruction ≡ true) }
@@ -62,7 +63,8 @@ fn call_of(alloc: Global, view: &MemberView<'_>, p: &Placed) -> Result<Option<Ca
     }
 }
 
-/// The instructions of one method, and their calls.
+/// Decodes the code of one method and resolves its calls.
+/// A fault other than `NoMemory` has the pc of the refused instruction.
 fn judge_code(
     alloc: Global,
     view: &MemberView<'_>,
@@ -82,7 +84,7 @@ fn judge_code(
     Ok((code, calls))
 }
 
-/// A refusal at the place of an instruction of the method with a number.
+/// Locates a fault at its pc in the method with index `method`.
 fn located(fault: Fault, method: usize) -> Located
     ensures refusal { result.refusal ≡ fault.refusal }
     ensures spot { result.spot ≡ Spot.AtInstruction method fault.place }
@@ -96,7 +98,8 @@ fn located(fault: Fault, method: usize) -> Located
     }
 }
 
-/// The instructions of each method, in the methods' order, but the constructor's, since its form is judged already.
+/// Returns the instructions and calls of each method except the constructor, in class file order.
+/// The constructor is skipped because its code is part of the shape.
 pub fn judge_instructions(
     alloc: Global,
     class: &ClassFile,

@@ -1,4 +1,4 @@
-//! The verdict.
+//! The verdict on the bytes of a class: accepted with bounds, or a refusal.
 #![tactic(auto)]
 
 mod instructions;

@@ -1,4 +1,4 @@
-//! The shape of a class: its header, its constructor, its methods and their codes.
+//! The shape of a class: its header, its constructor, its methods and their `Code` attributes.
 
 ghost use Rattle.std.specs.Prelude.{◌≡◌, ◌⊎◌, not, ◌&&◌, ◌||◌, ◌<◌, [], ◌∷◌, length, map, nat_eq, Any, Some, option_and_then, IfOk, MatchResult};
 ghost use Rattle.std.specs.List.{AllZip, list_any};
@@ -26,7 +26,7 @@ pub fn is_constructor(class: &ClassFile, method: &Member) -> bool
     same_bytes(class.method_name(method), names::INIT)
 }
 
-/// Whether a method has the name and the erased descriptor of `EntryProcessor.process`.
+/// Returns whether a method has the name and the erased descriptor of `EntryProcessor.process`.
 pub fn is_process(class: &ClassFile, method: &Member) -> bool
     ensures { result ≡ is_named_process class.now.pool method.now }
 {
@@ -34,7 +34,7 @@ pub fn is_process(class: &ClassFile, method: &Member) -> bool
         && same_bytes(class.method_descriptor(method), names::PROCESS_DESCRIPTOR)
 }
 
-/// Whether a Class constant has this name.
+/// Returns whether constant pool index `i` is a Class constant with this name.
 fn names_class(class: &ClassFile, i: u16, name: &[u8]) -> bool
     ensures { result ≡ is_text name.now (class_at class.now.pool i) }
 {
@@ -44,7 +44,7 @@ fn names_class(class: &ClassFile, i: u16, name: &[u8]) -> bool
     }
 }
 
-/// Whether a flag is set (JVMS §4.1).
+/// Returns whether the bit `flag` is set in `flags` (JVMS §4.1).
 fn has_flag(flag: u16, flags: u16) -> bool
     requires { 0 < flag }
     ensures { result ≡ has_flag flag flags }
@@ -52,7 +52,7 @@ fn has_flag(flag: u16, flags: u16) -> bool
     flags / flag % 2 == 1
 }
 
-/// ACC_INTERFACE, ACC_ABSTRACT, ACC_ANNOTATION or ACC_ENUM (JVMS §4.1).
+/// Returns whether ACC_INTERFACE, ACC_ABSTRACT, ACC_ANNOTATION or ACC_ENUM is set (JVMS §4.1).
 fn has_other_kind(flags: u16) -> bool
     ensures { result ≡ has_other_kind flags }
 {
@@ -62,7 +62,7 @@ fn has_other_kind(flags: u16) -> bool
         || has_flag(0x4000, flags)
 }
 
-/// Whether this is the name of an entry, of an array type or of `Math`.
+/// Returns whether this is the name of `Cache.Entry`, of an array type or of `Math`.
 fn is_reserved_too(name: &[u8]) -> bool
     ensures { result ≡ is_one_of name.now (cache_entry_name ∷ int_array_name ∷ long_array_name ∷ object_array_name ∷ math_name ∷ []) }
 {
@@ -79,7 +79,7 @@ fn is_reserved_too(name: &[u8]) -> bool
     }
 }
 
-/// Whether the class may not have this name.
+/// Returns whether the class name is reserved.
 fn is_reserved(name: &[u8]) -> bool
     ensures { result ≡ is_one_of name.now reserved_names }
 {
@@ -131,8 +131,8 @@ fn judge_header(class: &ClassFile) -> Result<(), Refusal>
     }
 }
 
-/// The slots of a method's parameters, with the receiver; `BadDescriptor` where they are more than 255, or the
-/// descriptor isn't of the profile (JVMS §4.3.3).
+/// Returns the number of slots of a method's parameters, including the receiver.
+/// Refuses with `BadDescriptor` if they are more than 255, or the descriptor isn't in the profile (JVMS §4.3.3).
 fn judge_descriptor(alloc: Global, class: &ClassFile, method: &Member) -> Result<usize, Refusal>
     ensures { Judges (HasSlots (view_of class.now.pool class.now.parts) (method_view class.now.pool method.now)) (DescriptorStands (view_of class.now.pool class.now.parts) (method_view class.now.pool method.now)) result }
 {
@@ -154,14 +154,15 @@ fn judge_descriptor(alloc: Global, class: &ClassFile, method: &Member) -> Result
     Ok(slots + receiver)
 }
 
-/// Whether a method has no instructions: it is abstract or native, or has no Code.
+/// Returns whether a method is abstract, is native or has no `Code` attribute.
 fn has_no_body(method: &Member, codes: &[&[u8]]) -> bool
     ensures { result ≡ (is_abstract method.now.flags || is_native method.now.flags || nat_eq (length codes.now) 0) }
 {
     is_abstract(method.flags) || is_native(method.flags) || codes.is_empty()
 }
 
-/// The parts of a Code that is the only one, where they fill it.
+/// Parses the only `Code` attribute of a method.
+/// Returns `None` if there isn't exactly one, or its parts don't fill it exactly.
 fn only_code(alloc: Global, codes: &[&[u8]]) -> Result<Option<CodeParts>, AllocError>
     ensures { IfOk result (λ found. found ≡ option_and_then parts_of_code (only (map (λ content. content.now) codes.now))) }
 {
@@ -171,7 +172,8 @@ fn only_code(alloc: Global, codes: &[&[u8]]) -> Result<Option<CodeParts>, AllocE
     }
 }
 
-/// Judges the parts of a Code whose method's parameters take so many slots (JVMS §4.7.3).
+/// Checks the parts of a `Code` attribute (JVMS §4.7.3): code of 1 to 65535 bytes, enough local variables, no exception handlers.
+/// `slots` is the number of slots of the method's parameters, including the receiver.
 fn judge_parts(parts: &CodeParts, slots: usize) -> Result<(), Refusal>
     ensures { Judges (λ _. ArePartsGood slots parts.now) (PartsStand slots parts.now) result }
 {
@@ -185,7 +187,8 @@ fn judge_parts(parts: &CodeParts, slots: usize) -> Result<(), Refusal>
     Ok(())
 }
 
-/// The only Code of a method, whose parameters take so many slots (JVMS §4.7.3).
+/// Returns the parts of a method's only `Code` attribute, or its refusal (JVMS §4.7.3).
+/// `slots` is the number of slots of the method's parameters, including the receiver.
 fn judge_code(
     alloc: Global,
     class: &ClassFile,
@@ -218,7 +221,7 @@ pub fn judge_method(alloc: Global, class: &ClassFile, method: &Member) -> Result
     judge_code(alloc, class, method, slots)
 }
 
-/// The codes of methods, in their order.
+/// Returns the `Code` parts of the methods, in their order, or the first refusal.
 fn judge_methods(
     alloc: Global,
     class: &ClassFile,
@@ -234,7 +237,7 @@ fn judge_methods(
     Ok(codes)
 }
 
-/// Whether this is Object's constructor.
+/// Returns whether constant pool index `i` is a method reference to `java/lang/Object.<init>()V`.
 fn is_object_init(class: &ClassFile, i: u16) -> bool
     ensures { result ≡ is_object_init (method_at class.now.pool i) }
 {
@@ -248,7 +251,7 @@ fn is_object_init(class: &ClassFile, i: u16) -> bool
     }
 }
 
-/// Whether a code is aload_0, invokespecial java/lang/Object.<init>()V, return.
+/// Returns whether the code is `aload_0`, `invokespecial java/lang/Object.<init>()V`, `return`.
 fn calls_object_init(class: &ClassFile, code: &[u8]) -> bool
     ensures { result ≡ calls_object_init class.now.pool code.now }
 {
@@ -263,7 +266,7 @@ fn calls_object_init(class: &ClassFile, code: &[u8]) -> bool
     }
 }
 
-/// Whether a constructor's code has its form: it calls Object's constructor and returns.
+/// Returns whether a constructor's code only calls `Object.<init>` and returns, within its limits and without a `StackMapTable`.
 fn has_constructor_code(
     alloc: Global,
     class: &ClassFile,
@@ -285,14 +288,14 @@ fn has_constructor_code(
     )
 }
 
-/// Whether a constructor is an instance method `()V`.
+/// Returns whether a constructor is an instance method with the descriptor `()V`.
 fn has_constructor_type(class: &ClassFile, method: &Member) -> bool
     ensures { result ≡ has_constructor_type class.now.pool method.now }
 {
     !is_static(method.flags) && same_bytes(class.method_descriptor(method), b"()V")
 }
 
-/// The number of the method whose name says that it is the constructor; none where not one alone is.
+/// Returns the index of the only method with the name `<init>`, or `None` if there is none or more than one.
 fn only_constructor(class: &ClassFile, methods: &[Member]) -> Option<usize>
     ensures { FindsOnly (is_constructor class.now.pool) methods.now result }
 {
@@ -308,8 +311,8 @@ fn only_constructor(class: &ClassFile, methods: &[Member]) -> Option<usize>
     found
 }
 
-/// The constructor's number, where its form is an instance method `<init>()V` that calls Object's constructor and
-/// returns.
+/// Returns the index of the constructor: the only `<init>`, an instance method `()V` that calls `Object.<init>` and returns.
+/// Refuses with `ConstructorForm` if the class has no such constructor.
 fn judge_constructors(
     alloc: Global,
     class: &ClassFile,
@@ -337,8 +340,8 @@ fn judge_constructors(
     Ok(number)
 }
 
-/// Whether two methods have one name and one descriptor (JVMS §4.6). What is shorter is compared first: of many methods one name or
-/// one descriptor may take half of the class.
+/// Returns whether two methods have the same name and descriptor (JVMS §4.6).
+/// Compares the shorter of the two first, because many methods can share a name or a descriptor as long as half of the class file.
 pub fn are_doubles(class: &ClassFile, m: &Member, n: &Member) -> bool
     ensures { result ≡ are_doubles class.now.pool m.now n.now }
 {
@@ -382,7 +385,7 @@ fn has_initialiser(class: &ClassFile, methods: &[Member]) -> bool
     methods.iter().any(|m| is_initialiser(class, m))
 }
 
-/// Whether this is `process`, public and of an instance.
+/// Returns whether this is `process`, public and not static.
 fn is_good_process(class: &ClassFile, method: &Member) -> bool
     ensures { result ≡ is_good_process class.now.pool method.now }
 {
@@ -395,7 +398,7 @@ fn has_process(class: &ClassFile, methods: &[Member]) -> bool
     methods.iter().any(|m| is_good_process(class, m))
 }
 
-/// The methods by their names: no class initialiser, `process` public and of an instance, no doubles.
+/// Checks the method names: no class initialiser, a public instance method `process`, no duplicate methods.
 fn judge_names(class: &ClassFile, methods: &[Member]) -> Result<(), Refusal>
     ensures { Judges (λ _. AreNamesGood class.now.pool methods.now) (NamesStand class.now.pool methods.now) result }
 {
@@ -411,14 +414,15 @@ fn judge_names(class: &ClassFile, methods: &[Member]) -> Result<(), Refusal>
     Ok(())
 }
 
-/// A class that has its shape: the parts of its methods' codes, in the methods' order, and the constructor's number.
+/// The result of `judge_shape`: the `Code` parts of the methods in class file order, and the index of the constructor.
 #[derive(Drop)]
 pub struct Shape {
     pub codes: Vec<CodeParts>,
     pub constructor: usize,
 }
 
-/// Judges the shape of a class.
+/// Checks the header, the methods, the constructor and the method names, in this order.
+/// Returns the first refusal.
 pub fn judge_shape(alloc: Global, class: &ClassFile) -> Result<Shape, Refusal>
     ensures { Judges (λ shape. HasGoodShape class.now.pool class.now.parts shape.codes.items shape.constructor) (ShapeStands class.now.pool class.now.parts) result }
 {

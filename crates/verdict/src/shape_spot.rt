@@ -1,4 +1,4 @@
-//! Where a refusal of the shape stands.
+//! Finds the spot of a refusal of the shape.
 
 ghost use Rattle.std.specs.Prelude.{◌≡◌, ◌⊎◌, ◌<◌, false, length, Any, IfOk, IfSome, IfNone};
 ghost use Rattle.std.specs.List.{AllWithin};
@@ -18,7 +18,7 @@ use constpool::{names, same_bytes};
 use jtypes::Refusal;
 use std::alloc::{AllocError, Global};
 
-/// The first of the methods whose descriptor or code is refused: its number, and the refusal.
+/// Returns the index and the refusal of the first method whose descriptor or code is refused.
 fn first_bad(
     alloc: Global,
     class: &ClassFile,
@@ -37,7 +37,7 @@ fn first_bad(
     Ok(None)
 }
 
-/// The number of the first method with this name.
+/// Returns the index of the first method with this name.
 fn first_named(class: &ClassFile, methods: &[Member], name: &[u8]) -> Option<usize>
     ensures some { IfSome result (IsNamedAt class.now.pool methods.now name.now) }
     ensures none { IfNone result (AllWithin (λ m. same_bytes (text_at class.now.pool m.name) name.now ≡ false) methods.now 0 (length methods.now)) }
@@ -50,7 +50,7 @@ fn first_named(class: &ClassFile, methods: &[Member], name: &[u8]) -> Option<usi
     None
 }
 
-/// The number of the first constructor that takes parameters.
+/// Returns the index of the first constructor whose descriptor isn't `()V`.
 fn first_with_parameters(class: &ClassFile, methods: &[Member]) -> Option<usize>
     ensures { IfSome result (IsNamedAt class.now.pool methods.now init_name) }
 {
@@ -64,7 +64,7 @@ fn first_with_parameters(class: &ClassFile, methods: &[Member]) -> Option<usize>
     None
 }
 
-/// The number of a later method that has the name and the descriptor of this one.
+/// Returns the index of a later method with the name and the descriptor of method `i`.
 fn double_from(class: &ClassFile, methods: &[Member], i: usize) -> Option<usize>
     requires { i < length methods.now }
     ensures { IfSome result (AreDoublesAt class.now.pool methods.now) }
@@ -88,7 +88,7 @@ fn first_double(class: &ClassFile, methods: &[Member]) -> Option<usize>
     None
 }
 
-/// The first method whose descriptor or code is refused, where one is.
+/// Locates the first method whose descriptor or code is refused, with its refusal.
 fn bad_method(alloc: Global, class: &ClassFile, refusal: Refusal) -> Result<Located, AllocError>
     requires { Any (λ m. MethodStands class.now.pool class.now.parts m refusal) class.now.parts.methods }
     ensures { IfOk result (IsLocated (ShapeStands class.now.pool class.now.parts) class.now.pool class.now.parts) }
@@ -102,8 +102,8 @@ fn bad_method(alloc: Global, class: &ClassFile, refusal: Refusal) -> Result<Loca
     }
 }
 
-/// A constructor, where there is one, and the class hasn't the one that it must have: the first that takes parameters, or else the
-/// first.
+/// Locates `ConstructorForm` at the first constructor whose descriptor isn't `()V`, or else at the first constructor.
+/// The spot is the whole class if there is no constructor.
 fn wrong_constructor(class: &ClassFile) -> Located
     requires { HasConstructor class.now.pool class.now.parts → ⊥ }
     ensures { IsLocated (ShapeStands class.now.pool class.now.parts) class.now.pool class.now.parts result }
@@ -125,7 +125,7 @@ fn wrong_constructor(class: &ClassFile) -> Located
     }
 }
 
-/// The class initialiser, where there is one.
+/// Locates `ClassInitialiser` at the first class initialiser.
 fn initialiser(class: &ClassFile) -> Located
     requires { Any (IsInitialiser class.now.pool) class.now.parts.methods }
     ensures { IsLocated (ShapeStands class.now.pool class.now.parts) class.now.pool class.now.parts result }
@@ -140,7 +140,7 @@ fn initialiser(class: &ClassFile) -> Located
     }
 }
 
-/// A method with the name and the descriptor of an earlier one, where there is one.
+/// Locates `DuplicateMethod` at a method with the name and the descriptor of an earlier one.
 fn double(class: &ClassFile) -> Located
     requires { ShapeStands class.now.pool class.now.parts Refusal.DuplicateMethod }
     ensures { IsLocated (ShapeStands class.now.pool class.now.parts) class.now.pool class.now.parts result }
@@ -155,7 +155,8 @@ fn double(class: &ClassFile) -> Located
     }
 }
 
-/// Where a refusal of a class's shape stands. Of descriptors and codes the first method is named that is refused, and for what it is.
+/// Returns a refusal of the shape with its spot.
+/// For a descriptor or a code, the result is the first refused method and its refusal.
 pub fn shape_located(
     alloc: Global,
     class: &ClassFile,

@@ -1,4 +1,4 @@
-//! Where a refusal stands.
+//! The spot of a refusal in a class.
 
 ghost use Rattle.std.specs.Prelude.{◌≡◌};
 ghost use Rattle.jtypes.specs.declared.refusal.Refusal.TheVariants.{NoMemory};
@@ -7,25 +7,27 @@ ghost use Rattle.verdict.specs.declared.spot.Spot.TheVariants.{Whole};
 use jtypes::Refusal;
 use std::alloc::{AllocError, AllocFailed};
 
-/// A part of a class. Methods are numbered in the file's order, from 0.
+/// A part of a class.
+/// Methods are indexed in class file order, from 0.
 #[derive(Clone, Copy, PartialEq, Eq)]
 pub enum Spot {
     /// The class as a whole.
     Whole,
-    /// The method with a number.
+    /// The method with this index.
     InMethod(usize),
-    /// The instruction that begins at a place of its code.
+    /// The instruction at pc `place` of the method with index `method`.
     AtInstruction { method: usize, place: usize },
 }
 
-/// A refusal, and where it stands. Want of memory stands nowhere.
+/// A refusal and its spot.
+/// The spot has no meaning if the refusal is `NoMemory`.
 #[derive(Clone, Copy, PartialEq, Eq)]
 pub struct Located {
     pub refusal: Refusal,
     pub spot: Spot,
 }
 
-/// A refusal of the class as a whole.
+/// Locates a refusal at the class as a whole.
 impl From<Refusal> for Located {
     ghost from_gives = { λ r l. (l.refusal ≡ r) × (l.spot ≡ Whole) };
 

@@ -1,4 +1,4 @@
-//! A class whose layout, shape, instructions and types were judged.
+//! A class with checked layout, shape, instructions and types.
 
 ghost use Rattle.std.specs.Prelude.{◌≡◌, length, IfOk, IfErr};
 ghost use Rattle.classfile.specs.View.{view_of};
@@ -22,14 +22,14 @@ use jtypes::Refusal;
 use std::alloc::Global;
 use typecheck::{Called, Typed, check_method};
 
-/// A class whose methods are well typed: its file, and the rows of its methods but the constructor, by rising numbers.
+/// A class whose methods are well typed: its class file, and a `Typed` for each method except the constructor, by ascending method index.
 #[derive(Drop)]
 pub struct TypedClass {
     pub class: ClassFile,
     pub methods: Vec<Typed>,
 }
 
-/// A refusal of the types of the method with a number.
+/// Locates a refusal of the types of a method: a `TypeMismatch` at its pc, any other at the method.
 fn located(refusal: Refusal, method: usize) -> Located
     ensures refusal { result.refusal ≡ refusal }
     ensures spot { result.spot ≡ type_spot method refusal }
@@ -44,7 +44,7 @@ fn located(refusal: Refusal, method: usize) -> Located
     Located { refusal, spot }
 }
 
-/// Checks the types of the method with this number.
+/// Checks the types of the method with index `number`.
 fn judge_method(
     alloc: Global,
     class: &ClassFile,
@@ -76,7 +76,7 @@ fn judge_method(
         max_stack: parts.max_stack,
         max_locals: parts.max_locals,
     };
-    // Fewer locals than the parameters take were refused with the method's shape.
+    // The shape check refuses a method whose parameters don't fit into its local variables.
     let Some(start) = MethodStart::new(environment) else {
         return Err(Refusal::BadCode.into());
     };
@@ -95,7 +95,7 @@ fn judge_method(
     }
 }
 
-/// Checks the types of the methods whose instructions were found.
+/// Checks the types of the methods in `found`.
 fn judge_types(
     alloc: Global,
     class: &ClassFile,
@@ -121,13 +121,13 @@ fn judge_types(
     Ok(methods)
 }
 
-/// Judges the bytes of a class but for recursion and bounds: its layout, its shape, its instructions and their types, each where no
-/// refusal of those before stands (JVMS §4, §4.10.1).
+/// Checks the layout, the shape, the instructions and the types of a class, and stops at the first level with a refusal (JVMS §4, §4.10.1).
+/// Doesn't check array lengths, recursion and bounds.
 pub fn type_class(alloc: Global, bytes: &[u8]) -> Result<TypedClass, Located>
-    // The bytes are this class, and nothing is wrong with it up to its types.
+    // The bytes are this class, no refusal of its layout, shape or instructions applies, and its methods are well typed.
     ensures ok { IfOk result (λ t. IsTypedClass bytes.now t.class.pool t.class.parts t.methods.items) }
 
-    // A refusal that is answered stands, and where it is told that it does, but for want of memory.
+    // The refusal applies to the bytes at the reported spot, unless it is out of memory.
     ensures err { IfErr result (IsToldOf bytes.now) }
 {
     let class = read_class(alloc, bytes)?;

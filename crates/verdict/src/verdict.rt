@@ -1,4 +1,4 @@
-//! The verdict, level by level.
+//! The verdict on a class, level by level.
 
 ghost use Rattle.std.specs.Prelude.{◌≡◌, ◌⊎◌, ℕ, List, length, IfOk, IfErr, option_copied};
 ghost use Rattle.jtypes.specs.declared.refusal.Refusal.{Refusal};
@@ -23,7 +23,7 @@ use std::alloc::Global;
 use std::marker::Model;
 use typecheck::Typed;
 
-/// A class that was accepted.
+/// An accepted class.
 #[derive(Drop)]
 pub struct JudgedClass {
     class: ClassFile,
@@ -40,21 +40,21 @@ impl Model for JudgedClass {
 }
 
 impl JudgedClass {
-    /// What an invocation takes at most.
+    /// Returns the upper bounds of an invocation.
     pub fn bounds(&self) -> Bounds
         ensures { result ≡ self.now.bounds }
     {
         self.bounds
     }
 
-    /// The rows of its methods but the constructor, by rising numbers.
+    /// Returns a `Typed` for each method except the constructor, by ascending method index.
     pub fn methods(&self) -> &[Typed]
         ensures { result.now ≡ self.now.methods }
     {
         self.methods.as_slice()
     }
 
-    /// The class file alone. What was found of the methods is given up.
+    /// Returns the class file, and drops the typed methods and the bounds.
     pub fn into_file(self) -> ClassFile
         ensures pool { result.pool ≡ self.pool }
         ensures parts { result.parts ≡ self.parts }
@@ -68,7 +68,7 @@ impl JudgedClass {
         self.class.view()
     }
 
-    /// The method with this number among the methods of the class, but the constructor.
+    /// Returns the method with this index in the class file, or `None` if it is the constructor or doesn't exist.
     pub fn method(&self, number: usize) -> Option<&Typed>
         ensures { NumbersRise self.now.methods → option_copied result ≡ row_in self.now.methods number }
     {
@@ -80,7 +80,7 @@ impl JudgedClass {
         }
     }
 
-    /// `process` with the erased descriptor.
+    /// Returns `process` with the erased descriptor.
     pub fn process(&self) -> Option<&Typed>
         ensures { option_copied result ≡ process_row self.now.methods }
     {
@@ -93,25 +93,24 @@ impl JudgedClass {
     }
 }
 
-/// Judges the bytes of a class, level by level: its layout, its shape, its instructions, their types, and its bounds
-/// (JVMS §4, §4.10.1).
+/// Checks the layout, the shape, the instructions, the types, the recursion and the bounds of a class (JVMS §4, §4.10.1).
+/// Stops at the first level with a refusal.
 pub fn judge(alloc: Global, bytes: &[u8]) -> Result<JudgedClass, Refusal>
-    // The bytes, all of them, are this class.
+    // The class file is exactly these bytes.
     ensures found { IfOk result (λ v. IsLaidOut (class_file (length bytes.now)) bytes.now (v.pool, v.parts)) }
 
-    // Only a class in which nothing is refused is accepted: neither its layout nor its shape, its instructions, their types,
-    // its recursion or its bounds.
+    // No refusal of the layout, shape, instructions, types, recursion or bounds applies to an accepted class.
     ensures accepted { IfOk result (λ _. IsAccepted Second bytes.now) }
 
-    // The bytes are a class; and what is answered is that class, with the bounds of its `process`.
+    // The bytes define a class, and the result describes that class, with the bounds of its `process`.
     ensures class { IfOk result (λ _. (c : Class) × IsClassOf Second bytes.now c) }
     ensures judged { IfOk result (λ v. (c : Class) → IsClassOf Second bytes.now c → IsJudgedAs c v) }
     ensures bounds { IfOk result (λ v. (c : Class) (j : ℕ) → IsClassOf Second bytes.now c → IsProcessOf c j → AreBounds c j (bounds_in v.bounds)) }
 
-    // Its bounds are within the limits.
+    // The bounds are within the limits.
     ensures limits { IfOk result (λ v. IsWithinLimits Second v.bounds) }
 
-    // A refusal that is answered stands, but for want of memory.
+    // The refusal applies to the bytes, unless it is out of memory.
     ensures refused { IfErr result (λ r. (r ≡ Refusal.NoMemory) ⊎ IsRefused Second bytes.now r) }
 {
     let TypedClass { class, methods } = match type_class(alloc, bytes) {
