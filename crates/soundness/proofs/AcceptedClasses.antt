@@ -1,4 +1,4 @@
--- What type soundness asks of a class's name, of `process` and of places holds of accepted classes.
+-- An accepted class satisfies the premises of type soundness on its name, on `process` and on the form of its methods.
 use Rattle.std.proofs.Common.{◌≡◌, ℕ, suc, ◌<◌, Bool, true, false, List, [], ◌∷◌, length, Option, Some, None, refl, sym, ap, ◌∙◌, subst, arith, ◌⊎◌, inl, inr, ◌≤◌}
 use Rattle.std.specs.Prelude.{slice_get, map, option_map, cond, ◌==◌, Any, IsFalse, ℤ, pos, ◌≤ℤ◌, T, negsuc, is_some, IsNone}
 use Rattle.std.proofs.lemmas.Bool.{and_parts, false_from_ne_true, false≢true, cases_order, eqb-true, cases_lt, le-leb, leb-true}
@@ -48,9 +48,9 @@ accepted_is_named bytes c ok of =
     in
     subst (λ (v : ClassView). is_one_of v.name reserved_names ≡ false) (sym of.class.view) named
 
--- ---- process
+-- ---- `process`
 
--- two methods with one name and one descriptor are one
+-- Two methods with the same name and descriptor are the same.
 alike : (v : ClassView) (i j : ℕ) (m n : MethodView) → slice_get v.methods i ≡ Some m → slice_get v.methods j ≡ Some n → m.name ≡ n.name → m.descriptor ≡ n.descriptor → ((k l : ℕ) (x y : MethodView) → AreDoubles v k l x y → ⊥) → m ≡ n
 alike v i j m n a b name descriptor none = go (cases_order i j)
   where
@@ -104,7 +104,7 @@ accepted_signed bytes c of j w m known found =
     let same : method_view of.pool x.0 ≡ w = cc both in
     subst (λ (v : ClassView). method_signature v w ≡ Some m.environment.signature) (sym of.class.view) (subst (λ y. method_signature (view_of of.pool of.parts) y ≡ Some m.environment.signature) same x.2.body.signature)
 
--- no type of a descriptor is Top
+-- No type of a descriptor is `Top`.
 no_top_field : (own : List ℕ) (t : FieldType) (u : JType) → field_type own t ≡ Some u → u ≡ Top → ⊥
 unfolding field_type
 no_top_field own field.Int u e k = cc
@@ -164,7 +164,7 @@ signed_has_no_top v w s e = go (signature_of v.name w.descriptor) (no_top_signat
         let known = n x refl in
         subst (λ (y : Signature). NoTop y.params × NoTop (result_list y.result)) same (received x known.0 (is_static w.flags), known.1)
 
--- ---- the methods but the constructor
+-- ---- the methods except the constructor
 
 placed_at : (code : List Placed) (q : ℕ) (p : Placed) → at_place code q ≡ Some p → (k : ℕ) × (slice_get code k ≡ Some p) × (p.place ≡ q)
 placed_at [] q p e = cc
@@ -176,7 +176,7 @@ placed_at (x ∷ code) q p e = go (placed_at code q p) (x.place == q) refl e
         (0, f, sym (ap (λ (y : Placed). y.place) same) ∙ eqb-true x.place q is)
     go later false is f = let r = later f in (suc r.0, r.1, r.2)
 
--- a member of the class in its file
+-- The member of the class file for a method of the class.
 pub record InFile (bytes : List ℕ) (c : Class) (of : IsClassOf Second bytes c) (m : Method) : Type 0 where
   pub number : ℕ
   pub item : Member
@@ -257,7 +257,7 @@ accepted_lengths bytes c ok of j w m member q p k e is = (false_from_ne_true (is
         let low : pos 0 ≤ℤ negsuc n = subst (λ z. pos 0 ≤ℤ z) same x.2.0 in
         absurd low.le)))
 
--- ---- room for the parameters
+-- ---- local variables for the parameters
 
 pub accepted_room : (bytes : List ℕ) (c : Class) → IsAccepted Second bytes → (of : IsClassOf Second bytes c) (j : ℕ) (w : MethodView) (m : Method) → IsMember c j w m → slots_by is_long m.environment.signature.params ≤ m.environment.max_locals
 accepted_room bytes c ok of j w m member = go (cases_lt m.environment.max_locals (slots_by is_long m.environment.signature.params))
@@ -277,7 +277,7 @@ accepted_room bytes c ok of j w m member = go (cases_lt m.environment.max_locals
         let bad : HasBadCode of.pool file.item = crowded body.parts known.0 (code.0, one_contains (codes_of of.pool file.item) code.0 code.1, code.2) known.1 few in
         absurd (ok BadCode (by_shape of.pool of.parts of.file (any_from (HasBadCode of.pool) of.parts.methods file.number file.item file.there bad)))
 
--- ---- all of these
+-- ---- all of these premises
 
 pub accepted_is_formed : (bytes : List ℕ) (c : Class) → IsAccepted Second bytes → IsClassOf Second bytes c → (j : ℕ) (w : MethodView) (m : Method) → IsMember c j w m → IsFormed m
 accepted_is_formed bytes c ok of j w m member =

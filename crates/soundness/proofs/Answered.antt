@@ -1,4 +1,4 @@
--- What is reached is what so many steps lead to, by any answer that agrees with what the loader was told to answer.
+-- A reachable state is the result of a number of steps, with any answer that agrees with the recorded one.
 use Rattle.std.proofs.Common.{◌≡◌, ℕ, zero, suc, Bool, true, false, not, ◌&&◌, Option, Some, None, refl, sym, ap, ◌∙◌, subst}
 use Rattle.std.specs.Prelude.{option_and_then, if◌then◌else◌, is_some}
 use Rattle.std.proofs.lemmas.Bool.{false≢true}
@@ -13,16 +13,16 @@ abbrev on : Option Next → Option State
 on (Some (Goes t)) = Some t
 on _ = None
 
--- the state after so many steps, in which the loader answers this if it is asked
+-- The state after a number of steps, in which the loader answers `a` if it is asked.
 unfoldable pub state_after : ℕ → Class → LoadAnswer → State → Option State
 state_after zero c a s = Some s
 state_after (suc n) c a s = option_and_then (λ t. on (step_with c a t)) (state_after n c a s)
 
--- where the loader was asked, it answered this
+-- `Agrees` holds if the recorded answer, if there is one, is `a`.
 abbrev pub Agrees : LoadAnswer → Option LoadAnswer → Type 0
 Agrees a o = (x : LoadAnswer) → o ≡ Some x → x ≡ a
 
--- who asks has not asked before
+-- A state that asks the loader has no recorded answer.
 pub unasked_before : (loads : Bool) (before : Entry) (h : EntryNow) (get : Bool) → (may_ask loads before h && get) ≡ true → h.asked ≡ None
 unasked_before loads before h get e = go loads (not (is_some before)) h.untouched h.asked get e
   where
@@ -33,7 +33,7 @@ unasked_before loads before h get e = go loads (not (is_some before)) h.untouche
     go true true false (Some a) get e = absurd (false≢true e)
     go true true true (Some a) get e = absurd (false≢true e)
 
--- the same step by another answer, which agrees with what is known behind it
+-- The step is the same with another answer that agrees with the one recorded after it.
 pub same_step : (c : Class) (t s : State) (a b : LoadAnswer) (asked : Bool) → asks c t ≡ asked → step_with c b t ≡ Some (Goes s) → s.now.asked ≡ asked_after c b t → Agrees a s.now.asked
     → (step_with c a t ≡ Some (Goes s)) × Agrees a t.now.asked
 same_step c t s a b true is e known ok =

@@ -28,7 +28,7 @@ use Rattle.soundness.proofs.AcceptedRanks.{accepted_has_ranks}
 use Rattle.soundness.proofs.TypedMethods.{accepted_is_checked}
 use Rattle.jtypes.specs.Profile.{Second}
 
--- ---- the methods but the constructor
+-- ---- the methods except the constructor
 
 member_of : (c : Class) (j : ℕ) (m : Method) → members c j ≡ true → slice_get c.methods j ≡ Some m → (w : MethodView) × IsMember c j w m
 member_of c j m e known = go (slice_get c.view.methods j) refl e

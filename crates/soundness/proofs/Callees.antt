@@ -1,4 +1,4 @@
--- The methods that calls reach, and the signature of `process`.
+-- The callees of calls, and the signature of `process`.
 use Rattle.std.proofs.Common.{◌≡◌, ℕ, zero, suc, Bool, true, false, not, List, [], ◌∷◌, length, Option, Some, None, refl, sym, ap, ◌∙◌, subst, arith}
 use Rattle.std.specs.Prelude.{slice_get, option_map, cond, codes}
 use Rattle.std.proofs.lemmas.Bool.{and_parts, false_from_ne_true, false≢true}
@@ -33,7 +33,7 @@ use Rattle.soundness.specs.Room.{IsCheckedButForRoom}
 use Rattle.verdict.proofs.Texts.{same_is, same_refl}
 use Rattle.verdict.proofs.OwnCalls.{not_init, number_found, process_found}
 
--- ---- texts
+-- ---- names and descriptors
 
 not_same : (xs ys : List ℕ) → same_bytes xs ys ≡ false → same_bytes ys xs ≡ false
 not_same xs ys h = false_from_ne_true (same_bytes ys xs) (λ e. let is = same_is ys xs e in false≢true (sym h ∙ ap (same_bytes xs) is ∙ same_refl xs))
@@ -53,7 +53,7 @@ each_other : (x : List ℕ) (ts : List (List ℕ)) → is_one_of x ts ≡ false 
 each_other x [] h = tt
 each_other x (t ∷ ts) h = let p = none_of x t ts h in (p.0, each_other x ts p.1)
 
--- the class has none of the names of the library
+-- `IsForeign` holds if the class has none of the names of the library.
 record IsForeign (own : List ℕ) : Type 0 where
   object : same_bytes object_name own ≡ false
   number : same_bytes number_name own ≡ false
@@ -80,7 +80,7 @@ signature_is own d s params result e f g =
     ∙ ap (λ o. o >>= λ ps. result_type own s.result >>= λ r. Some (record { params = ps; result = r; is_boolean = is_boolean s.result })) f
     ∙ ap (λ o. o >>= λ r. Some (record { params = params; result = r; is_boolean = is_boolean s.result })) g
 
--- what is known of a row of the library
+-- `RowFits` holds if the callee for `r` is its library method, with parameters and a result that fit it and aren't `Top`.
 RowFits : List ℕ → LibraryRow → Type 0
 RowFits own r = (callee : Callee) → library_callee own r ≡ Some callee → (callee.reached ≡ Library r.native) × NoneTop callee.params × NoneTop (result_list callee.result) × LibraryFits r.native callee.params callee.result
 
@@ -126,7 +126,7 @@ mutable_is own f = class_is own mutable_entry_name ref.MutableEntry f.mutable re
 entry_is : (own : List ℕ) → IsForeign own → class_type own cache_entry_name ≡ Some ref.CacheEntry
 entry_is own f = class_is own cache_entry_name ref.CacheEntry f.entry refl
 
--- the type of a class among fields and results
+-- The type of a class as a field type and as a result type.
 class_field : (own name : List ℕ) (r : RefType) → class_type own name ≡ Some r → field_type own (field.Class name) ≡ Some (Ref r)
 unfolding field_type
 class_field own name r e = ap (option_map (λ x. Ref x)) e
@@ -221,7 +221,7 @@ method_at_number (a ∷ xs) [] j x e h = absurd (omega (arith, e))
 method_at_number (a ∷ xs) (b ∷ ys) zero x e h = (b, refl)
 method_at_number (a ∷ xs) (b ∷ ys) (suc j) x e h = method_at_number xs ys j x (omega (arith, e)) h
 
--- method k of a class, to which a call leads
+-- Method `k` of the class is the callee.
 pub record IsOwn (c : Class) (callee : Callee) (k : ℕ) : Type 0 where
   pub view : MethodView
   pub method : Method
@@ -229,7 +229,7 @@ pub record IsOwn (c : Class) (callee : Callee) (k : ℕ) : Type 0 where
   pub params : callee.params ≡ method.environment.signature.params
   pub result : callee.result ≡ method.environment.signature.result
 
--- what is known of a method that a call leads to
+-- The properties of a callee.
 abbrev pub CalleeFits : Class → Callee → Reached → Type 0
 CalleeFits c callee (Library n) = NoneTop callee.params × NoneTop (result_list callee.result) × LibraryFits n callee.params callee.result
 CalleeFits c callee (Own k) = IsOwn c callee k
@@ -263,7 +263,7 @@ callee_fits c ok kind i callee e =
         let known = found_row (RowFits c.view.name) library_rows kind m r (library_fits c.view.name (foreign c.view.name ok.named)) h callee f in
         subst (CalleeFits c callee) (sym known.0) (known.1, known.2, known.3)
 
--- ---- process
+-- ---- `process`
 
 object_array_field : (own : List ℕ) → field_type own field.ObjectArray ≡ Some (Ref ref.ObjectArray)
 unfolding field_type
@@ -279,7 +279,7 @@ unfolding sig_of read_params read_type
 signature_of_process own f =
     signature_is own process_descriptor (record { params = field.Class mutable_entry_name ∷ field.ObjectArray ∷ []; result = Some (field.Class object_name) }) (Ref ref.MutableEntry ∷ Ref ref.ObjectArray ∷ []) (Some (Ref ref.Object)) refl (two_fields own (field.Class mutable_entry_name) field.ObjectArray (Ref ref.MutableEntry) (Ref ref.ObjectArray) (class_field own mutable_entry_name ref.MutableEntry (mutable_is own f)) (object_array_field own)) (class_result own object_name ref.Object (object_is own f))
 
--- `process` of a checked class
+-- Method `j` is `process` of a checked class.
 pub record IsEntry (c : Class) (j : ℕ) (m : Method) : Type 0 where
   pub view : MethodView
   pub member : IsMember c j view m

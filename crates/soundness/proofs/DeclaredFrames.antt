@@ -1,4 +1,4 @@
--- No declared frame has Top among its operands.
+-- No declared frame has `Top` on its operand stack.
 use Rattle.std.proofs.Common.{◌≡◌, ℕ, zero, suc, ◌-◌, Bool, true, false, List, [], ◌∷◌, length, reverse, Option, Some, None, refl, sym, subst}
 use Rattle.std.specs.Prelude.{map, option_map, cond, ◌==◌, nat_le}
 use mathlib.Core.List.{reverse_aux}

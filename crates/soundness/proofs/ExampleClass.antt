@@ -1,4 +1,4 @@
--- The small class is checked, and its bounds are what its only path takes.
+-- The small class is checked, and its bounds are the cost of its only path.
 use Rattle.std.proofs.Common.{◌≡◌, List, [], ◌∷◌, Some, refl, sym, subst, arith}
 use Rattle.std.specs.Prelude.{pos}
 use Rattle.jtypes.specs.declared.types.RefType.TheVariants as ref
@@ -17,7 +17,7 @@ use Rattle.soundness.specs.Example.{load_entry, give, process, signature, method
 use Rattle.soundness.proofs.SafeRuns.{type_soundness}
 use Rattle.soundness.proofs.StraightCode.{each_at, EachOutcome, outcome_at, from_last, from_before, typed_methods, only_member, only_instance, IsStraight, nowhere}
 
--- ---- its types
+-- ---- the types
 
 abbrev frame : List JType → Frame
 frame stack = record { locals = type.Ref ref.This ∷ type.Ref ref.MutableEntry ∷ type.Ref ref.ObjectArray ∷ []; stack = stack }
@@ -43,7 +43,7 @@ typing = record {
   last = (give, refl, refl);
 }
 
--- ---- its form
+-- ---- the other premises
 
 formed : IsFormed method
 formed = record {
@@ -76,7 +76,7 @@ is_checked =
       ordered = methods.ordered;
     }
 
--- ---- its paths
+-- ---- the paths
 
 abbrev cost : Cost
 cost = after_one 0 (last_cost method)

@@ -1,4 +1,4 @@
--- States that are typed and within what is left of the bounds.
+-- States that are typed and within the remaining bounds.
 use Rattle.std.proofs.Common.{◌≡◌, ℕ, suc, ◌+◌, ◌<◌, ◌≤◌, max, Bool, true, false, ◌&&◌, List, [], ◌∷◌, ◌++◌, length, Option, Some, None, refl, sym, ap, ◌∙◌, subst, arith}
 use Rattle.std.specs.Prelude.{slice_get, pos, nat_le, ◌==◌, cond, is_some}
 use Rattle.std.proofs.lemmas.Bool.{and_from, le-leb, eqb-true, eq-eqb, ne_eqb, false≢true}
@@ -27,7 +27,7 @@ pub none_top : (ts : List JType) → NoTop ts → NoneTop ts
 none_top [] h = tt
 none_top (t ∷ ts) h = (not_top t h.0, none_top ts h.1)
 
--- ---- frames stand exactly at instructions
+-- ---- frames exist exactly at instructions
 
 abbrev pub IsInside : Method → ℕ → Type 0
 IsInside m place = (p : Placed) × (instruction_at m place ≡ Some p)
@@ -50,7 +50,7 @@ has_frame (x ∷ code) (g ∷ frames) place p l e = go (has_frame code frames pl
     go later true h = (g, refl)
     go later false h = later h
 
--- ---- instructions stand one behind the other
+-- ---- instructions are consecutive
 
 pub onward : (code : List Placed) (start q : ℕ) (p : Placed) → AreConsecutive start code → at_place code q ≡ Some p → (start ≤ q) × (q < p.next)
 onward [] start q p h e = cc
@@ -64,7 +64,7 @@ onward (x ∷ code) start q p h e = go (onward code x.next q p h.2) (x.place == 
         (omega (arith, here, h.0), omega (arith, here, h.1, next))
     go later false is f = let r = later f in (omega (arith, r.0, h.0, h.1), r.1)
 
--- the instruction before the next one is this one
+-- The instruction before the next pc is this one.
 pub alone : (code : List Placed) (start q : ℕ) (p : Placed) → AreConsecutive start code → at_place code q ≡ Some p → before_place code p.next ≡ Some p
 alone [] start q p h e = cc
 alone (x ∷ code) start q p h e = go (alone code x.next q p h.2) (onward code x.next q p h.2) (x.place == q) e
@@ -78,7 +78,7 @@ alone (x ∷ code) start q p h e = go (alone code x.next q p h.2) (onward code x
         let r = far f in
         ap (λ b. cond b (Some x) (before_place code p.next)) (ne_eqb x.next p.next (λ e. omega (arith, e, r.0, r.1))) ∙ later f
 
--- there is none before the start
+-- There is no instruction before the start.
 pub none_before : (code : List Placed) (start q : ℕ) → q ≤ start → AreConsecutive start code → before_place code q ≡ None
 none_before [] start q l h = refl
 none_before (x ∷ code) start q l h =
@@ -86,18 +86,18 @@ none_before (x ∷ code) start q l h =
 
 -- ---- typed activations
 
--- the length that a new array takes is the constant before
+-- `HasCount` holds if the topmost operand is the constant that the instruction before pushes.
 pub record HasCount (m : Method) (place : ℕ) (operands : List Value) : Type 0 where
   pub count : ℕ
   pub rest : List Value
   pub before : pushed_before m.code place ≡ Some (pos count)
   pub top : operands ≡ IntValue (pos count) ∷ rest
 
--- where an instruction makes an array, its length is that constant
+-- `IsCounted` holds if `HasCount` holds, or the instruction makes no array.
 abbrev pub IsCounted : Method → ℕ → List Value → Type 0
 IsCounted m place operands = (p : Placed) (k : ArrayKind) → instruction_at m place ≡ Some p → p.instruction ≡ NewArray k → HasCount m place operands
 
--- an activation of method m that is typed at its place
+-- `IsAt` holds if the activation of method `m` is well typed at its pc.
 pub record IsAt (c : Class) (arrays : Arrays) (m : Method) (a : Activation) : Type 0 where
   pub view : MethodView
   pub member : IsMember c a.method view m
@@ -116,7 +116,7 @@ is_inside {c} {arrays} {m} {a} h = framed_inside m.code h.frames a.place h.frame
 abbrev pub with_result : List Value → Activation → Activation
 with_result vs a = record { method = a.method; place = a.place; locals = a.locals; operands = vs ++ a.operands }
 
--- a caller, which is typed once it has a result of this type, whatever arrays there are then
+-- A caller that is well typed once its callee returns a result of this type, for all later arrays.
 pub record Awaits (c : Class) (arrays : Arrays) (result : Option JType) (a : Activation) : Type 0 where
   pub m : Method
   pub view : MethodView
@@ -124,7 +124,7 @@ pub record Awaits (c : Class) (arrays : Arrays) (result : Option JType) (a : Act
   pub inside : IsInside m a.place
   pub resumes : (new : Arrays) → IsKept arrays new → (vs : List Value) → EachFit new vs (result_list result) → IsAt c new m (with_result vs a)
 
--- the first activation of all has a result
+-- `AllAwait` holds if each caller awaits the result of its callee; the bottom activation has a result.
 abbrev pub AllAwait : Class → Arrays → Option JType → List Activation → Type 0
 AllAwait c arrays result [] = (t : JType) × (result ≡ Some t)
 AllAwait c arrays result (a ∷ below) = (w : Awaits c arrays result a) × AllAwait c arrays w.m.environment.signature.result below
@@ -135,9 +135,9 @@ all_await_kept c old new k result (a ∷ below) h =
     let w = h.0 in
     (record { m = w.m; view = w.view; member = w.member; inside = w.inside; resumes = λ later l vs f. w.resumes later (kept_trans old new later k l) vs f }, all_await_kept c old new k w.m.environment.signature.result below h.1)
 
--- ---- what is left of the bounds
+-- ---- the remaining bounds
 
--- a path for the rest of each activation
+-- A path for the rest of each activation.
 abbrev pub RestOf : Class → List Activation → Type 0
 RestOf c [] = Unit {0}
 RestOf c (a ∷ below) = (k : Cost) × Path c a.method a.place k × RestOf c below
@@ -158,7 +158,7 @@ abbrev pub depth_of_rest : (c : Class) (stack : List Activation) → RestOf c st
 depth_of_rest c [] r = 0
 depth_of_rest c (a ∷ below) r = max (r.0.depth + length below) (depth_of_rest c below r.2)
 
--- whatever paths the activations take, they stay within the bounds
+-- `HasBudget` holds if the activations stay within the bounds on all paths.
 pub record HasBudget (c : Class) (b : Bounds) (stack : List Activation) (steps words : ℕ) : Type 0 where
   pub steps_left : (r : RestOf c stack) → steps + steps_of_rest c stack r ≤ b.steps
   pub words_left : (r : RestOf c stack) → words + words_of_rest c stack r ≤ b.words
@@ -224,7 +224,7 @@ module _ (c : Class) (b : Bounds) where
       ap (λ o. o >>= goes) h.member.method ∙ only_if_true _ _ (and_from _ _ (le-leb _ _ h.room) (ap is_some (is_inside h).1)) in
       subst (SafeNext s.steps s.now.asked s.call) (sym e) (record { top = a; below = below; m = m; activations = refl; here = h; awaits = w; budget = budget }, refl, refl, refl)
 
--- ---- arriving at a place
+-- ---- control flow to a pc
 
 pub arrive : (c : Class) (arrays : Arrays) (m : Method) (view : MethodView) (frames : List Frame) (a : Activation) (g : Frame) → IsFormedButForRoom m → IsMember c a.method view m → IsTyping c.view m frames → Enters m frames a.place g (declared_at m a.place) → EachSlotFits arrays a.locals g.locals → EachFit arrays a.operands g.stack → slots_by is_long_value a.operands ≤ m.environment.max_stack → IsCounted m a.place a.operands → IsAt c arrays m a
 arrive c arrays m view frames a g formed member typing enters locals operands room counted = go (declared_at m a.place) refl enters
@@ -255,7 +255,7 @@ arrive c arrays m view frames a g formed member typing enters locals operands ro
       counted = counted;
     }
 
--- a place that flow enters is one of an instruction
+-- A pc that control flow enters has an instruction.
 pub enters_inside : (c : Class) (m : Method) (frames : List Frame) (q : ℕ) (g : Frame) → IsTyping c.view m frames → Enters m frames q g (declared_at m q) → IsInside m q
 enters_inside c m frames q g typing enters = go (declared_at m q) refl enters
   where
@@ -266,7 +266,7 @@ enters_inside c m frames q g typing enters = go (declared_at m q) refl enters
 pub enters_target : (m : Method) (frames : List Frame) (q : ℕ) (g d : Frame) → declared_at m q ≡ Some d → FrameAssignable g d → Enters m frames q g (declared_at m q)
 enters_target m frames q g d e h = subst (Enters m frames q g) (sym e) h
 
--- no new array follows an instruction that pushes no int, nor stands at a target
+-- No `newarray` follows an instruction that pushes no int constant.
 pub no_length : (m : Method) (q : ℕ) (p : Placed) (operands : List Value) → IsFormedButForRoom m → instruction_at m q ≡ Some p → int_of p.instruction ≡ None → IsCounted m p.next operands
 no_length m q p operands formed code none x k e is =
     let l = (formed.lengths p.next x k e is).1 in
@@ -279,7 +279,7 @@ no_length_target m q d operands formed e x k code is =
     let some : is_some (declared_at m q) ≡ true = ap is_some e in
     absurd (false≢true (sym none ∙ some))
 
--- nor does one stand at a method's start, before which there is nothing
+-- No `newarray` is at the start of a method, because no instruction precedes it.
 pub no_length_first : (m : Method) (operands : List Value) → IsFormedButForRoom m → IsCounted m 0 operands
 no_length_first m operands formed x k code is =
     let l = (formed.lengths 0 x k code is).1 in

@@ -1,4 +1,4 @@
--- An instruction keeps the call, and what the loader answered if it was asked.
+-- An instruction keeps the call and the recorded answer of the loader.
 use Rattle.std.specs.Prelude.{◌≡◌, ℕ, suc, ◌+◌, ℤ, pos, negsuc, nat_le, ◌&&◌, Bool, true, false, List, [], ◌∷◌, ◌++◌, length, reverse, Option, Some, None, option_and_then, option_map, slice_get, slice_set, is_some, if◌then◌else◌, refl}
 use Rattle.jtypes.specs.declared.types.RefType.{RefType}
 use Rattle.jtypes.specs.declared.types.RefValue.TheVariants as reference
@@ -53,7 +53,7 @@ either s true x y h k = h
 either s false x y h k = k
 
 module _ (c : Class) (s : State) where
-  -- a state that has the call and the answer goes on
+  -- A step from a state with the call and the answer keeps them.
   goes : (t : State) (a : Activation) (below : List Activation) → t.call ≡ s.call → t.now.asked ≡ s.now.asked → Keeps s (goes_on c t a below)
   goes t a below e f =
       let to : Next = Goes (record t { activations = a ∷ below; steps = suc t.steps }) in
@@ -61,7 +61,7 @@ module _ (c : Class) (s : State) where
       let fits : Method → Bool = λ m. nat_le (slots_by is_long_value a.operands) m.environment.max_stack && is_some (instruction_at m a.place) in
       bound s (λ m. only_if (fits m) (Some to)) (slice_get c.methods a.method) (λ m. only s (fits m) (Some to) kept)
 
-  -- with other operands
+  -- The same with other operands.
   next : (t : State) (a : Activation) (below : List Activation) (operands : List Value) → t.call ≡ s.call → t.now.asked ≡ s.now.asked → Keeps s (next_with c t a below operands)
   next t a below operands e f = goes t (with_operands a operands) below e f
 

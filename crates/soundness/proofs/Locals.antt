@@ -1,4 +1,4 @@
--- Locals and arguments keep to their types.
+-- Local variables and arguments keep their types.
 use Rattle.std.proofs.Common.{◌≡◌, ℕ, zero, suc, ◌-◌, ◌≤◌, Bool, true, false, List, [], ◌∷◌, ◌++◌, length, take, drop, replicate, Option, Some, None, refl, sym, ap, ◌∙◌, subst, arith}
 use Rattle.std.specs.Prelude.{slice_get, slice_set, nat_le, cond}
 use Rattle.std.proofs.lemmas.Bool.{and_from, le-leb, leb-true}
@@ -15,7 +15,7 @@ use Rattle.jtypes.proofs.OperationsFit.{Took}
 use Rattle.transfer.specs.Transfer.{without_long, store_type}
 use Rattle.verdict.specs.Machine.{without_long_value, store_value, split}
 
--- ---- locals
+-- ---- local variables
 
 pub slot_at : (arrays : Arrays) (os : List (Option Value)) (ts : List JType) (n : ℕ) (t : JType) → EachSlotFits arrays os ts → slice_get ts n ≡ Some t → (o : Option Value) × (slice_get os n ≡ Some o) × SlotFits arrays o t
 slot_at arrays [] [] n t h e = cc
@@ -77,7 +77,7 @@ slots_change_before : (arrays : Arrays) (os : List (Option Value)) (ts : List JT
 slots_change_before arrays os ts zero h = h
 slots_change_before arrays os ts (suc n) h = slots_change arrays os ts n h
 
--- what is stored fits its local
+-- A stored value fits its local variable.
 pub slots_store : (arrays : Arrays) (os : List (Option Value)) (ts : List JType) (n : ℕ) (v : Value) (t : JType) → EachSlotFits arrays os ts → fits arrays v t ≡ true → is_top t ≡ false → EachSlotFits arrays (store_value os n v) (store_type ts n t)
 slots_store arrays os ts n (IntValue x) Int h f k = slots_set arrays _ _ n (Some (IntValue x)) Int (slots_change_before arrays os ts n h) f
 slots_store arrays os ts n (LongValue x) Long h f k =
@@ -126,7 +126,7 @@ first_locals arrays n vs ts h =
     let P : ℕ → Type 0 = λ k. EachSlotFits arrays (os ++ replicate (n - k) None) (us ++ replicate (n - length us) Top) in
     subst P (sym (slots_length arrays os us f)) (slots_append arrays os _ us _ f (blanks_fit arrays (n - length us)))
 
--- what is taken, as two lists
+-- The popped operands and the operands below them.
 pub record HasSplit (arrays : Arrays) (asked rest : List JType) (vs : List Value) : Type 0 where
   pub taken : List Value
   pub below : List Value

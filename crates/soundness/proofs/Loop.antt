@@ -74,7 +74,7 @@ formed = (
   (refl, omega arith, tt),
 )
 
--- each path would begin with the branch
+-- There is no path.
 no_path : (j place : ℕ) (k : Cost) → Path class j place k → ⊥
 no_path j place k (ends m p s r) =
     each_at (λ p. is_return p.instruction ≡ true → ⊥) method.code ((λ e. absurd cc), tt) place p (subst (λ (x : Method). instruction_at x place ≡ Some p) (sym (one_at method j m s.method)) s.instruction) r
@@ -85,7 +85,7 @@ no_path j place k (calls {k = rest} m p callee s to inner path) = no_path j p.ne
 abbrev first : State
 first = start_of 0 method plain_call
 
--- a step comes back to the branch
+-- The state after the branch is at the branch again.
 abbrev after : State → State
 after s = record { call = s.call; activations = first.activations; arrays = s.arrays; now = s.now; steps = suc s.steps; words = s.words }
 

@@ -1,4 +1,4 @@
--- A new array whose length is no constant takes more words than its path says.
+-- A new array whose length isn't a constant uses more words than its path counts.
 use Rattle.std.proofs.Common.{false, ◌≡◌, ℕ, suc, List, [], ◌∷◌, length, None, refl, sym, subst, arith}
 use Rattle.std.specs.Prelude.{pos, replicate}
 use Rattle.std.proofs.lemmas.List.{length-replicate}
@@ -78,7 +78,7 @@ formed = (
   (refl, omega arith, (refl, omega arith, (refl, omega arith, (refl, omega arith, tt)))),
 )
 
--- no constant is found, and the array is counted as empty
+-- The path counts the array as empty, because there is no constant length.
 abbrev cost : Cost
 cost = record { steps = 4; words = 1; slots = 4; depth = 1 }
 
@@ -96,7 +96,7 @@ paths k p =
 within : (k : Cost) → k ≡ cost → IsWithin k limits
 within k e = subst (λ x. IsWithin x limits) (sym e) (record { steps = omega arith; words = omega arith; slots = omega arith; depth = omega arith })
 
--- a call with so many arguments
+-- An invocation with `n` arguments.
 abbrev call_with : ℕ → Invocation
 call_with n = record { key = pos 0; args = replicate n arg.Null; before = None; loads = false }
 
@@ -112,7 +112,7 @@ third n = gone_to (second n) (step class (second n))
 abbrev fourth : ℕ → State
 fourth n = gone_to (third n) (step class (third n))
 
--- the array has as many elements
+-- The array has `n` elements, so it uses `n + 1` words.
 taken : (n : ℕ) → (fourth n).words ≡ suc n
 taken n = let k : length (replicate n arg.Null) ≡ n = length-replicate n arg.Null in omega (arith, k)
 

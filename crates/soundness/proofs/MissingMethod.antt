@@ -1,4 +1,4 @@
--- A class with fewer methods than its view gets stuck at a call of one that is missing.
+-- A class with fewer methods than its view gets stuck at a call of a missing method.
 use Rattle.std.proofs.Common.{◌≡◌, ℕ, zero, suc, ◌<◌, true, false, List, [], ◌∷◌, Some, None, refl, sym, ap, subst, arith}
 use Rattle.std.specs.Prelude.{codes, pos, slice_get}
 use Rattle.jtypes.specs.declared.types.JType.TheVariants as type
@@ -33,13 +33,13 @@ use Rattle.soundness.specs.OtherPremises.{IsSigned, SomeIsNeverSafe, IsCheckedBu
 use Rattle.soundness.proofs.StraightCode.{placed, plain_call, each_at, one_at, EachOutcome, outcome_at, IsStraight, nowhere}
 use Rattle.soundness.proofs.SmallClasses.{method_with, frame, plain_params, plain_result, nothing}
 
--- `help` of the class stands at index 1
+-- The constant pool, with `help` of the class at index 1.
 abbrev pool : List Slot
 pool =
     Some (constant.Methodref 2 3) ∷ Some (constant.Class 4) ∷ Some (constant.NameAndType 5 6)
     ∷ Some (constant.Utf8 (codes "Example")) ∷ Some (constant.Utf8 (codes "help")) ∷ Some (constant.Utf8 (codes "()V")) ∷ []
 
--- public static void help()
+-- `public static void help()`
 abbrev help : MethodView
 help = record { flags = 9; name = codes "help"; descriptor = codes "()V" }
 
@@ -120,7 +120,7 @@ all_signed zero w m h k =
     subst (λ x. method_signature view w ≡ Some x.environment.signature) is (subst (λ x. method_signature view x ≡ Some signature) same signed)
 all_signed (suc j) w m h k = absurd (cc k)
 
--- `process` calls `help` alone
+-- `process` only calls `help`.
 abbrev rank : ℕ → ℕ
 rank zero = 1
 rank (suc j) = 0
@@ -134,7 +134,7 @@ ordered : IsOrdered class rank
 ordered zero k h = subst (λ n. rank n < 1) (sym (called_at zero h.1 k h.0 h.2 h.3 h.4 h.5)) (omega arith)
 ordered (suc j) k h = let none = h.3 in absurd (cc none)
 
--- ---- its paths
+-- ---- the paths
 
 starts : (j : ℕ) (m : Method) (p : Placed) → StandsAt class j 0 m p → call ≡ p
 starts j m p s =
@@ -151,7 +151,7 @@ no_help j place k e (jumps m p q s to rest) = no_method j m e s.method
 no_help j place k e (falls m p s on none rest) = no_method j m e s.method
 no_help j place k e (calls m p callee s to inner rest) = no_method j m e s.method
 
--- a path would begin with the call, and have one of its callee
+-- There is no path from the start of a method.
 no_path : (j place : ℕ) (k : Cost) → place ≡ 0 → Path class j place k → ⊥
 no_path j place k e (ends m p s r) =
     let same = starts j m p (subst (λ n. StandsAt class j n m p) e s) in

@@ -1,4 +1,4 @@
--- A method that isn't well typed gets stuck: it returns an operand that isn't there.
+-- A method that isn't well typed gets stuck: it returns a missing operand.
 use Rattle.std.proofs.Common.{◌≡◌, [], ◌∷◌, refl, sym, subst, arith}
 use Rattle.std.specs.Prelude.{pos}
 use Rattle.jtypes.specs.declared.operations.Kind.TheVariants as kind

@@ -1,4 +1,4 @@
--- The same bytes are at most one class.
+-- The same bytes define at most one class.
 use Rattle.std.proofs.Common.{◌≡◌, ℕ, List, [], ◌∷◌, ◌++◌, Some, length, refl, sym, ap, ◌∙◌, subst}
 use Rattle.std.specs.Coded.{Coded, Coded-set, codes}
 use Rattle.std.specs.List.{AllZip}
@@ -80,14 +80,14 @@ class_once pool p c other a b = go c.view other.view c.methods other.methods (a.
     go : (v w : ClassView) (ms ns : List Method) → v ≡ w → ms ≡ ns → (let x : Class = record { view = v; methods = ms } in x ≡ record { view = w; methods = ns })
     go v w ms ns h k = rw (h, k) refl
 
--- where a property is of one value at most, there is at most one value with it
+-- If at most one value has a property, there is at most one pair of a value and its property.
 one_prop : {A : Type 0} {P : A → Type 0} → IsSet A → ((x y : A) → P x → P y → x ≡ y) → IsProp ((x : A) × ∥ P x ∥₁)
 one_prop set once x y = Σ_prop_path (λ _. ∥∥₁_prop) (∥∥₁_elim x.1 (set x.0 y.0) (λ p. ∥∥₁_elim y.1 (set x.0 y.0) (λ q. once x.0 y.0 p q)))
 
 class_code : Coded Class
 class_code = Prim.hlevel codes
 
--- so the class is data that a pool and parts determine
+-- The constant pool and the parts determine the class.
 pub class_prop : (pool : List Slot) (p : Parts) → IsProp ((c : Class) × ∥ IsClassOfFile Second pool p c ∥₁)
 class_prop pool p = one_prop (Coded-set class_code) (class_once pool p)
 

@@ -1,4 +1,4 @@
--- A call has one meaning at most for what the loader answered, if it was asked.
+-- An invocation has at most one meaning for the loader's answer, if it was asked.
 use Rattle.std.specs.Prelude.{◌≡◌, ℕ, ◌⊎◌, option_map, slice_get, Bool, true, false, ◌&&◌, Option, Some, None, if◌then◌else◌, refl}
 use Rattle.std.proofs.Common.{inl, inr, sym, ap, ◌∙◌, subst}
 use Rattle.jtypes.specs.declared.loader.LoadAnswer.{LoadAnswer}
@@ -12,7 +12,7 @@ use Rattle.soundness.specs.Counting.{asked_after}
 use Rattle.soundness.proofs.Answered.{Agrees, same_step, unasked_before}
 use Rattle.soundness.proofs.Keeping.{Keeps, step_keeps}
 
--- ---- what is known of the answer behind a step
+-- ---- the recorded answer after a step
 
 goes_keeps : (s u : State) (o : Option Next) → Keeps s o → o ≡ Some (Goes u) → u.now.asked ≡ s.now.asked
 goes_keeps s u o h e = let k : Keeps s (Some (Goes u)) = subst (Keeps s) e h in k.1
@@ -20,7 +20,7 @@ goes_keeps s u o h e = let k : Keeps s (Some (Goes u)) = subst (Keeps s) e h in 
 ends_keeps : (s : State) (f : Final) (o : Option Next) → Keeps s o → o ≡ Some (Ends f) → f.asked ≡ s.now.asked
 ends_keeps s f o h e = let k : Keeps s (Some (Ends f)) = subst (Keeps s) e h in k
 
--- a step that asks goes on with the answer, or ends with it
+-- A step that asks the loader records its answer.
 loaded_goes : (c : Class) (t u : State) (b : LoadAnswer) → after_load c t b ≡ Some (Goes u) → u.now.asked ≡ Some b
 loaded_goes c t u load.Failed e = cc
 loaded_goes c t u load.None e = goes_keeps (informed load.None t) u (step c (informed load.None t)) (step_keeps c (informed load.None t)) e
@@ -39,7 +39,7 @@ pub ends_after : (c : Class) (t : State) (f : Final) (b : LoadAnswer) (y : Bool)
 ends_after c t f b true e = loaded_ends c t f b e
 ends_after c t f b false e = ends_keeps t f (step c t) (step_keeps c t) e
 
--- ---- whatever the answers were, the one that is known leads the same way
+-- ---- runs with the recorded answer
 
 reached_by : (c : Class) (s t : State) (a : LoadAnswer) → Reaches c s t → Agrees a t.now.asked → ReachesBy c a s t
 reached_by c s last a here ok = here_by
@@ -47,7 +47,7 @@ reached_by c s last a (onward {t} b r e) ok =
     let same = same_step c t last a b (asks c t) refl e (goes_after c t last b (asks c t) e) ok in
     onward_by (reached_by c s t a r same.1) same.0
 
--- the same of the last step
+-- The same for the last step.
 last_step : (c : Class) (t : State) (f : Final) (a b : LoadAnswer) (asked : Bool) → asks c t ≡ asked → step_with c b t ≡ Some (Ends f) → f.asked ≡ asked_after c b t → Agrees a f.asked
     → (step_with c a t ≡ Some (Ends f)) × Agrees a t.now.asked
 last_step c t f a b true is e known ok =
@@ -60,7 +60,7 @@ last_step c t f a b false is e known ok =
     let kept : f.asked ≡ t.now.asked = known ∙ ap (λ y. if y then Some b else t.now.asked) is in
     (plain a ∙ sym (plain b) ∙ e, λ x k. ok x (kept ∙ k))
 
--- the end by one answer throughout
+-- The end of a run with the same answer in each step.
 record EndsBy (c : Class) (a : LoadAnswer) (s : State) (f : Final) : Type 0 where
   last : State
   reached : ReachesBy c a s last
@@ -71,7 +71,7 @@ ends_by c call f a h ok =
     let same = last_step c h.last f a h.answer (asks c h.last) refl h.ends (ends_after c h.last f h.answer (asks c h.last) h.ends) ok in
     record { last = h.last; reached = reached_by c h.begin h.last a h.reached same.1; ends = same.0 }
 
--- ---- by one answer there is one end
+-- ---- one answer has one end
 
 one_next : {x : Option Next} {t u : State} → x ≡ Some (Goes t) → x ≡ Some (Goes u) → t ≡ u
 one_next h k = let both : Some (Goes _) ≡ Some (Goes _) = sym h ∙ k in cc both
@@ -79,7 +79,7 @@ one_next h k = let both : Some (Goes _) ≡ Some (Goes _) = sym h ∙ k in cc bo
 one_end : {x : Option Next} {f g : Final} → x ≡ Some (Ends f) → x ≡ Some (Ends g) → f ≡ g
 one_end h k = let both : Some (Ends _) ≡ Some (Ends _) = sym h ∙ k in cc both
 
--- what is reached is where one is, or is reached from the next state
+-- A reachable state is the state itself, or is reachable from the next state.
 past : (c : Class) (a : LoadAnswer) (s n u : State) → ReachesBy c a s u → step_with c a s ≡ Some (Goes n) → (u ≡ s) ⊎ ReachesBy c a n u
 past c a s n u here_by e = inl refl
 past c a s n u (onward_by {t} r h) e = go (past c a s n t r e)
@@ -88,7 +88,7 @@ past c a s n u (onward_by {t} r h) e = go (past c a s n t r e)
     go (inl same) = inr (subst (λ x. ReachesBy c a n x) (one_next e (ap (step_with c a) (sym same) ∙ h)) here_by)
     go (inr q) = inr (onward_by q h)
 
--- from a state at which the class ends nothing else is reached
+-- From a state whose step ends the invocation, no other state is reachable.
 stays : (c : Class) (a : LoadAnswer) (s u : State) (f : Final) → ReachesBy c a s u → step_with c a s ≡ Some (Ends f) → u ≡ s
 stays c a s u f here_by e = refl
 stays c a s u f (onward_by {t} r h) e =
@@ -96,7 +96,7 @@ stays c a s u f (onward_by {t} r h) e =
     let goes : step_with c a s ≡ Some (Goes u) = ap (step_with c a) (sym same) ∙ h in
     absurd cc
 
--- an end that is reached is reached from each state on the way
+-- A state whose step ends the invocation is reachable from each reachable state.
 behind : (c : Class) (a : LoadAnswer) (s n u : State) (g : Final) → ReachesBy c a s n → ReachesBy c a s u → step_with c a u ≡ Some (Ends g) → ReachesBy c a n u
 behind c a s n u g here_by k e = k
 behind c a s n u g (onward_by {t} r h) k e = go (past c a t n u (behind c a s t u g r k e) h)
@@ -105,7 +105,7 @@ behind c a s n u g (onward_by {t} r h) k e = go (past c a t n u (behind c a s t 
     go (inl same) = let ends : step_with c a t ≡ Some (Ends g) = ap (step_with c a) (sym same) ∙ e in absurd cc
     go (inr q) = q
 
--- some answer agrees with what was answered
+-- An answer that agrees with the recorded one.
 abbrev answer_in : Option LoadAnswer → LoadAnswer
 answer_in None = load.None
 answer_in (Some a) = a
@@ -125,9 +125,9 @@ one_meaning c call f g h k asked =
     let last : other.last ≡ one.last = stays c a one.last other.last f further one.ends in
     one_end one.ends (ap (step_with c a) (sym last) ∙ other.ends)
 
--- ---- without a loader nothing is answered
+-- ---- without a loader no answer is recorded
 
--- a step that goes on keeps the call
+-- A step that doesn't end the invocation keeps the call.
 loaded_calls : (c : Class) (t u : State) (b : LoadAnswer) → after_load c t b ≡ Some (Goes u) → u.call ≡ t.call
 loaded_calls c t u load.Failed e = cc
 loaded_calls c t u load.None e = let k : Keeps (informed load.None t) (Some (Goes u)) = subst (Keeps (informed load.None t)) e (step_keeps c (informed load.None t)) in k.0
@@ -140,23 +140,23 @@ call_after c t u b false e = let k : Keeps t (Some (Goes u)) = subst (Keeps t) e
 pub goes_same_call : (c : Class) (t u : State) (b : LoadAnswer) → step_with c b t ≡ Some (Goes u) → u.call ≡ t.call
 goes_same_call c t u b e = call_after c t u b (asks c t) e
 
--- what is reached is of the same call
+-- A reachable state has the same call.
 pub same_call : (c : Class) (s t : State) → Reaches c s t → t.call ≡ s.call
 same_call c s last here = refl
 same_call c s last (onward {t} b r e) = goes_same_call c t last b e ∙ same_call c s t r
 
--- without a loader a step is the plain one
+-- Without a loader `step_with` is `step`.
 pub plain_step : (c : Class) (s : State) (b : LoadAnswer) → s.call.loads ≡ false → step_with c b s ≡ step c s
 plain_step c s b without = ap (λ x. if (may_ask x s.call.before s.now && is_get_next c s.activations) then after_load c s b else step c s) without
 
--- and nothing is answered
+-- Without a loader no reachable state records an answer.
 pub never_asked : (c : Class) (s t : State) → Reaches c s t → s.call.loads ≡ false → s.now.asked ≡ None → t.now.asked ≡ None
 never_asked c s last here without none = none
 never_asked c s last (onward {t} b r e) without none =
     let call : t.call.loads ≡ false = ap (λ (i : Invocation). i.loads) (same_call c s t r) ∙ without in
     goes_keeps t last (step c t) (step_keeps c t) (sym (plain_step c t b call) ∙ e) ∙ never_asked c s t r without none
 
--- a call starts in a state of its own, in which nothing was asked
+-- An invocation starts in a state with its call, and without a recorded answer.
 pub starts_unasked : (c : Class) (call : Invocation) (s : State) → start c call ≡ Some s → (s.call ≡ call) × (s.now.asked ≡ None)
 starts_unasked c call s e = by (number_of_process c) e
   where
@@ -168,7 +168,7 @@ starts_unasked c call s e = by (number_of_process c) e
     by None e = absurd cc
     by (Some j) e = inner j (slice_get c.methods j) e
 
--- so without a loader a call means one thing at most
+-- Without a loader a final state records no answer.
 pub means_unasked : (c : Class) (call : Invocation) (f : Final) → call.loads ≡ false → Means c call f → f.asked ≡ None
 means_unasked c call f without h =
     let first = starts_unasked c call h.begin h.starts in

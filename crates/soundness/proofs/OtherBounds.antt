@@ -1,4 +1,4 @@
--- The law needs bounds that no path of `process` exceeds.
+-- The theorem needs bounds that no path of `process` exceeds.
 use Rattle.std.proofs.Common.{◌≡◌, refl, arith}
 use Rattle.std.specs.Prelude.{Some, slice_get}
 use Rattle.typecheck.specs.Typing.{Method}
@@ -17,7 +17,7 @@ example_takes_something h = takes_something example (start_of 0 method plain_cal
 pub bounds_are_needed : SoundnessWithoutBounds → ⊥
 bounds_are_needed law = example_takes_something (law example 0 nothing is_checked refl)
 
--- the example has no second method
+-- The example has no second method.
 no_method : (m : Method) → slice_get example.methods 1 ≡ Some m → ⊥
 no_method m h = cc h
 

@@ -1,4 +1,4 @@
--- A signature that isn't the descriptor's gets `process` stuck: it returns nothing.
+-- `process` gets stuck if its signature isn't that of its descriptor: it returns no result.
 use Rattle.std.proofs.Common.{◌≡◌, List, [], ◌∷◌, None, false, refl, sym, subst, arith}
 use Rattle.std.specs.Prelude.{pos}
 use Rattle.jtypes.specs.declared.types.RefType.TheVariants as ref
@@ -28,7 +28,7 @@ over = placed 0 1 instruction.ReturnVoid
 abbrev view : ClassView
 view = view_with []
 
--- the descriptor has a result
+-- The signature lacks the result of the descriptor.
 abbrev without_result : Signature
 without_result = record { params = type.Ref ref.This ∷ type.Ref ref.MutableEntry ∷ type.Ref ref.ObjectArray ∷ []; result = None; is_boolean = false }
 
@@ -88,7 +88,7 @@ signatures_are_needed law = stuck limits (law class 0 limits checked refl (λ k 
 pub never_safe : SomeIsNeverSafe IsCheckedButForSignatures
 never_safe = (class, checked, stuck)
 
--- ---- what the descriptors give
+-- ---- signatures of descriptors
 
 pub signed_is_plain : SignedIsPlain
 signed_is_plain c signed j w m member = signed_has_no_top c.view w m.environment.signature (signed j w m member.view member.method)

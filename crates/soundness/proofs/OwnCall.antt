@@ -1,4 +1,4 @@
--- A method that calls itself has no path, and nothing bounds it.
+-- A method that calls itself has no path, and no bounds hold for it.
 use Rattle.std.proofs.Common.{◌≡◌, ℕ, zero, suc, ◌<◌, true, List, [], ◌∷◌, length, Option, Some, None, refl, sym, ap, subst, arith}
 use Rattle.std.specs.Prelude.{codes, pos}
 use Rattle.jtypes.specs.declared.types.RefType.TheVariants as ref
@@ -34,7 +34,7 @@ use Rattle.soundness.specs.OtherPremises.{SomeIsNeverSafe, IsCheckedButForRanks}
 use Rattle.soundness.proofs.StraightCode.{placed, plain_call, each_at, at_its_place, one_at, EachOutcome, outcome_at, only_method, only_member, only_instance, IsStraight, nowhere}
 use Rattle.soundness.proofs.SmallClasses.{view_with, method_with, only_signed, frame, plain_params, plain_result, nothing}
 
--- `process` of the class stands at index 1
+-- The constant pool, with `process` of the class at index 1.
 abbrev pool : List Slot
 pool =
     Some (constant.Methodref 2 3) ∷ Some (constant.Class 4) ∷ Some (constant.NameAndType 5 6)
@@ -127,7 +127,7 @@ formed = record {
 found_at : (j place : ℕ) (m : Method) (p : Placed) → StandsAt class j place m p → instruction_at method place ≡ Some p
 found_at j place m p s = subst (λ x. instruction_at x place ≡ Some p) (sym (one_at method j m s.method)) s.instruction
 
--- a path from before the return comes to the call, and its callee's path is one from the start
+-- There is no path from a pc before the return.
 no_path : (j place : ℕ) (k : Cost) → Path class j place k → place < 6 → ⊥
 no_path j place k (ends m p s r) l =
     let at : p.place ≡ place = at_its_place method.code place p (found_at j place m p s) in
@@ -140,12 +140,12 @@ no_path j place k (falls {k = rest} m p s on none path) l =
     no_path j p.next rest path before
 no_path j place k (calls {e = inside} m p callee s to inner path) l = no_path callee 0 inside inner (omega arith)
 
--- ---- its calls
+-- ---- the calls
 
 abbrev locals : List (Option Value)
 locals = Some (value.Ref reference.This) ∷ Some (value.Ref reference.Entry) ∷ Some (value.Ref reference.Args) ∷ []
 
--- the method at its start, and behind its call
+-- The activation at the start of the method, and after its call.
 abbrev entered : Activation
 entered = record { method = 0; place = 0; locals = locals; operands = [] }
 
@@ -155,14 +155,14 @@ waiting = record { method = 0; place = 6; locals = locals; operands = [] }
 abbrev going : ℕ → List Value → Activation
 going place operands = record { method = 0; place = place; locals = locals; operands = operands }
 
--- some steps later
+-- The state with other steps and activations.
 abbrev later : State → ℕ → List Activation → State
 later s n a = record { call = s.call; activations = a; arrays = s.arrays; now = s.now; steps = n; words = s.words }
 
 abbrev first : State
 first = start_of 0 method plain_call
 
--- four steps lead one call deeper
+-- Four steps make the calls one level deeper.
 deeper : (s : State) (below : List Activation) → s.activations ≡ entered ∷ below → Reaches class first s → Reaches class first (later s (suc (suc (suc (suc s.steps)))) (entered ∷ waiting ∷ below))
 deeper s below e reach =
     let one : State = later s (suc s.steps) (going 1 (value.Ref reference.This ∷ []) ∷ below) in
@@ -175,7 +175,7 @@ deeper s below e reach =
     let to_four : step class three ≡ Some (Goes four) = ap (invoke class three (going 6 (value.Ref reference.Args ∷ value.Ref reference.Entry ∷ value.Ref reference.This ∷ [])) below Virtual) reached in
     goes_unasked (goes_unasked (goes_unasked (goes_unasked reach (ap (is_get_next class) e) to_one) refl to_two) refl to_three) refl to_four
 
--- as deep as one likes
+-- Each call depth is reachable.
 nested : (n : ℕ) → (s : State) × (below : List Activation) × (s.activations ≡ entered ∷ below) × (length below ≡ n) × Reaches class first s
 nested zero = (first, [], refl, refl, here)
 nested (suc n) =

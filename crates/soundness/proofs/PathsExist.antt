@@ -1,4 +1,4 @@
--- From each place there is a path, and a path takes at least its own activation.
+-- Each pc has a path, and a path costs at least its own activation.
 use Rattle.std.proofs.Common.{◌≡◌, ℕ, zero, suc, ◌+◌, ◌<◌, ◌≤◌, max, Bool, true, false, List, [], ◌∷◌, Option, Some, None, refl, ap, subst, arith, ◌⊎◌, inl, inr}
 use Rattle.std.specs.Prelude.{slice_get, ℤ, pos, ◌==◌, cond}
 use Rattle.std.proofs.lemmas.Bool.{eqb-true}
@@ -23,7 +23,7 @@ use Rattle.verdict.specs.Sound.{slots_of_method}
 use Rattle.soundness.proofs.Callees.{CalleeFits, callee_fits}
 use Rattle.soundness.proofs.GoodStates.{IsInside, has_frame, onward, enters_inside, enters_target, AllAwait, RestOf}
 
--- a place beyond all instructions
+-- A pc after all instructions.
 abbrev top_of : List Placed → ℕ
 top_of [] = 0
 top_of (x ∷ code) = max (suc x.place) (top_of code)
@@ -43,7 +43,7 @@ ends_or_jumps (instruction.Return k) h = inl refl
 ends_or_jumps instruction.ReturnVoid h = inl refl
 ends_or_jumps _ h = cc
 
--- an own call leads to a method
+-- An own call has a callee in the class.
 pub own_call : (c : Class) → IsCheckedButForRoom c → (i : Instruction) (k : ℕ) → call_of c.view i ≡ Some k → (w : MethodView) × (m : Method) × IsMember c k w m
 own_call c ok (instruction.Invoke kind i) k e = go (callee_at c.view kind i) refl e
   where
@@ -59,7 +59,7 @@ own_call c ok _ k e = cc
 abbrev HasPath : Class → ℕ → ℕ → Type 0
 HasPath c j q = (k : Cost) × Path c j q k
 
--- an instruction's successors have paths, so it has one
+-- An instruction has a path if its successors have paths.
 path_at : (c : Class) (j q : ℕ) (m : Method) (p : Placed) → StandsAt c j q m p → (falls_through p.instruction ≡ true → HasPath c j p.next) → ((target : ℤ) → IsTarget p.instruction target → (r : ℕ) × (target ≡ pos r) × HasPath c j r) → ((k : ℕ) → call_of c.view p.instruction ≡ Some k → HasPath c k 0) → HasPath c j q
 path_at c j q m p stands next target call = go (falls_through p.instruction) refl
   where
@@ -79,7 +79,7 @@ path_at c j q m p stands next target call = go (falls_through p.instruction) ref
     go false e = stop (ends_or_jumps p.instruction e)
 
 module _ (c : Class) (ok : IsCheckedButForRoom c) where
-  -- within a method, whose callees have paths
+  -- Each pc of a method has a path if the callees have paths.
   paths_in : (j : ℕ) (w : MethodView) (m : Method) → IsMember c j w m → ((q k : ℕ) (p : Placed) → instruction_at m q ≡ Some p → call_of c.view p.instruction ≡ Some k → HasPath c k 0) → (left q : ℕ) → top_of m.code ≤ q + left → IsInside m q → HasPath c j q
   paths_in j w m member callees zero q long inside = let low = below_top m.code q inside.0 inside.1 in absurd (omega (arith, low))
   paths_in j w m member callees (suc left) q long inside =
@@ -95,7 +95,7 @@ module _ (c : Class) (ok : IsCheckedButForRoom c) where
       (λ t e. let d = o.2.branches t e in let to : IsTarget p.instruction (pos d.0) = subst (λ (z : ℤ). IsTarget p.instruction z) d.2 e in let later : q < d.0 = formed.forward q d.0 p inside.1 to in (d.0, d.2, paths_in j w m member callees left d.0 (omega (arith, later)) (enters_inside c m frames d.0 o.0 typing (enters_target m frames d.0 o.0 d.1 d.3 d.4))))
       (λ k e. callees q k p inside.1 e)
 
-  -- the first place of a method is one of an instruction
+  -- A method has an instruction at pc 0.
   pub starts_inside : (j : ℕ) (w : MethodView) (m : Method) → IsMember c j w m → IsInside m 0
   starts_inside j w m member = let typed = ok.typed j w m member in enters_inside c m typed.0 0 (first_frame m.environment) typed.1 typed.1.first
 
@@ -114,7 +114,7 @@ module _ (c : Class) (ok : IsCheckedButForRoom c) where
       let p = has_path a.method w.view w.m a.place w.member w.inside in
       (p.0, p.1, has_rest arrays w.m.environment.signature.result below h.1)
 
--- ---- what a path takes at least
+-- ---- the minimum cost of a path
 
 pub path_steps : {c : Class} {j q : ℕ} {k : Cost} → Path c j q k → 1 ≤ k.steps
 path_steps (ends m p s e) = omega arith

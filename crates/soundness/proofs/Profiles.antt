@@ -1,4 +1,4 @@
--- A class that the first profile accepts is the same class in the second one, which accepts it.
+-- A class that the first profile accepts is the same class in the second one, which accepts it too.
 use Rattle.std.proofs.Common.{suc, ◌≡◌, ℕ, ◌<◌, ◌≤◌, Bool, true, false, List, [], ◌∷◌, Some, refl, sym, ap, subst, arith, ◌⊎◌, inl, inr}
 use Rattle.std.specs.Prelude.{slice_get, IsFalse}
 use Rattle.std.proofs.lemmas.Bool.{cases_lt}
@@ -30,7 +30,7 @@ use Rattle.verdict.proofs.OnlyOne.{the_only}
 use Rattle.soundness.specs.Profiles.{AcceptedIsKept, ClassIsKept, ClassGoesOn, BoundsAreKept, MeaningIsKept}
 use Rattle.soundness.proofs.OneClass.{code_once, one_class}
 
--- ---- a class of the first profile is one of the second
+-- ---- a class of the first profile is a class of the second one
 
 body_goes_on : (pool : List Slot) (p : Parts) (m : Member) (e : Environment) (code : List Placed) (tables : List (List ℕ)) → IsBody First pool p m e code tables → IsBody Second pool p m e code tables
 body_goes_on pool p m e code tables b = record {
@@ -63,7 +63,7 @@ class_goes_on bytes c of = record {
 pub class_is_kept : ClassIsKept
 class_is_kept bytes c d of other = one_class bytes c d (class_goes_on bytes c of) other
 
--- ---- what the second profile refuses, the first one refuses
+-- ---- each refusal of the second profile is a refusal of the first one
 
 code_stands : (v : ClassView) (bytes : List ℕ) (r : Refusal) → CodeStands First v.pool bytes r → InstructionStands First v bytes r
 code_stands v bytes UnknownMember h = absurd (members_unread First v.pool bytes h)
@@ -79,7 +79,7 @@ module _ (bytes : List ℕ) (ok : IsAccepted First bytes) (pool : List Slot) (p 
   types : HasTypes First pool p
   types = record { none_stands = λ r s. ok r (by_types pool p file shape instructions s) }
 
-  -- the reading of a method's code stops nowhere, but it is the constructor
+  -- The decoder stops in no method except the constructor.
   never_stops : (k : ℕ) (m : Member) → slice_get p.methods k ≡ Some m → IsFalse (is_constructor pool m) → (c : CodeParts) → HasCode pool m c → (r : Refusal) → StopsWith First pool c.code r → ⊥
   never_stops k m at other c has r s = instructions.none_stands r (any_from _ p.methods k m at (other, (c, has, code_stands (view_of pool p) c.code r (inl s))))
 
@@ -117,7 +117,7 @@ module _ (bytes : List ℕ) (ok : IsAccepted First bytes) (pool : List Slot) (p 
       go (k, m, at, (other, (e, code, tables, body, stands))) =
           types.none_stands r (any_from _ p.methods k m at (other, (e, code, tables, body_back k m at other e code tables body, stands)))
 
-  -- the constructor has instructions of the first profile alone
+  -- The constructor has only instructions of the first profile.
   constructor_back : HasConstructor pool p → (k : ℕ) (m : Member) → slice_get p.methods k ≡ Some m → is_constructor pool m ≡ true → (e : Environment) (code : List Placed) (tables : List (List ℕ)) → IsBody Second pool p m e code tables → IsBody First pool p m e code tables
   constructor_back has k m at is e code tables b =
       let same : m ≡ has.0 = the_only (is_constructor pool) p.methods has.0 has.1 k m at is in
@@ -176,7 +176,7 @@ accepted_is_kept bytes ok r (by_instructions pool p file _ s) = second_instructi
 accepted_is_kept bytes ok r (by_types pool p file _ _ s) = second_types bytes ok pool p file r s
 accepted_is_kept bytes ok r (by_class pool p c file _ _ _ of s) = second_class bytes ok pool p file c of r s
 
--- ---- its bounds, and what its calls mean
+-- ---- the bounds, and the meaning of invocations
 
 pub bounds_are_kept : BoundsAreKept
 bounds_are_kept bytes c d j b ok of other is are = (subst (λ (x : Class). IsProcessOf x j) (sym same) is, bounds, few (cases_lt (step_limit First) b.steps))

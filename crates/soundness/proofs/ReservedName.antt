@@ -1,4 +1,4 @@
--- A class named java/lang/Long gets stuck: the result of Long.valueOf is declared to be the class itself, and is a box.
+-- A class with the name `java/lang/Long` gets stuck: `Long.valueOf` is declared to return the class itself, and returns a box.
 use Rattle.std.proofs.Common.{◌≡◌, List, [], ◌∷◌, Some, None, false, refl, sym, subst, arith}
 use Rattle.std.specs.Prelude.{codes, pos}
 use Rattle.jtypes.specs.declared.types.RefType.TheVariants as ref
@@ -44,7 +44,7 @@ box = placed 1 4 (instruction.Invoke Static 1)
 abbrev answer : Placed
 answer = placed 4 5 (instruction.Return kind.Reference)
 
--- Long.valueOf stands at index 1
+-- The constant pool, with `Long.valueOf` at index 1.
 abbrev pool : List Slot
 pool =
     Some (constant.Methodref 2 3) ∷ Some (constant.Class 4) ∷ Some (constant.NameAndType 5 6)
@@ -138,7 +138,7 @@ first = start_of 0 method plain_call
 abbrev second : State
 second = gone_to first (step class first)
 
--- the box is not the class itself
+-- The step is stuck, because the box isn't of the class itself.
 no_step : step class second ≡ None
 no_step = ap (invoke class second (record { method = 0; place = 4; locals = Some (value.Ref reference.This) ∷ Some (value.Ref reference.Entry) ∷ Some (value.Ref reference.Args) ∷ []; operands = value.Long (pos 0) ∷ [] }) [] Static) reached
 

@@ -27,7 +27,7 @@ use Rattle.soundness.proofs.GoodStates.{IsAt, is_inside, IsGood, SafeNext, arriv
 use Rattle.soundness.proofs.PathsExist.{has_path, has_rest, path_steps, path_slots, path_depth}
 use Rattle.soundness.proofs.Steps.{act_safe}
 
--- every step from a good state leads to a good state or ends within the bounds
+-- Each step from a good state reaches a good state, or ends within the bounds.
 step_safe : (c : Class) (b : Bounds) → IsCheckedButForRoom c → (s : State) → IsGood c b s → SafeNext c b s.steps s.now.asked s.call (step c s)
 step_safe c b ok s h =
     let m = h.m in
@@ -67,11 +67,11 @@ module _ (c : Class) (b : Bounds) (ok : IsCheckedButForRoom c) where
         depth = subst (λ x. length x ≤ b.depth) (sym h.activations) depth;
       }
 
-  -- what the loader answers leaves a good state good
+  -- The loader's answer keeps a good state good.
   good_informed : (a : LoadAnswer) (s : State) → IsGood c b s → IsGood c b (informed a s)
   good_informed a s h = record { top = h.top; below = h.below; m = h.m; activations = h.activations; here = h.here; awaits = h.awaits; budget = h.budget }
 
-  -- so does a step, whatever the loader answers
+  -- A step keeps a good state good, with any answer of the loader.
   good_with : (s : State) (a : LoadAnswer) → IsGood c b s → SafeNext c b s.steps (asked_after c a s) s.call (step_with c a s)
   good_with s a h = go (asks c s)
     where
@@ -151,7 +151,7 @@ module _ (c : Class) (b : Bounds) (ok : IsCheckedButForRoom c) where
         };
       }
 
-  -- the state in which an invocation starts is good
+  -- The start state of an invocation is good.
   good_begin : (j : ℕ) → IsProcessOf c j → ((k : Cost) → Path c j 0 k → IsWithin k b) → (call : Invocation) (s : State) → start c call ≡ Some s → IsGood c b s
   good_begin j is bounded call s e = go (slice_get c.methods j) refl (sym (ap (λ o. o >>= λ i. option_map (λ m. start_of i m call) (slice_get c.methods i)) is) ∙ e)
     where
@@ -159,7 +159,7 @@ module _ (c : Class) (b : Bounds) (ok : IsCheckedButForRoom c) where
       go None known f = cc
       go (Some m) known f = let same : start_of j m call ≡ s = cc f in subst (IsGood c b) same (good_start j is bounded m call known)
 
--- an invocation starts, whatever the call
+-- Each invocation has a start state.
 pub can_start : (c : Class) → IsChecked c → (j : ℕ) → IsProcessOf c j → (call : Invocation) → (s : State) × (start c call ≡ Some s)
 can_start c ok j is call =
     let p = process_found 0 c.view.methods j is in
@@ -175,7 +175,7 @@ sound_without_room c j b ok is bounded = record {
   finishes = λ call a s e. finishes_from c b ok (suc b.steps) s a (good_begin c b ok j is bounded call s e) (omega arith);
 }
 
--- ---- the same of classes that are checked
+-- ---- the same for checked classes
 
 pub without_room : (c : Class) → IsChecked c → IsCheckedButForRoom c
 without_room c ok = record {
@@ -198,7 +198,7 @@ without_room c ok = record {
 pub type_soundness : SoundnessOfClasses
 type_soundness c j b ok is bounded = sound_without_room c j b (without_room c ok) is bounded
 
--- a step that does not end the invocation counts, and keeps what the loader answered
+-- A step that doesn't end the invocation is counted, and keeps the loader's answer.
 pub counts : EachStepCounts
 counts c j b ok is bounded call s t u a e r h =
     let safe = subst (SafeNext c b t.steps (asked_after c a t) t.call) h (good_with c b (without_room c ok) t a (good_reached c b (without_room c ok) s t (good_begin c b (without_room c ok) j is bounded call s e) r)) in

@@ -1,4 +1,4 @@
--- Instructions that don't stand one behind the other exceed their bounds: another int is found before the new array.
+-- A class whose instructions aren't consecutive exceeds its bounds: a constant that never runs counts as the length of the new array.
 use Rattle.std.proofs.Common.{◌≡◌, ℕ, ◌≤◌, List, [], ◌∷◌, Some, false, refl, sym, ◌∙◌, subst, arith}
 use Rattle.std.specs.Prelude.{codes, pos}
 use Rattle.jtypes.specs.declared.types.RefType.TheVariants as ref
@@ -24,7 +24,7 @@ use Rattle.verdict.specs.Sound.{IsSafe}
 use Rattle.soundness.specs.Premises.{SoundnessOver, IsCheckedButForPlaces, IsFormedButForPlaces}
 use Rattle.soundness.proofs.StraightCode.{placed, process_with, plain_call, gone_to, each_at, EachOutcome, outcome_at, at_its_place, only_method, from_last, from_before, typed_methods, only_member, only_instance, IsStraight, nowhere}
 
--- no flow comes here
+-- No control flow reaches this instruction.
 abbrev astray : Placed
 astray = placed 9 1 (instruction.Push (pushed.Int (pos 1)))
 
@@ -81,7 +81,7 @@ typing = record {
   last = (answer, refl, refl);
 }
 
--- only one array is made, and the length that is found for it is 1
+-- The constant length at the only `newarray`, at pc 1, is 1.
 sized : HasLength method.code 1
 sized = (pos 1, refl, (record { le = tt }, record { le = tt }))
 

@@ -1,4 +1,4 @@
--- The bytes of the small class are its pool and its parts, and nothing is wrong with their layout and their shape.
+-- The bytes of the small class have its constant pool and its parts, and no refusal of the layout or the shape applies.
 use Rattle.std.proofs.Common.{◌≡◌, ℕ, ◌<◌, ◌||◌, true, false, List, [], ◌∷◌, length, Some, None, Ok, refl, sym, ap, arith, inl, inr}
 use Rattle.std.specs.List.{AllZip}
 use Rattle.jtypes.specs.Layout.{first, number, many}
@@ -67,7 +67,7 @@ pub constructor_signed : method_signature (view_of small_pool small_parts) (meth
 unfolding sig_of read_params read_type utf8_at class_at class_type field_type field_types result_type signature_of method_signature
 constructor_signed = refl
 
--- a descriptor that is read, signed, and takes few slots
+-- `HasSlots` holds of a descriptor that parses, has a signature, and needs fewer than 256 slots.
 few_slots : (m : Member) (sig : Sig) (s : Signature) (n : ℕ) → sig_of (method_view small_pool m).descriptor ≡ Some sig → method_signature (view_of small_pool small_parts) (method_view small_pool m) ≡ Some s → n ≡ slots_taken m.flags sig → n < 256
     → HasSlots (view_of small_pool small_parts) (method_view small_pool m) n
 few_slots m sig s n is signed taken few = record { sig = sig; is = is; slots_are = taken; good = good }
@@ -78,7 +78,7 @@ few_slots m sig s n is signed taken few = record { sig = sig; is = is; slots_are
         let same : x ≡ sig = cc (k, is) in
         omega (arith, many, ap (slots_taken m.flags) same, taken, few)
 
--- a Code whose parts are read, with room for so many slots
+-- `HasGoodMethod` holds of a method whose only `Code` attribute parses and has enough local variables for the parameters.
 one_code : (m : Member) (content : List ℕ) (c : CodeParts) (sig : Sig) (s : Signature) (n : ℕ) → codes_of small_pool m ≡ content ∷ [] → parts_of_code content ≡ Some c → sig_of (method_view small_pool m).descriptor ≡ Some sig
     → method_signature (view_of small_pool small_parts) (method_view small_pool m) ≡ Some s → n ≡ slots_taken m.flags sig → n < 256 → (is_abstract m.flags || is_native m.flags || false) ≡ false → ArePartsGood n c → HasGoodMethod small_pool small_parts m c
 one_code m content c sig s n codes parts is signed taken few plain good =

@@ -24,7 +24,7 @@ use Rattle.soundness.proofs.StraightCode.{one_at, only_method, plain_call}
 abbrev pub view_with : List Slot → ClassView
 view_with pool = record { pool = pool; name = codes "Example"; methods = process ∷ [] }
 
--- `process` with three locals
+-- `process` with three local variables.
 abbrev pub method_with : Signature → ℕ → List Placed → List (ℕ × Frame) → Method
 method_with s max_stack code declared = record {
   environment = record { signature = s; max_stack = max_stack; max_locals = 3 };
@@ -32,7 +32,7 @@ method_with s max_stack code declared = record {
   declared = declared;
 }
 
--- its locals, and these operands
+-- The frame with these operands.
 abbrev pub frame : List JType → Frame
 frame stack = record { locals = type.Ref ref.This ∷ type.Ref ref.MutableEntry ∷ type.Ref ref.ObjectArray ∷ []; stack = stack }
 
@@ -53,13 +53,13 @@ plain_params = ((λ h. cc h), ((λ h. cc h), ((λ h. cc h), tt)))
 pub plain_result : NoTop (type.Ref ref.Object ∷ [])
 plain_result = ((λ h. cc h), tt)
 
--- the locals fit themselves
+-- Frames with the same local variables are assignable if their operand stacks are.
 pub fits_frame : (stack other : List JType) → EachAssignable stack other → FrameAssignable (frame stack) (frame other)
 fits_frame stack other h = record { locals = (refl, (refl, (refl, tt))); stack = h }
 
 abbrev pub nothing : Bounds
 nothing = record { steps = 0; words = 0; slots = 0; depth = 0 }
 
--- within no bounds at all nothing that starts is safe
+-- A class that has a start state isn't safe within bounds of zero.
 pub takes_something : (c : Class) (s : State) → start c plain_call ≡ Some s → 1 ≤ length s.activations → IsSafe c nothing → ⊥
 takes_something c s e l h = let few = (h.stays plain_call s s e here).depth in omega (arith, l, few)

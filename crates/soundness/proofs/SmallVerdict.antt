@@ -1,4 +1,4 @@
--- No refusal stands in the bytes of the small class, and its bounds are those of its only path.
+-- No refusal applies to the bytes of the small class, and its bounds are the cost of its only path.
 use Rattle.std.proofs.Common.{◌≡◌, ℕ, zero, suc, ◌<◌, ◌≤◌, ◌==◌, Bool, true, false, cond, List, [], ◌∷◌, length, Some, None, Ok, refl, sym, ap, ◌∙◌, subst, arith, zero-add, inl, inr}
 use Rattle.std.specs.Prelude.{slice_get, Any, IsFalse, IsSome, ℤ, pos, is_some}
 use Rattle.std.proofs.lemmas.Bool.{eqb-true, false≢true}
@@ -108,14 +108,14 @@ first_whole = refl
 process_run : Run small_pool 2 process_parts.code example.method.code []
 process_run = (refl, 0xB0 ∷ [], refl, first_whole, (refl, [], refl, areturn, refl))
 
--- no branch, no unknown member
+-- `IsPlain` holds if the instruction is neither a branch nor an own call.
 abbrev IsPlain : Placed → Type 0
 IsPlain p = (target_of p.instruction ≡ None) × (call_of view p.instruction ≡ None)
 
 process_plain : Each IsPlain example.method.code
 process_plain = ((refl, refl), ((refl, refl), tt))
 
--- no branch, so none is bad
+-- The code has no branch.
 branch_in : {P : Placed → Type 0} → ((p : Placed) → P p → (z : ℤ) × IsTarget p.instruction z) → Any P example.method.code → ⊥
 branch_in {P = P} leads any =
     let it = any_at P example.method.code any in
@@ -153,7 +153,7 @@ no_instruction : (r : Refusal) → InstructionStands Second view process_parts.c
 no_instruction UnknownMember h = names_known (subst (λ c. Any (λ p. IsFalse (is_known view p.instruction)) c) (same_code h.0 h.1) h.2)
 no_instruction r h = no_refusal r h
 
--- `process` is the only method but the constructor
+-- `process` is the only method except the constructor.
 only_process : (P : Member → Type 0) → Any (λ m. IsFalse (is_constructor small_pool m) × P m) small_parts.methods → P process_member
 unfolding utf8_at
 only_process P any =
@@ -279,7 +279,7 @@ ordered j k call = absurd (no_calls j k call)
 not_recursive : IsRecursive small_class → ⊥
 not_recursive h = ranked_is_not_recursive small_class ((λ j. 0), ordered) h
 
--- ---- its bounds
+-- ---- the bounds
 
 abbrev is_one : ℕ → Bool
 is_one j = j == 1
@@ -314,7 +314,7 @@ leads = record { next = next; target = target; callee = callee; ranks = ((λ j. 
         let it = stands j q m p one s in
         cc (each_at (λ x. call_of view x.instruction ≡ None) example.method.code process_lone q p it.1, call)
 
--- of the load and of the return
+-- The costs of the paths from the load and from the return.
 abbrev costs : Costs
 costs j place = cond (place == 0) (after_one 0 (last_cost example.method)) (last_cost example.method)
 

@@ -1,4 +1,4 @@
--- A static `process` gets stuck: the array of the arguments is declared where the entry lies.
+-- A static `process` gets stuck: its frame declares the array of arguments in the local variable that has the entry.
 use Rattle.std.proofs.Common.{◌≡◌, List, [], ◌∷◌, Some, false, refl, sym, subst, arith}
 use Rattle.std.specs.Prelude.{codes, pos}
 use Rattle.jtypes.specs.declared.types.RefType.TheVariants as ref
@@ -116,7 +116,7 @@ static_start = start_of 0 static_method plain_call
 abbrev static_next : State
 static_next = gone_to static_start (step static_class static_start)
 
--- the entry has no length
+-- The step is stuck, because the entry has no array length.
 static_stuck : IsSafe static_class static_bounds → ⊥
 static_stuck h = let n = h.never_stuck plain_call static_start static_next refl (onward load.None here refl) load.None in cc n.1
 

@@ -1,4 +1,4 @@
--- What a step from a good state stands on: its outcome, and the values that it takes and puts.
+-- The outcome of a step from a good state, and the values that it pops and pushes.
 use Rattle.std.proofs.Common.{◌≡◌, ℕ, ◌≤◌, Bool, true, false, List, ◌∷◌, ◌++◌, Some, refl, ap, ◌∙◌, ◌⊎◌, inl, inr}
 use Rattle.std.specs.Prelude.{slice_get, ℤ, nat_le}
 use Rattle.std.proofs.lemmas.Bool.{leb-true, false≢true}
@@ -33,7 +33,7 @@ use Rattle.soundness.specs.Room.{IsFormedButForRoom}
 use Rattle.verdict.specs.Machine.{Activation, State, value_of_pushed, same_kind, element_value, number_of, may_cast, narrowed}
 use Rattle.soundness.proofs.GoodStates.{IsAt, AllAwait, HasBudget}
 
--- ---- what an outcome says
+-- ---- properties of an outcome
 
 pub record HasStack (e : Environment) (f : Frame) (stack : List JType) (g : Frame) : Type 0 where
   pub room : slots_by is_long stack ≤ e.max_stack
@@ -93,7 +93,7 @@ kinds_same array.Long array.Long h = refl
 kinds_same array.Int array.Long h = cc
 kinds_same array.Long array.Int h = cc
 
--- what fits the type of an array is null or such an array
+-- `IsArray` holds if the reference is an array of this kind.
 abbrev pub IsArray : Arrays → ArrayKind → RefValue → Type 0
 IsArray arrays k w = (id : ℕ) × (x : Array) × (w ≡ reference.Array id) × (slice_get arrays id ≡ Some x) × (same_kind k x.kind ≡ true)
 
@@ -141,7 +141,7 @@ arg_fits arrays arg.Null = refl
 arg_fits arrays (arg.Long n) = refl
 arg_fits arrays (arg.Integer n) = refl
 
--- the elements of the array of the arguments
+-- The element type of the array of arguments is `Object`.
 pub args_element : (arrays : Arrays) (t : JType) → fits arrays (value.Ref reference.Args) t ≡ true → is_top t ≡ false → element_of t ≡ Ref ref.Object
 args_element arrays Top h k = cc
 args_element arrays Int h k = cc
@@ -185,7 +185,7 @@ flag_fits arrays false = refl
 
 -- ---- a step
 
--- the topmost activation is typed, and its instruction has this outcome
+-- `IsHere` holds if the topmost activation is well typed, and its instruction has this outcome.
 pub record IsHere (c : Class) (b : Bounds) (s : State) (a : Activation) (below : List Activation) (m : Method) (p : Placed) (i : Instruction) (g : Frame) : Type 0 where
   pub formed : IsFormedButForRoom m
   pub here : IsAt c s.arrays m a

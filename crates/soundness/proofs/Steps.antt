@@ -1,4 +1,4 @@
--- Each instruction from a good state is safe.
+-- Each instruction is safe in a good state.
 use Rattle.std.proofs.Common.{◌≡◌, ℕ, suc, ◌+◌, ◌≤◌, Bool, true, false, ◌&&◌, List, [], ◌∷◌, ◌++◌, length, reverse, Option, Some, None, refl, sym, ap, ◌∙◌, subst, arith, ◌⊎◌, inl, inr}
 use Rattle.std.specs.Prelude.{slice_get, slice_set, ℤ, pos, negsuc, ◌≤ℤ◌, nat_le, cond, option_and_then, option_map, is_some}
 use Rattle.std.specs.Int.{w32, int_wrapping_add}
@@ -67,7 +67,7 @@ module _ (c : Class) (b : Bounds) (ok : IsCheckedButForRoom c) (s : State) (a : 
   stands : (i : Instruction) (g : Frame) → IsHere c b s a below m p i g → StandsAt c a.method a.place m p
   stands i g h = record { method = h.here.member.method; instruction = h.code }
 
-  -- to the next instruction
+  -- A step to the next instruction is safe.
   next_safe : (i : Instruction) (g : Frame) (w words : ℕ) (arrays : Arrays) (now : EntryNow) (locals : List (Option Value)) (operands : List Value) → IsHere c b s a below m p i g → falls_through i ≡ true → call_of c.view i ≡ None → words_at m a.place i ≡ w → words ≡ s.words + w → IsKept s.arrays arrays → EachSlotFits arrays locals g.locals → EachFit arrays operands g.stack → slots_by is_long_value operands ≤ m.environment.max_stack → IsCounted m p.next operands → SafeNext c b s.steps now.asked s.call (goes_on c (record { call = s.call; activations = s.activations; arrays = arrays; now = now; steps = s.steps; words = words }) (record { method = a.method; place = p.next; locals = locals; operands = operands }) below)
   next_safe i g w words arrays now locals operands h falling no_call takes total kept fit_locals fit_operands room counted =
       let s' : State = record { call = s.call; activations = s.activations; arrays = arrays; now = now; steps = s.steps; words = words } in
@@ -76,12 +76,12 @@ module _ (c : Class) (b : Bounds) (ok : IsCheckedButForRoom c) (s : State) (a : 
       let path = λ (k : Cost) (x : Path c a.method p.next k). subst (λ n. Path c a.method a.place (after_one n k)) (ap (words_at m a.place) h.is ∙ takes) (falls m p (stands i g h) (ap falls_through h.is ∙ falling) (ap (call_of c.view) h.is ∙ no_call) x) in
       goes_safe c b s' a' below m typed (all_await_kept c s.arrays arrays kept m.environment.signature.result below h.awaits) (budget_same c b (a' ∷ below) (suc s.steps) (s.words + w) words total (budget_on c b a a' below s.steps s.words w path h.budget))
 
-  -- the same, where no array is new, for an instruction that pushes no int
+  -- The same for an instruction that makes no array and pushes no int constant.
   plain_safe : (i : Instruction) (g : Frame) (arrays : Arrays) (now : EntryNow) (locals : List (Option Value)) (operands : List Value) → IsHere c b s a below m p i g → falls_through i ≡ true → call_of c.view i ≡ None → words_at m a.place i ≡ 0 → int_of i ≡ None → IsKept s.arrays arrays → EachSlotFits arrays locals g.locals → EachFit arrays operands g.stack → slots_by is_long_value operands ≤ m.environment.max_stack → SafeNext c b s.steps now.asked s.call (goes_on c (record { call = s.call; activations = s.activations; arrays = arrays; now = now; steps = s.steps; words = s.words }) (record { method = a.method; place = p.next; locals = locals; operands = operands }) below)
   plain_safe i g arrays now locals operands h falling no_call takes none kept fit_locals fit_operands room =
       next_safe i g 0 s.words arrays now locals operands h falling no_call takes (omega arith) kept fit_locals fit_operands room (no_length m a.place p operands h.formed h.code (ap int_of h.is ∙ none))
 
-  -- with these operands on the locals as they were
+  -- The same with other operands and the same local variables.
   change_safe : (i : Instruction) (g : Frame) (stack : List JType) (arrays : Arrays) (now : EntryNow) (operands : List Value) (h : IsHere c b s a below m p i g) → HasStack m.environment h.here.frame stack g → falls_through i ≡ true → call_of c.view i ≡ None → words_at m a.place i ≡ 0 → int_of i ≡ None → IsKept s.arrays arrays → EachFit arrays operands stack → SafeNext c b s.steps now.asked s.call (goes_on c (record { call = s.call; activations = s.activations; arrays = arrays; now = now; steps = s.steps; words = s.words }) (record { method = a.method; place = p.next; locals = a.locals; operands = operands }) below)
   change_safe i g stack arrays now operands h t falling no_call takes none kept fit =
       plain_safe i g arrays now a.locals operands h falling no_call takes none kept (subst (EachSlotFits arrays a.locals) t.locals (slots_kept s.arrays arrays kept a.locals h.here.frame.locals h.here.locals)) (subst (EachFit arrays operands) t.operands fit) (let e = slots_fit arrays operands stack fit in let r = t.room in omega (arith, e, r))
@@ -89,7 +89,7 @@ module _ (c : Class) (b : Bounds) (ok : IsCheckedButForRoom c) (s : State) (a : 
   put_safe : (i : Instruction) (g : Frame) (stack : List JType) (operands : List Value) (h : IsHere c b s a below m p i g) → HasStack m.environment h.here.frame stack g → falls_through i ≡ true → call_of c.view i ≡ None → words_at m a.place i ≡ 0 → int_of i ≡ None → EachFit s.arrays operands stack → SafeNext c b s.steps s.now.asked s.call (next_with c s beyond below operands)
   put_safe i g stack operands h t falling no_call takes none fit = change_safe i g stack s.arrays s.now operands h t falling no_call takes none (same_kept s.arrays) fit
 
-  -- to a target
+  -- A step to a branch target is safe.
   jump_safe : (i : Instruction) (g : Frame) (target : ℤ) (operands : List Value) → IsHere c b s a below m p i g → IsTarget i target → EachSlotFits s.arrays a.locals g.locals → EachFit s.arrays operands g.stack → slots_by is_long_value operands ≤ m.environment.max_stack → SafeNext c b s.steps s.now.asked s.call (jump_with c s beyond below target operands)
   jump_safe i g target operands h to fit_locals fit_operands room =
       let leads : IsTarget p.instruction target = subst (λ (x : Instruction). IsTarget x target) (sym h.is) to in
@@ -100,7 +100,7 @@ module _ (c : Class) (b : Bounds) (ok : IsCheckedButForRoom c) (s : State) (a : 
       let path = λ (k : Cost) (x : Path c a.method q k). jumps m p q (stands i g h) (subst (λ (y : ℤ). IsTarget p.instruction y) d.2 leads) x in
       subst (λ x. SafeNext c b s.steps s.now.asked s.call (jump_with c s beyond below x operands)) (sym d.2) (goes_safe c b s a' below m typed h.awaits (budget_same c b (a' ∷ below) (suc s.steps) (s.words + 0) s.words (omega arith) (budget_on c b a a' below s.steps s.words 0 path h.budget)))
 
-  -- the invocation ends
+  -- A step that ends the invocation is safe.
   ends_safe : (i : Instruction) (g : Frame) (o : Outcome) → IsHere c b s a below m p i g → SafeNext c b s.steps s.now.asked s.call (Some (ends s o))
   ends_safe i g o h =
       let k = has_path c ok a.method h.here.view m a.place h.here.member (is_inside h.here) in
@@ -373,7 +373,7 @@ module _ (c : Class) (b : Bounds) (ok : IsCheckedButForRoom c) (s : State) (a : 
           ap (ask c s beyond below (Some r)) (v.2 ∙ ap (λ y. y ∷ v.1) w.1) ∙ only_if_true _ _ w.2 in
           subst (SafeNext c b s.steps s.now.asked s.call) (sym is) (put_safe (instruction.InstanceOf n) g (Int ∷ x.0) (flag (passes s.arrays w.0 r) ∷ v.1) h x.2 refl refl refl refl (flag_fits s.arrays (passes s.arrays w.0 r), refl, v.4))
 
-  -- a return of what the result's type says
+  -- A return of a result of the declared type is safe.
   return_to_safe : (i : Instruction) (g : Frame) (result : List Value) → IsHere c b s a below m p i g → is_return i ≡ true → EachFit s.arrays result (result_list m.environment.signature.result) → SafeNext c b s.steps s.now.asked s.call (return_to c s result below)
   return_to_safe i g result h is fit = go below h.awaits h.budget
     where
@@ -417,7 +417,7 @@ module _ (c : Class) (b : Bounds) (ok : IsCheckedButForRoom c) (s : State) (a : 
       go None e f = return_to_safe instruction.ReturnVoid g [] h refl (subst (λ x. EachFit s.arrays [] (result_list x)) (sym e) tt)
       go (Some t) e f = cc
 
-  -- a library call
+  -- A library call is safe.
   library_safe : (k : Invoke) (n : ℕ) (g : Frame) (callee : Callee) (l : Native) (taken operands : List Value) (rest : List JType) (h : IsHere c b s a below m p (instruction.Invoke k n) g) → call_of c.view (instruction.Invoke k n) ≡ None → CalleeFits c callee (Library l) → HasStack m.environment h.here.frame (result_list callee.result ++ rest) g → all_fit s.arrays taken (reverse callee.params) ≡ true → EachFit s.arrays operands rest → SafeNext c b s.steps s.now.asked s.call (reach c s beyond below k callee (Library l) taken operands)
   library_safe k n g callee l taken operands rest h no_call known t args f =
       go (library l s.call.key s.now.entry (reverse taken)) (known.2 s.arrays s.call.key s.now.entry (reverse taken) fit)
@@ -432,7 +432,7 @@ module _ (c : Class) (b : Bounds) (ok : IsCheckedButForRoom c) (s : State) (a : 
       go (Faults x) e = throws_safe (instruction.Invoke k n) g x h
       go Misses e = absurd e
 
-  -- a call of a method of the class
+  -- A call of a method of the class is safe.
   own_safe : (k : Invoke) (n : ℕ) (g : Frame) (callee : Callee) (j : ℕ) (taken operands : List Value) (rest : List JType) (h : IsHere c b s a below m p (instruction.Invoke k n) g) → call_of c.view (instruction.Invoke k n) ≡ Some j → IsOwn c callee j → HasStack m.environment h.here.frame (result_list callee.result ++ rest) g → all_fit s.arrays taken (reverse callee.params) ≡ true → EachFit s.arrays operands rest → SafeNext c b s.steps s.now.asked s.call (reach c s beyond below k callee (Own j) taken operands)
   own_safe k n g callee j taken operands rest h to own t args f = go (is_on_null k (reverse taken))
     where

@@ -1,4 +1,4 @@
--- Classes of one method without branches and own calls.
+-- Classes with one method, without branches and own calls.
 use Rattle.std.proofs.Common.{◌≡◌, ℕ, zero, suc, ◌==◌, Bool, true, false, cond, List, [], ◌∷◌, length, Option, Some, None, refl, sym, ap, ◌∙◌, subst, ◌⊎◌, inl, inr}
 use Rattle.std.specs.Prelude.{slice_get, ℤ, pos}
 use Rattle.std.proofs.lemmas.Bool.{eqb-true}
@@ -21,7 +21,7 @@ pub one_at : {A : Type 0} (x : A) (j : ℕ) (y : A) → slice_get (x ∷ []) j �
 one_at x zero y h = cc
 one_at x (suc j) y h = cc
 
--- what holds of each instruction
+-- `Each` holds if `P` holds of each instruction.
 abbrev pub Each : (Placed → Type 0) → List Placed → Type 0
 Each P [] = Unit {0}
 Each P (p ∷ code) = P p × Each P code
@@ -44,16 +44,16 @@ at_its_place (x ∷ code) q p e = go (at_its_place code q p) (x.place == q) refl
         sym (ap (λ (y : Placed). y.place) same) ∙ eqb-true x.place q is
     go later false is f = later f
 
--- it leads to no place but the next
+-- `IsStraight` holds if the instruction has no branch target.
 abbrev pub IsStraight : Placed → Type 0
 IsStraight p = target_of p.instruction ≡ None
 
--- such an instruction leads nowhere else
+-- Such an instruction has no target.
 pub nowhere : (t : ℤ) → (None ≡ Some t) ⊎ ((k : ℕ) × (None ≡ Some t)) → ⊥
 nowhere t (inl e) = cc e
 nowhere t (inr (k, e)) = cc e
 
--- each instruction has an outcome from its frame
+-- `EachOutcome` holds if each instruction has an outcome from its frame.
 abbrev pub EachOutcome : ClassView → Method → List Frame → List Placed → List Frame → Type 0
 EachOutcome v m all (p ∷ code) (f ∷ frames) = HasOutcome v m all p f × EachOutcome v m all code frames
 EachOutcome v m all _ _ = Unit {0}
@@ -70,7 +70,7 @@ outcome_at v m all (x ∷ code) (g ∷ frames) h q p f e k = go (outcome_at v m 
         subst (λ y. HasOutcome v m all y f) same (subst (λ y. HasOutcome v m all x y) frame h.0)
     go later false a b = later a b
 
--- an instruction that falls through, and is neither a branch nor an own call
+-- `GoesOn` holds if the instruction falls through, and is neither a branch nor an own call.
 pub record GoesOn (v : ClassView) (p : Placed) : Type 0 where
   pub stays : is_return p.instruction ≡ false
   pub straight : target_of p.instruction ≡ None
@@ -84,7 +84,7 @@ pub record Leaves (v : ClassView) (p : Placed) : Type 0 where
 abbrev pub only_method : ClassView → Method → Class
 only_method v m = record { view = v; methods = m ∷ [] }
 
--- without own calls any ranks do
+-- Without own calls, constant ranks are valid.
 pub without_calls : (v : ClassView) (m : Method) → Each (λ p. call_of v p.instruction ≡ None) m.code → IsOrdered (only_method v m) (λ j. 0)
 without_calls v m h j k call =
     let same : m ≡ call.0 = one_at m j call.0 call.3 in
@@ -94,7 +94,7 @@ without_calls v m h j k call =
     absurd (cc (none, some))
 
 module _ (v : ClassView) (m : Method) where
-  -- it is this instruction that stands at the place
+  -- The instruction at the pc is `q`.
   stands : (j place n : ℕ) (x : Method) (p q : Placed) → place ≡ n → instruction_at m n ≡ Some q → StandsAt (only_method v m) j place x p → (m ≡ x) × (q ≡ p)
   stands j place n x p q e at s =
       let same : m ≡ x = one_at m j x s.method in
@@ -103,7 +103,7 @@ module _ (v : ClassView) (m : Method) where
       let both : Some q ≡ Some p = sym at ∙ there in
       (same, cc both)
 
-  -- what paths take from an instruction that leaves the method
+  -- The cost of a path from an instruction that leaves the method.
   pub from_last : (n : ℕ) (q : Placed) → instruction_at m n ≡ Some q → Leaves v q → (j place : ℕ) (k : Cost) → place ≡ n → Path (only_method v m) j place k → k ≡ last_cost m
   from_last n q at is j place k e (ends x p s r) = ap last_cost (sym (stands j place n x p q e at s).0)
   from_last n q at is j place k e (jumps x p r s to rest) =
@@ -118,7 +118,7 @@ module _ (v : ClassView) (m : Method) where
       let no : None ≡ Some callee = sym (subst (λ (y : Placed). call_of v y.instruction ≡ None) same is.lone) ∙ to in
       cc no
 
-  -- and from one that goes on
+  -- The cost of a path from an instruction that falls through.
   pub from_before : (n : ℕ) (q : Placed) → instruction_at m n ≡ Some q → GoesOn v q → (later : Cost) → ((j place : ℕ) (k : Cost) → place ≡ q.next → Path (only_method v m) j place k → k ≡ later) → (j place : ℕ) (k : Cost) → place ≡ n → Path (only_method v m) j place k → k ≡ after_one (words_at m n q.instruction) later
   from_before n q at is later then j place k e (ends x p s r) =
       let same = (stands j place n x p q e at s).1 in
@@ -145,16 +145,16 @@ placed at next i = record { place = at; next = next; instruction = i }
 abbrev pub process_with : ℕ → MethodView
 process_with flags = record { flags = flags; name = process_name; descriptor = process_descriptor }
 
--- a call without arguments on an entry that isn't there
+-- An invocation without arguments, on an entry that doesn't exist.
 abbrev pub plain_call : Invocation
 plain_call = record { key = pos 0; args = []; before = None; loads = false }
 
--- the state that is gone to
+-- The state after a step.
 abbrev pub gone_to : State → Option Next → State
 gone_to s (Some (Goes u)) = u
 gone_to s _ = s
 
--- a class of one method has typed methods if that one is well typed
+-- A class with one method has typed methods if that method is well typed.
 pub typed_methods : (v : ClassView) (w : MethodView) (m : Method) → v.methods ≡ w ∷ [] → method_signature v w ≡ Some m.environment.signature → (frames : List Frame) → IsTyping v m frames → Each (λ p. call_of v p.instruction ≡ None) m.code → HasTypedMethods (only_method v m)
 typed_methods v w m one signed frames typing lone = record {
   count = subst (λ (xs : List MethodView). 1 ≡ length xs) (sym one) refl;
@@ -166,6 +166,6 @@ typed_methods v w m one signed frames typing lone = record {
 pub only_member : (P : Method → Type 0) (v : ClassView) (m : Method) → P m → (j : ℕ) (w : MethodView) (x : Method) → IsMember (only_method v m) j w x → P x
 only_member P v m h j w x is = subst P (one_at m j x is.method) h
 
--- `process` is an instance method if its flags say so
+-- The only method is an instance method if its flags say so.
 pub only_instance : (v : ClassView) (w : MethodView) → v.methods ≡ w ∷ [] → is_static w.flags ≡ false → (j : ℕ) (x : MethodView) → slice_get v.methods j ≡ Some x → is_static x.flags ≡ false
 only_instance v w one h j x e = subst (λ (y : MethodView). is_static y.flags ≡ false) (one_at w j x (subst (λ xs. slice_get xs j ≡ Some x) one e)) h

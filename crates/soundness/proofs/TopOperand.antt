@@ -1,4 +1,4 @@
--- Where a frame declares an operand Top, a long that lies there has more slots than are counted, and the next push gets stuck.
+-- If a frame declares an operand as `Top`, a long there occupies more slots than are counted, and the next push gets stuck.
 use Rattle.std.proofs.Common.{◌≡◌, ℕ, ◌==◌, Bool, true, false, cond, List, [], ◌∷◌, Some, None, refl, sym, subst, arith}
 use Rattle.std.specs.Prelude.{pos}
 use Rattle.std.proofs.lemmas.Bool.{eqb-true}
@@ -99,7 +99,7 @@ first = start_of 0 method plain_call
 abbrev second : State
 second = gone_to first (step class first)
 
--- the long and null take three slots
+-- The step is stuck, because the long and null occupy three slots.
 stuck : (b : Bounds) → IsSafe class b → ⊥
 stuck b h = let n = h.never_stuck plain_call first second refl (onward load.None here refl) load.None in cc n.1
 

@@ -26,7 +26,7 @@ use Rattle.verdict.proofs.ParameterRoom.{one_contains}
 use Rattle.soundness.proofs.AcceptedClasses.{accepted_is_named, accepted_process_is_instance, accepted_count, accepted_signed, accepted_is_formed, InFile, in_file}
 use Rattle.jtypes.specs.Profile.{Second}
 
--- a code with a byte has a last instruction
+-- Nonempty code has a last instruction.
 last_of_some : (x : Placed) (xs : List Placed) → IsSome (last (x ∷ xs))
 last_of_some x [] = refl
 last_of_some x (y ∷ xs) = last_of_some y xs
@@ -50,7 +50,7 @@ accepted_is_typed bytes c ok of j w m member = subst (λ v. IsWellTyped v m) (sy
     instructions : HasInstructions Second of.pool of.parts
     instructions = record { none_stands = λ x s. ok x (by_instructions of.pool of.parts of.file shape s) }
 
-    -- no refusal of the types stands in this method
+    -- No refusal of the types applies to this method.
     none_stands : (r : Refusal) → BodyStands view m.environment m.code file.is.tables r → ⊥
     none_stands r s =
         let stands : TypesStand Second of.pool of.parts r = any_from (λ y. IsFalse (is_constructor of.pool y) × ((x : Environment) × (code : List Placed) × (tables : List (List ℕ)) × IsBody Second of.pool of.parts y x code tables × BodyStands view x code tables r)) of.parts.methods file.number file.item file.there (file.other, (m.environment, m.code, file.is.tables, file.is.body, s)) in

@@ -1,4 +1,4 @@
--- Steps in which no loader is asked.
+-- Steps in which the loader isn't asked.
 use Rattle.std.proofs.Common.{◌≡◌, Bool, true, false, ◌&&◌, Some, refl, ap, ◌∙◌}
 use Rattle.std.specs.Prelude.{if◌then◌else◌}
 use Rattle.jtypes.specs.declared.loader.LoadAnswer.{LoadAnswer}
@@ -11,7 +11,7 @@ and_false : (x : Bool) → (x && false) ≡ false
 and_false true = refl
 and_false false = refl
 
--- where the next instruction is no getValue of the entry
+-- `step_with` is `step` if the next instruction isn't getValue on the entry.
 pub unasked : (c : Class) (a : LoadAnswer) (s : State) → is_get_next c s.activations ≡ false → step_with c a s ≡ step c s
 unasked c a s other = ap (λ b. if b then after_load c s a else step c s) (ap (λ b. may_ask s.call.loads s.call.before s.now && b) other ∙ and_false (may_ask s.call.loads s.call.before s.now))
 

@@ -1,4 +1,4 @@
--- A small class as bytes: its `process` loads the entry and returns it.
+-- The bytes of a small class whose `process` loads the entry and returns it.
 use Rattle.std.specs.Prelude.{ℕ, List, [], ◌∷◌, ◌++◌, length, Some, None, false, codes}
 use Rattle.constpool.specs.declared.constant.Constant.TheVariants.{Utf8, Class, NameAndType, Methodref}
 use Rattle.constpool.specs.Lookup.{Slot}
@@ -17,9 +17,9 @@ use Rattle.frames.specs.declared.signatures.Signature.{Signature}
 use Rattle.typecheck.specs.Typing as typing
 use Rattle.soundness.specs.Example as example
 
--- ---- its bytes; all indexes and lengths are below 256
+-- ---- the bytes; all indices and lengths are below 256
 
--- a text, the class of a name, a name with a descriptor, and a method of a class (JVMS 4.4)
+-- The bytes of a Utf8, a Class, a NameAndType and a Methodref constant (JVMS §4.4).
 abbrev text : List ℕ → List ℕ
 text s = 1 ∷ 0 ∷ length s ∷ s
 
@@ -37,30 +37,30 @@ constants =
     text (codes "Small") ++ named 1 ++ text object_name ++ named 3 ++ text entry_processor_name ++ named 5
     ++ text init_name ++ text (codes "()V") ++ pair 7 8 ++ reference 4 9 ++ text code_name ++ text process_name ++ text process_descriptor
 
--- what a Code attribute holds: no exceptions, and no attributes of its own (JVMS 4.7.3)
+-- The content of a `Code` attribute without exception handlers and attributes (JVMS §4.7.3).
 abbrev code_content : ℕ → ℕ → List ℕ → List ℕ
 code_content stack locals code = 0 ∷ stack ∷ 0 ∷ locals ∷ 0 ∷ 0 ∷ 0 ∷ length code ∷ (code ++ 0 ∷ 0 ∷ 0 ∷ 0 ∷ [])
 
--- a public method with its Code
+-- A public method with a `Code` attribute.
 abbrev method_bytes : ℕ → ℕ → List ℕ → List ℕ
 method_bytes name descriptor content = 0 ∷ 1 ∷ 0 ∷ name ∷ 0 ∷ descriptor ∷ 0 ∷ 1 ∷ 0 ∷ 11 ∷ 0 ∷ 0 ∷ 0 ∷ length content ∷ content
 
--- aload_0, invokespecial java/lang/Object.<init>()V, return
+-- `aload_0`, `invokespecial java/lang/Object.<init>()V`, `return`
 abbrev pub constructor_content : List ℕ
 constructor_content = code_content 1 1 (0x2A ∷ 0xB7 ∷ 0 ∷ 10 ∷ 0xB1 ∷ [])
 
--- aload_1, areturn
+-- `aload_1`, `areturn`
 abbrev pub process_content : List ℕ
 process_content = code_content 1 3 (0x2B ∷ 0xB0 ∷ [])
 
--- public class Small implements EntryProcessor, in version 52.0
+-- `public class Small implements EntryProcessor`, class file version 52.0
 abbrev pub small_bytes : List ℕ
 small_bytes =
     0xCA ∷ 0xFE ∷ 0xBA ∷ 0xBE ∷ 0 ∷ 0 ∷ 0 ∷ 52 ∷ 0 ∷ 14
     ∷ (constants ++ 0 ∷ 0x21 ∷ 0 ∷ 2 ∷ 0 ∷ 4 ∷ 0 ∷ 1 ∷ 0 ∷ 6 ∷ 0 ∷ 0 ∷ 0 ∷ 2
     ∷ (method_bytes 7 8 constructor_content ++ method_bytes 12 13 process_content ++ 0 ∷ 0 ∷ []))
 
--- ---- what they are
+-- ---- the class of the bytes
 
 abbrev pub small_pool : List Slot
 small_pool =
@@ -103,6 +103,6 @@ constructor_method = record {
   declared = [];
 }
 
--- its `process` is that of the example of a checked class
+-- The small class has the `process` method of `Example`.
 abbrev pub small_class : typing.Class
 small_class = record { view = view_of small_pool small_parts; methods = constructor_method ∷ example.method ∷ [] }

@@ -1,4 +1,4 @@
--- That bounds exist.
+-- The existence of bounds.
 use Rattle.std.specs.Prelude.{ℕ, List}
 use Rattle.typecheck.specs.Typing.{Class, IsProcessOf}
 use Rattle.bounds.specs.Paths.{Bounds, AreBounds}
@@ -7,10 +7,10 @@ use Rattle.verdict.specs.Verdict.{IsAccepted, IsClassOf}
 use Rattle.verdict.specs.Checked.{IsChecked, members}
 use Rattle.jtypes.specs.Profile.{Second}
 
--- in the methods of a checked class, but the constructor, each instruction leads on
+-- In a checked class, each instruction of a method other than the constructor has valid successors.
 abbrev pub CheckedLeadsOn : Type 0
 CheckedLeadsOn = (c : Class) → IsChecked c → LeadsOn c (members c)
 
--- an accepted class has its `process`, and bounds of it
+-- An accepted class has `process` and its bounds.
 abbrev pub AcceptedHasBounds : Type 0
 AcceptedHasBounds = (bytes : List ℕ) (c : Class) → IsAccepted Second bytes → IsClassOf Second bytes c → (j : ℕ) × (b : Bounds) × IsProcessOf c j × AreBounds c j b

@@ -1,4 +1,4 @@
--- A small class: its `process` loads the entry and returns it.
+-- A small class whose `process` loads the entry and returns it.
 use Rattle.std.specs.Prelude.{[], ◌∷◌, Some, false, codes}
 use Rattle.jtypes.specs.declared.types.RefType.TheVariants as ref
 use Rattle.jtypes.specs.declared.types.JType.TheVariants as type
@@ -11,14 +11,14 @@ use Rattle.frames.specs.declared.signatures.Signature.{Signature}
 use Rattle.typecheck.specs.Typing.{Method, Class}
 use Rattle.bounds.specs.Paths.{Bounds}
 
--- aload_1 and areturn
+-- `aload_1` and `areturn`
 abbrev pub load_entry : Placed
 load_entry = record { place = 0; next = 1; instruction = instruction.Load kind.Reference 1 }
 
 abbrev pub give : Placed
 give = record { place = 1; next = 2; instruction = instruction.Return kind.Reference }
 
--- public Object process(MutableEntry, Object[])
+-- `public Object process(MutableEntry, Object[])`
 abbrev pub process : MethodView
 process = record { flags = 1; name = process_name; descriptor = process_descriptor }
 
@@ -36,13 +36,13 @@ method = record {
   declared = [];
 }
 
--- the instructions speak of no constant, so the pool has none
+-- The instructions use no constant, so the constant pool is empty.
 abbrev pub example : Class
 example = record {
   view = record { pool = []; name = codes "Example"; methods = process ∷ [] };
   methods = method ∷ [];
 }
 
--- two steps, no word of an array, three locals and an operand, one activation
+-- Two steps, no array words, three local variables and one operand, one activation.
 abbrev pub limits : Bounds
 limits = record { steps = 2; words = 0; slots = 4; depth = 1 }

@@ -1,4 +1,4 @@
--- The law without one of the premises that are not in Premises.
+-- The theorem without one of the premises that aren't in `Premises`.
 use Rattle.std.specs.Prelude.{◌≡◌, ℕ, ◌<◌, ◌≤◌, length, Some, slice_get, IsNone, pos}
 use Rattle.jtypes.specs.declared.operations.ArrayKind.{ArrayKind}
 use Rattle.jtypes.specs.Lists.{result_list}
@@ -17,7 +17,7 @@ use Rattle.verdict.specs.Sound.{IsSafe}
 use Rattle.soundness.specs.Ordering.{HasRanks}
 use Rattle.soundness.specs.Premises.{HasTypedMethods, HasFreeName, HasInstanceProcess, AllMembers}
 
--- ---- what is asked of a class, part by part
+-- ---- the premises on a class
 
 abbrev pub IsCounted : Class → Type 0
 IsCounted c = length c.methods ≡ length c.view.methods
@@ -25,11 +25,11 @@ IsCounted c = length c.methods ≡ length c.view.methods
 abbrev pub IsSigned : Class → Type 0
 IsSigned c = (j : ℕ) (v : MethodView) (m : Method) → slice_get c.view.methods j ≡ Some v → slice_get c.methods j ≡ Some m → method_signature c.view v ≡ Some m.environment.signature
 
--- each method but the constructor is well typed
+-- `AllWellTyped` holds if each method except the constructor is well typed.
 abbrev pub AllWellTyped : Class → Type 0
 AllWellTyped c = AllMembers c (IsWellTyped c.view)
 
--- ---- what is asked of a method beside its typing, part by part
+-- ---- the premises on a method other than well-typedness
 
 abbrev pub HasPlainSignature : Method → Type 0
 HasPlainSignature m = NoTop m.environment.signature.params × NoTop (result_list m.environment.signature.result)
@@ -46,58 +46,58 @@ GoesForward m = (q r : ℕ) (p : Placed) → instruction_at m q ≡ Some p → I
 abbrev pub HasLengths : Method → Type 0
 HasLengths m = (q : ℕ) (p : Placed) (k : ArrayKind) → instruction_at m q ≡ Some p → p.instruction ≡ NewArray k → IsNone (declared_at m q) × HasLength m.code q
 
--- signatures that are those of the descriptors have no Top
+-- Signatures that match the descriptors contain no `Top`.
 abbrev pub SignedIsPlain : Type 0
 SignedIsPlain = (c : Class) → IsSigned c → AllMembers c HasPlainSignature
 
--- ---- all that is asked of a checked class, but one thing
+-- ---- all premises of a checked class except one
 
--- but that its methods are well typed
+-- All premises except that the methods are well typed.
 abbrev pub IsCheckedButForTypes : Class → Type 0
 IsCheckedButForTypes c = HasFreeName c × HasInstanceProcess c × IsCounted c × IsSigned c × AllMembers c IsFormed × HasRanks c
 
--- but that its calls have ranks
+-- All premises except that the own calls have ranks.
 abbrev pub IsCheckedButForRanks : Class → Type 0
 IsCheckedButForRanks c = HasFreeName c × HasInstanceProcess c × IsCounted c × IsSigned c × AllMembers c IsFormed × AllWellTyped c
 
--- but that it has as many methods as its view
+-- All premises except that the class has as many methods as its view.
 abbrev pub IsCheckedButForCount : Class → Type 0
 IsCheckedButForCount c = HasFreeName c × HasInstanceProcess c × IsSigned c × AllMembers c IsFormed × AllWellTyped c × HasRanks c
 
--- but that the signatures of its methods are those of their descriptors
+-- All premises except that the signatures match the descriptors.
 abbrev pub IsCheckedButForSignatures : Class → Type 0
 IsCheckedButForSignatures c = HasFreeName c × HasInstanceProcess c × IsCounted c × AllMembers c IsFormed × AllWellTyped c × HasRanks c
 
--- but that its branches go forward
+-- All premises except that branches go forward.
 abbrev pub IsCheckedButForDirection : Class → Type 0
 IsCheckedButForDirection c =
     HasTypedMethods c × HasFreeName c × HasInstanceProcess c
     × AllMembers c (λ m. HasPlainSignature m × HasRoom m × DeclaresNoTop m × HasLengths m × AreConsecutive 0 m.code)
 
--- but that the lengths of its new arrays are constants
+-- All premises except that the lengths of new arrays are constants.
 abbrev pub IsCheckedButForLengths : Class → Type 0
 IsCheckedButForLengths c =
     HasTypedMethods c × HasFreeName c × HasInstanceProcess c
     × AllMembers c (λ m. HasPlainSignature m × HasRoom m × DeclaresNoTop m × GoesForward m × AreConsecutive 0 m.code)
 
--- but that no declared frame has Top among its operands
+-- All premises except that no declared frame has `Top` on its operand stack.
 abbrev pub IsCheckedButForOperands : Class → Type 0
 IsCheckedButForOperands c =
     HasTypedMethods c × HasFreeName c × HasInstanceProcess c
     × AllMembers c (λ m. HasPlainSignature m × HasRoom m × GoesForward m × HasLengths m × AreConsecutive 0 m.code)
 
--- ---- the law without its other premises
+-- ---- the theorem without its other premises
 
--- whatever the bounds
+-- The theorem for any bounds.
 abbrev pub SoundnessWithoutBounds : Type 0
 SoundnessWithoutBounds = (c : Class) (j : ℕ) (b : Bounds) → IsChecked c → IsProcessOf c j → IsSafe c b
 
--- by the paths of any method
+-- The theorem for bounds on the paths of any method.
 abbrev pub SoundnessByAnyMethod : Type 0
 SoundnessByAnyMethod = (c : Class) (j : ℕ) (b : Bounds) → IsChecked c → ((k : Cost) → Path c j 0 k → IsWithin k b) → IsSafe c b
 
--- ---- and what is more
+-- ---- a stronger counterexample
 
--- some class of which P holds isn't safe within any bounds
+-- `SomeIsNeverSafe` holds if a class satisfies `P` and isn't safe within any bounds.
 abbrev pub SomeIsNeverSafe : (Class → Type 0) → Type 0
 SomeIsNeverSafe P = (c : Class) × P c × ((b : Bounds) → IsSafe c b → ⊥)

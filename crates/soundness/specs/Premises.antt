@@ -1,4 +1,4 @@
--- The law of classes of which less is asked.
+-- The theorem for classes that satisfy fewer premises.
 use Rattle.std.specs.Prelude.{◌≡◌, ℕ, ◌<◌, ◌≤◌, false, length, Some, slice_get, IsNone, pos}
 use Rattle.jtypes.specs.declared.operations.ArrayKind.{ArrayKind}
 use Rattle.jtypes.specs.Lists.{result_list, is_one_of}
@@ -17,30 +17,30 @@ use Rattle.verdict.specs.Shape.{reserved_names}
 use Rattle.verdict.specs.Checked.{NoTop, IsFormed, IsMember}
 use Rattle.verdict.specs.Sound.{IsSafe}
 
--- the law, of the classes of which P holds
+-- The theorem for the classes that satisfy `P`.
 abbrev pub SoundnessOver : (Class → Type 0) → Type 0
 SoundnessOver P = (c : Class) (j : ℕ) (b : Bounds) → P c → IsProcessOf c j → ((k : Cost) → Path c j 0 k → IsWithin k b) → IsSafe c b
 
--- the methods of the class have their signatures, are well typed, and call in the order of their ranks
+-- `HasTypedMethods` holds if the methods have the signatures of their descriptors, are well typed, and call methods of lower rank.
 pub record HasTypedMethods (c : Class) : Type 0 where
   pub count : length c.methods ≡ length c.view.methods
   pub signed : (j : ℕ) (v : MethodView) (m : Method) → slice_get c.view.methods j ≡ Some v → slice_get c.methods j ≡ Some m → method_signature c.view v ≡ Some m.environment.signature
   pub typed : (j : ℕ) (v : MethodView) (m : Method) → IsMember c j v m → IsWellTyped c.view m
   pub ordered : (rank : ℕ → ℕ) × IsOrdered c rank
 
--- its name is none of the reserved ones
+-- `HasFreeName` holds if the class name isn't reserved.
 abbrev pub HasFreeName : Class → Type 0
 HasFreeName c = is_one_of c.view.name reserved_names ≡ false
 
--- its `process` is not static
+-- `HasInstanceProcess` holds if `process` isn't static.
 abbrev pub HasInstanceProcess : Class → Type 0
 HasInstanceProcess c = (j : ℕ) (v : MethodView) → IsProcessOf c j → slice_get c.view.methods j ≡ Some v → is_static v.flags ≡ false
 
--- each method but the constructor
+-- `AllMembers` holds if `P` holds of each method except the constructor.
 abbrev pub AllMembers : Class → (Method → Type 0) → Type 0
 AllMembers c P = (j : ℕ) (v : MethodView) (m : Method) → IsMember c j v m → P m
 
--- what is asked of a method beside its typing, but that its instructions stand one behind the other
+-- The premises on a method other than well-typedness, except that its instructions are consecutive.
 pub record IsFormedButForPlaces (m : Method) : Type 0 where
   pub params : NoTop m.environment.signature.params
   pub result : NoTop (result_list m.environment.signature.result)
@@ -49,14 +49,14 @@ pub record IsFormedButForPlaces (m : Method) : Type 0 where
   pub forward : (q r : ℕ) (p : Placed) → instruction_at m q ≡ Some p → IsTarget p.instruction (pos r) → q < r
   pub lengths : (q : ℕ) (p : Placed) (k : ArrayKind) → instruction_at m q ≡ Some p → p.instruction ≡ NewArray k → IsNone (declared_at m q) × HasLength m.code q
 
--- all that is asked of a checked class, but that its name is none of the reserved ones
+-- All premises of a checked class except that its name isn't reserved.
 abbrev pub IsCheckedButForName : Class → Type 0
 IsCheckedButForName c = HasTypedMethods c × HasInstanceProcess c × AllMembers c IsFormed
 
--- but that its `process` is not static
+-- All premises except that `process` isn't static.
 abbrev pub IsCheckedButForInstance : Class → Type 0
 IsCheckedButForInstance c = HasTypedMethods c × HasFreeName c × AllMembers c IsFormed
 
--- but that its instructions stand one behind the other
+-- All premises except that the instructions are consecutive.
 abbrev pub IsCheckedButForPlaces : Class → Type 0
 IsCheckedButForPlaces c = HasTypedMethods c × HasFreeName c × HasInstanceProcess c × AllMembers c IsFormedButForPlaces

@@ -1,4 +1,4 @@
--- The law without one premise that it doesn't need.
+-- The theorem without one premise that it doesn't need.
 use Rattle.std.specs.Prelude.{◌≡◌, ℕ, ◌<◌, false, length, Some, slice_get, IsNone, pos}
 use Rattle.jtypes.specs.declared.operations.ArrayKind.{ArrayKind}
 use Rattle.jtypes.specs.Lists.{result_list, is_one_of}
@@ -14,7 +14,7 @@ use Rattle.bounds.specs.Recursion.{IsOrdered}
 use Rattle.verdict.specs.Shape.{reserved_names}
 use Rattle.verdict.specs.Checked.{NoTop, IsMember}
 
--- all that is asked of a method beside its typing, but that its parameters have room among its locals
+-- The premises on a method other than well-typedness, except that its parameters fit into its local variables.
 pub record IsFormedButForRoom (m : Method) : Type 0 where
   pub params : NoTop m.environment.signature.params
   pub result : NoTop (result_list m.environment.signature.result)
@@ -23,7 +23,7 @@ pub record IsFormedButForRoom (m : Method) : Type 0 where
   pub consecutive : AreConsecutive 0 m.code
   pub lengths : (q : ℕ) (p : Placed) (k : ArrayKind) → instruction_at m q ≡ Some p → p.instruction ≡ NewArray k → IsNone (declared_at m q) × HasLength m.code q
 
--- all that is asked of a checked class, but that room
+-- All premises of a checked class except that parameters fit into local variables.
 pub record IsCheckedButForRoom (c : Class) : Type 0 where
   pub named : is_one_of c.view.name reserved_names ≡ false
   pub instance : (j : ℕ) (v : MethodView) → IsProcessOf c j → slice_get c.view.methods j ≡ Some v → is_static v.flags ≡ false

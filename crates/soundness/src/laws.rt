@@ -1,4 +1,4 @@
-//! The laws.
+//! The theorems about accepted and checked classes.
 
 ghost use Rattle.typecheck.specs.Typing.{IsProcessOf};
 ghost use Rattle.bounds.specs.Paths.{AreBounds};
@@ -19,43 +19,45 @@ ghost use Rattle.soundness.specs.Room.{IsCheckedButForRoom};
 ghost use Rattle.soundness.specs.Tables.{EachTableIsOne};
 ghost use Rattle.jtypes.specs.Profile.{Second};
 
-/// Type soundness with bounds. Take the bytes of a class that nothing refuses, its method `process` with the bounds of its
-/// paths, and any call: any key, an entry or none, any arguments. Then no state that is reached is stuck, that is, no
-/// instruction meets a missing or wrongly typed operand, a bad local, or a place where no instruction stands; each state
-/// stays within the bounds in steps, in words of arrays, in slots of locals and operands, and in depth of calls; and a
-/// final state is reached, a return or a named Java exception, within the bounds on steps and words. The same holds of
-/// each class that is checked in the sense of `IsChecked`, its bytes forgotten, within any bounds that no path from the
-/// start of `process` exceeds.
+/// Type soundness with bounds.
+/// Let the bytes of a class be accepted, and take the bounds of the paths of its method `process`.
+/// For each invocation, with any key, any arguments, and an entry or none:
+/// - no reachable state is stuck: no instruction meets a missing or ill-typed operand, a bad local variable or an invalid pc;
+/// - each reachable state is within the bounds on steps, array words, slots of local variables and operands, and call depth;
+/// - a final state is reached, a return or a named Java exception, within the bounds on steps and words.
 ///
-/// It speaks of the definitions alone, and says nothing of code that runs: which classes `verify` accepts, and that a
-/// running machine takes the steps of the definitions, is for their contracts. The bounds are given: it doesn't say how
-/// to compute them.
+/// The same holds for each class that satisfies `IsChecked`, independent of its bytes, within any bounds that no path from the start
+/// of `process` exceeds.
+///
+/// The theorem is about the definitions, not about code that runs.
+/// The contracts of `verify` say which classes it accepts, and those of the machine that it executes the defined steps.
+/// The bounds are given: the theorem doesn't say how to compute them.
 pub fn type_soundness()
     ensures bytes { TypeSoundness }
     ensures classes { SoundnessOfClasses }
 {}
 
-/// Beside type soundness: for each call of a checked class there is a state to start from, so the law isn't empty for want
-/// of one; and each step that goes on adds one to the steps, so they measure a run.
+/// Each invocation of a checked class has a start state, so type soundness isn't vacuous.
+/// Each step that doesn't end the invocation adds one to the steps.
 pub fn starts_and_counts()
     ensures starts { EachCallStarts }
     ensures counts { EachStepCounts }
 {}
 
-/// A class whose bytes are accepted has its `process`, and bounds: for each of the four measures the most that a path takes.
-/// Its methods but the constructor lead on from each instruction, so a table of costs has these bounds.
+/// An accepted class has `process` and its bounds: for each of the four measures the maximum over all paths.
+/// In a checked class, each instruction of a method other than the constructor has valid successors.
 pub fn accepted_has_bounds()
     ensures bounds { AcceptedHasBounds }
     ensures leads { CheckedLeadsOn }
 {}
 
-/// A class whose bytes are accepted is checked, if its own calls go to methods of lower ranks.
+/// An accepted class is checked if its own calls go to methods of lower rank.
 pub fn accepted_is_checked()
     ensures { AcceptedIsChecked }
 {}
 
-/// The premises hold of a small class, whose `process` loads the entry and returns it: it is checked, the bounds are those of its only
-/// path, and so it is safe within them.
+/// A small class whose `process` loads the entry and returns it satisfies the premises.
+/// It is checked, its bounds are the cost of its only path, and it is safe within them.
 pub fn example_is_checked()
     ensures checked { IsChecked example }
     ensures process { IsProcessOf example 0 }
@@ -63,8 +65,8 @@ pub fn example_is_checked()
     ensures safe { IsSafe example limits }
 {}
 
-/// The premises hold of the bytes of a small class too, whose `process` loads the entry and returns it: no refusal stands in
-/// them, they are the class, the bounds are those of its only path, and so it is safe within them.
+/// The bytes of a small class whose `process` loads the entry and returns it satisfy the premises.
+/// They are accepted and define the class, its bounds are the cost of its only path, and it is safe within them.
 pub fn example_is_accepted()
     ensures accepted { IsAccepted Second small_bytes }
     ensures class { IsClassOf Second small_bytes small_class }
@@ -73,49 +75,49 @@ pub fn example_is_accepted()
     ensures safe { IsSafe small_class limits }
 {}
 
-/// Three of the premises are needed: without any one of them the law is false. A class with a reserved name gets stuck,
-/// and so does one whose `process` is static; one whose instructions don't stand one behind the other takes more words than its
-/// paths do. All else that is asked of a checked class holds of each.
+/// Three of the premises are necessary: without any one of them the theorem is false.
+/// A class with a reserved name gets stuck, and so does a class whose `process` is static.
+/// A class whose instructions aren't consecutive uses more words than its paths count.
+/// Each of these classes satisfies all other premises of a checked class.
 pub fn premises_are_needed()
     ensures name { SoundnessOver IsCheckedButForName → ⊥ }
     ensures instance { SoundnessOver IsCheckedButForInstance → ⊥ }
     ensures places { SoundnessOver IsCheckedButForPlaces → ⊥ }
 {}
 
-/// A class that is not recursive has ranks: numbers of its methods, by which each own call goes to a lower one. And a class
-/// with ranks is not recursive.
+/// A class that isn't recursive has ranks: numbers of its methods such that each own call goes to a method of lower rank.
+/// A class with ranks isn't recursive.
 pub fn ranks_or_recursion()
     ensures ranks { NotRecursiveHasRanks }
     ensures lasting { RankedIsNotRecursive }
 {}
 
-/// A class whose bytes are accepted has ranks.
+/// An accepted class has ranks.
 pub fn accepted_is_ordered()
     ensures { AcceptedIsOrdered }
 {}
 
-/// The tables of frames of a method have one reading: the frames that they declare.
+/// The stack map tables of a method declare at most one list of frames.
 pub fn one_table()
     ensures { EachTableIsOne }
 {}
 
-/// The same bytes are at most one class: one pool, one row of parts, and for each method one environment, one code and one
-/// list of declared frames.
+/// The same bytes define at most one class: one view, and for each method one environment, one code and one list of declared frames.
 pub fn one_class()
     ensures { EachClassIsOne }
 {}
 
-/// Other premises are needed too: without any one of these the law is false. All else that is asked of a checked class holds
-/// of each class below.
-/// - types: a method that returns an operand that isn't there gets stuck.
-/// - signatures: `process` gets stuck where its signature has no result and its descriptor has one.
-/// - operands: a long where a frame declares Top has more slots than are counted, and the next push gets stuck.
-/// - lengths: an array as long as the arguments takes more words than its path says.
-/// - direction: a branch to itself has no path, so no bounds are exceeded, and it takes steps, slots and depth.
-/// - ranks: likewise a method that calls itself.
-/// - count: likewise a call of a method that the class lacks.
-/// - bounds: a class that is checked isn't safe within bounds that its path exceeds.
-/// - process: the paths of another method than `process` say nothing of it.
+/// More premises are necessary: without any one of them the theorem is false.
+/// Each class below satisfies all other premises of a checked class.
+/// - types: a method that returns a missing operand gets stuck.
+/// - signatures: `process` gets stuck if its signature has no result and its descriptor has one.
+/// - operands: a long that a frame declares as `Top` occupies more slots than are counted, and the next push gets stuck.
+/// - lengths: an array as long as the arguments uses more words than its path counts.
+/// - direction: a branch to itself has no path, so no path exceeds the bounds, but it uses steps, slots and depth.
+/// - ranks: the same for a method that calls itself.
+/// - count: the same for a call of a method that the class lacks.
+/// - bounds: a checked class isn't safe within bounds that its path exceeds.
+/// - process: the paths of a method other than `process` don't bound `process`.
 pub fn other_premises_are_needed()
     ensures types { SoundnessOver IsCheckedButForTypes → ⊥ }
     ensures signatures { SoundnessOver IsCheckedButForSignatures → ⊥ }
@@ -128,19 +130,18 @@ pub fn other_premises_are_needed()
     ensures process { SoundnessByAnyMethod → ⊥ }
 {}
 
-/// One premise isn't needed: that a method's parameters have room among its locals. The law holds of all classes of which the
-/// rest is asked, so no class fails for want of it.
+/// One premise isn't necessary: that the parameters of a method fit into its local variables.
+/// The theorem holds for all classes that satisfy the other premises.
 pub fn room_is_not_needed()
     ensures { SoundnessOver IsCheckedButForRoom }
 {}
 
-/// That no parameter and no result is Top, which is asked of a checked class, follows from the descriptors.
+/// The premise that no parameter and no result is `Top` follows from the descriptors.
 pub fn signatures_have_no_top()
     ensures { SignedIsPlain }
 {}
 
-/// Without any one of these premises no bounds help: some class, of which all else that is asked holds, isn't safe within
-/// whatever bounds.
+/// Without any one of these premises, some class satisfies all others and isn't safe within any bounds.
 pub fn some_are_never_safe()
     ensures types { SomeIsNeverSafe IsCheckedButForTypes }
     ensures signatures { SomeIsNeverSafe IsCheckedButForSignatures }
@@ -151,8 +152,9 @@ pub fn some_are_never_safe()
     ensures count { SomeIsNeverSafe IsCheckedButForCount }
 {}
 
-/// The second profile keeps the first one. A class that the first profile accepts is accepted by the second one; it is the
-/// same class, with the same bounds, which are within the first profile's limit of steps, and each call of it means the same.
+/// The second profile is compatible with the first one.
+/// A class that the first profile accepts is accepted by the second one.
+/// It is the same class with the same bounds, within the first profile's limit of steps, and each invocation has the same meaning.
 pub fn first_profile_is_kept()
     ensures accepted { AcceptedIsKept }
     ensures goes_on { ClassGoesOn }

@@ -1,4 +1,4 @@
-//! Type soundness with bounds: a checked class never gets stuck, and stays within what none of its paths exceeds.
+//! Type soundness with bounds: a checked class never gets stuck, and stays within bounds that none of its paths exceeds.
 #![tactic(auto)]
 
 mod laws;

@@ -1,4 +1,4 @@
--- What the class of the chain takes: its first profile's refusal, and that the second one has nothing against its calls and its bounds.
+-- The bounds of the chain class, which exceed the step limit of the first profile but no limit of the second one.
 use Rattle.std.proofs.Common.{◌≡◌, ℕ, zero, suc, ◌+◌, ◌*◌, ◌-◌, ◌<◌, ◌≤◌, ◌==◌, Bool, true, false, cond, Some, None, refl, sym, ap, ◌∙◌, subst, arith, ◌⊎◌, inl, inr}
 use Rattle.std.specs.Prelude.{slice_get, IsSome, ℤ, pos}
 use Rattle.std.proofs.lemmas.Bool.{cases_lt}
@@ -27,7 +27,7 @@ use Rattle.spec_examples.specs.Plain.{placed}
 use Rattle.spec_examples.specs.Chain.{chain, chain_bounds, process, link, end, links_from, reference_of, HasChainBounds}
 use Rattle.spec_examples.proofs.FirstRefuses.{refuses_more_steps}
 
--- ---- what is called
+-- ---- the calls
 
 abbrev pub Below : (ℕ → Type 0) → ℕ → Type 0
 Below P zero = Unit {0}
@@ -41,7 +41,7 @@ below_at P (suc n) k h l = go (below_at P n k h.0) (cases_lt k n)
     go later (inl less) = later less
     go later (inr more) = let same : n ≡ k = omega (arith, l, more) in subst P same h.1
 
--- a call of method k of the chain
+-- A call of method `k` of the chain is one of method `k + 2` of the class.
 abbrev Calls : ℕ → Type 0
 Calls k = call_of chain.view (instruction.Invoke invoke.Static (reference_of k)) ≡ Some (suc (suc k))
 
@@ -56,7 +56,7 @@ constructor_lone : Each (λ p. call_of chain.view p.instruction ≡ None) constr
 unfolding callee_at library_rows method_at class_at pair_at member_of utf8_at
 constructor_lone = (refl, (refl, (refl, tt)))
 
--- ---- the methods but the constructor
+-- ---- the methods other than the constructor
 
 data Which : ℕ → Method → Type 0 where
   at_process : Which 1 process
@@ -98,9 +98,9 @@ there : (j : ℕ) → j < 20 → (m : Method) × (slice_get chain.methods (suc j
 there zero l = (process, refl, refl)
 there (suc i) l = links_there 0 18 i (omega (arith, l))
 
--- ---- where their instructions lead
+-- ---- the successors of their instructions
 
--- to the next one, and to the start of the next method
+-- An instruction continues with the next one, and calls only the next method.
 record Leads (j : ℕ) (m : Method) (p : Placed) : Type 0 where
   straight : target_of p.instruction ≡ None
   next : falls_through p.instruction ≡ true → (p.place < p.next) × IsSome (instruction_at m p.next)
@@ -156,9 +156,9 @@ leads = record { next = next; target = target; callee = callee; ranks = ((λ j. 
         let it = (leads_at j q m p h s).callee k call in
         subst (λ x. (is_in x ≡ true) × ((n : Method) × (slice_get chain.methods x ≡ Some n) × IsSome (instruction_at n 0))) (sym it.0) (refl, there j it.1)
 
--- ---- what they take
+-- ---- their costs
 
--- the steps of a method of the chain behind which so many stand
+-- The steps of a method of the chain with `n` methods after it.
 abbrev steps_of : ℕ → ℕ
 steps_of zero = 1
 steps_of (suc n) = 2 * steps_of n + 3
@@ -166,7 +166,7 @@ steps_of (suc n) = 2 * steps_of n + 3
 abbrev whole : ℕ → Cost
 whole n = record { steps = steps_of n; words = 0; slots = 0; depth = suc n }
 
--- from its second call on
+-- The cost from its second call on.
 abbrev half : ℕ → Cost
 half zero = whole 0
 half (suc n) = record { steps = steps_of n + 2; words = 0; slots = 0; depth = suc (suc n) }
@@ -221,7 +221,7 @@ is_table j place m p h s =
 are_bounds : AreBounds chain 1 chain_bounds
 are_bounds = tables_are_bounds chain is_in costs 1 process leads is_table refl refl refl
 
--- ---- what the profiles make of it
+-- ---- the verdicts of the profiles
 
 process_is : IsProcessOf chain 1
 unfolding utf8_at

@@ -1,4 +1,4 @@
--- The class of the chain is that of its bytes.
+-- The chain class is the class of its bytes.
 use Rattle.std.proofs.Common.{◌≡◌, ℕ, zero, suc, ◌+◌, ◌<◌, List, [], ◌∷◌, length, Ok, refl, arith}
 use Rattle.std.specs.List.{AllZip}
 use Rattle.jtypes.specs.Profile.{Profile, First, Second}
@@ -39,7 +39,7 @@ is_file = record {
 
 -- ---- the instructions
 
--- an instruction, at any place
+-- The bytes are decoded as this instruction at each pc.
 abbrev Reads : Profile → List ℕ → Instruction → Type 0
 Reads profile bytes i = (at : ℕ) → first (one profile chain_pool at) bytes ≡ Ok (i, [])
 
@@ -68,7 +68,7 @@ unfolding one by_form operands form_at operand
 areturn First at = refl
 areturn Second at = refl
 
--- the call of a method of the chain
+-- The bytes of a call are decoded as the call of method `k` of the chain.
 abbrev ReadsCall : Profile → ℕ → Type 0
 ReadsCall profile k = Reads profile (0xB8 ∷ 0 ∷ reference_of k ∷ []) (instruction.Invoke invoke.Static (reference_of k))
 

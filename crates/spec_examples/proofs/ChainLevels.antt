@@ -1,4 +1,4 @@
--- Nothing is wrong with the instructions and the types of the class of the chain, by either profile.
+-- The instructions and the types of the chain class have no refusals in either profile.
 use Rattle.std.proofs.Common.{◌≡◌, ℕ, zero, suc, ◌+◌, ◌-◌, ◌<◌, true, false, List, [], ◌∷◌, ◌++◌, length, Some, None, Ok, refl, sym, ap, ◌∙◌, subst, append_assoc, zero-add, arith, inl, inr}
 use Rattle.std.specs.Prelude.{slice_get, Any, IsFalse, is_some}
 use Rattle.std.proofs.lemmas.Bool.{false≢true}
@@ -48,9 +48,9 @@ use Rattle.spec_examples.proofs.ChainFile.{process_body, link_body, end_body, re
 use Rattle.spec_examples.proofs.ChainShape.{parts_with, good_process, good_link, good_end}
 use Rattle.spec_examples.proofs.FirstAccepts.{body_goes_on}
 
--- ---- a method with which nothing is wrong
+-- ---- a method without refusals
 
--- these bytes are read as these instructions, from a place on
+-- The bytes are decoded as these instructions, from pc `at` on.
 abbrev ReadsAll : Profile → ℕ → List ℕ → List Placed → Type 0
 ReadsAll profile at bytes [] = bytes ≡ []
 ReadsAll profile at bytes (p ∷ ps) = (rest : List ℕ) × (first (one profile chain_pool at) bytes ≡ Ok (p.instruction, rest)) × ReadsAll profile (at + (length bytes - length rest)) rest ps
@@ -77,7 +77,7 @@ each_nth P [] h n p e = cc e
 each_nth P (x ∷ code) h zero p e = let same : x ≡ p = cc e in subst P same h.0
 each_nth P (x ∷ code) h (suc n) p e = each_nth P code h.1 n p e
 
--- no reading of it stops
+-- No instruction of these bytes is refused.
 no_stop : (profile : Profile) (r : Refusal) (ps : List Placed) (at : ℕ) (bytes : List ℕ) → ReadsAll profile at bytes ps → (qs : List Placed) (front back : List ℕ) → bytes ≡ front ++ back
     → IsSequence profile chain_pool at front qs → 0 < length back → Stands (one profile chain_pool (at + length front)) back r → ⊥
 no_stop profile r [] at bytes e qs front back a s n h = absurd (omega (arith, n, ap length e, ap length a, length-append front back))

@@ -1,4 +1,4 @@
--- Nothing is wrong with the shape of the class of the chain.
+-- The shape of the chain class has no refusals.
 use Rattle.std.proofs.Common.{◌≡◌, ℕ, zero, suc, true, List, [], ◌∷◌, Some, refl, arith}
 use Rattle.std.specs.List.{AllZip}
 use Rattle.jtypes.specs.Layout.{number, many}

@@ -1,4 +1,4 @@
--- The verdicts on the bytes of the chain.
+-- The verdicts of the two profiles on the chain class.
 use Rattle.std.proofs.Common.{◌≡◌, List, [], length, refl, subst}
 use Rattle.jtypes.specs.Profile.{First, Second}
 use Rattle.jtypes.proofs.Laws.{laid_out_once}

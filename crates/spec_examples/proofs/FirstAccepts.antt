@@ -1,4 +1,4 @@
--- The first profile accepts the small class: it reads its two instructions as the second one does.
+-- The first profile accepts the small class: it decodes its two instructions as the second profile does.
 use Rattle.std.proofs.Common.{◌≡◌, ℕ, zero, suc, ◌<◌, false, List, [], ◌∷◌, ◌++◌, length, Option, Some, Ok, refl, sym, ap, ◌∙◌, subst, arith, inl, inr}
 use Rattle.std.specs.Prelude.{slice_get, IsFalse}
 use Rattle.std.specs.List.{AllZip}
@@ -132,7 +132,7 @@ first_class = record {
 
 -- ---- its instructions
 
--- an instruction that begins with an opcode of both profiles, and is refused by the first one, is refused by the second
+-- If an opcode has the same form in both profiles, a refusal of its instruction by the first one is one by the second.
 agrees_at : (x : ℕ) (rest : List ℕ) → first (operand 1) (x ∷ rest) ≡ Ok (x, rest) → form_at First x ≡ form_at Second x
     → (at : ℕ) (r : Refusal) → Stands (one First small_pool at) (x ∷ rest) r → Stands (one Second small_pool at) (x ∷ rest) r
 unfolding one
@@ -159,7 +159,7 @@ return_form : form_at First 0xB0 ≡ form_at Second 0xB0
 unfolding form_at
 return_form = refl
 
--- what stops the first profile in the code, stops the second one
+-- A refusal at an instruction of the code by the first profile is one by the second.
 stops_both : (front back : List ℕ) → 0x2B ∷ 0xB0 ∷ [] ≡ front ++ back → 0 < length back → (at : ℕ) (r : Refusal) → Stands (one First small_pool at) back r → Stands (one Second small_pool at) back r
 stops_both [] back e n at r h =
     subst (λ (t : List ℕ). Stands (one Second small_pool at) t r) e

@@ -1,4 +1,4 @@
--- The first profile refuses the small class with a switch, and each class of more steps than its limit.
+-- The first profile refuses the small class with a switch, and each class whose step bound exceeds its limit.
 use Rattle.std.proofs.Common.{◌≡◌, false, List, [], ◌∷◌, Ok, refl, arith, inl, inr}
 use Rattle.std.specs.Prelude.{ℕ, pos}
 use Rattle.jtypes.specs.Profile.{First}
@@ -20,11 +20,11 @@ use Rattle.spec_examples.specs.Profiles.{RefusesSwitch, RefusesMoreSteps}
 use Rattle.spec_examples.specs.SmallSwitch.{switch_code, switch_member, switch_parts}
 use Rattle.spec_examples.proofs.SwitchShape.{is_file, has_shape, process_parts, are_good}
 
--- what is read before the switch
+-- The instructions before the switch.
 abbrev before : List Placed
 before = record { place = 0; next = 1; instruction = instruction.Push (pushed.Int (pos 0)) } ∷ []
 
--- the switch, and what follows it
+-- The operands of the switch, and the bytes after it.
 abbrev operands_and_rest : List ℕ
 operands_and_rest = 0 ∷ 0 ∷ 0 ∷ 0 ∷ 0 ∷ 19 ∷ 0 ∷ 0 ∷ 0 ∷ 0 ∷ 0 ∷ 0 ∷ 0 ∷ 0 ∷ 0 ∷ 0 ∷ 0 ∷ 19 ∷ 0x01 ∷ 0xB0 ∷ []
 
@@ -39,7 +39,7 @@ opcode : first (operand 1) (0xAA ∷ []) ≡ Ok (0xAA, [])
 unfolding operand
 opcode = refl
 
--- no row of the first profile has this opcode
+-- The first profile has no form for this opcode.
 switch_stands : Stands (one First small_pool 1) (0xAA ∷ operands_and_rest) (OutsideProfile 0xAA)
 unfolding one by_form form_at
 switch_stands = inr (0xAA, 0xAA ∷ [], operands_and_rest, refl, whole_found (operand 1) (0xAA ∷ []) 0xAA opcode, refl)

@@ -1,4 +1,4 @@
--- A reference that a cast passes fits the type of the cast, and the effect of an entry leaves it.
+-- A reference that passes a cast fits the cast's type, and one that fits a type fits each type that it is assignable to.
 use Rattle.std.proofs.Common.{◌≡◌, true, Option, Some, None, refl}
 use Rattle.std.specs.Prelude.{slice_get}
 use Rattle.jtypes.specs.declared.types.RefType.{RefType}
@@ -34,7 +34,7 @@ passed_fits arrays value.This _ h = cc
 passed_fits arrays value.Args ref.Object h = refl
 passed_fits arrays value.Args _ h = cc
 
--- what fits, and may stand for another type, fits that one
+-- An array that fits a type fits each type to which that type is assignable.
 array_up : (k : ArrayKind) (q r : RefType) → array_fits k q ≡ true → ref_assignable q r ≡ true → array_fits k r ≡ true
 array_up array.Int ref.Number r h e = cc
 array_up array.Int q ref.Object h e = refl

@@ -1,4 +1,4 @@
--- A method of two instructions is well typed.
+-- A method of two instructions is well typed with one stack slot, and has a mismatch without one.
 use Rattle.std.proofs.Common.{◌≡◌, ◌==◌, Bool, true, false, cond, List, [], ◌∷◌, Some, None, refl, subst, arith, inl}
 use Rattle.classfile.specs.View.{ClassView}
 use Rattle.decode.specs.declared.instruction.Placed.{Placed}

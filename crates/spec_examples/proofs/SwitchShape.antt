@@ -1,4 +1,4 @@
--- The bytes of the small class with a switch are its pool and its parts, and nothing is wrong with their layout and their shape.
+-- The bytes of the small class with a switch are its constant pool and its parts, and its layout and shape have no refusals.
 use Rattle.std.proofs.Common.{◌≡◌, ℕ, ◌<◌, ◌||◌, true, false, List, [], ◌∷◌, length, Some, None, Ok, refl, sym, ap, arith, inl, inr}
 use Rattle.std.specs.List.{AllZip}
 use Rattle.jtypes.specs.Layout.{first, number, many}
@@ -65,7 +65,7 @@ pub constructor_signed : method_signature (view_of small_pool switch_parts) (met
 unfolding sig_of read_params read_type utf8_at class_at class_type field_type field_types result_type signature_of method_signature
 constructor_signed = refl
 
--- a descriptor that is read, signed, and takes few slots
+-- A valid descriptor whose parameters have fewer than 256 slots.
 few_slots : (pool : List Slot) (p : Parts) (m : Member) (sig : Sig) (s : Signature) (n : ℕ) → sig_of (method_view pool m).descriptor ≡ Some sig → method_signature (view_of pool p) (method_view pool m) ≡ Some s → n ≡ slots_taken m.flags sig → n < 256
     → HasSlots (view_of pool p) (method_view pool m) n
 few_slots pool p m sig s n is signed taken few = record { sig = sig; is = is; slots_are = taken; good = good }
@@ -76,7 +76,7 @@ few_slots pool p m sig s n is signed taken few = record { sig = sig; is = is; sl
         let same : x ≡ sig = cc (k, is) in
         omega (arith, many, ap (slots_taken m.flags) same, taken, few)
 
--- a Code whose parts are read, with room for so many slots
+-- A method with one Code attribute, whose parts are good for `n` parameter slots.
 pub one_code : (pool : List Slot) (p : Parts) (m : Member) (content : List ℕ) (c : CodeParts) (sig : Sig) (s : Signature) (n : ℕ) → codes_of pool m ≡ content ∷ [] → parts_of_code content ≡ Some c → sig_of (method_view pool m).descriptor ≡ Some sig
     → method_signature (view_of pool p) (method_view pool m) ≡ Some s → n ≡ slots_taken m.flags sig → n < 256 → (is_abstract m.flags || is_native m.flags || false) ≡ false → ArePartsGood n c → HasGoodMethod pool p m c
 one_code pool p m content c sig s n codes parts is signed taken few plain good =

@@ -1,4 +1,4 @@
--- A class whose methods call one another in a chain, each but the last the next one twice: so each doubles what the class may take.
+-- A class with a chain of methods, of which each but the last calls the next one twice, so that each doubles the steps.
 use Rattle.std.specs.Prelude.{ℕ, zero, suc, ◌+◌, ◌*◌, nat_lt, List, [], ◌∷◌, ◌++◌, length, Some, None, false, negsuc, pos, codes, if◌then◌else◌}
 use Rattle.jtypes.specs.declared.refusal.Refusal.TheVariants.{StepLimit}
 use Rattle.jtypes.specs.declared.operations.Kind.TheVariants as kind
@@ -24,7 +24,7 @@ use Rattle.spec_examples.specs.ChainBytes.{chain_bytes}
 
 -- ---- its constants
 
--- those of each worked class; the Long takes two indexes
+-- The constants of each example class. The Long takes two indexes.
 abbrev common : List Slot
 common =
     Some (Utf8 (codes "Row")) ∷ Some (Class 1) ∷ Some (Utf8 object_name) ∷ Some (Class 3) ∷ Some (Utf8 entry_processor_name) ∷ Some (Class 5)
@@ -42,15 +42,15 @@ common =
     ∷ Some (Long (negsuc 9223372036854775807)) ∷ None ∷ Some (Integer (pos 65535))
     ∷ Some (Utf8 (codes "(Ljavax/cache/processor/MutableEntry;[Ljava/lang/Object;)Ljava/lang/Long;")) ∷ Some (NameAndType 12 52) ∷ Some (Methodref 2 53) ∷ []
 
--- a number below 20 in decimal, behind an m
+-- The name of method `k` below 20: `m` and then `k` in decimal.
 abbrev name_of : ℕ → List ℕ
 name_of k = 109 ∷ (if nat_lt k 10 then (48 + k) ∷ [] else 49 ∷ (38 + k) ∷ [])
 
--- the index of the Methodref of method k of the chain; its name and its pair stand before it
+-- The constant pool index of the Methodref of method `k`. Its name and its NameAndType are the two constants before.
 abbrev pub reference_of : ℕ → ℕ
 reference_of k = 57 + 3 * k
 
--- the constants of so many methods of the chain, from k on
+-- The constants of `n` methods of the chain, from method `k` on.
 abbrev names_from : ℕ → ℕ → List Slot
 names_from k zero = []
 names_from k (suc n) = Some (Utf8 (name_of k)) ∷ Some (NameAndType (55 + 3 * k) 8) ∷ Some (Methodref 2 (56 + 3 * k)) ∷ names_from (suc k) n
@@ -60,7 +60,7 @@ names_from k (suc n) = Some (Utf8 (name_of k)) ∷ Some (NameAndType (55 + 3 * k
 abbrev pub nothing : Signature
 nothing = record { params = []; result = None; is_boolean = false }
 
--- method k of the chain: it calls the next one twice
+-- Method `k` of the chain, which calls the next one twice.
 abbrev pub link : ℕ → typing.Method
 link k = record {
   environment = record { signature = nothing; max_stack = 0; max_locals = 0 };
@@ -71,7 +71,7 @@ link k = record {
   declared = [];
 }
 
--- the last one, which calls none
+-- The last method, which calls none.
 abbrev pub end : typing.Method
 end = record {
   environment = record { signature = nothing; max_stack = 0; max_locals = 0 };
@@ -79,12 +79,12 @@ end = record {
   declared = [];
 }
 
--- so many methods of the chain from k on, and the last one
+-- `n` methods of the chain from method `k` on, and the last one.
 abbrev pub links_from : ℕ → ℕ → List typing.Method
 links_from k zero = end ∷ []
 links_from k (suc n) = link k ∷ links_from (suc k) n
 
--- it calls method 0 of the chain and returns null
+-- It calls method 0 of the chain and returns null.
 abbrev pub process : typing.Method
 process = record {
   environment = record { signature = example.signature; max_stack = 1; max_locals = 3 };
@@ -100,7 +100,7 @@ process = record {
 abbrev pub chain_pool : List Slot
 chain_pool = common ++ names_from 0 19
 
--- what a Code attribute holds: no exceptions, and no attributes of its own (JVMS 4.7.3)
+-- The contents of a Code attribute without exception handlers and attributes (JVMS §4.7.3).
 abbrev pub content_of : ℕ → ℕ → List ℕ → List ℕ
 content_of stack locals code = 0 ∷ stack ∷ 0 ∷ locals ∷ 0 ∷ 0 ∷ 0 ∷ length code ∷ (code ++ 0 ∷ 0 ∷ 0 ∷ 0 ∷ [])
 
@@ -113,7 +113,7 @@ link_code k = 0xB8 ∷ 0 ∷ reference_of (suc k) ∷ 0xB8 ∷ 0 ∷ reference_o
 abbrev pub process_member : Member
 process_member = record { flags = 0x81; name = 12; descriptor = 13; attributes = code_of (content_of 1 3 process_code) ∷ [] }
 
--- method k of the chain, which is static, from nothing to nothing
+-- Method `k` of the chain, static and with the descriptor `()V`.
 abbrev pub member_of : ℕ → List ℕ → Member
 member_of k code = record { flags = 8; name = 55 + 3 * k; descriptor = 8; attributes = code_of (content_of 0 0 code) ∷ [] }
 
@@ -132,27 +132,27 @@ chain_parts = record {
   attributes = [];
 }
 
--- a constructor, `process`, and the 19 methods of the chain
+-- A constructor, `process`, and the 19 methods of the chain.
 abbrev pub chain : typing.Class
 chain = record { view = view_of chain_pool chain_parts; methods = constructor_method ∷ process ∷ links_from 0 18 }
 
--- by each profile it is the class of its bytes
+-- It is the class of its bytes in each profile.
 abbrev pub IsChain : Type 0
 IsChain = (profile : Profile) → IsClassOf profile chain_bytes chain
 
--- ---- what the profiles make of it
+-- ---- its verdicts
 
--- 2 ^ 20 steps, no word of an array, three locals and an operand of `process`, 20 activations
+-- 2^20 steps, no words of arrays, 4 slots (three locals and an operand of `process`), and 20 frames.
 abbrev pub chain_bounds : Bounds
 chain_bounds = record { steps = 1_048_576; words = 0; slots = 4; depth = 20 }
 
 abbrev pub HasChainBounds : Type 0
 HasChainBounds = IsProcessOf chain 1 × AreBounds chain 1 chain_bounds
 
--- the first profile refuses it for its steps
+-- The first profile refuses it for its steps.
 abbrev pub RefusesChain : Type 0
 RefusesChain = IsRefused First chain_bytes StepLimit
 
--- the second one, whose limit is higher, accepts it
+-- The second profile, whose limit is higher, accepts it.
 abbrev pub AcceptsChain : Type 0
 AcceptsChain = IsAccepted Second chain_bytes

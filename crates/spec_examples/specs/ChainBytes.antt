@@ -1,7 +1,7 @@
--- The bytes of a class whose methods call one another in a chain.
+-- The bytes of a class with a chain of methods.
 use Rattle.std.specs.Prelude.{ℕ, List, [], ◌∷◌}
 
--- Chain, 1617 bytes: `process` calls m0, and each of m0 to m17 calls the next one twice
+-- Chain, 1617 bytes: `process` calls m0, and each of m0 to m17 calls the next one twice.
 unfoldable pub chain_bytes : List ℕ
 chain_bytes =
     0xCA ∷ 0xFE ∷ 0xBA ∷ 0xBE ∷ 0x00 ∷ 0x00 ∷ 0x00 ∷ 0x34 ∷ 0x00 ∷ 0x70 ∷ 0x01 ∷ 0x00 ∷ 0x03 ∷ 0x52 ∷ 0x6F ∷ 0x77 ∷ 0x07 ∷ 0x00 ∷ 0x01 ∷ 0x01 ∷ 0x00 ∷ 0x10 ∷ 0x6A ∷ 0x61 ∷

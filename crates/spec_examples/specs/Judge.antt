@@ -1,4 +1,4 @@
--- A plain program for the verdict of a profile: the numbers of all refusals that stand, and the bounds.
+-- A program that computes the verdict of a profile: the numbers of the refusals of the first level that has any, or the bounds.
 use Rattle.std.specs.Prelude.{ℕ, zero, suc, ◌+◌, ◌-◌, ◌*◌, ◌==◌, max, nat_lt, nat_le, Bool, true, false, not, ◌&&◌, ◌||◌, List, [], ◌∷◌, ◌++◌, length, map, filter, take, drop, flat_map, Option, Some, None, is_some, is_none, Result, Ok, Err, option_map, slice_get, if◌then◌else◌, ℤ, pos, negsuc, int_le, codes}
 use Rattle.std.specs.List.{list_all}
 use Rattle.jtypes.specs.declared.refusal.Refusal.{Refusal}
@@ -35,7 +35,7 @@ use Rattle.jtypes.specs.Profile.{Profile, Second}
 
 -- ---- layouts
 
--- what a reading finds, whatever it judges
+-- The result of a reading, regardless of its checks.
 unfoldable pub found : {A : Type 0} → Layout A → List ℕ → Option (A × List ℕ)
 found (known x) bytes = Some (x, bytes)
 found (part_or q n) bytes = if nat_lt (length bytes) n then None else Some (take n bytes, drop n bytes)
@@ -49,7 +49,7 @@ abbrev pub list_from : {A B : Type 0} → Option A → (A → List B) → List B
 list_from None f = []
 list_from (Some x) f = f x
 
--- the refusals that stand
+-- The numbers of the refusals of a reading.
 unfoldable pub standing : {A : Type 0} → Layout A → List ℕ → List ℕ
 standing (known x) bytes = []
 standing (part_or q n) bytes = if nat_lt (length bytes) n then number q ∷ [] else []
@@ -135,7 +135,7 @@ shape_refusals pool p =
 
 -- ---- level C
 
--- the instructions of a code, at most so many, or the refusal at which the reading stops
+-- The instructions of a code array, at most `most`, or the refusal at which decoding stops.
 unfoldable pub decoded : Profile → ℕ → List Slot → ℕ → List ℕ → Result (List Placed) Refusal
 decoded profile most pool at [] = Ok []
 decoded profile zero pool at (b ∷ bytes) = Ok []
@@ -154,7 +154,7 @@ abbrev pub is_bad_target : List Placed → ℤ → Bool
 is_bad_target code (pos q) = is_none (at_place code q)
 is_bad_target code (negsuc n) = true
 
--- where an instruction may lead, beside the next one
+-- The branch targets of an instruction, without the next instruction after it.
 abbrev pub targets_of : Instruction → List ℤ
 targets_of i = list_from (target_of i) (λ t. t ∷ []) ++ cases_of i
 
@@ -229,7 +229,8 @@ abbrev pub judged_at : ClassView → Method → Placed → Option Frame → (Opt
 judged_at v m p None go = Some p.place
 judged_at v m p (Some f) go = after_outcome m p go (transfer v m.environment p.instruction f)
 
--- the first place that fails; the frame with which each instruction is checked is the declared one, or the outcome before
+-- The pc of the first instruction that fails.
+-- Each instruction is checked with its declared frame, or else with the outcome of the instruction before.
 unfoldable pub mismatch : ClassView → Method → Option Frame → List Placed → Option ℕ
 mismatch v m current [] = None
 mismatch v m current (p ∷ ps) =
@@ -250,7 +251,7 @@ is_new_array _ = false
 abbrev pub lacks_length : List Placed → List (ℕ × Frame) → Bool
 lacks_length code declared = any (λ p. is_new_array p.instruction && (not (holds is_length (pushed_before code p.place)) || is_some (frame_in declared p.place))) code
 
--- numbers; 1000 is added to the place of a mismatch
+-- Mismatches as numbers: 1000 plus the pc.
 abbrev pub mismatch_number : Option ℕ → List ℕ
 mismatch_number None = []
 mismatch_number (Some p) = (1000 + p) ∷ []
@@ -283,7 +284,8 @@ greater None o = o
 greater (Some a) None = Some a
 greater (Some a) (Some b) = Some (greatest a b)
 
--- the greatest over the paths from a place of method j, by at most so many turns; none where they do not suffice
+-- The greatest cost over the paths from a pc of method `j`, among those that are within `most` recursion steps;
+-- `None` if there are none.
 unfoldable pub cost : ℕ → Class → ℕ → ℕ → Option Cost
 cost zero c j place = None
 cost (suc most) c j place = slice_get c.methods j >>= λ m. at_place m.code place >>= λ p. through m p (cost most c)
@@ -305,7 +307,7 @@ abbrev pub limit_refusals : Profile → Cost → List ℕ
 limit_refusals profile k =
     flag 27 (nat_lt (step_limit profile) k.steps) ++ flag 28 (nat_lt word_limit k.words) ++ flag 29 (nat_lt slot_limit k.slots || nat_lt depth_limit k.depth)
 
--- what a class answers: refusals, or bounds
+-- The result for a class: the numbers of its refusals, or its bounds.
 pub data Answered : Type 0 where
   Refused : List ℕ → Answered
   Accepted : (steps words slots depth : ℕ) → Answered
@@ -321,7 +323,7 @@ abbrev pub by_cost : Profile → Option Cost → Answered
 by_cost profile None = Refused (25 ∷ [])
 by_cost profile (Some k) = unless (limit_refusals profile k) (accepted k)
 
--- the costs of all methods from number j on, reachable or not; none where some method's turns do not suffice
+-- Whether each method from index `j` on, reachable or not, has a cost within 120 recursion steps.
 abbrev pub each_has_cost : Class → ℕ → List Method → Bool
 each_has_cost c j [] = true
 each_has_cost c j (m ∷ ms) = is_some (cost 120 c j 0) && each_has_cost c (suc j) ms
@@ -330,7 +332,7 @@ abbrev pub by_class : Profile → Option Class → Answered
 by_class profile None = Refused []
 by_class profile (Some c) = if each_has_cost c 0 c.methods then by_cost profile (number_of_process c >>= λ j. cost 120 c j 0) else Refused (25 ∷ [])
 
--- the class is read by the second profile, which reads what the first one reads as the same
+-- The class is read with the second profile, which reads the classes of the first profile in the same way.
 abbrev pub by_parts : Profile → Option ((List Slot × Parts) × List ℕ) → Answered
 by_parts profile None = Refused []
 by_parts profile (Some (p, rest)) =
@@ -347,7 +349,7 @@ judge bytes = judge_by Second bytes
 abbrev pub is_in : List ℕ → ℕ → Bool
 is_in xs n = any (λ m. m == n) xs
 
--- the refusals are among these, and all of those stand
+-- The class is refused; all of `sure` are among its refusals, and its refusals are all among `allowed`.
 abbrev pub agrees : Answered → List ℕ → List ℕ → Bool
 agrees (Refused found) sure allowed = nat_lt 0 (length found) && list_all (is_in found) sure && list_all (is_in allowed) found
 agrees (Accepted steps words slots depth) sure allowed = false

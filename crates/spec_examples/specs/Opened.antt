@@ -1,4 +1,4 @@
--- Every definition that examples compute with, opened by one name.
+-- The definitions that the examples unfold to compute, under one name.
 use Rattle.jtypes.specs.Layout.{number, operand, many}
 use Rattle.constpool.specs.Descriptor.{read_type, read_params, sig_of}
 use Rattle.constpool.specs.Lookup.{utf8_at, integer_at, long_at, class_at, pair_at, member_of, method_at, interface_method_at, constant_refers, refers}

@@ -1,4 +1,4 @@
--- A plain program that computes the definitions on small inputs: the class of some bytes, and the meaning of a call.
+-- A program that computes the definitions on small inputs: the class of some bytes, and the final state of a call.
 use Rattle.std.specs.Prelude.{ℕ, zero, suc, ◌+◌, ◌-◌, List, [], ◌∷◌, length, map, Option, Some, None, Result, Ok, Err, option_map, ℤ, true, false}
 use Rattle.jtypes.specs.declared.refusal.Refusal.{Refusal}
 use Rattle.jtypes.specs.declared.types.Arg.{Arg}
@@ -26,7 +26,7 @@ use Rattle.typecheck.specs.Typing.{Method, Class}
 use Rattle.verdict.specs.Machine.{Invocation, Final, start}
 use Rattle.verdict.specs.Meaning.{run}
 
--- what a reading gave, if it took all the bytes
+-- The result of a reading that uses all bytes.
 abbrev pub all_read : {A : Type 0} → Result (A × List ℕ) Refusal → Option A
 all_read (Ok (x, [])) = Some x
 all_read _ = None
@@ -38,14 +38,14 @@ unfoldable pub item_of : ℕ → ℕ → Result (Instruction × List ℕ) Refusa
 item_of at left (Err r) = None
 item_of at left (Ok (i, rest)) = Some (placed at (at + (left - length rest)) i, rest)
 
--- the instructions of a code, at most so many
+-- The instructions of a code array, if there are at most `most`.
 unfoldable pub decode_all : ℕ → List Slot → ℕ → List ℕ → Option (List Placed)
 decode_all most pool at [] = Some []
 decode_all zero pool at (b ∷ bytes) = None
 decode_all (suc most) pool at (b ∷ bytes) =
     item_of at (length (b ∷ bytes)) (first (one Second pool at) (b ∷ bytes)) >>= λ p. option_map (λ ps. p.0 ∷ ps) (decode_all most pool p.0.next p.1)
 
--- the declared frames of no table, or of one
+-- The declared frames, from no StackMapTable or from one.
 abbrev pub frames_of : ClassView → Environment → List (List ℕ) → Option (List (ℕ × Frame))
 frames_of v e [] = Some []
 frames_of v e (content ∷ []) = all_read (first (table v) content) >>= λ entries. option_map (map (declared_of e)) (frames_from None e.signature.params entries)
@@ -73,18 +73,18 @@ methods_of v (m ∷ ms) = method_of v m >>= λ x. option_map (λ xs. x ∷ xs) (
 unfoldable pub class_in : List Slot × Parts → Option Class
 class_in p = option_map (λ ms. record { view = view_of p.0 p.1; methods = ms }) (methods_of (view_of p.0 p.1) p.1.methods)
 
--- the class of these bytes
+-- The class of these bytes.
 unfoldable pub class_of : List ℕ → Option Class
 class_of bytes = all_read (first (class_file (length bytes)) bytes) >>= class_in
 
--- the final state of a call, reached in at most so many steps, where the loader answers this if it is asked
+-- The final state of a call, if it is reached in at most `most` steps; `a` is the loader's answer, if it is asked.
 unfoldable pub ends_with : ℕ → Class → LoadAnswer → Invocation → Option Final
 ends_with most c a call = start c call >>= run most c a
 
 abbrev pub the_call : ℤ → Option ℤ → List Arg → Invocation
 the_call key before args = record { key = key; args = args; before = before; loads = false }
 
--- on an absent key, where there is a loader
+-- A call on an absent key, with a loader.
 abbrev pub the_asking_call : ℤ → List Arg → Invocation
 the_asking_call key args = record { key = key; args = args; before = None; loads = true }
 

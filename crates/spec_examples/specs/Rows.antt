@@ -1,4 +1,4 @@
--- Small classes, from their bytes to the ends of their calls.
+-- Small classes, from their bytes to the final states of their calls.
 use Rattle.std.specs.Prelude.{◌≡◌, ℕ, true, false, [], ◌∷◌, Some, None, pos, negsuc, refl}
 use Rattle.jtypes.specs.declared.types.Arg.TheVariants as arg
 use Rattle.jtypes.specs.declared.types.JavaFault.TheVariants as fault
@@ -13,15 +13,15 @@ use Rattle.spec_examples.specs.Opened.{opened}
 use Rattle.spec_examples.specs.SwitchBytes.{table_bytes, look_bytes, far_bytes, inc_bytes, jump_bytes}
 use Rattle.spec_examples.specs.Bytes.{arr_zero_bytes, bridge_bytes, counter_bytes, div_least_bytes, give_entry_bytes, loose_bytes, nest_fault_bytes, plus_bytes, ratio_bytes, rem_least_bytes, set_remove_bytes, shift64_bytes, shift_neg_bytes, unbox_bytes}
 
--- where neither setValue nor remove was called, or an exception took back what they did
+-- The final state if neither `setValue` nor `remove` was called, or an exception undid their effect.
 abbrev pub final : Outcome → Entry → ℕ → ℕ → Final
 final o e steps words = record { outcome = o; entry = e; untouched = true; asked = None; steps = steps; words = words }
 
--- the same, where the loader was asked and answered this
+-- The same if the loader was asked and gave this answer.
 abbrev pub final_by : LoadAnswer → Outcome → Entry → ℕ → Final
 final_by a o e steps = record { outcome = o; entry = e; untouched = true; asked = Some a; steps = steps; words = 0 }
 
--- the same, where one of them was called
+-- The same if `setValue` or `remove` was called and took effect.
 abbrev pub changed : Final → Final
 changed f = record { outcome = f.outcome; entry = f.entry; untouched = false; asked = f.asked; steps = f.steps; words = f.words }
 
@@ -171,7 +171,7 @@ pub jump_1 : outcome_of 30 (class_of jump_bytes) (the_call (pos 7) None []) ≡ 
 unfolding opened jump_bytes
 jump_1 = refl
 
--- ---- where there is a loader, on absent keys
+-- ---- with a loader, on absent keys
 
 pub plus_loaded : outcome_by 30 (class_of plus_bytes) (load.Value (pos 41)) (the_asking_call (pos 7) ([])) ≡ Some (changed (final_by (load.Value (pos 41)) (Returned (arg.Long (pos 42))) (Some (pos 42)) 14))
 unfolding opened plus_bytes

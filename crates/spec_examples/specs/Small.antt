@@ -1,4 +1,4 @@
--- A method of two instructions, aload_1 and areturn.
+-- A method of two instructions, `aload_1` and `areturn`.
 use Rattle.std.specs.Prelude.{ℕ, List, [], ◌∷◌, Some, false}
 use Rattle.jtypes.specs.declared.types.RefType.TheVariants as ref
 use Rattle.jtypes.specs.declared.types.JType.{JType}
@@ -31,7 +31,7 @@ environment stack = record {
   max_locals = 3;
 }
 
--- with so many slots of stack
+-- The method with `stack` slots of operand stack.
 abbrev pub method : ℕ → Method
 method stack = record { environment = environment stack; code = load_entry ∷ give ∷ []; declared = [] }
 
@@ -44,6 +44,6 @@ class v = record { view = v; methods = method 1 ∷ [] }
 abbrev pub cost : Cost
 cost = record { steps = 2; words = 0; slots = 4; depth = 1 }
 
--- with a slot it is well typed, and has a path of two steps; without one the load fails
+-- With one slot the method is well typed and has a path of two steps; without a slot it has a mismatch at pc 0.
 abbrev pub GivesEntry : Type 0
 GivesEntry = (v : ClassView) → IsWellTyped v (method 1) × Path (class v) 0 0 cost × IsMismatch v (method 0) 0

@@ -1,17 +1,17 @@
-//! Laws of the definitions.
+//! Properties of the definitions.
 
 ghost use Rattle.spec_examples.specs.Statements.{FitsAssignable, OneMeaning, OrderedEnds, PassedFits, RunsMean};
 ghost use Rattle.spec_examples.specs.Small.{GivesEntry};
 ghost use Rattle.spec_examples.specs.Profiles.{AcceptsSmall, RefusesSwitch, RefusesMoreSteps};
 ghost use Rattle.spec_examples.specs.Chain.{IsChain, HasChainBounds, RefusesChain, AcceptsChain};
 
-/// What a run computes is the meaning.
+/// The result of a run is the meaning of the call.
 pub fn runs_mean()
     ensures { RunsMean }
 {}
 
-/// A call has one meaning at most, for what a loader answered if it was asked: one outcome, one entry that it leaves, and one
-/// count of steps and of words.
+/// A call has at most one meaning for each answer of the loader:
+/// one outcome, one entry that it leaves, and one count of steps and of words.
 pub fn one_meaning()
     ensures { OneMeaning }
 {}
@@ -21,30 +21,30 @@ pub fn ordered_ends()
     ensures { OrderedEnds }
 {}
 
-/// A method of two instructions is well typed, has a path, and fails without room.
+/// A method of two instructions is well typed and has a path; without an operand stack slot it is refused.
 pub fn two_instructions()
     ensures { GivesEntry }
 {}
 
-/// Casts and assignments keep to what fits.
+/// A reference that passes a cast fits the cast's type. One that fits a type fits each type to which that type is assignable.
 pub fn references_fit()
     ensures casts { PassedFits }
     ensures assignments { FitsAssignable }
 {}
 
-/// The first profile accepts a class, so that what is said of the classes that it accepts is said of some.
+/// The first profile accepts a class, so statements on the classes that it accepts are not vacuous.
 pub fn first_profile_accepts()
     ensures { AcceptsSmall }
 {}
 
-/// It refuses a switch by its opcode, and a class that may take more steps than its own limit, which the second profile raises.
+/// The first profile refuses a switch by its opcode, and each class without recursion whose step bound exceeds the profile's limit.
 pub fn first_profile_refuses()
     ensures switch { RefusesSwitch }
     ensures steps { RefusesMoreSteps }
 {}
 
-/// Of those it refuses a class of 19 methods, of which each but the last calls the next one twice. It takes 2^20 steps at most, and the
-/// second profile accepts it.
+/// The first profile refuses a class with a chain of 19 methods, of which each but the last calls the next one twice.
+/// The class has a bound of 2^20 steps, and the second profile accepts it.
 pub fn first_profile_refuses_a_chain()
     ensures class { IsChain }
     ensures bounds { HasChainBounds }

@@ -1,4 +1,4 @@
-//! The worked rows, and the definitions that no contract cites yet.
+//! The worked examples, and the definitions of the verdict and of soundness.
 
 ghost use Rattle.std.specs.Prelude.{◌≡◌, ℕ, List};
 ghost use Rattle.jtypes.specs.declared.refusal.Refusal.{Refusal};
@@ -12,7 +12,7 @@ ghost use Rattle.spec_examples.specs.Rows.{checked};
 ghost use Rattle.spec_examples.specs.Verdicts.{judged};
 ghost use Rattle.jtypes.specs.Profile.{Profile, Second};
 
-/// Names the rows, so that a check computes them.
+/// Names the examples, so that a check computes them.
 pub fn all_examples()
     ensures classes { (bytes : List ℕ) → class_of bytes ≡ class_of bytes }
     ensures verdicts { (profile : Profile) (bytes : List ℕ) → judge_by profile bytes ≡ judge_by profile bytes }
@@ -20,7 +20,7 @@ pub fn all_examples()
     ensures judged { judged ≡ judged }
 {}
 
-/// Names the verdict and the statement of soundness, so that a check elaborates them. It claims nothing of them.
+/// Names the verdict and the statement of soundness, so that a check elaborates them. It claims nothing about them.
 pub fn all_definitions()
     ensures verdicts { (bytes : List ℕ) (r : Refusal) → IsRefused Second bytes r → IsRefused Second bytes r }
     ensures classes { (bytes : List ℕ) (c : Class) → IsAccepted Second bytes → IsClassOf Second bytes c → IsClassOf Second bytes c }
