@@ -1,4 +1,4 @@
--- Laws of reading an arena's words.
+-- Lemmas on reads of an arena's words.
 use Rattle.std.proofs.Common.{◌≡◌, ℕ, zero, suc, ◌+◌, ◌<◌, ◌≤◌, List, [], ◌∷◌, ℤ, pos, Some, refl, ◌∙◌, ap, length, get_or, arith}
 use Rattle.std.specs.Prelude.{slice_get, slice_index}
 use Rattle.std.specs.Int.{w64, cast_signed, cast_unsigned}
@@ -12,7 +12,7 @@ use Rattle.arena.specs.Stored.{length_in, kind_in, all_words, arrays_of, held_in
 use Rattle.arena.proofs.Placing.{array_within}
 use Rattle.arena.proofs.Words.{length_in-header_of, kind_in-header_of, length-all_words, header_read, item_read, array_elements, element_fits, HasPlace}
 
--- what is known of the words of an array that begins at a word
+-- What holds of the words of an array that begins at word `w`.
 pub record IsRead (words : List ℕ) (w : ℕ) (a : Array) : Type 0 where
   pub within : w + words_of (length a.items) ≤ length words
   pub count : length_in (slice_index words w) ≡ length a.items
@@ -43,7 +43,7 @@ array_found [] k l = absurd (omega arith)
 array_found (a ∷ arrays) zero l = (a, refl)
 array_found (a ∷ arrays) (suc k) l = array_found arrays k (omega arith)
 
--- some array begins there, and it is one of those that words are taken for
+-- An array begins at word `w`, with its properties.
 pub record IsSomeRead (words : List ℕ) (arrays : Arrays) (w : ℕ) : Type 0 where
   pub number : ℕ
   pub array : Array
@@ -64,7 +64,7 @@ some_read s held w h v at =
       taken = omega (arith, array_within held.arrays at.0 f.0 f.1);
     }
 
--- an element that is read
+-- The element that is read.
 pub record IsElementRead (a : Array) (index : ℤ) (word : ℕ) : Type 0 where
   pub item : item_at a.items index ≡ Some (cast_signed w64 word)
   pub fits : FitsElement a.kind (cast_signed w64 word)

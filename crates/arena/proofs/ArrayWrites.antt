@@ -1,4 +1,4 @@
--- Laws of writing an arena's words.
+-- Lemmas on writes of an arena's words.
 use Rattle.std.proofs.Common.{◌≡◌, ℕ, suc, ◌+◌, ◌<◌, ◌≤◌, ◌^◌, List, [], ◌∷◌, ◌++◌, ℤ, pos, Some, refl, sym, ◌∙◌, ap, length, replicate, arith, FitsSigned}
 use Rattle.std.specs.Prelude.{slice_get, slice_set}
 use Rattle.std.specs.Int.{w64, cast_unsigned}
@@ -14,7 +14,7 @@ use Rattle.arena.specs.Stored.{header_of, all_words, arrays_in, held_in, AllElem
 use Rattle.arena.proofs.Words.{arrays_in-all_words, words_pushed, words_changed, zeros_fit, elements_fit-push, elements_changed, HasPlace}
 use Rattle.arena.proofs.ArrayReads.{is_stored_as}
 
--- what an arena is whose row of words is this
+-- An arena with these words has these arrays.
 pub record IsWritten (row : Row) (arrays : Arrays) : Type 0 where
   pub same : arrays_in (length row.items) row.items ≡ arrays
   pub stored : IsStored record { words = row }
@@ -29,7 +29,7 @@ is_written row arrays e h l m =
       stored = record { words = e ∙ ap all_words (sym q); elements = rw q h; room = l; few = m };
     }
 
--- a new array behind all others
+-- A new array after all other arrays.
 pub array_pushed : (s : Inside) (held : Held) (row : Row) (kind : ArrayKind) (n : ℕ) → IsStored s → held_in s ≡ held → row ≡ record { items = slice_set (s.words.items ++ replicate (suc n) 0) (length s.words.items) (header_of kind n); capacity = s.words.capacity } → length s.words.items + suc n ≤ s.words.capacity → IsWritten row (held.arrays ++ new_array kind n ∷ [])
 array_pushed s held row kind n h v e l =
     let p : s.words.items ≡ all_words held.arrays = is_stored_as s held h v in
@@ -40,7 +40,7 @@ array_pushed s held row kind n h v e l =
     let k : length row.items ≡ length s.words.items + suc n = ap (λ (r : Row). length r.items) e ∙ length-set (s.words.items ++ replicate (suc n) 0) (length s.words.items) (header_of kind n) ∙ length-append s.words.items (replicate (suc n) 0) ∙ ap (λ m. length s.words.items + m) (length-replicate (suc n) 0) in
     is_written row (held.arrays ++ new_array kind n ∷ []) j (elements_fit-push held.arrays (new_array kind n) f (zeros_fit kind n)) (omega (arith, k, c)) (omega (arith, c, h.few))
 
--- one element changed
+-- One element is changed.
 pub array_written : (s : Inside) (held : Held) (row : Row) (k w place : ℕ) (a : Array) (index value : ℤ) → IsStored s → held_in s ≡ held → IsArrayAt held.arrays k w → slice_get held.arrays k ≡ Some a → HasPlace w a index place → FitsSigned w64 value → FitsElement a.kind value → row ≡ record { items = slice_set s.words.items place (cast_unsigned w64 value); capacity = s.words.capacity } → IsWritten row (change (with_element index value) held.arrays k)
 array_written s held row k w place a index value h v at e g f j r =
     let p : s.words.items ≡ all_words held.arrays = is_stored_as s held h v in

@@ -1,4 +1,4 @@
--- Laws of where arrays stand.
+-- Lemmas on the word indices of arrays.
 use Rattle.std.proofs.Common.{◌≡◌, ℕ, zero, suc, ◌+◌, ◌<◌, ◌≤◌, [], ◌∷◌, ◌++◌, ℤ, pos, negsuc, Some, refl, sym, ◌∙◌, ap, length, arith}
 use Rattle.std.proofs.lemmas.List.{length-append, length-set}
 use Rattle.std.proofs.lemmas.List.Sums.{sum_by-cons}
@@ -9,7 +9,7 @@ use Rattle.jtypes.specs.Lists.{change}
 use Rattle.arena.specs.Held.{words_taken, with_element}
 use Rattle.arena.specs.Placing.{place_of, IsArrayAt}
 
--- ---- a further array
+-- ---- one more array
 
 pub place_of-append : (arrays : Arrays) (a : Array) (k : ℕ) → k < length arrays → place_of (arrays ++ a ∷ []) k ≡ place_of arrays k
 place_of-append [] a k l = absurd (omega arith)
@@ -26,7 +26,7 @@ pub place_of-end : (arrays : Arrays) (a : Array) → place_of (arrays ++ a ∷ [
 place_of-end [] a = refl
 place_of-end (b ∷ arrays) a = ap (λ p. words_of (length b.items) + p) (place_of-end arrays a) ∙ sym (sum_by-cons (λ (c : Array). words_of (length c.items)) b arrays)
 
--- a new array stands behind all others
+-- A new array begins after all other arrays.
 pub array_added : (arrays : Arrays) (a : Array) → IsArrayAt (arrays ++ a ∷ []) (length arrays) (words_taken arrays)
 array_added arrays a = record {
   there = omega (arith, length-append arrays (a ∷ []));
@@ -57,7 +57,7 @@ array_changed arrays j k w i n h = record {
   place = h.place ∙ sym (place_of-change arrays j k i n);
 }
 
--- ---- each array takes a word
+-- ---- word indices are unique
 
 same_place : (arrays : Arrays) (k j : ℕ) → k < length arrays → j < length arrays → place_of arrays k ≡ place_of arrays j → k ≡ j
 same_place [] k j l m e = absurd (omega arith)

@@ -1,4 +1,4 @@
--- Laws of arrays as words.
+-- Lemmas on the words of arrays.
 use Rattle.std.proofs.Common.{◌≡◌, ℕ, zero, suc, ◌+◌, ◌-◌, ◌*◌, ◌%◌, ◌<◌, ◌≤◌, ◌^◌, List, [], ◌∷◌, ◌++◌, ℤ, pos, negsuc, Some, None, refl, sym, ◌∙◌, ap, length, get_or, take, drop, set, map, replicate, arith, FitsSigned}
 use Rattle.std.specs.Prelude.{slice_get}
 use Rattle.std.specs.Int.{w32, w64, cast_signed, cast_unsigned}
@@ -29,7 +29,7 @@ kind_in-header_of array.Long n =
     let e : (n * 2 + 1) % 2 ≡ 1 = omega arith in
     rw e refl
 
--- ---- words stand for their arrays alone
+-- ---- words determine their arrays
 
 pub signed_again : (kind : ArrayKind) (items : List ℤ) → ElementsFit kind items → map (cast_signed w64) (map (cast_unsigned w64) items) ≡ items
 signed_again kind [] h = refl
@@ -53,7 +53,7 @@ arrays_in-all_words (suc n) (a ∷ arrays) h l =
     let t : arrays_in n (all_words arrays) ≡ arrays = arrays_in-all_words n arrays h.1 (omega (arith, length-append us (all_words arrays))) in
     rw (k, f, b, r, s, t) refl
 
--- ---- how many words there are
+-- ---- the number of words
 
 pub length-words_for : (a : Array) → length (words_for a) ≡ words_of (length a.items)
 length-words_for a = ap suc (length-map a.items (cast_unsigned w64))
@@ -86,7 +86,7 @@ map-zeros (suc n) = ap (λ (ws : List ℕ). 0 ∷ ws) (map-zeros n)
 pub words_for-new_array : (kind : ArrayKind) (n : ℕ) → words_for (new_array kind n) ≡ header_of kind n ∷ replicate n 0
 words_for-new_array kind n = rw (length-replicate n (pos 0), map-zeros n) refl
 
--- the words of the arrays, then zeros for a further array, of which the first is its header
+-- The words of the arrays and then `n + 1` zeros, the first overwritten with a header, are the words with a new array.
 pub words_pushed : (arrays : Arrays) (kind : ArrayKind) (n place : ℕ) → place ≡ length (all_words arrays) → set (all_words arrays ++ replicate (suc n) 0) place (header_of kind n) ≡ all_words (arrays ++ new_array kind n ∷ [])
 words_pushed arrays kind n place e =
     let z : place - length (all_words arrays) ≡ 0 = omega arith in

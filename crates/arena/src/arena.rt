@@ -1,4 +1,4 @@
-//! The arrays of one invocation, in memory that is taken once.
+//! The arrays of one invocation, in preallocated memory.
 
 ghost use Rattle.std.specs.Prelude.{◌≡◌, ◌+◌, ◌<◌, ◌∷◌, ◌++◌, [], ◌↔◌, ℕ, ℤ, length, IsErr, IfOk, OnOk, OnErr, is_some, Some, slice_get, if◌then◌else◌};
 ghost use Rattle.std.specs.Option.{ok_or};
@@ -14,15 +14,15 @@ use rawwords::RawWords;
 use std::alloc::{AllocError, Global};
 use std::marker::Model;
 
-/// A new array does not fit the words that are left.
+/// The error of an array that does not fit the free words.
 #[derive(Clone, Copy, Debug, PartialEq, Eq)]
 pub struct WordsFull;
 
-/// The arrays of one invocation, which are given up together.
+/// The arrays of one invocation, which are freed together.
 ///
-/// The words of an arena are a bound of this project's own: an array takes one for each element,
-/// and one for itself. All memory is taken by `new`, so that no other call can want for any. An
-/// array's id is the place of its first word, and is good until the next `reset`.
+/// The number of words is a limit of this project: an array has one word for its header and one for each element.
+/// Only `new` allocates memory.
+/// An array's id is the index of its first word, and is valid until the next `reset`.
 #[derive(Drop)]
 pub struct Arena {
     words: RawWords,
@@ -41,7 +41,7 @@ impl Model for Arena {
 }
 
 impl Arena {
-    /// An arena with no array, and with so many words for arrays.
+    /// Returns an empty arena with `words` free words, or an error if memory is exhausted.
     pub fn new(alloc: Global, words: u32) -> Result<Arena, AllocError>
         ensures { IfOk result (λ arena. arena ≡ record { arrays = []; words_left = words }) }
     {
@@ -49,9 +49,9 @@ impl Arena {
         Ok(Arena { words })
     }
 
-    /// Makes an array of zeros (JVMS 6.5, newarray), and answers the place where it begins.
+    /// Allocates an array of zeros (JVMS §6.5, `newarray`), and returns the index of its first word.
     ///
-    /// It is refused exactly where its `n + 1` words do not fit.
+    /// It fails exactly if its `n + 1` words do not fit the free words.
     pub fn alloc(&mut self, kind: ArrayKind, n: u32) -> Result<ArrayId, WordsFull>
         ensures refused { IsErr result ↔ (self.old.words_left < words_of n) }
         ensures id { IfOk result (λ id. id ≡ place_of self.new.arrays (length self.old.arrays)) }
@@ -69,7 +69,7 @@ impl Arena {
         Ok(id)
     }
 
-    /// The element at an index, or the fault of an index outside (JVMS 6.5, iaload and laload).
+    /// Returns the element at an index, or the exception of an index out of bounds (JVMS §6.5, `iaload` and `laload`).
     #[inline]
     pub fn get(&self, id: ArrayId, index: i32) -> Result<i64, JavaFault>
         requires { (k : ℕ) × IsArrayAt self.now.arrays k id }
@@ -83,8 +83,7 @@ impl Arena {
         }
     }
 
-    /// Changes the element at an index, or answers the fault of an index outside (JVMS 6.5,
-    /// iastore and lastore).
+    /// Writes the element at an index, or returns the exception of an index out of bounds (JVMS §6.5, `iastore` and `lastore`).
     #[inline]
     pub fn set(&mut self, id: ArrayId, index: i32, value: i64) -> Result<(), JavaFault>
         requires { (k : ℕ) × (a : Array) × IsArrayAt self.old.arrays k id × (slice_get self.old.arrays k ≡ Some a) × FitsElement a.kind value }
@@ -105,7 +104,7 @@ impl Arena {
         }
     }
 
-    /// The place of the element at an index, if the index lies inside.
+    /// Returns the word index of an element, or `None` if the element's index is out of bounds.
     #[inline]
     fn element_place(&self, id: ArrayId, index: i32) -> Option<u32>
         requires { (k : ℕ) × IsArrayAt self.now.arrays k id }
@@ -119,7 +118,7 @@ impl Arena {
         }
     }
 
-    /// How many elements an array has (JVMS 6.5, arraylength).
+    /// Returns the number of elements of an array (JVMS §6.5, `arraylength`).
     #[inline]
     pub fn length(&self, id: ArrayId) -> u32
         requires { (k : ℕ) × IsArrayAt self.now.arrays k id }
@@ -129,7 +128,7 @@ impl Arena {
         length_in(self.words.get(id)) as u32
     }
 
-    /// What the elements of an array are.
+    /// Returns the element type of an array: int or long.
     #[inline]
     pub fn kind(&self, id: ArrayId) -> ArrayKind
         requires { (k : ℕ) × IsArrayAt self.now.arrays k id }
@@ -138,14 +137,14 @@ impl Arena {
         kind_in(self.words.get(id))
     }
 
-    /// How many words are left for further arrays.
+    /// Returns the number of free words.
     pub fn words_left(&self) -> u32
         ensures { result ≡ self.now.words_left }
     {
         self.words.capacity() - self.words.len()
     }
 
-    /// Gives up all arrays and keeps the memory, so that all words are left again.
+    /// Frees all arrays and keeps the memory, so that all words are free again.
     pub fn reset(&mut self)
         ensures arrays { self.new.arrays ≡ [] }
         ensures words { self.new.words_left ≡ self.old.words_left + words_taken self.old.arrays }

@@ -1,4 +1,4 @@
-//! The word before an array's elements, and the index of an element.
+//! The header word of an array, and the unsigned form of an element index.
 
 ghost use Rattle.std.specs.Prelude.{◌≡◌, ◌^◌, ◌<◌};
 ghost use Rattle.std.specs.Int.{w64, cast_unsigned};
@@ -6,7 +6,7 @@ ghost use Rattle.arena.specs.Stored.{header_of, length_in, kind_in};
 
 use jtypes::ArrayKind;
 
-/// The header of an array of a kind, with so many elements.
+/// Returns the header of an array of this kind with `n` elements.
 #[inline]
 pub fn header_of(kind: ArrayKind, n: u32) -> u64
     ensures { result ≡ header_of kind n }
@@ -17,7 +17,7 @@ pub fn header_of(kind: ArrayKind, n: u32) -> u64
     }
 }
 
-/// How many elements stand behind a header.
+/// Returns the number of elements from a header.
 #[inline]
 pub fn length_in(header: u64) -> u64
     ensures { result ≡ length_in header }
@@ -25,7 +25,7 @@ pub fn length_in(header: u64) -> u64
     header / 2
 }
 
-/// What the elements behind a header are.
+/// Returns the element type from a header.
 #[inline]
 pub fn kind_in(header: u64) -> ArrayKind
     ensures { result ≡ kind_in header }
@@ -37,7 +37,7 @@ pub fn kind_in(header: u64) -> ArrayKind
     }
 }
 
-/// An index without its sign: a negative one is larger than each length.
+/// Returns an index as unsigned, so that a negative one exceeds every array length.
 #[inline]
 pub fn unsigned(index: i32) -> u64
     ensures { result ≡ cast_unsigned w64 index }

@@ -1,4 +1,4 @@
-//! The entry of an invocation, and what the invocation does to it.
+//! The entry of an invocation, and the effect of the invocation on it.
 #![tactic(auto)]
 
 mod state;

@@ -1,4 +1,4 @@
-//! The state of an entry.
+//! The state of an entry during an invocation.
 
 ghost use Rattle.std.specs.Prelude.{◌≡◌, ◌↔◌, ℤ, IsTrue, is_some, true, Ok};
 ghost use Rattle.jtypes.specs.Entry.{Entry, effect, after_effect};
@@ -13,10 +13,9 @@ ghost use Rattle.mutentry.specs.Change.{Change, with_now, AnswersSet};
 use jtypes::{Effect, JavaFault, LoadAnswer, RefValue};
 use std::marker::Model;
 
-/// The entry that an invocation was started on and the entry as the invocation has changed it.
+/// The entry before an invocation, and the entry as the invocation has changed it.
 ///
-/// A change reaches the cache only when the invocation returns (JSR 107, `EntryProcessor`), so the
-/// entry before is kept beside the entry now.
+/// A change reaches the cache only when the invocation returns (JSR 107, `EntryProcessor`), so the state has both.
 #[derive(Clone, Copy)]
 pub struct EntryState {
     before: Option<i64>,
@@ -36,7 +35,7 @@ impl Model for EntryState {
 }
 
 impl EntryState {
-    /// An entry that nothing has changed yet.
+    /// Returns the state at the start of an invocation on this entry.
     pub fn of(entry: Option<i64>) -> EntryState
         ensures before { result.before ≡ entry }
         ensures now { result.now ≡ entry_at_start entry }
@@ -49,7 +48,7 @@ impl EntryState {
         }
     }
 
-    /// The entry that the invocation was started on.
+    /// Returns the entry before the invocation.
     pub fn before(&self) -> Option<i64>
         ensures { result ≡ self.now.before }
     {
@@ -63,17 +62,17 @@ impl EntryState {
         self.current.is_some()
     }
 
-    /// `MutableEntry.getValue` (JSR 107): the value, or `None` where the entry does not exist.
+    /// `MutableEntry.getValue` (JSR 107): the value, or `None` if the entry doesn't exist.
     pub fn get_value(&self) -> Option<i64>
         ensures { result ≡ self.now.now.entry }
     {
         self.current
     }
 
-    /// `MutableEntry.setValue` (JSR 107), which makes an entry that does not exist.
+    /// `MutableEntry.setValue` (JSR 107), which creates the entry if it doesn't exist.
     ///
-    /// The rule for other values is this project's own: null throws a `NullPointerException`, and
-    /// a reference that is not a `Long` a `ClassCastException`. Neither changes the entry.
+    /// Null throws `NullPointerException`, and a reference other than a `Long` throws `ClassCastException`.
+    /// This rule is the project's. Neither changes the entry.
     pub fn set_value(&mut self, value: RefValue) -> Result<(), JavaFault>
         ensures { AnswersSet (set_reply (Ref value)) result self.old self.new }
     {
@@ -96,7 +95,8 @@ impl EntryState {
         self.untouched = false;
     }
 
-    /// Whether a `getValue` asks the loader, if there is one: no entry was there, nothing was done to it, and it wasn't asked yet.
+    /// Returns whether `getValue` calls the loader, if there is one: the entry didn't exist before, no call changed it,
+    /// and no load happened yet.
     pub fn needs_load(&self) -> bool
         ensures { result ≡ may_ask true self.now.before self.now.now }
     {
@@ -104,7 +104,7 @@ impl EntryState {
         absent && self.untouched && self.asked.is_none()
     }
 
-    /// The loader answered: a value becomes the entry.
+    /// Records the answer of the loader. A loaded value becomes the value of the entry.
     pub fn loaded(&mut self, value: Option<i64>)
         ensures { self.new ≡ with_now self.old (loaded (answer_of (Ok value)) self.old.now) }
     {
@@ -114,28 +114,28 @@ impl EntryState {
         self.asked = Some(LoadAnswer::of(Ok(value)));
     }
 
-    /// The loader failed.
+    /// Records that the loader failed. The entry doesn't change.
     pub fn load_failed(&mut self)
         ensures { self.new ≡ with_now self.old (loaded Failed self.old.now) }
     {
         self.asked = Some(LoadAnswer::Failed);
     }
 
-    /// Whether neither `setValue` nor `remove` was called.
+    /// Returns whether no call of `setValue` or `remove` changed the entry; a `setValue` that throws doesn't.
     pub fn is_untouched(&self) -> bool
         ensures { result ≡ self.now.now.untouched }
     {
         self.untouched
     }
 
-    /// What the loader answered, if it was asked.
+    /// Returns the answer of the loader, or `None` if it wasn't called.
     pub fn asked(&self) -> Option<LoadAnswer>
         ensures { result ≡ self.now.now.asked }
     {
         self.asked
     }
 
-    /// What is to be done to the entry before, so that the entry now is left.
+    /// Returns the effect that changes the entry before the invocation to the current entry.
     pub fn effect(self) -> Effect
         ensures { result ≡ effect self.before self.now.entry }
     {
@@ -147,7 +147,7 @@ impl EntryState {
     }
 }
 
-/// The effect leads from the entry before to the entry now, and keeps exactly what is unchanged.
+/// The effect changes the entry before to the entry now, and is `Keep` exactly if they are equal.
 pub fn effect_leads_from_before_to_now()
     ensures leads { (before now : Entry) → after_effect (effect before now) before ≡ now }
     ensures keeps { (before now : Entry) → (effect before now ≡ Keep) ↔ (before ≡ now) }

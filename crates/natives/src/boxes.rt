@@ -1,4 +1,4 @@
-//! The calls of boxes: `intValue` and `longValue`.
+//! The methods of `Long` and `Integer`: `intValue` and `longValue`.
 
 ghost use Rattle.std.specs.Prelude.{◌≡◌};
 ghost use Rattle.jtypes.specs.Arithmetic.{low_int};
@@ -8,7 +8,7 @@ ghost use Rattle.natives.specs.Answer.{given};
 
 use jtypes::{Native, RefValue, Value};
 
-/// What `intValue` and `longValue` answer (Java API, `Number`).
+/// Returns the result of `intValue` or `longValue` (Java API, `Number`), or `None` for another method or receiver.
 #[inline(always)]
 pub fn box_call(native: Native, receiver: RefValue) -> Option<Value>
     ensures { (now : Entry) → box_reply native now receiver ≡ given result now }
@@ -22,7 +22,7 @@ pub fn box_call(native: Native, receiver: RefValue) -> Option<Value>
     }
 }
 
-/// The low 32 bits of a long (JVMS 6.5, l2i).
+/// Returns the low 32 bits of a long as an int (JVMS §6.5, `l2i`).
 #[inline(always)]
 fn low_int(n: i64) -> i32
     ensures { result ≡ low_int n }

@@ -11,10 +11,10 @@ use crate::statics::static_call;
 use jtypes::{JavaFault, Native, RefValue, Value};
 use mutentry::EntryState;
 
-/// What a library call answers to its values in order, the receiver first, and what it does to
-/// the entry. A fault changes nothing.
+/// Performs a library call on its arguments in order, the receiver first. Returns the result, `None` for a void method.
+/// A fault changes nothing.
 ///
-/// The caller sees to it that the values are of the types that the call takes.
+/// The arguments must have the types that the call expects.
 #[inline(always)]
 pub fn call(
     native: Native,
@@ -41,7 +41,7 @@ pub fn call(
     }
 }
 
-/// A call on a receiver: null throws (JVMS 6.5, invokevirtual and invokeinterface).
+/// Performs a call on a receiver: null throws (JVMS §6.5, `invokevirtual` and `invokeinterface`).
 #[inline(always)]
 fn instance_call(
     native: Native,
@@ -59,7 +59,7 @@ fn instance_call(
             Ok(Some(box_call(native, receiver).unwrap()))
         }
         (_, RefValue::Entry) => entry_call(native, key, entry, arguments),
-        // Another reference does not implement the interface (JVMS 6.5, invokeinterface).
+        // Any other reference doesn't implement the interface (JVMS §6.5, `invokeinterface`).
         _ => Err(JavaFault::IncompatibleClassChange),
     }
 }

@@ -1,4 +1,4 @@
-//! Which references a cast passes.
+//! The type test of casts.
 
 ghost use Rattle.std.specs.Prelude.{◌≡◌};
 ghost use Rattle.jtypes.specs.declared.types.RefValue.{RefValue};
@@ -8,11 +8,11 @@ ghost use Rattle.arena.specs.Placing.{IsReference};
 use arena::Arena;
 use jtypes::{ArrayKind, RefType, RefValue};
 
-/// Whether `checkcast` and `instanceof` pass a reference to a type, by its run-time class (JVMS
-/// 6.5, checkcast and instanceof).
+/// Returns whether a reference passes `checkcast` and `instanceof` for a type, by its run-time class
+/// (JVMS §6.5, `checkcast` and `instanceof`).
 ///
-/// Null is of no class: `instanceof` is false of it, and `checkcast` is the caller's to decide.
-/// The reference is the arena's own, which knows an array by the place where it begins.
+/// Null gives false, as in `instanceof`; the caller handles null for `checkcast`.
+/// The id of an array is the word at which the array begins in the arena.
 pub fn passes(arena: &Arena, value: RefValue, target: &RefType) -> bool
     requires { (v : RefValue) × IsReference arena.now.arrays v value }
     ensures { (v : RefValue) → IsReference arena.now.arrays v value → result ≡ passes arena.now.arrays v target.now }
@@ -30,8 +30,8 @@ pub fn passes(arena: &Arena, value: RefValue, target: &RefType) -> bool
     }
 }
 
-/// Whether an array is of a type: its own, or `Object` (JVMS 6.5, checkcast). The interfaces of
-/// the profile are none of those that arrays implement.
+/// Returns whether an array is of a type: its own, or `Object` (JVMS §6.5, `checkcast`).
+/// Arrays implement none of the interfaces of the profile.
 fn array_passes(kind: ArrayKind, target: RefType) -> bool
     ensures { result ≡ array_passes kind target }
 {

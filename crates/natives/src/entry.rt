@@ -1,4 +1,4 @@
-//! The calls of the entry.
+//! The methods of the entry.
 
 ghost use Rattle.std.specs.Prelude.{◌≡◌};
 ghost use Rattle.jtypes.specs.declared.types.Value.TheVariants.{Ref};
@@ -8,7 +8,7 @@ ghost use Rattle.natives.specs.Answer.{Answers};
 use jtypes::{JavaFault, Native, RefValue, Value};
 use mutentry::EntryState;
 
-/// What a call of the entry answers, and does to it (JSR 107, `MutableEntry` and `Cache.Entry`).
+/// Calls a method of the entry (JSR 107, `MutableEntry` and `Cache.Entry`). Returns the result, `None` for a void method.
 #[inline(always)]
 pub fn entry_call(
     native: Native,
@@ -35,7 +35,7 @@ pub fn entry_call(
     }
 }
 
-/// A value of the entry as a reference: null stands for none.
+/// Returns the value of the entry as a reference, null if the entry doesn't exist.
 #[inline(always)]
 fn reference(value: Option<i64>) -> RefValue
     ensures { Ref result ≡ value_of_entry value }

@@ -1,4 +1,4 @@
-//! The library calls of the profile, and the casts that pass.
+//! The library calls of the profile, and the type test of casts.
 #![tactic(auto)]
 
 mod boxes;

@@ -1,4 +1,4 @@
-//! The static calls: `Long.valueOf`, `Integer.valueOf`, `Math.max` and `Math.min`.
+//! The static methods: `Long.valueOf`, `Integer.valueOf`, `Math.max` and `Math.min`.
 
 ghost use Rattle.std.specs.Prelude.{◌≡◌};
 ghost use Rattle.jtypes.specs.Entry.{Entry};
@@ -7,7 +7,7 @@ ghost use Rattle.natives.specs.Answer.{given};
 
 use jtypes::{Native, RefValue, Value};
 
-/// What a static call answers to arguments of the taken types.
+/// Returns the result of a static method, or `None` for another method or arguments of other types.
 #[inline(always)]
 pub fn static_call(native: Native, arguments: &[Value]) -> Option<Value>
     ensures { (now : Entry) → static_reply native now arguments.now ≡ given result now }

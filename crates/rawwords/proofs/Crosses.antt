@@ -1,4 +1,4 @@
--- A block may cross threads, and a deed as its allocator may.
+-- A block is `Send` and `Sync`. A deed is `Send` if its allocator is, and always `Sync`.
 use Rattle.std.specs.Prelude.{ℕ, ◌+◌, List, [], ◌∷◌, Option, Some, None}
 use base.Fraction.{full_share}
 use base.Shift.{Keyless}

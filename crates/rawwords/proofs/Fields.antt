@@ -1,4 +1,4 @@
--- The data fields of a block and of a deed, and what an allocator is asked for.
+-- The data fields of a block and of a deed, and the arguments of an allocator.
 use Rattle.std.proofs.Common.{◌≡◌, ℕ, ◌*◌, ◌<◌, ◌^◌, List, [], ◌∷◌, ◌++◌, refl, ap, ◌∙◌, w64}
 use Rattle.std.proofs.RcSteps.{word}
 use Rattle.std.proofs.alloc.Calls.{Al}
@@ -26,7 +26,7 @@ use Rattle.std.specs.declared.alloc.Allocator.{Ghosts}
 use Rattle.rawwords.specs.contracts.block.Block as Block
 use Rattle.rawwords.specs.contracts.block.Deed as Deed
 
--- ---- what an allocator is asked for
+-- ---- the arguments of an allocator
 
 abbrev pub args : Al → Args
 args Z = bounded (a_type ∷ []) (Z.row, tt) (dcons Z.d (dcons Z.drops dnil))

@@ -1,4 +1,4 @@
--- One place is taken out of a row of places, or seen; a row of places is made of room, and is room again.
+-- Splitting one word off a block or its `&`, and converting between uninitialized memory and words.
 use Rattle.std.proofs.Common.{◌≡◌, ℕ, zero, suc, ◌+◌, ◌*◌, ◌<◌, ◌≤◌, List, [], ◌∷◌, ◌++◌, length, take, drop, set, get_or, replicate, Some, None, refl, sym, ap, ◌∙◌, arith, w64}
 use Rattle.std.specs.Prelude.{Option}
 use Rattle.std.proofs.lemmas.List.{take-append-drop, length-take, set_split}
@@ -34,14 +34,14 @@ module _ {M : Type 1} {𝓤 : Ura M} (𝓛 : Logic 𝓤) (b : ℕ) where
   glue (x ∷ xs) ys o at e = qed 𝓛 (‵ (Row o (x ∷ xs)) ∷ ‵ (Row at ys) ∷ []) ∵ fsplit ! $ move ! (1 ∷ 2 ∷ []) $
       use2 𝓛 (‵ (Row (o + 8) (xs ++ ys))) (glue xs ys (o + 8) at (omega arith)) $ move ! (1 ∷ 0 ∷ []) $ fjoin ! $ done !
 
-  -- a place is room, whether or not it holds a word
+  -- A word is writable memory, whether or not it is written.
   pub room_of : (o : ℕ) (p : Option ℕ) → ent 𝓤 (sem 𝓛 (place_owned b o p)) (H.room (ty_int w64) b o)
   room_of o (Some x) = qed 𝓛 (‵ (part_at u64 full_share x b o) ∷ []) ∵
       use1 𝓛 (‵ (fat full_share (ty_int w64) b o (vint w64 x))) (uint_out 𝓛 full_share w64 x b o) $ by ! (𝓛.laws.at_room (ty_int w64) b o (vint w64 x))
   room_of o None = 𝓛.laws.raw-room (ty_int w64) b o
 
   module _ (o : ℕ) (ps : List (Option ℕ)) (i : ℕ) where
-    -- the places but for the i-th
+    -- The words other than word `i`.
     abbrev pub Besides : Fml
     Besides = fsep (Row o (take i ps)) (Row (i * 8 + o + 8) (drop (suc i) ps))
 

@@ -1,4 +1,4 @@
--- A `&` to a block is made where one to a word is.
+-- A `&` to a block consists of a `&` to each written word.
 use Rattle.std.specs.Prelude.{ℕ, ◌+◌, List, [], ◌∷◌, Option, Some, None, refl}
 use seplogic.Ra.Ura.{Ura}
 use base.Fml.{Lft, ftrue, ffalse}

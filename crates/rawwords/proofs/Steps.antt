@@ -1,4 +1,4 @@
--- The pointer of a block is read through a `&` to the block.
+-- Reads of a block's pointer through a `&` to the block.
 use Rattle.std.proofs.Common.{◌≡◌, ℕ, zero, suc, refl, ◌+◌, ◌<◌, List, [], ◌∷◌, length, get_or, Some, None, sym, ap, ◌∙◌, arith}
 use Rattle.std.specs.Prelude.{Option}
 use seplogic.Ra.Ura.{Ura}
@@ -27,7 +27,7 @@ filled_within [] i x e = cc
 filled_within (p ∷ ps) zero x e = omega arith
 filled_within (p ∷ ps) (suc i) x e = omega (arith, filled_within ps i x e)
 
--- the data field of a block, as a plain struct
+-- The data field of a block, as a struct without ghost fields.
 abbrev Word : RattleType
 Word = Struct (shape C.the_type)
 
@@ -38,7 +38,7 @@ shown 𝓛 κ d b o = qed 𝓛 (‵ (hidden_shr C.the_row κ d b o) ∷ []) ∵
     unhide ! $ fsplit ! $ fsplit ! $ keep ! (0 ∷ 3 ∷ []) $ done !
 
 module _ {M : Type 1} {𝓤 : Ura M} {𝓛 : Logic 𝓤} {K : Type 0} {Γ : List (Item 𝓤)} {G : Goal 𝓤 𝓛.H} where
-  -- [the pointer; the way back]
+  -- [the pointer; the closing of the borrow]
   pub pointer_in : K → Soaks G → {κ : Lft} {q : Share} (p : Ptr) (pb po : ℕ) → p ≡ block_ptr pb po → (b at : ℕ)
       → ((q' : Share) → Seq K 𝓛 (‵ (fat q' ty_ptr b at (vptr pb po)) ∷ Shut 𝓛 κ q (part_at RawPtr q' p b at) ∷ Γ) G) → Seq K 𝓛 (‵ (hidden_shr RawPtr κ p b at) ∷ ‵ (flft κ q) ∷ Γ) G
   pointer_in t z p pb po is b at k =

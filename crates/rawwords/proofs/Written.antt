@@ -1,4 +1,4 @@
--- Laws of the front of a block that is written.
+-- Lemmas on the written prefix of a block.
 use Rattle.std.proofs.Common.{◌≡◌, ℕ, zero, suc, ◌+◌, ◌<◌, ◌≤◌, List, [], ◌∷◌, ◌++◌, length, take, drop, set, get_or, replicate, map, Some, None, refl, sym, ap, ◌∙◌, arith}
 use Rattle.std.specs.Prelude.{Option}
 use Rattle.std.proofs.lemmas.List.{length-map, length-take-le, length-append, length-replicate, length-drop, get_or-map, get_or-take, map-append, map-set, append_assoc, take_at, drop_more, set_at, replicate_more}

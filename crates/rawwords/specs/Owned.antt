@@ -1,4 +1,4 @@
--- What the parts of a block own and lend.
+-- The resources that a block and its deed own and lend.
 use Rattle.std.specs.Prelude.{ℕ, ◌+◌, List, [], ◌∷◌, Option, Some, None}
 use base.Fraction.{full_share}
 use base.Fml.{Lft, Fml, ftrue, ffalse, fsep, froom}
@@ -9,12 +9,12 @@ use denote.Memory.{part_at, shared_of}
 use denote.Sharing.{nothing, said, beside}
 use denote.RawPtr.{Ptr, block_ptr, null_ptr}
 
--- one place, o bytes into the block b: a word, or room for one
+-- The word at offset `o` bytes in block `b`, written or uninitialized.
 abbrev pub place_owned : ℕ → ℕ → Option ℕ → Fml
 place_owned b o (Some x) = part_at u64 full_share x b o
 place_owned b o None = froom (raw (ty_int w64)) b o
 
--- places side by side
+-- Consecutive words.
 abbrev pub places_owned : ℕ → ℕ → List (Option ℕ) → Fml
 places_owned b o [] = ftrue
 places_owned b o (p ∷ ps) = fsep (place_owned b o p) (places_owned b (o + 8) ps)
@@ -35,6 +35,6 @@ abbrev pub block_lent : Ptr → List (Option ℕ) → Lft → Fml
 block_lent (block_ptr b o) ps = places_lent b o ps
 block_lent null_ptr ps = said ffalse
 
--- an allocator's token for a block of n words
+-- An allocator's token for a block of `n` words.
 abbrev pub deed_owned : (Ty → Ptr → Fml) → Ptr → ℕ → Fml
 deed_owned token p n = token (raw (ty_array (ty_int w64) n)) p

@@ -1,7 +1,7 @@
--- What a row of words is.
+-- A buffer of words, as contracts see it.
 use Rattle.std.specs.Prelude.{ℕ, List}
 
--- the words so far, and how many may stand there
+-- The words so far, and the capacity in words.
 pub record Row : Type 0 where
   pub items : List ℕ
   pub capacity : ℕ

@@ -1,4 +1,4 @@
-//! The block of memory that a row of words lies in. Only the functions of this file hold a pointer.
+//! The memory block of a buffer of words. Only this file uses raw pointers.
 
 ghost use Rattle.std.specs.Prelude.{◌≡◌, ℕ, ◌+◌, ◌*◌, ◌^◌, ◌<◌, ◌≤◌, ◌++◌, length, take, drop, replicate, List, Option, Some, None, IfOk, slice_set, slice_index_or};
 ghost use base.Fml.{ftrue};
@@ -8,7 +8,7 @@ ghost use Rattle.rawwords.specs.Owned.{block_owned, block_lent, deed_owned};
 use std::alloc::{AllocError, Allocator};
 use std::marker::{Model, PhantomData, Send, Sync};
 
-/// The places of a block, each of which holds a word or was never written.
+/// A block of words, each of which is written or uninitialized.
 pub(crate) struct Block {
     at: *mut u64,
     ghost places: { List (Option ℕ) },
@@ -24,7 +24,7 @@ unsafe impl Send for Block {}
 
 unsafe impl Sync for Block {}
 
-/// The right to give a block of so many places back to its allocator. It takes no space.
+/// The right to deallocate a block of `count` words through its allocator. It has size zero.
 pub(crate) struct Deed<A: Allocator> {
     of: PhantomData<A>,
     ghost at: { Ptr },
@@ -40,10 +40,10 @@ impl<A: Allocator> Model for Deed<A> {
 
 unsafe impl<A: Allocator + Send> Send for Deed<A> {}
 
-// A `&` to a deed holds nothing.
+// A `&` to a deed holds no resource.
 unsafe impl<A: Allocator> Sync for Deed<A> {}
 
-/// A block of places that were never written.
+/// Allocates a block of `count` uninitialized words.
 pub(crate) fn take<A: Allocator>(alloc: &A, count: usize) -> Result<(Block, Deed<A>), AllocError>
     requires { count * 8 < 2 ^ 63 }
     ensures { IfOk result (λ r. (r.0.places ≡ replicate count None) × (r.1.at ≡ r.0.at) × (r.1.count ≡ count) × (r.1.alloc ≡ alloc.now)) }
@@ -59,7 +59,7 @@ pub(crate) fn take<A: Allocator>(alloc: &A, count: usize) -> Result<(Block, Deed
     }
 }
 
-/// Gives a block back.
+/// Deallocates a block.
 pub(crate) fn give_back<A: Allocator>(alloc: &A, block: Block, deed: Deed<A>, count: usize)
     requires { (length block.places ≡ count) × (deed.at ≡ block.at) × (deed.count ≡ count) × (deed.alloc ≡ alloc.now) × (count * 8 < 2 ^ 63) }
 {
@@ -70,7 +70,7 @@ pub(crate) fn give_back<A: Allocator>(alloc: &A, block: Block, deed: Deed<A>, co
     }
 }
 
-/// Writes zeros, so many from a place on.
+/// Writes `n` zeros from index `from` on.
 pub(crate) fn write_zeros(block: &mut Block, from: usize, n: usize)
     requires { (from + n ≤ length block.old.places) × (length block.old.places < 2 ^ 32) }
     ensures at { block.new.at ≡ block.old.at }
@@ -82,7 +82,7 @@ pub(crate) fn write_zeros(block: &mut Block, from: usize, n: usize)
 }
 
 impl Block {
-    /// Writes a word at a place.
+    /// Writes a word at an index.
     #[inline]
     pub(crate) fn write(&mut self, place: usize, word: u64)
         requires { (place < length self.old.places) × (length self.old.places < 2 ^ 32) }
@@ -91,7 +91,7 @@ impl Block {
         unsafe { self.at.add(place).write(word) }
     }
 
-    /// The word at a place that was written.
+    /// Returns the word at an index that was written.
     #[inline]
     pub(crate) fn word(&self, place: usize) -> &u64
         requires { ((w : ℕ) × (slice_index_or self.now.places place None ≡ Some w)) × (length self.now.places < 2 ^ 32) }

@@ -1,4 +1,4 @@
-//! A row of words in memory that is taken once.
+//! A buffer of words with a fixed capacity, allocated once.
 #![tactic(auto)]
 
 mod block;

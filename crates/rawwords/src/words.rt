@@ -1,4 +1,4 @@
-//! Words that are appended, read and written in place.
+//! A buffer of words that are appended, read and written in place.
 
 ghost use Rattle.std.specs.Prelude.{◌≡◌, ◌+◌, ◌<◌, ◌≤◌, ◌++◌, [], length, replicate, IfOk, slice_index, slice_set};
 ghost use Rattle.rawwords.specs.Row.{Row};
@@ -7,9 +7,9 @@ use crate::block::{Block, Deed, give_back, take, write_zeros};
 use std::alloc::{AllocError, Global};
 use std::marker::Model;
 
-/// A list of words in memory that is taken once.
+/// A buffer of words with a fixed capacity, allocated once.
 ///
-/// The memory is not filled when it is taken: a word is written first where it is appended.
+/// The memory is not initialized when it is allocated: a word is first written when it is appended.
 pub struct RawWords {
     block: Block,
     deed: Deed<Global>,
@@ -44,7 +44,7 @@ impl Drop for RawWords {
 }
 
 impl RawWords {
-    /// A row with no word, and with room for so many.
+    /// Returns an empty buffer with this capacity, or an error if memory is exhausted.
     pub fn new(alloc: Global, capacity: u32) -> Result<RawWords, AllocError>
         ensures { IfOk result (λ row. row ≡ record { items = []; capacity = capacity }) }
     {
@@ -58,7 +58,7 @@ impl RawWords {
         })
     }
 
-    /// How many words there are.
+    /// Returns the number of words.
     #[inline]
     pub fn len(&self) -> u32
         ensures count { result ≡ length self.now.items }
@@ -67,7 +67,7 @@ impl RawWords {
         self.len
     }
 
-    /// How many words have room.
+    /// Returns the capacity in words.
     #[inline]
     pub fn capacity(&self) -> u32
         ensures { result ≡ self.now.capacity }
@@ -75,7 +75,7 @@ impl RawWords {
         self.capacity
     }
 
-    /// Appends words that are zero, for which there is room.
+    /// Appends `n` zeros, which must fit the capacity.
     pub fn append_zeros(&mut self, n: u32)
         requires { length self.old.items + n ≤ self.old.capacity }
         ensures { self.new ≡ record self.old { items = self.old.items ++ replicate n 0 } }
@@ -84,7 +84,7 @@ impl RawWords {
         self.len += n;
     }
 
-    /// The word at a place.
+    /// Returns the word at an index.
     #[inline]
     pub fn get(&self, place: u32) -> u64
         requires { place < length self.now.items }
@@ -93,7 +93,7 @@ impl RawWords {
         *self.block.word(place as usize)
     }
 
-    /// Changes the word at a place.
+    /// Writes the word at an index.
     #[inline]
     pub fn set(&mut self, place: u32, word: u64)
         requires { place < length self.old.items }
@@ -102,7 +102,7 @@ impl RawWords {
         self.block.write(place as usize, word);
     }
 
-    /// Gives up all words and keeps the memory.
+    /// Removes all words and keeps the memory.
     pub fn clear(&mut self)
         ensures { self.new ≡ record self.old { items = [] } }
     {

@@ -1,4 +1,4 @@
-//! Calls and returns: the topmost slots become the first locals of the method that is called, and nothing moves.
+//! Calls and returns. The caller's topmost operands become the first locals of the callee in the same slots, without a copy.
 
 ghost use Rattle.std.specs.Prelude.{◌≡◌, ◌<◌, ◌≤◌, ◌+◌, ◌-◌, ◌%◌, pos, ◌∷◌, length, None};
 ghost use Rattle.std.specs.Int.{w32, cast_unsigned};
@@ -10,7 +10,8 @@ ghost use Rattle.slots.specs.Leaving.{Enters, HasReceiver, TellsReceiver, Leaves
 use crate::{Caller, Reference, Rows, Window};
 
 impl Window<'_> {
-    /// Begins a method on the topmost slots, which are its first locals; the caller goes on at a place after it.
+    /// Enters a method: the topmost `params` slots become its first locals.
+    /// Pushes `place`, the index of the instruction at which the caller resumes, onto the callers.
     #[inline(always)]
     pub fn enter(&mut self, callers: &mut Rows<Caller>, place: usize, params: u16, locals: u16)
         requires callers { 0 < callers.old.1 }
@@ -30,7 +31,7 @@ impl Window<'_> {
         self.top = self.base + usize::from(locals);
     }
 
-    /// Whether the receiver of a call is null: the first of the arguments, which take `params` slots. It lies lowest of them.
+    /// Returns whether the receiver of a call is null. It is the lowest of the arguments, which have `params` slots.
     #[inline(always)]
     pub fn null_below(&self, params: u16) -> bool
         requires { HasReceiver params self.now }
@@ -39,7 +40,8 @@ impl Window<'_> {
         matches!(self.kinds[self.top - usize::from(params)], Reference::Null)
     }
 
-    /// Goes back to the caller with an int (JVMS §6.5, ireturn), and answers its place; none where there is no caller.
+    /// Returns to the caller with an int (JVMS §6.5, `ireturn`).
+    /// The result is the caller's instruction index, or `None` if there is no caller; then nothing changes.
     #[inline(always)]
     pub fn leave_int(&mut self, callers: &mut Rows<Caller>) -> Option<usize>
         requires { ShowsTop Int self.old }
@@ -60,7 +62,7 @@ impl Window<'_> {
         }
     }
 
-    /// Goes back to the caller with the low bit of an int, as `ireturn` does from a method whose result is a boolean.
+    /// Returns to the caller with the low bit of an int, as `ireturn` does in a method whose result is a boolean.
     #[inline(always)]
     pub fn leave_boolean(&mut self, callers: &mut Rows<Caller>) -> Option<usize>
         requires { ShowsTop Int self.old }
@@ -81,7 +83,7 @@ impl Window<'_> {
         }
     }
 
-    /// Goes back to the caller with a long (JVMS §6.5, lreturn).
+    /// Returns to the caller with a long (JVMS §6.5, `lreturn`).
     #[inline(always)]
     pub fn leave_long(&mut self, callers: &mut Rows<Caller>) -> Option<usize>
         requires { ShowsTop Long self.old }
@@ -102,7 +104,7 @@ impl Window<'_> {
         }
     }
 
-    /// Goes back to the caller with a reference (JVMS §6.5, areturn).
+    /// Returns to the caller with a reference (JVMS §6.5, `areturn`).
     #[inline(always)]
     pub fn leave_reference(&mut self, callers: &mut Rows<Caller>) -> Option<usize>
         requires { ShowsTop Ref self.old }
@@ -124,7 +126,7 @@ impl Window<'_> {
         }
     }
 
-    /// Goes back to the caller without a result (JVMS §6.5, return).
+    /// Returns to the caller without a value (JVMS §6.5, `return`).
     #[inline(always)]
     pub fn leave_void(&mut self, callers: &mut Rows<Caller>) -> Option<usize>
         ensures reads { LeavesVoid self.old callers.old self.new callers.new result }

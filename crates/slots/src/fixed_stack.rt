@@ -1,15 +1,16 @@
-//! A row of items in cells that were made before, so that it grows without taking memory.
+//! A stack of fixed capacity, which is preallocated.
 
 ghost use Rattle.std.specs.Prelude.{◌≡◌, ◌<◌, ◌+◌, [], ◌∷◌, length, IfOk, MatchOption};
 
 use std::alloc::{AllocError, Global};
 use std::marker::Model;
 
-/// For how many items more there is memory behind the last cell, which nothing uses: of callers, two cache lines. The last cell is
-/// written most, and no other processor then has to wait for what would share a line with it.
+/// The unused capacity after the last cell, in items; for `Caller` it is two cache lines.
+/// The last cell is written most often, so it must not share a cache line with memory that another core uses.
 const BEHIND: usize = 8;
 
-/// A row of items, seen with the latest first, and how many more there may be. It fills its cells from the last one on.
+/// A stack of fixed capacity. Its view is the items, the latest first, and the number of free cells.
+/// The cells are filled from the last one down.
 #[derive(Drop)]
 pub struct Rows<T> {
     cells: Vec<T>,
@@ -27,7 +28,7 @@ impl<T> Model for Rows<T> {
 }
 
 impl<T: Copy> Rows<T> {
-    /// So many cells, and no item.
+    /// Returns an empty stack with `count` free cells, or an error if memory is exhausted.
     pub fn new(alloc: Global, blank: T, count: usize) -> Result<Rows<T>, AllocError>
         ensures { IfOk result (λ c. c ≡ ([], count)) }
     {
@@ -39,7 +40,7 @@ impl<T: Copy> Rows<T> {
         })
     }
 
-    /// Puts an item before the others.
+    /// Pushes an item. There must be a free cell.
     #[inline(always)]
     pub fn push(&mut self, item: T)
         requires { 0 < self.old.1 }
@@ -50,7 +51,7 @@ impl<T: Copy> Rows<T> {
         self.cells[self.start] = item;
     }
 
-    /// Takes the latest.
+    /// Pops the latest item, or returns `None` if there is none.
     #[inline(always)]
     pub fn pop(&mut self) -> Option<T>
         ensures items { MatchOption result ((self.old.0 ≡ []) × (self.new ≡ self.old)) (λ x. (self.old.0 ≡ x ∷ self.new.0) × (self.new.1 ≡ self.old.1 + 1)) }
@@ -63,7 +64,7 @@ impl<T: Copy> Rows<T> {
         Some(item)
     }
 
-    /// Takes all items away.
+    /// Removes all items and keeps the cells.
     pub fn clear(&mut self)
         ensures items { self.new.0 ≡ [] }
         ensures left { self.new.1 ≡ length self.old.0 + self.old.1 }

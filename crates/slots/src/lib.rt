@@ -1,4 +1,4 @@
-//! The locals and operands of an invocation, in flat rows.
+//! The local variables and operand stacks of an invocation, in preallocated flat arrays.
 #![tactic(auto)]
 
 mod calls;

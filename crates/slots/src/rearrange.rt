@@ -1,5 +1,5 @@
-//! The stack instructions, from pop to swap (JVMS §6.5). They copy slots whatever lies in them, so that none asks for the
-//! sizes of values: a long is two slots.
+//! The stack instructions from `pop` to `swap` (JVMS §6.5).
+//! They copy slots regardless of the values in them, so they need no value sizes: a long is two slots.
 
 ghost use Rattle.std.specs.Prelude.{◌≡◌, ◌<◌, length};
 ghost use Rattle.jtypes.specs.declared.operations.Rearrangement.TheVariants.{Pop, Pop2, Dup, DupX1, DupX2, Dup2, Dup2X1, Dup2X2, Swap};
@@ -11,7 +11,7 @@ use crate::Window;
 use jtypes::Rearrangement;
 
 impl Window<'_> {
-    /// Copies a slot, its word and its kind.
+    /// Copies a slot: its word and its kind.
     fn copy(&mut self, from: usize, to: usize)
         requires from { from < length self.old.words.now }
         requires to { to < length self.old.words.now }
@@ -117,7 +117,7 @@ impl Window<'_> {
         self.kinds[floor + 1] = kind;
     }
 
-    /// Rearranges the topmost operands.
+    /// Rearranges the topmost operands as a stack instruction does.
     #[inline(always)]
     pub fn rearrange(&mut self, r: Rearrangement)
         requires { ShowsForm r self.old }

@@ -1,4 +1,4 @@
-//! What a reference is.
+//! The kinds of references, and their representation as a kind and a word.
 
 ghost use Rattle.std.specs.Prelude.{◌≡◌};
 ghost use Rattle.jtypes.specs.declared.types.RefValue.{RefValue};
@@ -9,7 +9,7 @@ ghost use Rattle.slots.specs.Standing.{IsWordOf, IsArrayOrNull, array_or_null, k
 
 use jtypes::{ArrayId, RefValue};
 
-/// What a reference is; its number stands in a word beside it.
+/// The kind of a reference. Its number is in the word of the same slot.
 #[derive(Clone, Copy, PartialEq, Eq)]
 pub enum Reference {
     Null,
@@ -21,7 +21,7 @@ pub enum Reference {
     Args,
 }
 
-/// The kind and the word of a reference; that of null, the entry, the class and the arguments tells nothing.
+/// Returns the kind and the word of a reference. The word is 0 for null, the entry, the class and the arguments.
 pub fn parts_of(r: RefValue) -> (Reference, u64)
     ensures { (arrays : Arrays) (v : RefValue) → IsReference arrays v r → (result.0 ≡ kind_of v) × IsWordOf arrays (Ref v) result.1 }
 {
@@ -36,7 +36,7 @@ pub fn parts_of(r: RefValue) -> (Reference, u64)
     }
 }
 
-/// The reference of a kind, with its word.
+/// Returns the reference of a kind and a word.
 pub fn reference_of(kind: Reference, word: u64) -> RefValue
     requires { (arrays : Arrays) × (v : RefValue) × (kind ≡ kind_of v) × IsWordOf arrays (Ref v) word }
     ensures { (arrays : Arrays) (v : RefValue) → kind ≡ kind_of v → IsWordOf arrays (Ref v) word → IsReference arrays v result }
@@ -52,7 +52,7 @@ pub fn reference_of(kind: Reference, word: u64) -> RefValue
     }
 }
 
-/// The word where an array begins, of a reference's kind and word; none of null.
+/// Returns the index of an array's first word from the kind and the word of a reference, or `None` for null.
 pub fn array_of(kind: Reference, word: u64) -> Option<ArrayId>
     requires { (arrays : Arrays) × (v : RefValue) × IsArrayOrNull v × (kind ≡ kind_of v) × IsWordOf arrays (Ref v) word }
     ensures { (arrays : Arrays) (v : RefValue) → IsArrayOrNull v → kind ≡ kind_of v → IsWordOf arrays (Ref v) word → IsReference arrays v (array_or_null result) }

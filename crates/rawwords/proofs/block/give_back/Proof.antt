@@ -1,4 +1,4 @@
--- `give_back` makes the places room again, and hands it back with the allocator's token.
+-- `give_back` turns the words into uninitialized memory, and deallocates it with the allocator's token.
 use Rattle.std.proofs.Common.{◌≡◌, ℕ, ◌*◌, ◌<◌, ◌^◌, T, List, [], ◌∷◌, refl, sym, ap, subst, length, arith, lit<, w64}
 use Rattle.std.proofs.raw_atomic.Walks.{proved}
 use Rattle.std.proofs.RawLayout.{as_raw}
@@ -61,7 +61,7 @@ give_back_spec 𝓤 𝓛 𝓜 𝓡 wired U LU g d dd met _ =
     rewrite ! 1 (λ (p : Ptr). ‵ (deed_owned (token Z h) p n)) e refl $
     use1 𝓛 (‵ (froom (ty_array (ty_int w64) (length block.places)) b o)) (to_room 𝓛 b block.places o) $
     rewrite ! 0 (λ (k : ℕ). ‵ (froom (ty_array (ty_int w64) k) b o)) asked.0 refl $ as_raw ! (ty_array (ty_int w64) n) b o $
-    -- [the room; the allocator's token; the `&` to the allocator; the token; the others]
+    -- [the memory; the allocator's token; the `&` to the allocator; the lifetime token; the other lifetime tokens]
     enter ! 𝓣.C 𝓣.Λ fn (vptr hp.0 hp.1 ∷ word block.at ∷ mark ∷ vint w64 n ∷ []) Post $
     alloc_all ! (λ l. pass_all ! refl ((tt, tt), (word-Good [] block.at, ((tt, (tt, tt)), ((tt, record { fits = are.1.1.1.0.1 }), tt)))) $
     let Ev = env fn.locals l in

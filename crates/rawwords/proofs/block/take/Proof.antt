@@ -1,4 +1,4 @@
--- `take` asks the allocator for room, which is a row of places that were never written.
+-- `take` allocates memory, which is a block of uninitialized words.
 use Rattle.std.proofs.Common.{ℕ, ◌*◌, ◌<◌, ◌^◌, [], ◌∷◌, refl, replicate, true, false, Ok, Err, None, arith, lit<, w64}
 use Rattle.std.proofs.raw_atomic.Walks.{proved}
 use Rattle.std.proofs.RawLayout.{as_written}
@@ -87,7 +87,7 @@ take_spec 𝓤 𝓛 𝓜 𝓡 wired U LU g d dd met _ =
     sets ! (agg ! (and_then ! (get ! refl) (and_then ! (get ! refl) (no_more !)))) refl typed $
     sets_last ! (agg ! (and_then ! (lit ! tt) (and_then ! (get ! refl) (no_more !)))) refl ok $
     exec ! 𝓣.C 𝓣.Λ Ev (after 3 fn.body) (at_ret Ev Post) $ sets ! (of_opd ! (get ! refl)) refl ok $
-    -- [the room; the allocator's token; the token; the others]
+    -- [the memory; the allocator's token; the lifetime token; the other lifetime tokens]
     move ! (1 ∷ []) $ use0 𝓛 (‵ ((Mark P g).own_val (record {}, tt) (mark ∷ []))) (mark_made P g 𝓛) $ fjoin ! $ move ! (1 ∷ []) $
     as_written ! (ty_array (ty_int w64) n) b o $ use1 𝓛 (‵ (places_owned b o block.places)) (of_room 𝓛 b n o) $
     use0 𝓛 (‵ (Word.own_val (p, tt) (word p ∷ []))) (word_made 𝓛 p) $ fjoin ! $

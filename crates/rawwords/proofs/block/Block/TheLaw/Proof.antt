@@ -1,4 +1,4 @@
--- A `&` to a block reaches each word.
+-- A `&` to a block gives access to each written word.
 use denote.Param.Shared.{copy_shared}
 use denote.Struct.Field.{RawPtr-field}
 use denote.Struct.Laws.{RawPtr-copy}

@@ -1,4 +1,4 @@
--- `word` hands on the `&` to a word that a `&` to the block holds.
+-- `word` returns the `&` to a word that a `&` to the block contains.
 use Rattle.std.proofs.Common.{◌≡◌, ℕ, ◌+◌, ◌*◌, ◌<◌, ◌^◌, List, [], ◌∷◌, refl, length, get_or, Some, None, arith, w64}
 use Rattle.std.specs.Prelude.{Option}
 use Rattle.std.proofs.raw_atomic.Walks.{proved}
@@ -51,7 +51,7 @@ word_spec 𝓤 𝓛 𝓜 𝓡 wired =
     in_a_block ! h.at (λ p. block_lent p h.places κ) (id⊢ 𝓤 _) (λ b o e.
     use1 𝓛 (‵ (place_lent b (i * 8 + o) (get_or h.places i None) κ)) (place_seen 𝓛 b κ h.places i o (i * 8 + o) inside refl) $
     rewrite ! 0 (λ (p : Option ℕ). ‵ (place_lent b (i * 8 + o) p κ)) asked.0.1 refl $ hide ! $ keep ! (1 ∷ 3 ∷ 4 ∷ 0 ∷ []) $
-    -- [the `&` to the pointer; the token; no other; the `&` to the word]
+    -- [the `&` to the pointer; the lifetime token; no other lifetime token; the `&` to the word]
     enter ! _ _ _ _ _ $ alloc_all ! (λ l. pass_all ! refl ((tt, tt), ((tt, record { fits = are.1.0.1 }), tt)) $
     first ! $ blocks ! $ pointer_in ! tt h.at b o e rb (ro + 0) (λ q'.
     sets ! (of_opd ! (load ! (through ! refl (fld ! refl (stop !))) (look ! 0 refl))) refl (tt, tt) $

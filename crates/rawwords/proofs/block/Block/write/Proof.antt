@@ -1,4 +1,4 @@
--- `write` makes room of a place, and writes the word there.
+-- `write` overwrites the memory of one word.
 use Rattle.std.proofs.Common.{ℕ, ◌+◌, ◌*◌, ◌<◌, ◌^◌, List, [], ◌∷◌, refl, sym, ap, ◌∙◌, length, set, Some, arith, w64}
 use Rattle.std.specs.Prelude.{Option}
 use Rattle.std.proofs.raw_atomic.Walks.{proved}
@@ -58,7 +58,7 @@ write_spec 𝓤 𝓛 𝓜 𝓡 wired =
     let word = lowers.val_is h us is ∙ ap (λ (p : Ptr). lowers.lowered (record h { at = p }) ∷ []) e in
     let Cell = λ (ws : List Val). ‵ (cell_at full_share R.mir ws b o) in
     rewrite ! 3 Cell word refl $
-    -- [the room; the other places; what the fields own; the struct's cell; the open borrow, in three entries]
+    -- [the memory of the word; the other words; what the fields own; the struct's cell; the open borrow, in three entries]
     first ! $ blocks ! $
     sets ! (of_opd ! (load ! (through ! refl (fld ! refl (stop !))) (look_in ! 3 (sub ! 0 refl (whole !))))) refl (tt, tt) $
     sets ! (bin ! (get ! refl) (lit ! tt) (record { fits = far })) refl (tt, record { fits = far }) $

@@ -1,4 +1,4 @@
--- A `&` to a deed holds nothing.
+-- A `&` to a deed holds no resource.
 use denote.Param.Laws.{Laws}
 use denote.Param.Shared.{copy_shared}
 use denote.RattleType.{RattleType}
