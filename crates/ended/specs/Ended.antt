@@ -6,7 +6,8 @@ use Rattle.verdict.specs.Machine.{Invocation, Final}
 use Rattle.verdict.specs.Meaning.{Means}
 use Rattle.ended.specs.declared.done.Done.{Done}
 
--- what is told of an end is this final state: its outcome, steps and words, how its entry differs from the one before, whether it was left untouched, and what the loader answered if it was asked
+-- `IsFinal d before f` holds if `d` reports the final state `f`: its outcome, steps, words and loader's answer,
+-- whether the entry is untouched, and the effect that changes the entry `before` to the final one
 pub record IsFinal (d : Done) (before : Entry) (f : Final) : Type 0 where
   pub outcome : d.outcome ≡ f.outcome
   pub effect : d.effect ≡ effect before f.entry
@@ -15,7 +16,7 @@ pub record IsFinal (d : Done) (before : Entry) (f : Final) : Type 0 where
   pub steps : d.steps ≡ f.steps
   pub words : d.words ≡ f.words
 
--- a run of the class ends as the call means
+-- `IsMeant c call d` holds if `d` reports a final state that the definitions give for this call of the class
 pub record IsMeant (c : Class) (call : Invocation) (d : Done) : Type 0 where
   pub final : Final
   pub means : Means c call final

@@ -1,12 +1,12 @@
-//! How an invocation ends.
+//! The end of an invocation, and the result of one step.
 
 use jtypes::{Effect, LoadAnswer, Outcome};
 
-/// The end of an invocation: its outcome, what it does to the entry, what the loader answered if it was asked, and the
-/// instructions and array words that it took.
+/// The end of an invocation: its outcome, its effect on the entry, the loader's answer if the loader was called,
+/// the number of executed instructions, and the number of allocated array words.
 ///
-/// `untouched` says that nothing was done to the entry: neither `setValue` nor `remove` was called, or an exception took
-/// back what they did. It tells a `setValue` of the value that is there, whose effect is `Keep`, from no call at all.
+/// `untouched` is true if the invocation called neither `setValue` nor `remove`, or threw and so discarded their changes.
+/// It distinguishes a `setValue` of the current value, whose effect is `Keep`, from no call.
 #[derive(Clone, Copy, Debug, PartialEq, Eq)]
 pub struct Done {
     pub outcome: Outcome,
@@ -17,7 +17,7 @@ pub struct Done {
     pub words: u32,
 }
 
-/// What a step leads to.
+/// The result of a step: the invocation continues, or it has ended.
 #[derive(Clone, Copy, PartialEq, Eq)]
 pub enum Going {
     Going,

@@ -1,4 +1,4 @@
-//! How an invocation ends: what a step leads to, and what the end of a run is by the definitions.
+//! The end of an invocation, and the result of one step.
 #![tactic(auto)]
 
 mod done;

@@ -17,7 +17,8 @@ ghost use Rattle.interpreter.specs.Operated.{CanOperate, Operated, HasInts, HasL
 use jtypes::{Binary, Conversion, Division, Shift};
 use slots::{Slots, Window};
 
-/// All results are made and one is taken: that is faster than a jump that is hard to foretell.
+/// Returns the wrapping 32-bit result of a binary operation.
+/// All six results are computed and one is indexed, which avoids a branch that is hard to predict.
 pub fn int_of(operation: Binary, a: i32, b: i32) -> i32
     ensures { result ≡ binary w32 operation a b }
 {
@@ -32,7 +33,7 @@ pub fn int_of(operation: Binary, a: i32, b: i32) -> i32
     results[operation as usize]
 }
 
-/// All results are made and one is taken, as in `int_of`.
+/// Returns the wrapping 64-bit result of a binary operation, computed as in `int_of`.
 pub fn long_of(operation: Binary, a: i64, b: i64) -> i64
     ensures { result ≡ binary w64 operation a b }
 {
@@ -71,7 +72,7 @@ pub fn long_shifted(direction: Shift, a: i64, count: i32) -> i64
     }
 }
 
-/// The low 32 bits of a long.
+/// Returns the low 32 bits of a long as an int.
 pub fn low_int(a: i64) -> i32
     ensures { result ≡ low_int a }
 {
@@ -99,7 +100,7 @@ pub fn short_of(a: i32) -> i32
     i32::from(low.cast_signed())
 }
 
-/// The order of two longs (JVMS §6.5, `lcmp`).
+/// Returns -1, 0 or 1 if `a` is less than, equal to or greater than `b` (JVMS §6.5, `lcmp`).
 pub fn order(a: i64, b: i64) -> i32
     ensures { result ≡ order a b }
 {
@@ -217,7 +218,8 @@ pub fn convert(window: &mut Window<'_>, conversion: Conversion)
     }
 }
 
-/// Toward zero, and none where the divisor is 0; the least value divided by -1 is itself, with remainder 0.
+/// Returns the quotient or the remainder, rounded toward zero, or `None` if the divisor is 0.
+/// The least int divided by -1 is itself, with remainder 0.
 #[inline(always)]
 pub fn int_divided(division: Division, a: i32, b: i32) -> Option<i32>
     ensures none { result ≡ None → b ≡ pos 0 }
@@ -232,7 +234,8 @@ pub fn int_divided(division: Division, a: i32, b: i32) -> Option<i32>
     })
 }
 
-/// Toward zero, and none where the divisor is 0; the least value divided by -1 is itself, with remainder 0.
+/// Returns the quotient or the remainder, rounded toward zero, or `None` if the divisor is 0.
+/// The least long divided by -1 is itself, with remainder 0.
 #[inline(always)]
 pub fn long_divided(division: Division, a: i64, b: i64) -> Option<i64>
     ensures none { result ≡ None → b ≡ pos 0 }
@@ -247,7 +250,8 @@ pub fn long_divided(division: Division, a: i64, b: i64) -> Option<i64>
     })
 }
 
-/// Divides the lower one of two ints by the upper one; false where that is 0.
+/// Pops two ints, divides the lower by the upper one and pushes the result.
+/// Returns false, and pushes nothing, if the divisor is 0.
 pub fn divide_ints(slots: &mut Slots, division: Division) -> bool
     requires { HasInts slots.old }
     ensures divides { (arrays : Arrays) (ls : List (Option Value)) (a b : ℤ) (vs : List Value) (below : List Activation) → Reads arrays slots.old ls (Int b ∷ Int a ∷ vs) below → Divides arrays result slots.new ls (divided w32 (λ n. Int n) division a b vs) below }
@@ -264,7 +268,8 @@ pub fn divide_ints(slots: &mut Slots, division: Division) -> bool
     }
 }
 
-/// Divides the lower one of two longs by the upper one; false where that is 0.
+/// Pops two longs, divides the lower by the upper one and pushes the result.
+/// Returns false, and pushes nothing, if the divisor is 0.
 pub fn divide_longs(slots: &mut Slots, division: Division) -> bool
     requires { HasLongs slots.old }
     ensures divides { (arrays : Arrays) (ls : List (Option Value)) (a b : ℤ) (vs : List Value) (below : List Activation) → Reads arrays slots.old ls (Long b ∷ Long a ∷ vs) below → Divides arrays result slots.new ls (divided w64 (λ n. Long n) division a b vs) below }

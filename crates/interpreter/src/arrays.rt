@@ -1,4 +1,4 @@
-//! Arrays (JVMS §6.5, newarray, iaload to aaload, iastore, lastore and arraylength).
+//! Arrays (JVMS §6.5, `newarray`, `iaload`, `laload`, `aaload`, `iastore`, `lastore` and `arraylength`).
 
 ghost use Rattle.std.specs.Prelude.{◌≡◌, ◌<◌, ◌^◌, ℕ, pos};
 ghost use Rattle.jtypes.specs.declared.types.Value.{Value};
@@ -16,7 +16,7 @@ use arena::Arena;
 use jtypes::{Arg, Args, ArrayKind, JavaFault, Outcome, RefValue};
 use slots::Window;
 
-/// The length that an int tells.
+/// Returns a nonnegative int as an array length.
 fn size_of(count: i32) -> u32
     requires { (n : ℕ) × (count ≡ pos n) }
     ensures { (n : ℕ) → count ≡ pos n → result ≡ n }
@@ -24,7 +24,8 @@ fn size_of(count: i32) -> u32
     count as u32
 }
 
-/// Makes an array of zeros. That there is room for it is known of the class.
+/// Pops a length and pushes a new array of zeros.
+/// By the precondition the arena has enough free words, so that `alloc` cannot fail.
 pub fn make_array(machine: &mut Machine, kind: ArrayKind) -> Result<(), Outcome>
     requires { CanTake (array_made kind) machine.old }
     ensures told { Takes (array_made kind) machine.old machine.new result }
@@ -40,7 +41,7 @@ pub fn make_array(machine: &mut Machine, kind: ArrayKind) -> Result<(), Outcome>
     }
 }
 
-/// An element of an int array as an int.
+/// Returns an element of an int array as an int.
 fn int_of(n: i64) -> i32
     requires { FitsElement ArrayKind.Int n }
     ensures { result ≡ n }
@@ -48,7 +49,7 @@ fn int_of(n: i64) -> i32
     n as i32
 }
 
-/// Puts an element of an array.
+/// Pushes an array element, as an int or a long by the array's kind.
 #[inline(always)]
 fn push_element(window: &mut Window<'_>, kind: ArrayKind, n: i64)
     requires { (s : Slots) × CanPushElement kind n (seen s window.old) }
@@ -61,7 +62,7 @@ fn push_element(window: &mut Window<'_>, kind: ArrayKind, n: i64)
     }
 }
 
-/// Takes a number for an element of an array.
+/// Pops the value for an array element, an int or a long by the array's kind.
 #[inline(always)]
 fn pop_element(window: &mut Window<'_>, kind: ArrayKind) -> i64
     requires { (s : Slots) × CanPopElement kind (seen s window.old) }
@@ -74,7 +75,8 @@ fn pop_element(window: &mut Window<'_>, kind: ArrayKind) -> i64
     }
 }
 
-/// Puts the element at an index of an array.
+/// Pops an index and an array reference, and pushes the element.
+/// Fails on a null reference or an index out of bounds.
 #[inline(always)]
 pub fn load_item(window: &mut Window<'_>, arena: &Arena, kind: ArrayKind) -> Result<(), JavaFault>
     requires { (m : Machine) × CanTakeAnywhere (item_loaded kind) (within m window.old arena.now) }
@@ -94,7 +96,8 @@ pub fn load_item(window: &mut Window<'_>, arena: &Arena, kind: ArrayKind) -> Res
     }
 }
 
-/// Changes the element at an index of an array.
+/// Pops a value, an index and an array reference, and stores the value in the element.
+/// Fails on a null reference or an index out of bounds.
 #[inline(always)]
 pub fn store_item(
     window: &mut Window<'_>,
@@ -117,7 +120,7 @@ pub fn store_item(
     }
 }
 
-/// The argument at an index; an index outside has none.
+/// Returns the argument at an index, or `None` if the index is out of bounds.
 fn argument_at(args: &Args, index: i32) -> Option<Arg>
     ensures { result ≡ item_at args.now index }
 {
@@ -128,7 +131,7 @@ fn argument_at(args: &Args, index: i32) -> Option<Arg>
     }
 }
 
-/// An argument as a reference.
+/// Returns an argument as a reference: null, a `Long` or an `Integer`.
 fn reference_of(argument: Arg) -> RefValue
     ensures { Value.Ref result ≡ value_of_arg argument }
 {
@@ -139,7 +142,7 @@ fn reference_of(argument: Arg) -> RefValue
     }
 }
 
-/// Puts the argument at an index.
+/// Pops an index and the argument array, and pushes the argument at the index.
 pub fn load_argument(machine: &mut Machine) -> Result<(), Outcome>
     requires { CanTake argument_loaded machine.old }
     ensures told { Takes argument_loaded machine.old machine.new result }
@@ -159,7 +162,7 @@ pub fn load_argument(machine: &mut Machine) -> Result<(), Outcome>
     }
 }
 
-/// A length as an int.
+/// Returns a length as an int.
 fn count_of(length: usize) -> i32
     requires { length < 2 ^ 31 }
     ensures { result ≡ pos length }
@@ -167,7 +170,7 @@ fn count_of(length: usize) -> i32
     length as i32
 }
 
-/// Puts the length of an array.
+/// Pops an array reference and pushes the length of the array.
 pub fn measure(machine: &mut Machine) -> Result<(), Outcome>
     requires { CanTake length_measured machine.old }
     ensures told { Takes length_measured machine.old machine.new result }

@@ -1,4 +1,4 @@
-//! What asks a loader (JSR 107, `CacheLoader`): a getValue where there was no entry.
+//! Calls of the cache loader (JSR 107, `CacheLoader`), which a `getValue` of an absent entry may cause.
 
 ghost use Rattle.std.specs.Prelude.{◌≡◌, ℕ};
 ghost use Rattle.interpreter.specs.Holds.{AreKept, at_regs};
@@ -9,7 +9,7 @@ use jtypes::{JavaFault, LoadFailed, Loader, Native, Outcome, RefValue};
 use slots::Slots;
 use vmcode::{LinkedClass, StackInstr};
 
-/// Whether a stack instruction is a getValue of the entry, by the topmost operand.
+/// Returns whether a stack instruction is a `getValue` whose receiver, the topmost operand, is the entry.
 fn gets_value(linked: StackInstr, slots: &Slots) -> bool
     requires { CanTell linked slots.now }
     ensures { Tells linked slots.now result }
@@ -23,7 +23,7 @@ fn gets_value(linked: StackInstr, slots: &Slots) -> bool
     }
 }
 
-/// Whether the instruction with a number asks the loader.
+/// Returns whether the instruction at code index `place` asks the loader.
 #[inline(always)]
 fn is_asking<L: Loader>(machine: &Machine, class: &LinkedClass, place: usize) -> bool
     requires { (steps : ℕ) × CanStepWith L.ASKS class.now (at_regs machine.now place steps) }
@@ -38,8 +38,8 @@ fn is_asking<L: Loader>(machine: &Machine, class: &LinkedClass, place: usize) ->
     gets_value(class.code[place], &machine.slots)
 }
 
-/// Asks the loader where the instruction with a number does: a value becomes the entry, and a load that failed is an
-/// exception.
+/// Asks the loader if the instruction at code index `place` does.
+/// A loaded value becomes the entry's value; a failed load throws `CacheLoader`.
 #[inline(always)]
 pub fn ask<L: Loader>(
     machine: &mut Machine,

@@ -1,4 +1,4 @@
-//! Casts (JVMS §6.5, checkcast and instanceof).
+//! Casts (JVMS §6.5, `checkcast` and `instanceof`).
 
 ghost use Rattle.std.specs.Prelude.{◌≡◌};
 ghost use Rattle.jtypes.specs.declared.types.RefValue.{RefValue};
@@ -14,7 +14,7 @@ use arena::Arena;
 use jtypes::{JavaFault, Outcome, RefType, RefValue};
 use natives::passes;
 
-/// Whether a reference may be cast: null, and what is of the type.
+/// Returns whether a reference can be cast: it is null or an instance of the target type.
 #[inline(always)]
 pub fn may_cast(arena: &Arena, value: RefValue, target: RefType) -> bool
     requires { (v : RefValue) × IsReference arena.now.arrays v value }
@@ -26,7 +26,7 @@ pub fn may_cast(arena: &Arena, value: RefValue, target: RefType) -> bool
     }
 }
 
-/// Leaves a reference where it may be cast.
+/// Checks that the topmost reference can be cast, and leaves it on the operand stack; otherwise throws `ClassCast`.
 pub fn check_cast(machine: &mut Machine, target: RefType) -> Result<(), Outcome>
     requires { CanTake (casted target) machine.old }
     ensures told { Takes (casted target) machine.old machine.new result }
@@ -40,14 +40,14 @@ pub fn check_cast(machine: &mut Machine, target: RefType) -> Result<(), Outcome>
     }
 }
 
-/// 1 for what holds, else 0.
+/// Returns 1 for true and 0 for false.
 fn flag(holds: bool) -> i32
     ensures { Value.Int result ≡ flag holds }
 {
     i32::from(holds)
 }
 
-/// Tells whether a reference is of a type. Null is of none.
+/// Pops a reference and pushes 1 if it is an instance of a type, else 0. Null is an instance of no type.
 pub fn instance_of(machine: &mut Machine, target: RefType) -> Result<(), Outcome>
     requires { CanTake (asked target) machine.old }
     ensures told { Takes (asked target) machine.old machine.new result }

@@ -1,4 +1,4 @@
-//! The library calls (JVMS §6.5, invokestatic, invokevirtual and invokeinterface).
+//! Library calls (JVMS §6.5, `invokestatic`, `invokevirtual` and `invokeinterface`).
 
 ghost use Rattle.std.specs.Prelude.{Some};
 ghost use Rattle.slots.specs.Reads.{AreSame};
@@ -10,7 +10,7 @@ use crate::machine::Machine;
 use jtypes::{Native, Outcome, Value};
 use slots::Slots;
 
-/// Puts a value.
+/// Pushes a value.
 #[inline(always)]
 fn push(slots: &mut Slots, value: Value)
     requires { CanPush (Some value) slots.old }
@@ -24,7 +24,7 @@ fn push(slots: &mut Slots, value: Value)
     }
 }
 
-/// Puts what the library answers, if it answers a value.
+/// Pushes the result of a library call, if it has one.
 #[inline(always)]
 fn push_answer(slots: &mut Slots, answer: Option<Value>)
     requires { CanPush answer slots.old }
@@ -36,7 +36,7 @@ fn push_answer(slots: &mut Slots, answer: Option<Value>)
     }
 }
 
-/// Calls the library on values that were taken, the receiver first, and puts what it answers.
+/// Calls the library on arguments that were popped, the receiver first, and pushes the result.
 #[inline(always)]
 fn answer(machine: &mut Machine, native: Native, values: &[Value]) -> Result<(), Outcome>
     requires { CanAnswer native values.now machine.old }
@@ -115,7 +115,7 @@ fn call_on_references(machine: &mut Machine, native: Native) -> Result<(), Outco
     answer(machine, native, &[Value::Ref(a), Value::Ref(b)])
 }
 
-/// A library call. What it takes stands on the operands, the receiver lowest.
+/// Executes a library call. Its arguments are on the operand stack, the first one lowest.
 pub fn call_library(machine: &mut Machine, native: Native) -> Result<(), Outcome>
     requires { CanCallLibrary native machine.old }
     ensures told { CallsLibrary native machine.old machine.new result }
