@@ -1,4 +1,4 @@
--- One record more, or one full stripe more, keeps the accounts.
+-- A further record, or a further full stripe, preserves the accounts.
 use Rattle.std.proofs.Common.{◌≡◌, ◌⊎◌, ℕ, ◌+◌, ◌<◌, ◌≤◌, List, [], ◌∷◌, ◌++◌, length, get_or, set, Bool, true, false, sym, refl, ap, ◌∙◌, subst, inl, inr, ⊎_elim, arith, length-append, get_or-set_other}
 use mathlib.Core.Option.{some}
 use lib.ListN.{get_elem?}
@@ -10,7 +10,7 @@ use Rattle.cache.specs.Guarded.{count_records}
 use Rattle.cache.proofs.Puts.{put, put_here, put_else, put_same, by_place, within, get_length}
 use Rattle.cache.proofs.Counts.{count_put}
 
--- the accounts of n stripes, and no seat has more receipts than there are records
+-- The accounts of `n` stripes, with at most as many receipts at each seat as there are records.
 pub record Books (n journal seats : ℕ) (history : ℕ → List Record) (receipts : ℕ → List Receipt) (full : ℕ → List Bool) : Type 0 where
   pub accounts : Accounts journal seats history receipts full
   pub counted : (c : ℕ) → length (receipts c) ≤ count_records history n

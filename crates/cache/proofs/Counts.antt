@@ -1,4 +1,4 @@
--- How many records the first stripes have.
+-- The number of records of the first stripes.
 use Rattle.std.proofs.Common.{◌≡◌, ℕ, zero, suc, ◌+◌, ◌*◌, ◌<◌, ◌≤◌, List, length, refl, ap, ◌∙◌, arith}
 use Rattle.stripe.specs.History.{Record}
 use Rattle.cache.specs.Guarded.{count_records}

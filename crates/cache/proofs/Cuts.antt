@@ -1,4 +1,4 @@
--- Seats are cut and joined.
+-- The split and the join of seats preserve the invariant.
 use Rattle.std.proofs.Common.{ℤ, Bool, ◌≡◌, ◌≢◌, ◌⊎◌, ℕ, ◌+◌, ◌<◌, ◌≤◌, List, [], ◌∷◌, ◌++◌, length, set, Some, None, sym, refl, ap, ◌∙◌, subst, inl, inr, ⊎_elim, arith}
 use mathlib.Core.Option.{some, some-injective, some-ne-none}
 use lib.ListN.{get_elem?}
@@ -13,7 +13,7 @@ use Rattle.cache.specs.declared.known.Terms.{Terms}
 use Rattle.cache.proofs.Puts.{by_place, append_cases, get_length}
 use Rattle.cache.proofs.Keeps.{S, nothing_held, at_one, Placed, one_set, one_less}
 
--- the views have changed, but not those that hold a stripe
+-- A change of views preserves the state of each stripe, if it keeps all views that hold one.
 stays_placed : (loads : Bool) (may : ℤ → LoadAnswer → Type 0) (tables : List Stored) (journal : ℕ) (s : S) (g : IsGuarded loads may tables journal s) (views : List View)
     → ((j : ℕ) (v : View) (i : ℕ) (y : Kept) → get_elem? s.views j ≡ some v → v.held ≡ Some (taken i y) → get_elem? views j ≡ some v)
     → (seats : ℕ) (i : ℕ) → i < length tables → Placed loads may tables journal seats g.history g.receipts g.full record { words = s.words; homes = s.homes; views = views } i
@@ -25,7 +25,7 @@ stays_placed loads may tables journal s g views keep seats i below = ⊎_elim
 lt-suc : (a b : ℕ) → a < b → a < b + 1
 lt-suc a b h = omega arith
 
--- what a view that is not changed knows, where there may be more seats
+-- An unchanged view still fits, also if there are more seats.
 still_fits : (loads : Bool) (may : ℤ → LoadAnswer → Type 0) (tables : List Stored) (journal : ℕ) (s : S) (g : IsGuarded loads may tables journal s) (views : List View) (seats : ℕ) → g.seats ≤ seats → (j k : ℕ) (v : View) → (0 < v.made → (k ≡ 0) × (v.made ≡ seats))
     → Fits loads may tables journal g.seats g.history g.receipts g.full s j v → Fits loads may tables journal seats g.history g.receipts g.full record { words = s.words; homes = s.homes; views = views } k v
 still_fits loads may tables journal s g views seats more j k v maker f = record {
@@ -34,7 +34,7 @@ still_fits loads may tables journal s g views seats more j k v maker f = record 
   maker = maker;
 }
 
--- two views of which each has something are one, also behind a view that is added
+-- `AreOne` is preserved if a view is appended that shares nothing with an earlier view.
 one_behind : (has : View → Type 0) (views : List View) (b : View) → (has b → (j : ℕ) (u : View) → get_elem? views j ≡ some u → has u → ⊥) → AreOne views has → AreOne (views ++ b ∷ []) has
 one_behind has views b only_b old j m u w eu ew hu hw = go (get_length views b u j eu) (get_length views b w m ew)
   where
@@ -134,7 +134,7 @@ module _ {L : Type 0} (loads : Bool) (may : ℤ → LoadAnswer → Type 0) (k : 
       } in
       let spent_fits : Fits loads may tables k.journal g.seats g.history g.receipts g.full s' other spent
       = record { parts = λ n x e. absurd (some-ne-none x (sym e)); holds = λ i y e. absurd (nothing_held i y e); maker = λ h. absurd (omega arith) } in
-      -- where a view stood before
+      -- The index of a view before the join.
       let before : (c j : ℕ) (x : View) → get_elem? views j ≡ some x → Has x c → (i : ℕ) × (u : View) × (get_elem? s.views i ≡ some u) × Has u c × ((i ≡ id) ⊎ (i ≡ other) → j ≡ id) × ((i ≢ id) → (i ≢ other) → j ≡ i)
       = λ c j x e h. ⊎_elim
       (λ (t : (j ≡ other) × (spent ≡ x)). absurd (let h' : Has spent c = subst (λ (q : View). Has q c) (sym t.1) h in some-ne-none h'.1 (sym h'.2)))

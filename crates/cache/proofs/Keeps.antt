@@ -1,4 +1,4 @@
--- The steps on a stripe's lock keep the rule.
+-- The lock operations on a stripe preserve the invariant.
 use Rattle.std.proofs.Common.{ℤ, Bool, ◌≡◌, ◌≢◌, ◌⊎◌, ℕ, zero, suc, ◌<◌, ◌≤◌, List, [], ◌∷◌, length, get_or, set, Option, Some, None, sym, refl, ap, ◌∙◌, subst, inl, inr, ⊎_elim, arith, length-set, get_or-set_other, get_or-set_same}
 use mathlib.Core.Option.{some, none, some-injective, some-ne-none}
 use lib.ListN.{get_elem?}
@@ -36,7 +36,7 @@ pub at_one : (p q : Part) (n : ℕ) → get_elem? (p ∷ []) n ≡ some q → p 
 at_one p q zero e = some-injective p q e
 at_one p q (suc n) e = absurd (some-ne-none q (sym e))
 
--- a view is changed that then has what no other one has
+-- `AreOne` is preserved if the changed view shares nothing with another view.
 pub one_set : (has : View → Type 0) (views : List View) (id : ℕ) (w : View) → (has w → (k : ℕ) (u : View) → k ≢ id → get_elem? views k ≡ some u → has u → ⊥) → AreOne views has → AreOne (set views id w) has
 one_set has views id w mine old j k v u ej ek hv hu = go (at_set views id j w v ej) (at_set views id k w u ek)
   where
@@ -46,14 +46,14 @@ one_set has views id w mine old j k v u ej ek hv hu = go (at_set views id j w v 
     go (inr a) (inl b) = absurd (mine (subst has (sym b.1) hu) j v a.0 a.1 hv)
     go (inr a) (inr b) = old j k v u a.1 b.1 hv hu
 
--- a view is changed that then has no more than before
+-- `AreOne` is preserved if the changed view has nothing new.
 pub one_less : (has : View → Type 0) (views : List View) (id : ℕ) (v w : View) → get_elem? views id ≡ some v → (has w → has v) → AreOne views has → AreOne (set views id w) has
 one_less has views id v w at back old = one_set has views id w (λ h k u apart e hu. apart (old k id u v e at hu (back h))) old
 
 pub at_more : (loads : Bool) (may : ℤ → LoadAnswer → Type 0) (tables : List Stored) (journal : ℕ) (h h' : ℕ → List Record) (i : ℕ) (y : Kept) → h' i ≡ h i → IsAt loads may tables journal h i y → IsAt loads may tables journal h' i y
 at_more loads may tables journal h h' i y same a = record { inside = a.inside; stripes = a.stripes; place = a.place; journal_is = a.journal_is; idle = a.idle; kept = a.kept; given = a.given; records = a.records ∙ sym same; few = a.few }
 
--- the word of a stripe that is held, after another one's change and after its own
+-- The word of a held stripe is nonzero after a change of another word, and after its own change to a nonzero one.
 still_held : (words : List ℕ) (i j word : ℕ) → j ≢ i → 0 < get_or words j 0 → 0 < get_or (set words i word) j 0
 still_held words i j word other h = subst (λ (n : ℕ). 0 < n) (sym (get_or-set_other words i j word 0 other)) h
 
@@ -68,7 +68,7 @@ Placed loads may tables journal seats history receipts full s i = IsHome loads m
 
 module _ (loads : Bool) (may : ℤ → LoadAnswer → Type 0) (tables : List Stored) (journal : ℕ) (s : S) (g : IsGuarded loads may tables journal s) (id i made : ℕ) (p : Part) where
   module _ (y : Kept) (at : get_elem? s.views id ≡ some (holding made p i y)) where
-    -- a stripe that the seat holds goes back
+    -- The unlock of a held stripe.
     pub gives_back : (z : Kept) (l : List Receipt) (f : List Bool) → IsLater loads may y z → length z.records ≤ journal → Books (length tables) journal g.seats (put g.history i z.records) (put g.receipts p.caller l) (put g.full p.caller f)
         → IsGuarded loads may tables journal record { words = set s.words i 0; homes = set s.homes i (some z); views = set s.views id (seat_view made (part p.caller l f)) }
     gives_back z l f later few books =
@@ -153,7 +153,7 @@ module _ (loads : Bool) (may : ℤ → LoadAnswer → Type 0) (tables : List Sto
           one_place = λ c. one_less (λ (v : View). Has v c) s.views id (holding made p i y) w at (λ h. (0, p, refl, ap (λ (x : Part). x.caller) (at_one q h.1 h.0 h.2) ∙ h.3)) (g.one_place c);
         }
 
-  -- a stripe that is at home is taken
+  -- The lock of an unlocked stripe.
   module _ (home : IsHome loads may tables journal g.seats g.history g.receipts g.full s i) (at : get_elem? s.views id ≡ some (seat_view made p)) where
     pub takes_one : (word : ℕ) → 0 < word → IsGuarded loads may tables journal record { words = set s.words i word; homes = set s.homes i none; views = set s.views id (holding made p i home.stripe) }
     takes_one word above =
@@ -220,7 +220,7 @@ module _ (loads : Bool) (may : ℤ → LoadAnswer → Type 0) (tables : List Sto
           one_place = λ c. one_less (λ (v : View). Has v c) s.views id (seat_view made p) w at (λ h. h) (g.one_place c);
         }
 
-  -- a stripe that another seat holds is marked
+  -- A mark on the word of a stripe that another seat holds.
   pub stays_out : (word : ℕ) → 0 < word → IsOut loads may tables journal g.seats g.history g.receipts g.full s i → IsGuarded loads may tables journal record { words = set s.words i word; homes = s.homes; views = s.views }
   stays_out word above out =
       let s' : S = record { words = set s.words i word; homes = s.homes; views = s.views } in
@@ -253,7 +253,7 @@ module _ (loads : Bool) (may : ℤ → LoadAnswer → Type 0) (tables : List Sto
         one_place = g.one_place;
       }
 
--- a stripe that goes back and is taken again in one step
+-- An unlock and a lock of the same stripe in one step.
 pub taken_again : (loads : Bool) (may : ℤ → LoadAnswer → Type 0) (tables : List Stored) (journal : ℕ) (s : S) (id i made : ℕ) (q : Part) (z : Kept)
     (g : IsGuarded loads may tables journal record { words = set s.words i 0; homes = set s.homes i (some z); views = set s.views id (seat_view made q) })
     → 0 < get_or s.words i 0 → get_elem? (set s.views id (seat_view made q)) id ≡ some (seat_view made q) → i < length s.homes → i < length s.words → i < length tables

@@ -1,4 +1,4 @@
--- What the steps on a stripe's lock ask of the table.
+-- The lock table allows each lock operation on a stripe.
 use Rattle.std.proofs.Common.{zero, All, ℤ, Bool, ◌≡◌, ℕ, suc, ◌+◌, ◌*◌, ◌<◌, ◌≤◌, List, [], ◌∷◌, ◌++◌, length, get_or, set, None, true, sym, refl, ap, ◌∙◌, subst, ⊎_elim, arith, length-append}
 use mathlib.Core.Option.{none, some, some-injective}
 use lib.ListN.{get_elem?}
@@ -29,7 +29,7 @@ pub told_snoc : (i : ℕ) (xs : List Record) (r : Record) (p : Part) → told_la
 told_snoc i [] r p = refl
 told_snoc i (x ∷ xs) r p = ap (told_part p) (last_after i 0 x xs r ∙ ap (λ (n : ℕ). record { stripe = i; place = n; call = r.call; reply = r.reply }) (omega arith))
 
--- no stripe has more records than it may have
+-- Each history has at most `journal` records.
 few_records : (loads : Bool) (may : ℤ → LoadAnswer → Type 0) (tables : List Stored) (journal : ℕ) (s : S) (g : IsGuarded loads may tables journal s) (i : ℕ) → i < length tables → length (g.history i) ≤ journal
 few_records loads may tables journal s g i below =
     ⊎_elim
@@ -39,7 +39,7 @@ few_records loads may tables journal s g i below =
     subst (λ (l : List Record). length l ≤ journal) at.records at.few)
     (g.each_stripe i below)
 
--- so no seat has more receipts than so many
+-- So each seat has at most 262,144 receipts.
 few_receipts : (loads : Bool) (may : ℤ → LoadAnswer → Type 0) (tables : List Stored) (journal : ℕ) (s : S) (g : IsGuarded loads may tables journal s) (c : ℕ) → IsCount (length tables) → IsJournal journal → length (g.receipts c) ≤ 262144
 few_receipts loads may tables journal s g c count size =
     let few : count_records g.history (length tables) ≤ length tables * 4096 = count_few g.history (length tables) (λ i h. let one = few_records loads may tables journal s g i h in omega (arith, size.1)) in
@@ -50,7 +50,7 @@ module _ {L : Type 0} (loads : Bool) (may : ℤ → LoadAnswer → Type 0) (k : 
   tables = k.tables.value
 
   module _ (made : ℕ) (p : Part) where
-    -- whatever the word becomes, which is not 0
+    -- A lock is allowed, for every operation on the word that makes it nonzero.
     may_take : (f : ℕ → ℕ) (a b : ℕ) → ((found : ℕ) → 0 < f found) → n ≡ length tables → IsCount (length tables) → IsJournal k.journal → i < length tables → Allows (Guarded loads may k) n id (seat_view made p, []) i f (on_take (step n i a b none) (seat_view made p, []))
     may_take f a b positive slots count size below s g long at fits =
         let word : ℕ = f (get_or s.words i 0) in
@@ -87,7 +87,7 @@ module _ {L : Type 0} (loads : Bool) (may : ℤ → LoadAnswer → Type 0) (k : 
         ))
         (g.each_stripe i below)
 
-    -- the same, at what the seat is known to be
+    -- The same for a state that is equal to that of an idle seat.
     pub may_take_as : (f : ℕ → ℕ) (a b : ℕ) → ((found : ℕ) → 0 < f found) → (m : Sat) → m ≡ (seat_view made p, []) → n ≡ length tables → IsCount (length tables) → IsJournal k.journal → i < length tables → Allows (Guarded loads may k) n id m i f (on_take (step n i a b none) m)
     may_take_as f a b positive m is slots count size below = subst (λ (x : Sat). Allows (Guarded loads may k) n id x i f (on_take (step n i a b none) x)) (sym is) (may_take f a b positive slots count size below)
 
@@ -165,12 +165,12 @@ module _ {L : Type 0} (loads : Bool) (may : ℤ → LoadAnswer → Type 0) (k : 
   pub may_note_as : (m : Sat) → CanTell loads may i m → IsCount (length tables) → IsJournal k.journal → Allows (Guarded loads may k) n id m i (λ word. word) (on_note (step n i 0 0 none) m)
   may_note_as m h count small = subst (λ (x : Sat). Allows (Guarded loads may k) n id x i (λ word. word) (on_note (step n i 0 0 none) x)) (sym h.is) (may_note h.made h.part h.before h.stripe h.later h.one h.more h.few h.caller h.number count small)
 
--- what holds of one record
+-- A property of one record, as a property of a list of one record.
 pub one_of : (P : Record → Type 0) (r : Record) → P r → All P (r ∷ [])
 one_of P r h zero d k = h
 one_of P r h (suc n) d k = absurd (omega (arith, k))
 
--- a call that is neither an invocation nor a get ends with nothing
+-- A call that is neither an invocation nor a `get` ends without a run, and without an answer of the loader.
 pub plain_ends : (loads : Bool) (may : ℤ → LoadAnswer → Type 0) (before : Entry) (call : Call) → IsPlain call → EndsSo loads may before call (None, None)
 plain_ends loads may before (Invoke c k args) p = absurd p
 plain_ends loads may before (Get k) p = absurd p

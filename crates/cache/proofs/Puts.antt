@@ -1,4 +1,4 @@
--- A function with one value changed, and lists by their places.
+-- A function with one value changed, and lists by index.
 use Rattle.std.proofs.Common.{◌≡◌, ◌≢◌, ◌⊎◌, ℕ, zero, suc, ◌+◌, ◌<◌, List, [], ◌∷◌, ◌++◌, length, take, sym, refl, ap, ◌∙◌, inl, inr, arith}
 use mathlib.Core.Logic.{dite}
 use mathlib.Core.Option.{some, some-injective, some-ne-none}
@@ -69,6 +69,6 @@ module _ {A : Type 0} where
   take_at (x ∷ xs) zero a e = λ k. some-injective x a e k ∷ []
   take_at (x ∷ xs) (suc i) a e = ap (λ (n : ℕ). take n (x ∷ xs)) (let h : suc i + 1 ≡ suc (i + 1) = omega arith in h) ∙ ap (λ (l : List A). x ∷ l) (take_at xs i a e)
 
-  -- what a loop meets behind what it has met
+  -- The element that a loop yields after `ys` has the index `length ys`.
   pub at_yielded : (ys zs ws : List A) (x : A) (all : List A) → zs ≡ x ∷ ws → ys ++ zs ≡ all → get_elem? all (length ys) ≡ some x
   at_yielded ys zs ws x all e f = ap (λ (l : List A). get_elem? l (length ys)) (sym f ∙ ap (λ (l : List A). ys ++ l) e) ∙ at_middle ys x ws

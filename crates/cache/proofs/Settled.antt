@@ -1,4 +1,4 @@
--- The last state settles the accounts.
+-- The final state of the table settles the accounts.
 use Rattle.std.proofs.Common.{ℤ, Bool, ◌≡◌, ℕ, zero, suc, ◌<◌, ◌≤◌, List, [], ◌∷◌, length, map, get_or, drop, Some, sym, refl, ap, ◌∙◌, subst, ⊎_elim, arith}
 use Rattle.std.specs.Prelude.{slice_get, option_and_then, pos, negsuc}
 use Rattle.std.proofs.Math.Nat.{mod-lt}
@@ -23,7 +23,7 @@ use Rattle.cache.proofs.Puts.{within}
 use Rattle.cache.proofs.Keeps.{nothing_held}
 use Rattle.cache.proofs.Starts.{there}
 
--- the stripes that come back, each as its history leaves it, and the accounts of it all
+-- The returned stripes, each as its history leaves it, and their accounts.
 pub record HasEnded (loads : Bool) (may : ℤ → LoadAnswer → Type 0) (tables : List Stored) (journal : ℕ) (seats : List Sitting) (ended : List Kept) : Type 0 where
   pub count : length ended ≡ length tables
   pub each : (i : ℕ) (y : Kept) → get_elem? ended i ≡ some y → IsAt loads may tables journal (history_at (histories_of ended)) i y
@@ -49,7 +49,7 @@ no_seat [] c h = (refl, refl)
 no_seat (x ∷ xs) zero h = absurd (omega arith)
 no_seat (x ∷ xs) (suc c) h = no_seat xs c (omega arith)
 
--- the words are 0 and the stripes at home once one view has all seats
+-- In a final state in which one view has all seats, each word is 0 and the table has each stripe.
 pub ends : (loads : Bool) (may : ℤ → LoadAnswer → Type 0) (tables : List Stored) (journal id : ℕ) (words : List ℕ) (seats : List Sitting) (ended : List Kept) → 0 < length seats → ((c : ℕ) (s : Sitting) → get_elem? seats c ≡ some s → s.caller ≡ c)
     → Final (Seen (IsGuarded loads may tables journal) id (view_of (length seats) seats)) words ended → HasEnded loads may tables journal seats ended
 ends loads may tables journal id words seats ended some_seat numbered last =

@@ -1,4 +1,4 @@
--- The first state keeps the rule.
+-- The first state satisfies the invariant.
 use Rattle.std.proofs.Common.{ℤ, Bool, ◌≡◌, ℕ, zero, suc, ◌+◌, ◌<◌, ◌≤◌, List, [], ◌∷◌, length, map, get_or, replicate, take, Some, true, false, true≢false, sym, refl, ap, ◌∙◌, subst, inl, arith}
 use Rattle.std.specs.Prelude.{slice_get, option_and_then}
 use mathlib.Core.Option.{some, some-injective, some-ne-none}
@@ -37,7 +37,7 @@ pub length-fresh_from : (n journal place : ℕ) (ms : List Stored) → length (f
 length-fresh_from n journal place [] = refl
 length-fresh_from n journal place (m ∷ ms) = ap suc (length-fresh_from n journal (suc place) ms)
 
--- which stripe stands at a place of those that are fresh
+-- The new stripe at an index.
 pub fresh_at : (n journal place : ℕ) (ms : List Stored) (i : ℕ) (y : Kept) → get_elem? (fresh_from n journal place ms) i ≡ some y → (m : Stored) × (slice_get ms i ≡ Some m) × (y ≡ fresh n journal (place + i) m)
 fresh_at n journal place [] i y e = absurd (some-ne-none y (sym e))
 fresh_at n journal place (m ∷ ms) zero y e = (m, refl, sym (some-injective (fresh n journal place m) y e) ∙ ap (λ (q : ℕ). fresh n journal q m) (let h : place ≡ place + 0 = omega arith in h))
@@ -45,7 +45,7 @@ fresh_at n journal place (m ∷ ms) (suc i) y e =
     let h = fresh_at n journal (suc place) ms i y e in
     (h.0, h.1, h.2 ∙ ap (λ (q : ℕ). fresh n journal q h.0) (let s : suc place + i ≡ place + suc i = omega arith in s))
 
--- without a history, what a stripe stores is what there was
+-- A new stripe has the entries of its table.
 starts_kept : (loads : Bool) (ms : List Stored) (journal i : ℕ) (m : Stored) → slice_get ms i ≡ Some m → IsKept loads (entry_among ms) (fresh (length ms) journal i m)
 starts_kept loads ms journal i m is = record { legal = tt; left = λ k of. sym (ap (option_and_then (λ t. entry_in t k)) (ap (slice_get ms) of ∙ is)) }
 
@@ -127,7 +127,7 @@ begins_at loads may k n slots same count few =
     subst (λ (l : List Kept). Guarded loads may k (opening (take n (zeros 64)) l first_view)) same
     (begins loads may k (take n (zeros 64)) (zeros_long n 64 few ∙ count) (λ i. zeros_are n 64 i))
 
--- stripes that are fresh are the stripes in their order
+-- New stripes are ready.
 ready_from : (n journal place : ℕ) (ms : List Stored) (i : ℕ) (y : Kept) → get_elem? (fresh_from n journal place ms) i ≡ some y → IsReady n (place + i) y
 ready_from n journal place ms i y e =
     let h = fresh_at n journal place ms i y e in
@@ -136,12 +136,12 @@ ready_from n journal place ms i y e =
 ready_fresh : (journal : ℕ) (ms : List Stored) → AreReady (length ms) (fresh_stripes journal ms)
 ready_fresh journal ms i y e = subst (λ (j : ℕ). IsReady (length ms) j y) (let h : 0 + i ≡ i = omega arith in h) (ready_from (length ms) journal 0 ms i y e)
 
--- and store what the tables had
+-- New stripes have the tables that they were made from.
 tables-fresh_from : (n journal place : ℕ) (ms : List Stored) → tables_of (fresh_from n journal place ms) ≡ ms
 tables-fresh_from n journal place [] = refl
 tables-fresh_from n journal place (m ∷ ms) = ap (λ (l : List Stored). m ∷ l) (tables-fresh_from n journal (suc place) ms)
 
--- the same of stripes that are equal to those
+-- The same for a list that is equal to the new stripes.
 module _ (journal : ℕ) (ms : List Stored) (ys : List Kept) (are : ys ≡ fresh_stripes journal ms) where
   pub long : length ys ≡ length ms
   long = ap (λ (l : List Kept). length l) are ∙ length-fresh_from (length ms) journal 0 ms

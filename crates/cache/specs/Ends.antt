@@ -1,4 +1,4 @@
--- How a cache is opened, and how its stripes come back.
+-- The buffers of a cache, and the return of its stripes.
 use Rattle.std.specs.Prelude.{◌≡◌, ℕ, ℤ, Bool, ◌≤◌, List, [], length, map, vec_capacity, None}
 use mathlib.Core.Option.{some}
 use lib.ListN.{get_elem?}
@@ -13,7 +13,7 @@ use Rattle.cache.specs.Guarded.{Guarded}
 use Rattle.cache.specs.declared.known.Terms.{Terms}
 use Rattle.cache.specs.declared.cache.SeatRoom.{SeatRoom}
 
--- the room for so many seats
+-- `HasRoom` holds if both buffers are empty and have capacity for `seats` items.
 pub record HasRoom (seats : ℕ) (r : SeatRoom) : Type 0 where
   pub list : r.list.items ≡ []
   pub list_room : seats ≤ vec_capacity r.list
@@ -26,25 +26,25 @@ histories_of ys = map (λ (y : Kept). y.records) ys
 abbrev pub tables_of : List Kept → List Stored
 tables_of ys = map (λ (y : Kept). y.stored) ys
 
--- of n stripes these came back
+-- The state of a `Rest` for `n` stripes after the stripes `ys` were added.
 abbrev pub back_of : ℕ → List Kept → Back
 back_of n ys = record { stripes = n; tables = tables_of ys; histories = histories_of ys }
 
--- the stripe i of n, with no call open
+-- `IsReady` holds if `y` is stripe `i` of `n` and has no open call.
 pub record IsReady (n i : ℕ) (y : Kept) : Type 0 where
   pub stripes : y.stripes ≡ n
   pub place : y.place ≡ i
   pub idle : y.running ≡ None
 
--- so many stripes, in their order
+-- `AreReady` holds if each stripe in the list is stripe `i` of `n` at its index `i`, and has no open call.
 abbrev pub AreReady : ℕ → List Kept → Type 0
 AreReady n ys = (i : ℕ) (y : Kept) → get_elem? ys i ≡ some y → IsReady n i y
 
--- whatever stripes the last state of the table had, with this view of a seat, they can come back
+-- `CanComeBack` holds if the stripes of every final state of the table with this view of seat `id` are ready.
 abbrev pub CanComeBack : {L : Type 0} → Bool → (ℤ → LoadAnswer → Type 0) → Terms L → ℕ → ℕ → View → Type 0
 CanComeBack loads gives k n id v = (words : List ℕ) (ended : List Kept) → Final (Seen (Guarded loads gives k) id v) words ended → AreReady n ended
 
--- the stripes of the last state came back
+-- `IsUnpacked` holds if `rest` has the `n` stripes of a final state of the table.
 pub record IsUnpacked {L : Type 0} (loads : Bool) (gives : ℤ → LoadAnswer → Type 0) (k : Terms L) (n id : ℕ) (v : View) (rest : Back) : Type 0 where
   pub words : List ℕ
   pub ended : List Kept

@@ -1,4 +1,4 @@
--- The rule of the stripes' locks.
+-- The invariant of the lock table.
 use Rattle.std.specs.Prelude.{◌≡◌, ◌⊎◌, ℕ, ℤ, zero, suc, ◌+◌, ◌<◌, ◌≤◌, List, [], ◌∷◌, Some, None, Bool, length, slice_index}
 use mathlib.Core.Option.{some, none}
 use lib.ListN.{get_elem?}
@@ -12,7 +12,7 @@ use Rattle.cache.specs.Views.{Part, View, taken, none_full}
 use Rattle.cache.specs.Accounts.{Accounts}
 use Rattle.cache.specs.declared.known.Terms.{Terms}
 
--- the second stripe is the first one after calls, of which none is open; what the loader answered to them, it gives
+-- `IsLater` holds if `z` is stripe `y` after further calls, none of them open. It stays legal, with answers that the loader may give.
 pub record IsLater (loads : Bool) (gives : ℤ → LoadAnswer → Type 0) (y z : Kept) : Type 0 where
   pub stripes : z.stripes ≡ y.stripes
   pub place : z.place ≡ y.place
@@ -21,8 +21,8 @@ pub record IsLater (loads : Bool) (gives : ℤ → LoadAnswer → Type 0) (y z :
   pub kept : (opening : Entries) → IsKept loads opening y → IsKept loads opening z
   pub given : AreGiven gives y.records → AreGiven gives z.records
 
--- a stripe as it stands between two calls: its history is legal from what the tables had, what it stores is what the history leaves, and the loader gives its
--- answers
+-- `IsAt` holds if `y` is stripe `i` between two calls: its history is legal from the entries of `tables`, its entries are those that
+-- the history leaves, and the loader may give each recorded answer.
 pub record IsAt (loads : Bool) (gives : ℤ → LoadAnswer → Type 0) (tables : List Stored) (journal : ℕ) (history : ℕ → List Record) (i : ℕ) (y : Kept) : Type 0 where
   pub inside : i < length tables
   pub stripes : y.stripes ≡ length tables
@@ -34,20 +34,20 @@ pub record IsAt (loads : Bool) (gives : ℤ → LoadAnswer → Type 0) (tables :
   pub records : y.records ≡ history i
   pub few : length y.records ≤ journal
 
--- the records of the first n stripes
+-- The number of records of the first `n` stripes.
 abbrev pub count_records : (ℕ → List Record) → ℕ → ℕ
 count_records history zero = 0
 count_records history (suc n) = count_records history n + length (history n)
 
 module _ (loads : Bool) (gives : ℤ → LoadAnswer → Type 0) (tables : List Stored) (journal seats : ℕ) (history : ℕ → List Record) (receipts : ℕ → List Receipt) (full : ℕ → List Bool) (s : State Kept View) where
-  -- the stripe is free
+  -- `IsHome` holds if stripe `i` is unlocked: its word is 0 and the table has it.
   pub record IsHome (i : ℕ) : Type 0 where
     pub free : slice_index s.words i ≡ 0
     pub stripe : Kept
     pub there : get_elem? s.homes i ≡ some (some stripe)
     pub at : IsAt loads gives tables journal history i stripe
 
-  -- a seat holds the stripe
+  -- `IsOut` holds if a seat holds stripe `i`: its word is nonzero, the table doesn't have it, and the seat's view does.
   pub record IsOut (i : ℕ) : Type 0 where
     pub held : 0 < slice_index s.words i
     pub away : get_elem? s.homes i ≡ some none
@@ -57,33 +57,33 @@ module _ (loads : Bool) (gives : ℤ → LoadAnswer → Type 0) (tables : List S
     pub there : get_elem? s.views seat ≡ some view
     pub holds : view.held ≡ Some (taken i before)
 
-  -- a seat's part is what the accounts have of it
+  -- `IsPart` holds if the part has the receipts and the full flags of its seat in the accounts.
   pub record IsPart (p : Part) : Type 0 where
     pub caller : p.caller < seats
     pub receipts_are : p.receipts ≡ receipts p.caller
     pub full_is : p.full ≡ full p.caller
 
-  -- who holds a stripe is one seat, and the stripe was so when it was taken
+  -- `IsHolder` holds if stripe `i` is locked, `y` is its state between two calls, and `v` is the view of a single seat.
   pub record IsHolder (v : View) (i : ℕ) (y : Kept) : Type 0 where
     pub held : 0 < slice_index s.words i
     pub at : IsAt loads gives tables journal history i y
     pub only : (p : Part) × (v.parts ≡ p ∷ [])
 
-  -- the seat j knows this
+  -- `Fits` holds if view `v` of table seat `j` agrees with the accounts and the locks.
   pub record Fits (j : ℕ) (v : View) : Type 0 where
     pub parts : (n : ℕ) (p : Part) → get_elem? v.parts n ≡ some p → IsPart p
     pub holds : (i : ℕ) (y : Kept) → v.held ≡ Some (taken i y) → IsHolder v i y
     pub maker : 0 < v.made → (j ≡ 0) × (v.made ≡ seats)
 
--- the seat of this number is in the view
+-- `Has` holds if the view has a part of seat `c`.
 abbrev pub Has : View → ℕ → Type 0
 Has v c = (n : ℕ) × (p : Part) × (get_elem? v.parts n ≡ some p) × (p.caller ≡ c)
 
--- two views of which each has something are one
+-- `AreOne` holds if at most one of the views satisfies `has`.
 abbrev pub AreOne : List View → (View → Type 0) → Type 0
 AreOne views has = (j k : ℕ) (v w : View) → get_elem? views j ≡ some v → get_elem? views k ≡ some w → has v → has w → j ≡ k
 
--- the view holds the stripe i
+-- `HoldsStripe` holds if the view holds stripe `i`.
 abbrev pub HoldsStripe : ℕ → View → Type 0
 HoldsStripe i v = (y : Kept) × (v.held ≡ Some (taken i y))
 
@@ -103,6 +103,7 @@ pub record IsGuarded (loads : Bool) (gives : ℤ → LoadAnswer → Type 0) (tab
   pub one_holder : (i : ℕ) → AreOne s.views (HoldsStripe i)
   pub one_place : (c : ℕ) → AreOne s.views (λ v. Has v c)
 
--- the rule: a stripe is free or one seat holds it, and between two calls it is as its history leaves it; receipts and records belong to one another
+-- `Guarded` is the invariant of the lock table. Each stripe is unlocked or held by one seat, and between two calls its entries are those
+-- that its history leaves. `Accounts` relates the receipts to the records.
 abbrev pub Guarded : {L : Type 0} → Bool → (ℤ → LoadAnswer → Type 0) → Terms L → State Kept View → Type 0
 Guarded loads gives k s = IsGuarded loads gives k.tables.value k.journal s

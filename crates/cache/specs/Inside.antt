@@ -1,4 +1,4 @@
--- What is true of every cache and of every seat.
+-- The invariants of caches and of seats.
 use Rattle.std.specs.Prelude.{◌≡◌, ◌<◌, ◌≤◌, [], length, vec_capacity}
 use Rattle.atomic_table.specs.Seated.{TableId}
 use Rattle.stripe.specs.Tables.{IsCount, IsJournal, none_back}
@@ -10,7 +10,7 @@ use Rattle.cache.specs.declared.known.Terms.{Terms}
 use Rattle.cache.specs.declared.cache.Cache.TheInside.{Inside}
 use Rattle.cache.specs.declared.seat.Seat.TheInside.{Inside as InSeat}
 
--- a table of the stripes of a cache: a word and a slot for each
+-- `IsBoard` holds if the lock table has one word and one slot for each stripe, and the counts are in range.
 pub record IsBoard {L : Type 0} (id : TableId) (k : Terms L) : Type 0 where
   pub words : id.words ≡ length k.tables.value
   pub slots : id.slots ≡ length k.tables.value
@@ -32,7 +32,7 @@ pub record IsCache {L : Type 0} (s : Inside L) : Type 0 where
 abbrev pub sitting : InSeat → Sitting
 sitting s = record { table = s.pass.table_id; caller = s.caller; made = s.made; receipts = receipts_of s.receipts.items; full = s.full }
 
--- what the locks know of the seat is what it has
+-- `IsSeated` holds if the seat's ghost view agrees with its fields, and it has 64 full flags.
 pub record IsSeated (s : InSeat) : Type 0 where
   pub known : IsKnown s.pass.table_id.slots s.made (part s.caller (receipts_of s.receipts.items) s.full) s.held s.pass.me
   pub full : length s.full ≡ 64

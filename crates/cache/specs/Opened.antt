@@ -1,4 +1,4 @@
--- Caches and seats, as contracts see them.
+-- The models of caches and seats.
 use Rattle.std.specs.Prelude.{◌≡◌, ℕ, zero, suc, ◌<◌, ◌≤◌, List, [], ◌∷◌, ◌++◌, Bool, true, false, length, map, None, slice_set, slice_index_or}
 use mathlib.Core.Option.{some}
 use lib.ListN.{get_elem?}
@@ -13,7 +13,8 @@ use Rattle.cache.specs.Views.{Part, View, part, none_full}
 use Rattle.cache.specs.declared.refusal.InvokeRefusal.{InvokeRefusal}
 use Rattle.cache.specs.declared.refusal.InvokeRefusal.TheVariants.{JournalFull, NoMemory}
 
--- a cache: what its stripes stored when it was opened, how many records each may have, how many seats there are, and its loader
+-- A cache: its lock table and registry, the tables that it was opened with, the most records of each history, the number of seats,
+-- and its loader.
 pub record Opened (L : Type 0) : Type 0 where
   pub table : TableId
   pub registry : Shelves
@@ -22,7 +23,8 @@ pub record Opened (L : Type 0) : Type 0 where
   pub seats : ℕ
   pub loader : L
 
--- a seat of a cache: its number, its receipts, and which stripes it found full; `made` is the number of seats in the first one, and 0 in the others
+-- A seat of a cache: its number, its receipts, and a flag for each stripe that it found full.
+-- `made` is the number of seats in the first seat, and 0 in every other seat.
 pub record Sitting : Type 0 where
   pub table : TableId
   pub caller : ℕ
@@ -33,7 +35,7 @@ pub record Sitting : Type 0 where
 abbrev pub part_of : Sitting → Part
 part_of s = part s.caller s.receipts s.full
 
--- the seats that one view has taken in
+-- The view of joined seats, which holds no stripe.
 abbrev pub view_of : ℕ → List Sitting → View
 view_of made seats = record { made = made; parts = map part_of seats; held = None }
 
@@ -45,7 +47,7 @@ IsSeatCount seats = (0 < seats) × (seats ≤ 16)
 abbrev pub AreCounts : ℕ → ℕ → Type 0
 AreCounts journal seats = IsJournal journal × IsSeatCount seats
 
--- a cache over this registry, with these tables, so many records a stripe, so many seats and this loader
+-- `IsOpened` holds if `d` is a cache with this registry, these tables, record and seat counts, and this loader.
 pub record IsOpened {L : Type 0} (registry : Shelves) (tables : List Stored) (journal seats : ℕ) (loader : L) (d : Opened L) : Type 0 where
   pub registry_is : d.registry ≡ registry
   pub tables_are : d.tables ≡ tables
@@ -53,27 +55,27 @@ pub record IsOpened {L : Type 0} (registry : Shelves) (tables : List Stored) (jo
   pub seats_are : d.seats ≡ seats
   pub loader_is : d.loader ≡ loader
 
--- the number of seats, in the first of n
+-- The field `made` of seat `c` of `n`: `n` in seat 0, and 0 in every other seat.
 abbrev pub made_of : ℕ → ℕ → ℕ
 made_of n zero = n
 made_of n (suc c) = 0
 
--- the seat c of n, before any call
+-- Seat `c` of `n`, before any call.
 abbrev pub fresh_seat : TableId → ℕ → ℕ → Sitting
 fresh_seat t n c = record { table = t; caller = c; made = made_of n c; receipts = []; full = none_full }
 
--- the n seats of a cache, before any call
+-- `AreFresh` holds if `seats` are the `n` seats of a cache before any call, in order.
 pub record AreFresh (t : TableId) (n : ℕ) (seats : List Sitting) : Type 0 where
   pub count : length seats ≡ n
   pub each : (c : ℕ) (s : Sitting) → get_elem? seats c ≡ some s → s ≡ fresh_seat t n c
 
--- the seat c of n, after calls
+-- `IsSeat` holds if `s` is seat `c` of `n` of table `t`, after any calls.
 pub record IsSeat (t : TableId) (n c : ℕ) (s : Sitting) : Type 0 where
   pub table_is : s.table ≡ t
   pub caller_is : s.caller ≡ c
   pub made_is : s.made ≡ made_of n c
 
--- all the seats of a cache, in their order
+-- `AreSeats` holds if `seats` are all seats of the cache, in order, after any calls.
 pub record AreSeats {L : Type 0} (d : Opened L) (seats : List Sitting) : Type 0 where
   pub count : length seats ≡ d.seats
   pub each : (c : ℕ) (s : Sitting) → get_elem? seats c ≡ some s → IsSeat d.table d.seats c s
@@ -86,11 +88,11 @@ with_receipt s t = record s { receipts = s.receipts ++ t ∷ [] }
 abbrev pub with_full : Sitting → ℕ → Sitting
 with_full s i = record s { full = slice_set s.full i true }
 
--- the stripe of a call's key
+-- The index of the stripe of a call's key.
 abbrev pub stripe_in : {L : Type 0} → Opened L → Call → ℕ
 stripe_in d call = stripe_of (length d.tables) (key_of call)
 
--- the call was answered: the seat has one receipt more, of this call and this reply on the key's stripe
+-- `IsAnswered` holds if the seat has one more receipt, with this call, this reply and the stripe of the call's key.
 pub record IsAnswered {L : Type 0} (d : Opened L) (old : Sitting) (call : Call) (reply : Reply) (new : Sitting) : Type 0 where
   pub receipt : Receipt
   pub call_is : receipt.call ≡ call
@@ -98,7 +100,7 @@ pub record IsAnswered {L : Type 0} (d : Opened L) (old : Sitting) (call : Call) 
   pub stripe_is : receipt.stripe ≡ stripe_in d call
   pub left : new ≡ with_receipt old receipt
 
--- the call was refused: the seat has the key's stripe among the full ones, or there was no memory and the seat is as it was
+-- `IsTurnedAway` holds if the call was refused: `JournalFull` sets the full flag of the key's stripe, out of memory changes nothing.
 abbrev pub IsTurnedAway : {L : Type 0} → Opened L → Sitting → Call → InvokeRefusal → Sitting → Type 0
 IsTurnedAway d old call JournalFull new = (new ≡ with_full old (stripe_in d call)) × (slice_index_or new.full (stripe_in d call) false ≡ true)
 IsTurnedAway d old call NoMemory new = new ≡ old

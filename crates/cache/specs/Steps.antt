@@ -1,4 +1,4 @@
--- What is asked and told of the steps of a call.
+-- The preconditions and the postconditions of the steps of a call.
 use Rattle.std.specs.Prelude.{◌≡◌, Bool, Option, Some, ◌≢◌, ℕ, ℤ, ◌<◌, ◌≤◌, List, [], ◌∷◌, ◌++◌, None, length}
 use Rattle.jtypes.specs.declared.loader.LoadAnswer.{LoadAnswer}
 use Rattle.jtypes.specs.Entry.{Entry}
@@ -11,35 +11,35 @@ use Rattle.cache.specs.Views.{Part, seat_view, holding, told_part}
 use Rattle.cache.specs.Guarded.{IsLater}
 use Rattle.cache.specs.Plays.{Sat, IsFree, HaveFew}
 
--- a call that found this entry ends so, and the loader gives what it answered
+-- `EndsSo` holds if a call that found entry `before` may end with `e`, and the loader may give its answer in `e`.
 abbrev pub EndsSo : Bool → (ℤ → LoadAnswer → Type 0) → Entry → Call → Option Done × Option LoadAnswer → Type 0
 EndsSo loads gives before call e = IsEnd loads before call e.0 e.1 × IsGiven gives (key_of call) (asked_by e.0 e.1)
 
--- the seat holds nothing
+-- `IsIdle` holds if the seat holds no stripe.
 pub record IsIdle (m : Sat) : Type 0 where
   pub made : ℕ
   pub part : Part
   pub is : m ≡ (seat_view made part, [])
 
--- the seat holds the stripe, on which no call is open
+-- `Holds` holds if the seat holds stripe `i`, which has no open call.
 pub record Holds (slots i made : ℕ) (p : Part) (m : Sat) : Type 0 where
   pub stripe : Kept
   pub is : m ≡ (holding made p i stripe, (i, stripe) ∷ [])
   pub free : IsFree slots i (p ∷ []) stripe
 
--- what is known of a seat, which holds nothing or this stripe
+-- `IsKnown` holds if the seat holds the given stripe, or no stripe for `None`.
 abbrev pub IsKnown : ℕ → ℕ → Part → Option ℕ → Sat → Type 0
 IsKnown slots made p None m = m ≡ (seat_view made p, [])
 IsKnown slots made p (Some i) m = (i < slots) × Holds slots i made p m
 
--- the stripe is in the seat's hands, and no call is open on it
+-- `CanBegin` is the precondition of `begin`: the seat holds the stripe of the call's key, which has no open call.
 pub record CanBegin (i : ℕ) (b : Begun) (held : List (ℕ × Kept)) : Type 0 where
   pub stripe : Kept
   pub is : held ≡ (i, stripe) ∷ []
   pub idle : stripe.running ≡ None
   pub of : IsOf stripe (key_of b.call)
 
--- the call has begun, and found this entry
+-- `HasBegun` holds if the call is open, found entry `before` and changed no entry. The history has capacity for its record.
 pub record HasBegun (loads : Bool) (i : ℕ) (b : Begun) (before : Entry) (y : Kept) (held : List (ℕ × Kept)) : Type 0 where
   pub is : held ≡ (i, begun y b) ∷ []
   pub found : before ≡ entry_of y (key_of b.call)
@@ -47,7 +47,7 @@ pub record HasBegun (loads : Bool) (i : ℕ) (b : Begun) (before : Entry) (y : K
   pub same : (k : ℤ) → entry_of (begun y b) k ≡ entry_of y k
   pub kept : (opening : Entries) → IsKept loads opening y → IsKept loads opening (begun y b)
 
--- the call has ended, with this record at this place, and this answer of the loader if it was asked
+-- `HasCommitted` holds if the call has ended with record `r` at index `place`, and with this answer of the loader, if it was asked.
 pub record HasCommitted (i : ℕ) (b : Begun) (answer : Option LoadAnswer) (y : Kept) (r : Record) (place : ℕ) (held : List (ℕ × Kept)) : Type 0 where
   pub is : held ≡ (i, committed y r) ∷ []
   pub made : IsRecord b (entry_of y (key_of b.call)) r
@@ -55,7 +55,7 @@ pub record HasCommitted (i : ℕ) (b : Begun) (answer : Option LoadAnswer) (y : 
   pub asked : r.asked ≡ answer
   pub kept : (opening : Entries) → IsKept b.loads opening y → IsKept b.loads opening (committed y r)
 
--- the seat holds the stripe as it took it
+-- `CanReturn` is the precondition of an unlock: the held stripe is the one in the seat's view, without an open call.
 pub record CanReturn (i : ℕ) (m : Sat) : Type 0 where
   pub made : ℕ
   pub part : Part
@@ -63,12 +63,12 @@ pub record CanReturn (i : ℕ) (m : Sat) : Type 0 where
   pub is : m ≡ (holding made part i stripe, (i, stripe) ∷ [])
   pub idle : stripe.running ≡ None
 
--- the seat holds the stripe as it took it, and it is full
+-- `CanFill` is the precondition of the unlock of a full stripe.
 pub record CanFill (i : ℕ) (m : Sat) : Type 0 where
   pub held : CanReturn i m
   pub whole : length held.stripe.records ≡ held.stripe.journal
 
--- the seat holds the stripe with one record more than when it took it: the next one of the seat
+-- `CanTell` is the precondition of `note`: the held stripe has one record more than in the seat's view, the seat's next one.
 pub record CanTell (loads : Bool) (gives : ℤ → LoadAnswer → Type 0) (i : ℕ) (m : Sat) : Type 0 where
   pub made : ℕ
   pub part : Part
@@ -82,7 +82,7 @@ pub record CanTell (loads : Bool) (gives : ℤ → LoadAnswer → Type 0) (i : �
   pub caller : one.caller ≡ part.caller
   pub number : one.number ≡ length part.receipts
 
--- the seat has the receipt of the stripe's new record, and holds the stripe on
+-- `HasNoted` holds if the seat's view has the receipt of the stripe's new record, and the seat still holds the stripe.
 abbrev pub HasNoted : ℕ → Sat → Sat → Type 0
 HasNoted i m m' = (made : ℕ) (p : Part) (y z : Kept) (r : Record) → m ≡ (holding made p i y, (i, z) ∷ []) → z.records ≡ y.records ++ r ∷ []
     → (m' ≡ (holding made (told_part p (receipt_behind i y.records r)) i z, (i, z) ∷ [])) × HaveFew (told_part p (receipt_behind i y.records r) ∷ [])

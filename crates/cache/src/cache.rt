@@ -1,4 +1,4 @@
-//! Caches: how they are opened and closed.
+//! The cache, and how it is opened and closed.
 
 ghost use Rattle.std.specs.Prelude.{IfOk};
 ghost use Rattle.cache.specs.Ends.{HasRoom};
@@ -14,11 +14,11 @@ use std::marker::Model;
 use std::snapshot::Snapshot;
 use stripe::{OpenRefusal, Record, Rest, Tables};
 
-/// The most seats.
+/// The maximum number of seats.
 const MOST_SEATS: usize = 16;
 
-/// A cache of Longs by Longs (JSR 107, `Cache`), which threads share. Each makes its calls with a seat of its own. Its classes live for
-/// `'a`, its loader for `'l`.
+/// A sharded cache with `Long` keys and values (JSR 107, `Cache`), which threads share. Each thread makes its calls with its own seat.
+/// The classes live for `'a`, the loader for `'l`.
 #[derive(Drop)]
 pub struct Cache<'a, 'l, L: Loader> {
     pub(crate) table: Locked<'a, L>,
@@ -49,7 +49,7 @@ impl<'a, 'l, L: Loader> Model for Cache<'a, 'l, L> {
     ghost invariant = { IsCache };
 }
 
-/// What a closed cache hands out: its entries, the history of each stripe, and the receipts of each seat.
+/// The contents of a closed cache: its entries, the history of each stripe, and the receipts of each seat.
 #[derive(Drop)]
 pub struct Closed<'a> {
     pub tables: Tables,
@@ -57,14 +57,14 @@ pub struct Closed<'a> {
     pub receipts: Vec<Vec<Receipt<'a>>>,
 }
 
-/// The room that a cache takes beside its stripes.
+/// The buffers of a cache for its seats, and for the lists of their receipts.
 #[derive(Drop)]
 struct SeatRoom<'a> {
     list: Vec<Seat<'a>>,
     receipts: Vec<Vec<Receipt<'a>>>,
 }
 
-/// The room for so many seats.
+/// Allocates empty buffers for `seats` seats.
 fn room_for<'a>(alloc: Global, seats: usize) -> Result<SeatRoom<'a>, AllocError>
     ensures { IfOk result (HasRoom seats) }
 {
@@ -81,8 +81,9 @@ impl<'a, 'l, L: Loader> Cache<'a, 'l, L> {
     ghost use Rattle.cache.specs.Opened.{IsOpened, AreFresh, AreCounts, AreSeats};
     ghost use Rattle.cache.specs.Closing.{Settles, histories_seen, receipts_seen, receipts_in};
 
-    /// A cache with these entries, whose stripes each may have so many records, and its seats; or the tables again. A `get` or a
-    /// `getValue` of an absent key asks the loader, if it is one that is asked.
+    /// Opens a cache with these entries, and returns it with its seats. The history of each stripe holds at most `journal` records.
+    /// A `get` or a `getValue` of an absent key asks the loader, if `L::ASKS` is true.
+    /// An error returns the tables. It is `BadCount` unless `journal` is 1 to 4,096 and `seats` is 1 to 16, and out of memory otherwise.
     pub fn open(
         alloc: Global,
         registry: &'a Registry,
@@ -129,7 +130,7 @@ impl<'a, 'l, L: Loader> Cache<'a, 'l, L> {
         }
     }
 
-    /// How many stripes there are.
+    /// Returns the number of stripes, 1 to 64.
     pub fn stripes(&self) -> usize
         ensures stripes { result ≡ length self.now.tables }
         ensures count { IsCount result }
@@ -137,14 +138,14 @@ impl<'a, 'l, L: Loader> Cache<'a, 'l, L> {
         self.stripes
     }
 
-    /// The classes of its calls.
+    /// Returns the class registry that the cache was opened with.
     pub fn registry(&self) -> &'a Registry
         ensures { result.now ≡ self.now.registry }
     {
         self.registry
     }
 
-    /// Ends the cache, by all the seats that `open` gave, in their order.
+    /// Closes the cache and returns its contents. `seats` are all the seats that `open` returned, in that order.
     pub fn close(self, mut seats: Vec<Seat<'a>>) -> Closed<'a>
         requires { AreSeats self seats.items }
         ensures settled { Settles L.ASKS (L.gives self.entry.loader) self.entry seats.entry.items result.tables (histories_seen result.histories.items) }

@@ -28,7 +28,7 @@ fn place_of(stripes: usize, call: &Call<'_>) -> usize
     stripe_of(stripes, call.key())
 }
 
-/// How a call ended: an invocation by its run, a `get` by what the loader answered if it was asked.
+/// The end of a call: of an invocation the end of its run, of a `get` the loader's answer, if it was asked.
 type Ended = (Option<Done>, Option<LoadAnswer>);
 
 impl<'a, 'l, L: Loader> Cache<'a, 'l, L> {
@@ -43,7 +43,8 @@ impl<'a, 'l, L: Loader> Cache<'a, 'l, L> {
     ghost use Rattle.cache.specs.Opened.{IsAnswered, IsTurnedAway};
     ghost use Rattle.cache.specs.Steps.{EndsSo};
 
-    /// Makes a call under the lock of its key's stripe, which the seat holds on. `end` tells how it ends, by the entry that it found.
+    /// Makes a call with the stripe of its key locked. The seat keeps the lock, unless the stripe's history is full.
+    /// `end` computes the end of the call from the entry that it found.
     #[inline(always)]
     fn locked<R: Wait, F: FnOnce(Option<i64>) -> Ended, G: Gate>(
         &self,
@@ -92,7 +93,7 @@ impl<'a, 'l, L: Loader> Cache<'a, 'l, L> {
         }
     }
 
-    /// A call that is neither an invocation nor a `get`.
+    /// Makes a call that is neither an invocation nor a `get`. The seat keeps the lock.
     #[inline(always)]
     fn plain<R: Wait, G: Gate>(
         &self,
@@ -113,7 +114,7 @@ impl<'a, 'l, L: Loader> Cache<'a, 'l, L> {
         self.locked(rt, seat, call, end, job, gate)
     }
 
-    /// The same, behind which the seat holds no stripe.
+    /// Makes a call as `plain` does, then unlocks the stripe and reports the end of the call to the gate.
     fn plain_alone<R: Wait, G: Gate>(
         &self,
         rt: &R,
@@ -133,8 +134,9 @@ impl<'a, 'l, L: Loader> Cache<'a, 'l, L> {
         answer
     }
 
-    /// Has the seat hold the stripe of this key, if no other seat holds it or it is given back within so long: whether it does. Without
-    /// any time it waits for nothing. The seat gives back the stripe that it held before, and this one as it does behind `call_at`.
+    /// Locks the stripe of this key for the seat, and returns whether it did.
+    /// It sleeps at most `patience` while another seat holds the stripe, and doesn't wait if that is zero.
+    /// A stripe that the seat already holds is unlocked first. The seat keeps the lock as after `call_at`.
     pub fn hold_within<R: Wait>(
         &self,
         rt: &R,
@@ -156,7 +158,7 @@ impl<'a, 'l, L: Loader> Cache<'a, 'l, L> {
         )
     }
 
-    /// Gives back the stripe that the seat holds, if `call_at` or `hold_within` left it one.
+    /// Unlocks the stripe that the seat holds after `call_at` or `hold_within`, if any.
     pub fn leave(&self, seat: &mut Seat<'a>)
         requires { seat.old.table ≡ self.now.table }
         ensures { seat.new ≡ seat.old }
@@ -164,7 +166,7 @@ impl<'a, 'l, L: Loader> Cache<'a, 'l, L> {
         leave(&self.table.shared, &mut seat.pass, &mut seat.held);
     }
 
-    /// `invoke` (JSR 107, `Cache`), of an entry processor of this class.
+    /// Invokes the entry processor of this class on a key: `invoke` (JSR 107, `Cache`).
     pub fn invoke<R: Wait>(
         &self,
         rt: &R,
@@ -182,7 +184,7 @@ impl<'a, 'l, L: Loader> Cache<'a, 'l, L> {
         self.invoke_at(rt, seat, workspace, class, key, args, 0, &NoGate)
     }
 
-    /// `invoke`, as a job, whose gate is told of it.
+    /// Makes an `invoke` as job `job`, which it reports to the gate.
     pub fn invoke_at<R: Wait, G: Gate>(
         &self,
         rt: &R,
@@ -206,7 +208,7 @@ impl<'a, 'l, L: Loader> Cache<'a, 'l, L> {
         answer
     }
 
-    /// An invocation of this class.
+    /// Makes an invocation of this class. The seat keeps the lock.
     #[inline(always)]
     fn run_at<R: Wait, G: Gate>(
         &self,
@@ -235,12 +237,12 @@ impl<'a, 'l, L: Loader> Cache<'a, 'l, L> {
         self.locked(rt, seat, call, end, job, gate)
     }
 
-    /// Any of the calls, as a job. The class of an invocation may be of any registry that lives as long.
+    /// Makes any call, as job `job`. The class of an invocation may be in any registry that lives for `'a`.
     ///
-    /// The seat keeps the lock of the key's stripe, so that its next call on the same stripe doesn't lock it again; no other seat makes a
-    /// call on it meanwhile. The seat unlocks it before a call on another stripe, after each call that isn't this one, and by `leave`.
+    /// The seat keeps the lock of the key's stripe, so its next call on that stripe doesn't lock it again. No other seat makes a call on it
+    /// meanwhile. The seat unlocks it before a call on another stripe, after every call but `call_at`, and by `leave`.
     ///
-    /// The gate hears `started` alone: `answered` is for the caller to call, after the stripe is unlocked.
+    /// It reports only `started` to the gate. The caller reports `answered` after the unlock.
     #[inline(always)]
     pub fn call_at<R: Wait, G: Gate>(
         &self,
@@ -266,7 +268,7 @@ impl<'a, 'l, L: Loader> Cache<'a, 'l, L> {
         }
     }
 
-    /// `get` (JSR 107, `Cache`).
+    /// Returns the value of a key: `get` (JSR 107, `Cache`). The loader, if any, is asked for an absent one.
     pub fn get<R: Wait>(
         &self,
         rt: &R,
@@ -280,7 +282,7 @@ impl<'a, 'l, L: Loader> Cache<'a, 'l, L> {
         self.get_at(rt, seat, key, 0, &NoGate)
     }
 
-    /// `get`, as a job, whose gate is told of it.
+    /// Makes a `get` as job `job`, which it reports to the gate.
     pub fn get_at<R: Wait, G: Gate>(
         &self,
         rt: &R,
@@ -299,7 +301,7 @@ impl<'a, 'l, L: Loader> Cache<'a, 'l, L> {
         answer
     }
 
-    /// A `get`.
+    /// Makes a `get`. The seat keeps the lock.
     #[inline(always)]
     fn read<R: Wait, G: Gate>(
         &self,
@@ -318,7 +320,7 @@ impl<'a, 'l, L: Loader> Cache<'a, 'l, L> {
         self.locked(rt, seat, Call::Get { key }, end, job, gate)
     }
 
-    /// `put` (JSR 107, `Cache`).
+    /// Stores a value under a key: `put` (JSR 107, `Cache`).
     pub fn put<R: Wait>(
         &self,
         rt: &R,
@@ -333,7 +335,7 @@ impl<'a, 'l, L: Loader> Cache<'a, 'l, L> {
         self.put_at(rt, seat, key, value, 0, &NoGate)
     }
 
-    /// `put`, as a job, whose gate is told of it.
+    /// Makes a `put` as job `job`, which it reports to the gate.
     pub fn put_at<R: Wait, G: Gate>(
         &self,
         rt: &R,
@@ -350,7 +352,7 @@ impl<'a, 'l, L: Loader> Cache<'a, 'l, L> {
         self.plain_alone(rt, seat, Call::Put { key, value }, job, gate)
     }
 
-    /// `remove` (JSR 107, `Cache`).
+    /// Removes the entry of a key, and returns whether there was one: `remove` (JSR 107, `Cache`).
     pub fn remove<R: Wait>(
         &self,
         rt: &R,
@@ -364,7 +366,7 @@ impl<'a, 'l, L: Loader> Cache<'a, 'l, L> {
         self.remove_at(rt, seat, key, 0, &NoGate)
     }
 
-    /// `remove`, as a job, whose gate is told of it.
+    /// Makes a `remove` as job `job`, which it reports to the gate.
     pub fn remove_at<R: Wait, G: Gate>(
         &self,
         rt: &R,
@@ -380,7 +382,7 @@ impl<'a, 'l, L: Loader> Cache<'a, 'l, L> {
         self.plain_alone(rt, seat, Call::Remove { key }, job, gate)
     }
 
-    /// `containsKey` (JSR 107, `Cache`).
+    /// Returns whether a key has an entry: `containsKey` (JSR 107, `Cache`).
     pub fn contains_key<R: Wait>(
         &self,
         rt: &R,
@@ -394,7 +396,7 @@ impl<'a, 'l, L: Loader> Cache<'a, 'l, L> {
         self.contains_key_at(rt, seat, key, 0, &NoGate)
     }
 
-    /// `containsKey`, as a job, whose gate is told of it.
+    /// Makes a `containsKey` as job `job`, which it reports to the gate.
     pub fn contains_key_at<R: Wait, G: Gate>(
         &self,
         rt: &R,

@@ -1,4 +1,4 @@
-//! Seats are cut and joined, and stripes come back.
+//! The split and the join of seats, and the return of the stripes.
 
 ghost use Rattle.std.specs.Prelude.{◌≡◌, ◌+◌, ◌<◌, ◌≤◌, [], ◌∷◌, ℕ, suc, length, vec_len, vec_capacity, IfOk, IfErr};
 ghost use mathlib.Core.Option.{some};
@@ -20,10 +20,10 @@ use jtypes::Loader;
 use std::alloc::Global;
 use stripe::{Rest, Stripe, Tables};
 
-/// A table of stripes, under their locks.
+/// The table that owns the stripes and their locks.
 pub type Locked<'a, L> = Table<Stripe<'a>, Known, Terms<L>, Locks, Global>;
 
-/// Cuts all seats but the first off the first.
+/// Splits all seats but the first from the first one, and pushes them to `list`.
 fn cut_all<'a, L: Loader>(
     alloc: Global,
     board: &Board<'a, L>,
@@ -53,7 +53,7 @@ fn cut_all<'a, L: Loader>(
     }
 }
 
-/// The first seat, before any call.
+/// Returns the first seat, before any call.
 fn first_seat<'a>(alloc: Global, pass: Place<'a>, seats: usize) -> Seat<'a>
     requires count { IsSeatCount seats }
     requires first { pass.me ≡ (seat_view seats (part 0 [] none_full), []) }
@@ -69,7 +69,7 @@ fn first_seat<'a>(alloc: Global, pass: Place<'a>, seats: usize) -> Seat<'a>
     }
 }
 
-/// Puts stripes that are fresh under locks; or the stripes again.
+/// Returns the lock table of these new stripes, all unlocked, and its first handle. An error returns the stripes.
 pub fn locked<'a, L: Loader>(
     alloc: Global,
     stripes: Vec<Stripe<'a>>,
@@ -91,7 +91,7 @@ pub fn locked<'a, L: Loader>(
     }
 }
 
-/// All seats of a cache, in the room for them.
+/// Returns all seats of a cache, in the preallocated `list`.
 pub fn seated<'a, L: Loader>(
     alloc: Global,
     board: &Board<'a, L>,
@@ -110,7 +110,7 @@ pub fn seated<'a, L: Loader>(
     list
 }
 
-/// Puts the first seat before the others.
+/// Inserts the first seat at index 0. The list has capacity for it.
 fn first_in<'a>(list: &mut Vec<Seat<'a>>, first: Seat<'a>)
     requires { vec_len list.old < vec_capacity list.old }
     ensures { list.new.items ≡ first.entry ∷ list.old.items }
@@ -120,7 +120,7 @@ fn first_in<'a>(list: &mut Vec<Seat<'a>>, first: Seat<'a>)
     }
 }
 
-/// Joins all seats into the first, and gathers their receipts. A stripe that a seat holds is given back before.
+/// Unlocks the stripe that each seat holds, joins all seats into the first, and pushes the receipts of each seat to `lists`.
 pub fn join_all<'a, L: Loader>(
     board: &Board<'a, L>,
     first: Seat<'a>,
@@ -156,7 +156,7 @@ pub fn join_all<'a, L: Loader>(
     pass
 }
 
-/// Takes the stripes out of the table.
+/// Closes the table and adds its stripes to `rest`, in order.
 pub fn unpack<'a, L: Loader>(table: Locked<'a, L>, pass: Place<'a>, rest: &mut Rest<'a>)
     requires table { pass.table_id ≡ table.shared.table_id }
     requires ready { CanComeBack L.ASKS (L.gives table.shared.key.loader.value) table.shared.key table.shared.table_id.slots pass.id pass.me.0 }
@@ -170,7 +170,7 @@ pub fn unpack<'a, L: Loader>(table: Locked<'a, L>, pass: Place<'a>, rest: &mut R
     closed.free();
 }
 
-/// Puts stripes back together into the tables that they were split from.
+/// Returns the tables of these stripes, which have no open call. Their histories are dropped.
 pub fn rejoined<'a>(stripes: Vec<Stripe<'a>>, mut rest: Rest<'a>) -> Tables
     requires stripes { AreReady (length stripes.items) stripes.items }
     requires rest { rest ≡ none_back (length stripes.items) }

@@ -1,14 +1,14 @@
 //! Observers of calls.
 
-/// An observer of calls. It may hold a call up.
+/// An observer of calls. Its methods run on the thread that makes the call, so they may delay it.
 pub trait Gate {
-    /// The call of this job has begun, and its stripe is locked.
+    /// Reports that the call of this job has begun. Its stripe is locked.
     fn started(&self, job: usize);
 
-    /// The call of this job has ended, by a reply or a refusal, and its stripe is unlocked: the call's last act.
+    /// Reports that the call of this job has ended with a reply or a refusal. Its stripe is unlocked. This is the last step of the call.
     ///
-    /// After `Cache::call_at` the seat keeps the lock for its next call, so the caller reports the call once it has unlocked the stripe:
-    /// a round does so at the end of each group of calls, and a round by one worker at its own end.
+    /// `Cache::call_at` doesn't call it, since the seat keeps the lock for its next call. Its caller calls it after the unlock:
+    /// a round does so at the end of each group of calls, and a round with one worker at the end of the round.
     fn answered(&self, job: usize);
 }
 

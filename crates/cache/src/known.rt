@@ -1,11 +1,11 @@
-//! What the locks know. It stands in proofs alone but for `Terms`, which has a number.
+//! The ghost state and the parameters of the lock table. Only the field `journal` of `Terms` exists at run time.
 
 use jtypes::Loader;
 use std::marker::Model;
 use std::snapshot::Snapshot;
 use stripe::Tables;
 
-/// What is known of a seat. No value of it is made.
+/// The ghost state of a seat, a `View`. No value of the type is constructed.
 pub struct Known;
 
 impl Model for Known {
@@ -20,7 +20,7 @@ impl Model for Known {
     ghost view = { λ _. first_view };
 }
 
-/// What a cache was opened with: its tables, how many records each stripe may have, and its loader.
+/// The parameters that a cache was opened with: its tables, the most records of each stripe's history, and its loader.
 #[derive(Drop)]
 pub struct Terms<L: Loader> {
     pub tables: Snapshot<Tables>,

@@ -1,4 +1,4 @@
-//! The cache that threads share: stripes under locks, seats with receipts, and the calls.
+//! The sharded cache that threads share: the stripes with their locks, the seats of callers with their receipts, and the calls.
 #![tactic(auto)]
 
 mod cache;

@@ -1,11 +1,11 @@
-//! The rule of the stripes' locks, and what each step tells. No value of these types is made.
+//! The invariant of the stripe locks, and the effect of each lock operation on the ghost state. No value of these types is constructed.
 
 use crate::known::{Known, Terms};
 use atomic_table::{Join, Play, Split, TableRule};
 use jtypes::Loader;
 use stripe::Stripe;
 
-/// A word for each stripe is 0 where the stripe is free, and another number where a seat holds it.
+/// The invariant of the lock table. The word of a stripe is 0 if the stripe is unlocked, and nonzero if a seat holds it.
 pub struct Locks;
 
 impl<'a, L: Loader> TableRule<Stripe<'a>, Known, Terms<L>> for Locks {
@@ -17,7 +17,7 @@ impl<'a, L: Loader> TableRule<Stripe<'a>, Known, Terms<L>> for Locks {
     ghost first = { λ _. first_view };
 }
 
-/// A stripe is taken, if it is free.
+/// The operation that locks a stripe, if it is unlocked.
 pub struct Take;
 
 impl<'a> Play<Stripe<'a>, Known> for Take {
@@ -26,7 +26,7 @@ impl<'a> Play<Stripe<'a>, Known> for Take {
     ghost then = { on_take };
 }
 
-/// A stripe is given back as it was.
+/// The operation that unlocks a stripe, all of whose records are noted.
 pub struct Return;
 
 impl<'a> Play<Stripe<'a>, Known> for Return {
@@ -35,7 +35,7 @@ impl<'a> Play<Stripe<'a>, Known> for Return {
     ghost then = { on_return };
 }
 
-/// A stripe is given back as it was, and it is full.
+/// The operation that unlocks a stripe whose history is full, and sets the flag of the stripe in the seat's view.
 pub struct Fill;
 
 impl<'a> Play<Stripe<'a>, Known> for Fill {
@@ -44,7 +44,7 @@ impl<'a> Play<Stripe<'a>, Known> for Fill {
     ghost then = { on_fill };
 }
 
-/// A stripe that is held has one record more.
+/// The operation that adds the receipt of a held stripe's new record to the seat's view.
 pub struct Note;
 
 impl<'a> Play<Stripe<'a>, Known> for Note {
@@ -53,7 +53,7 @@ impl<'a> Play<Stripe<'a>, Known> for Note {
     ghost then = { on_note };
 }
 
-/// A further seat is made, and seats are put together at the end.
+/// The split that makes a further seat, and the join of two seats when the cache is closed.
 pub struct OneMore;
 
 impl Split<Known> for OneMore {

@@ -1,8 +1,8 @@
-//! Receipts.
+//! Receipts of answered calls.
 
 use stripe::{Call, Reply};
 
-/// A call that was answered. Its record stands at this place of this stripe's history.
+/// The receipt of an answered call. The call's record has index `place` in the history of stripe `stripe`.
 #[derive(Clone, Copy)]
 pub struct Receipt<'a> {
     pub stripe: usize,

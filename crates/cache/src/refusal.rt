@@ -1,9 +1,9 @@
-//! Why a call is refused.
+//! The refusals of calls.
 
-/// Why a call is refused. Then nothing has changed but what the seat knows of full stripes.
+/// The reason why a call is refused. A refused call changes no entry, history or receipt. `JournalFull` sets the seat's flag of the stripe.
 #[derive(Clone, Copy, PartialEq, Eq)]
 pub enum InvokeRefusal {
-    /// The history of the key's stripe has as many records as it may have.
+    /// The history of the key's stripe has its maximum number of records.
     JournalFull,
     NoMemory,
 }

@@ -1,4 +1,4 @@
-//! Seats.
+//! Seats, with which callers make calls.
 
 use crate::known::Known;
 use crate::receipt::Receipt;
@@ -6,16 +6,16 @@ use atomic_table::Seat as Pass;
 use std::marker::Model;
 use stripe::Stripe;
 
-/// What a caller makes calls with. It keeps a receipt of each call that was answered, and which stripes it found full.
+/// A caller's handle to a cache. It keeps a receipt of each answered call, and a flag for each stripe whose history it found full.
 #[derive(Drop)]
 pub struct Seat<'a> {
     pub(crate) pass: Pass<Stripe<'a>, Known>,
     pub(crate) caller: u8,
-    /// The number of seats, in the first one.
+    /// The number of seats of the cache in the first seat, and 0 in every other seat.
     pub(crate) made: u8,
     pub(crate) receipts: Vec<Receipt<'a>>,
     pub(crate) full: [bool; 64],
-    /// The stripe that it holds, if any.
+    /// The index of the stripe that the seat has locked, if any.
     pub(crate) held: Option<usize>,
 }
 
@@ -40,8 +40,8 @@ impl<'a> Model for Seat<'a> {
 impl<'a> Seat<'a> {
     ghost use Rattle.std.specs.Prelude.{◌≡◌};
 
-    /// Makes room for the receipts of so many further calls at once, if there is memory for it. A call for which there is none makes
-    /// its own.
+    /// Preallocates the receipts of the next `calls` calls.
+    /// It ignores an out of memory error: each call reserves its receipt again, and is refused if it can't.
     pub fn expect(&mut self, calls: usize)
         ensures { self.new ≡ self.old }
     {

@@ -1,4 +1,4 @@
-//! A stripe is taken, worked on and given back.
+//! The steps of a call: lock the stripe, begin, commit and unlock.
 
 ghost use Rattle.std.specs.Prelude.{◌≡◌, ◌<◌, ◌∷◌, [], ℕ, length, Some, None, Err, IfOk, OnErr, IsTrue, IsFalse};
 ghost use Rattle.stripe.specs.History.{Begun, key_of};
@@ -19,26 +19,25 @@ use std::sync::Wait;
 use std::time::Duration;
 use stripe::{BeginRefusal, Call, Record, Stripe};
 
-/// The stripes, under their locks.
+/// The stripes with their locks.
 pub type Board<'a, L> = Shared<Stripe<'a>, Known, Terms<L>, Locks>;
 
-/// What a seat steps with.
+/// The table handle of a seat, with which it locks, accesses and unlocks stripes.
 pub type Place<'a> = Pass<Stripe<'a>, Known>;
 
-/// A stripe's word where no seat holds it.
+/// The word of an unlocked stripe.
 const FREE: u64 = 0;
 
-/// Where a seat holds it, and nobody is known to wait.
+/// The word of a locked stripe without a known waiter.
 const HELD: u64 = 1;
 
-/// Where a seat holds it, and another one may sleep until it is given back.
+/// The word of a locked stripe on which another seat may sleep until the unlock.
 const AWAITED: u64 = 2;
 
-/// How often a taken stripe is looked at before the seat sleeps. So many looks take about half a microsecond, and to fall asleep and
-/// be woken takes some six.
+/// The number of times that a seat polls a locked stripe before it sleeps. The polls take less time than a sleep and a wakeup.
 const LOOKS: u32 = 100;
 
-/// Takes a stripe if it is free. Its word becomes the mark in any case.
+/// Locks a stripe if it is unlocked, and returns whether it did. The word becomes `mark` either way.
 fn try_take<'a, L: Loader>(
     board: &Board<'a, L>,
     pass: &mut Place<'a>,
@@ -57,7 +56,7 @@ fn try_take<'a, L: Loader>(
     board.swap::<Take>(pass, index, mark) == FREE
 }
 
-/// Takes a stripe if it is free. Its word stays as it was otherwise, so that it tells still whether a seat may sleep.
+/// Locks a stripe if it is unlocked, and returns whether it did. The word of a locked stripe is unchanged, so it keeps the mark `AWAITED`.
 fn take_free<'a, L: Loader>(board: &Board<'a, L>, pass: &mut Place<'a>, index: usize) -> bool
     requires table { pass.old.table_id ≡ board.now.table_id }
     requires board { IsBoard board.now.table_id board.now.key }
@@ -70,7 +69,7 @@ fn take_free<'a, L: Loader>(board: &Board<'a, L>, pass: &mut Place<'a>, index: u
     board.compare_exchange::<Take>(pass, index, FREE, HELD) == FREE
 }
 
-/// Wakes a seat that sleeps until the stripe is given back, where its word told that one may.
+/// Wakes one seat that sleeps on the stripe, if `word`, the word before the unlock, is `AWAITED`.
 fn wake<L: Loader>(board: &Board<'_, L>, index: usize, word: u64)
     requires { index < board.now.table_id.words }
 {
@@ -79,7 +78,7 @@ fn wake<L: Loader>(board: &Board<'_, L>, index: usize, word: u64)
     }
 }
 
-/// Looks at a taken stripe until it is given back, but not for long.
+/// Polls a locked stripe until it is unlocked, at most `LOOKS` times.
 fn watch<L: Loader>(board: &Board<'_, L>, index: usize)
     requires { index < board.now.table_id.words }
 {
@@ -91,9 +90,9 @@ fn watch<L: Loader>(board: &Board<'_, L>, index: usize)
     }
 }
 
-/// Takes a stripe. Who finds it taken looks at it for a while, and sleeps then until it is given back.
+/// Locks a stripe. If another seat holds it, it first polls the stripe and then sleeps until the unlock.
 ///
-/// Who has waited takes it as one that is awaited, since others may sleep still; so whoever sleeps is woken in the end.
+/// A seat that has waited locks the stripe with the mark `AWAITED`, since further seats may sleep on it. So its unlock wakes one of them.
 #[inline(always)]
 pub fn take<'a, L: Loader, R: Wait>(
     rt: &R,
@@ -121,9 +120,9 @@ pub fn take<'a, L: Loader, R: Wait>(
     unreachable!()
 }
 
-/// Takes a stripe, if it is free or is given back within so long: whether it did. Without any time it waits for nothing.
+/// Locks a stripe and returns whether it did. It sleeps at most `patience` for the unlock, and doesn't wait if that is zero.
 ///
-/// Who was woken takes it as one that is awaited, or marks it so, since others may sleep still.
+/// After a wait it writes the mark `AWAITED` whether it locks the stripe or not, since further seats may sleep on it.
 fn take_within<'a, L: Loader, R: Wait>(
     rt: &R,
     board: &Board<'a, L>,
@@ -153,7 +152,7 @@ fn take_within<'a, L: Loader, R: Wait>(
     try_take(board, pass, index, AWAITED)
 }
 
-/// Begins a call on the stripe that the seat holds.
+/// Begins a call on the stripe that the seat holds, and returns the entry that the call finds.
 pub fn begin<'a, L: Loader>(
     board: &Board<'a, L>,
     pass: &mut Place<'a>,
@@ -175,7 +174,7 @@ pub fn begin<'a, L: Loader>(
         .begin(caller, number, call, loader)
 }
 
-/// Ends the call that was begun on it. Answers its record and the record's place.
+/// Commits the open call of the held stripe. Returns its record and the record's index in the history.
 #[inline(always)]
 pub fn commit<'a, L: Loader>(
     board: &Board<'a, L>,
@@ -195,7 +194,7 @@ pub fn commit<'a, L: Loader>(
     (stripe.commit(done, asked), place)
 }
 
-/// Notes that the stripe has one record more. The seat holds it on, so its word stays as it is.
+/// Adds the receipt of the stripe's new record to the seat's ghost view. The seat still holds the stripe, so its word is unchanged.
 pub fn note<'a, L: Loader>(board: &Board<'a, L>, pass: &mut Place<'a>, index: usize)
     requires table { pass.old.table_id ≡ board.now.table_id }
     requires board { IsBoard board.now.table_id board.now.key }
@@ -207,7 +206,7 @@ pub fn note<'a, L: Loader>(board: &Board<'a, L>, pass: &mut Place<'a>, index: us
     board.load::<Note>(pass, index);
 }
 
-/// Gives the stripe back as it was.
+/// Unlocks the stripe, all of whose records are noted, and wakes a seat that may sleep on it.
 pub fn give_back<'a, L: Loader>(board: &Board<'a, L>, pass: &mut Place<'a>, index: usize)
     requires table { pass.old.table_id ≡ board.now.table_id }
     requires index { index < board.now.table_id.words }
@@ -219,7 +218,7 @@ pub fn give_back<'a, L: Loader>(board: &Board<'a, L>, pass: &mut Place<'a>, inde
     wake(board, index, word);
 }
 
-/// Gives the stripe back as it was. Its history is full.
+/// Unlocks the stripe, whose history is full, and sets its flag in the seat's ghost view. Wakes a seat that may sleep on it.
 pub fn give_full<'a, L: Loader>(board: &Board<'a, L>, pass: &mut Place<'a>, index: usize)
     requires table { pass.old.table_id ≡ board.now.table_id }
     requires index { index < board.now.table_id.words }
@@ -231,7 +230,7 @@ pub fn give_full<'a, L: Loader>(board: &Board<'a, L>, pass: &mut Place<'a>, inde
     wake(board, index, word);
 }
 
-/// Gives back the stripe that a seat holds, if it holds one.
+/// Unlocks the stripe that the seat holds, if any.
 pub fn leave<'a, L: Loader>(board: &Board<'a, L>, pass: &mut Place<'a>, held: &mut Option<usize>)
     requires table { pass.old.table_id ≡ board.now.table_id }
     requires board { IsBoard board.now.table_id board.now.key }
@@ -246,7 +245,7 @@ pub fn leave<'a, L: Loader>(board: &Board<'a, L>, pass: &mut Place<'a>, held: &m
     }
 }
 
-/// Has the seat hold this stripe, and no other.
+/// Locks this stripe, unless the seat already holds it. A different stripe that the seat holds is unlocked first.
 #[inline(always)]
 pub fn hold<'a, L: Loader, R: Wait>(
     rt: &R,
@@ -273,8 +272,8 @@ pub fn hold<'a, L: Loader, R: Wait>(
     *held = Some(index);
 }
 
-/// Has the seat hold this stripe and no other, if it is free or is given back within so long: whether it does. Otherwise the seat holds
-/// none.
+/// Unlocks the stripe that the seat holds, if any, then locks this one if it can within `patience`.
+/// Returns whether the seat holds it. If not, it holds no stripe.
 pub fn hold_within<'a, L: Loader, R: Wait>(
     rt: &R,
     board: &Board<'a, L>,

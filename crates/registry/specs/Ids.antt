@@ -2,10 +2,10 @@
 use Rattle.boxcar.specs.Table.{Shelves, Where, Shows}
 use Rattle.typecheck.specs.Typing.{Class}
 
--- the registry gave this id
+-- `IsOf` holds if the registry returned this id
 abbrev pub IsOf : Shelves → Where Class → Type 0
 IsOf registry id = Shows registry id
 
--- the class for which it was given
+-- the class with an id
 abbrev pub class_of : Where Class → Class
 class_of id = id.value

@@ -1,4 +1,4 @@
-//! Classes that threads share.
+//! A registry of verified classes, shared by threads.
 #![tactic(auto)]
 
 mod registry;

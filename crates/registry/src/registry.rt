@@ -1,4 +1,4 @@
-//! The classes that were accepted, and the ids that were given for them.
+//! The registry of accepted classes, and their ids.
 
 ghost use Rattle.std.specs.Prelude.{◌≡◌, ◌⊎◌, IfOk, IfErr};
 ghost use Rattle.jtypes.specs.Profile.{Second};
@@ -10,7 +10,7 @@ use std::marker::Model;
 use std::sync::Wait;
 use verify::{Verified, verify};
 
-/// The classes that were accepted. Threads share it, and none is ever taken out or moved.
+/// The accepted classes, shared by threads. A class is never removed or moved.
 #[derive(Drop)]
 pub struct Registry {
     classes: boxcar::Vec<Verified>,
@@ -26,7 +26,7 @@ impl Model for Registry {
     ghost view = { λ r. r.classes };
 }
 
-/// What `define` gives for a class. Contracts see the registry's place in it, and the class.
+/// The id that `define` returns for a class. Contracts see the position in the registry, and the class.
 #[derive(Drop)]
 pub struct ClassId {
     token: Pushed<Verified>,
@@ -47,14 +47,15 @@ impl Registry {
     ghost use Rattle.verdict.specs.Verdict.{IsAccepted, IsClassOf, IsRefused};
     ghost use Rattle.registry.specs.Ids.{IsOf, class_of};
 
-    /// No classes yet.
+    /// Returns a registry without classes.
     pub fn new(alloc: Global) -> Result<Registry, AllocError> {
         Ok(Registry {
             classes: boxcar::Vec::new(alloc)?,
         })
     }
 
-    /// Judges the bytes of a class (JVMS §4, §4.10.1), and keeps it. It may wait for another call that keeps one.
+    /// Verifies the bytes of a class (JVMS §4, §4.10.1) and adds it. Returns its id, or the refusal.
+    /// It may wait for another call that adds a class.
     pub fn define<R: Wait>(&self, rt: &R, alloc: Global, bytes: &[u8]) -> Result<ClassId, Refusal>
         ensures given { IfOk result (λ id. IsOf self.now id) }
         ensures class { IfOk result (λ id. IsClassOf Second bytes.now (class_of id)) }
@@ -68,7 +69,7 @@ impl Registry {
         }
     }
 
-    /// The class for which the id was given.
+    /// Returns the class with this id, which must be from this registry.
     pub fn class<'a>(&'a self, id: &ClassId) -> &'a Verified
         requires { IsOf self.now id.now }
         ensures { result.now ≡ class_of id.now }

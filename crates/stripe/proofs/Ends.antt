@@ -1,4 +1,4 @@
--- What is written down of a call that ended.
+-- The record of a call that ended.
 use Rattle.std.proofs.Common.{◌≡◌, ℤ, Bool, List, Option, Some, None, refl, sym, ap, subst, ◌∙◌}
 use Rattle.jtypes.specs.Entry.{Entry, effect, after_effect}
 use Rattle.jtypes.specs.declared.types.Arg.{Arg}
@@ -13,7 +13,7 @@ use Rattle.stripe.specs.History.{Call, Invoke, Get, Put, Remove, Contains, Answe
 use Rattle.stripe.specs.Kept.{IsAsked, IsEnd, IsPlain, IsRecord, asked_by}
 use Rattle.stripe.specs.Seen.{call_of, begun_of, record_of}
 
--- what is told of a call: the reply, the entry that it leaves, and what the loader answered
+-- The result of a call: the reply, the entry that it leaves, and the loader's answer, if it was asked.
 abbrev pub Told : Type 0
 Told = Reply × Entry × Option LoadAnswer
 
@@ -24,11 +24,11 @@ pub is_record : (b : OpenCall) (p q : Told) → p ≡ q → Answers b.loads b.be
 is_record b p q is answers =
     record { caller = refl; number = refl; call = refl; answers = subst (λ (x : Told). Answers b.loads b.before (call_of b.call) x.0 x.1 x.2) (sym is) answers }
 
--- the same of a call that is this one
+-- The same for a call that is equal to the call of `b`.
 pub is_record_of : (b : OpenCall) (call : Call) → call_of b.call ≡ call → (p q : Told) → p ≡ q → Answers b.loads b.before call q.0 q.1 q.2 → IsRecord (begun_of b) b.before (record_of (told b p))
 is_record_of b call is p q told_is answers = is_record b p q told_is (subst (λ (x : Call). Answers b.loads b.before x q.0 q.1 q.2) (sym is) answers)
 
--- an invocation has no answer of the loader beside its end
+-- An invocation has no answer of the loader apart from its end.
 pub unasked : (loads : Bool) (c : Class) (k : ℤ) (args : List Arg) (before : Entry) (d : Done) (asked : Option LoadAnswer) → IsEnd loads before (Invoke c k args) (Some d) asked → asked ≡ None
 unasked loads c k args before d None e = refl
 unasked loads c k args before d (Some a) e = absurd e
@@ -48,7 +48,7 @@ module _ (loads : Bool) (before : Entry) (call : Call) (ended : Option Done) (as
       by None e = e
       by (Some d) e = absurd e
 
-  -- what the loader answered, by what the call ended with
+  -- The loader's answer, by the end of the call.
   pub by_get : (k : ℤ) → call ≡ Get k → asked ≡ asked_by ended asked
   by_get k is = by ended (subst (λ (x : Call). IsEnd loads before x ended asked) is ends)
     where

@@ -1,4 +1,4 @@
--- Stripes that begin.
+-- New stripes.
 use Rattle.std.proofs.Common.{arith, ◌≡◌, ℕ, suc, ◌+◌, ◌<◌, ◌≤◌, List, [], ◌∷◌, ◌++◌, length, vec_capacity, All, Option, Some, None, refl, sym, ap, subst, ◌∙◌}
 use Rattle.std.proofs.lemmas.List.{length-append}
 use Rattle.std.proofs.lemmas.List.Elements.{All-nil, All-push, All-pop}
@@ -16,7 +16,7 @@ use Rattle.stripe.specs.Room.{AreEmpty}
 use Rattle.stripe.specs.Seen.{record_of}
 use Rattle.stripe.specs.Tables.{fresh_from}
 
--- ---- histories without a record
+-- ---- empty histories
 
 pub none_empty : (j : ℕ) (hs : List (Vec Record)) → hs ≡ [] → AreEmpty 0 j hs
 none_empty j hs e = record { count = ap length e; none = subst (All (λ (h : Vec Record). h.items ≡ [])) (sym e) (All-nil _); room = subst (All (λ (h : Vec Record). j ≤ vec_capacity h)) (sym e) (All-nil _) }

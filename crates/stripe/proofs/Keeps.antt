@@ -1,4 +1,4 @@
--- What calls leave of what is stored, and of histories.
+-- The effect of calls on the table and on the history.
 use Rattle.std.proofs.Common.{arith, ◌≡◌, zero, suc, ℤ, Bool, true, false, not, ◌&&◌, cond, if◌then◌else◌, List, [], ◌∷◌, ◌++◌, All, Option, None, Some, is_some, IsSome, refl, sym, ap, subst, ◌∙◌, true≢false, append_assoc}
 use Rattle.std.proofs.lemmas.List.{append-nil}
 use Rattle.std.proofs.lemmas.List.Elements.{All-append}
@@ -52,7 +52,7 @@ not_true : (b : Bool) → not b ≡ true → b ≡ false
 not_true true e = absurd (true≢false (sym e))
 not_true false e = refl
 
--- ---- the place of a call's entry
+-- ---- the slot of a call's entry
 
 module _ (loads : Bool) (m : Stored) (call : Call) where
   absent : is_absent loads m call ≡ true → (may_make loads call ≡ true) × (map.get m (key_of call) ≡ None)
@@ -61,7 +61,7 @@ module _ (loads : Bool) (m : Stored) (call : Call) where
   got : (k : ℤ) → map.get (map.insert m (key_of call) None) k ≡ cond (int_eq k (key_of call)) (Some None) (map.get m k)
   got k = map.get-insert int_cmp_total m (key_of call) None k
 
-  -- the entries are as they were
+  -- The begin of a call changes no entry.
   pub entry_held : (k : ℤ) → entry_in (held loads m call) k ≡ entry_in m k
   entry_held k = by (is_absent loads m call) refl
     where
@@ -73,7 +73,7 @@ module _ (loads : Bool) (m : Stored) (call : Call) where
       by false e = refl
       by true e = ap option_flatten (got k) ∙ at (int_eq k (key_of call)) refl (absent e).1
 
-  -- a call that may make an entry has a place for it
+  -- The key of a call that may create an entry is stored.
   pub held_stored : may_make loads call ≡ true → IsSome (map.get (held loads m call) (key_of call))
   held_stored makes = by (is_absent loads m call) refl
     where
@@ -85,7 +85,7 @@ module _ (loads : Bool) (m : Stored) (call : Call) where
       by true e = ap is_some (got (key_of call) ∙ at_true (λ o. o) _ _ _ (itself (key_of call)))
       by false e = there _ (sym (ap (λ b. b && not (is_some (map.get m (key_of call)))) makes) ∙ e)
 
-  -- no other key is stored without a value
+  -- No other key is stored without a value.
   pub values_held : HasValues m → (k : ℤ) → map.get (held loads m call) k ≡ Some None → (may_make loads call ≡ true) × (k ≡ key_of call)
   values_held values k = by (is_absent loads m call) refl
     where
@@ -116,7 +116,7 @@ module _ (m : Stored) (k : ℤ) where
       by true p = absurd (other (sym ((Decides-int_eq k q).0 p)))
       by false p = refl
 
-  -- a key that was stored without a value isn't any more
+  -- If `k` is the only key that is stored without a value, there is none after its entry is set.
   pub values_left : (e : Entry) → ((q : ℤ) → map.get m q ≡ Some None → q ≡ k) → HasValues (left m k e)
   values_left None others q g = by (int_eq q k) refl (sym (map.get-remove int_cmp_total m k q) ∙ g)
     where
@@ -129,7 +129,7 @@ module _ (m : Stored) (k : ℤ) where
       by true e p = absurd (cc)
       by false e p = true≢false (sym ((Decides-int_eq q k).1 (others q p)) ∙ e)
 
--- the place that was made is used, or given up
+-- A commit overwrites or removes the slot that the begin of the call stored.
 module _ (loads : Bool) (m : Stored) (call : Call) where
   over : (b : Bool) (o x : Option Entry) → cond b o (cond b (Some None) x) ≡ cond b o x
   over true o x = refl
@@ -150,7 +150,7 @@ module _ (loads : Bool) (m : Stored) (call : Call) where
       by false = refl
       by true = left_inserted e
 
--- ---- a record more
+-- ---- a further record
 
 entry_snoc : (e : Entry) (rs : List Record) (r : Record) (k : ℤ) → entry_after e (rs ++ r ∷ []) k ≡ (if int_eq (key_of r.call) k then r.after else entry_after e rs k)
 entry_snoc e [] r k = refl
@@ -169,11 +169,11 @@ all_of : {X : Type 0} (P : X → Type 0) (x : X) → P x → All P (x ∷ [])
 all_of P x p zero d h = p
 all_of P x p (suc k) d h = absurd (omega (arith, h))
 
--- each record is of the stripe, one more too
+-- The key of each record belongs to the stripe, also after a record is appended.
 pub are_of_more : (s : Kept) (r : Record) → AreOf s → IsOf s (key_of r.call) → All (λ (x : Record). IsOf s (key_of x.call)) (s.records ++ r ∷ [])
 are_of_more s r are of = All-append (λ (x : Record). IsOf s (key_of x.call)) s.records (r ∷ []) are (all_of (λ (x : Record). IsOf s (key_of x.call)) r of)
 
--- ---- the history and what is stored
+-- ---- the history and the table
 
 pub kept_begun : (loads : Bool) (opening : Entries) (s : Kept) (b : Begun) → IsKept loads opening s → IsKept loads opening (begun s b)
 kept_begun loads opening s b h = record { legal = h.legal; left = λ k of. entry_held b.loads s.stored b.call k ∙ h.left k of }
@@ -186,9 +186,9 @@ kept_committed loads opening s r of answers h =
       left = λ k of_k. entry_left s.stored (key_of r.call) r.after k ∙ ap (λ e. if int_eq (key_of r.call) k then r.after else e) (h.left k of_k) ∙ sym (entry_snoc (opening k) s.records r k);
     }
 
--- ---- a call that was made at once
+-- ---- a call that begins and is committed at once
 
--- it began, and ended
+-- A call that began and was committed satisfies `IsMade`.
 pub made_of : (s mid new : Kept) (b : Begun) (r : Record) → mid ≡ begun s b → ((k : ℤ) → entry_of mid k ≡ entry_of s k) → IsRecord b (entry_of mid (key_of b.call)) r → new ≡ committed mid r → IsMade s b r new
 made_of s mid new b r is entries told left_is =
     let stored : left (begun s b).stored (key_of r.call) r.after ≡ left s.stored (key_of r.call) r.after =
@@ -203,7 +203,7 @@ plain_ends loads before (Put k v) p = tt
 plain_ends loads before (Remove k) p = tt
 plain_ends loads before (Contains k) p = tt
 
--- what a plain call answers has nothing to do with a loader
+-- The result of a plain call doesn't depend on whether there is a loader.
 plain_answers : (loads : Bool) (before : Entry) (call : Call) (reply : Reply) (after : Entry) (asked : Option LoadAnswer) → IsPlain call → Answers false before call reply after asked → Answers loads before call reply after asked
 plain_answers loads before (Invoke c k args) reply after asked p a = absurd p
 plain_answers loads before (Get k) reply after asked p a = absurd p

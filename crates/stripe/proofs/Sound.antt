@@ -1,4 +1,4 @@
--- What is true of a stripe stays true.
+-- The steps of a call preserve the invariant of a stripe.
 use Rattle.std.proofs.Common.{arith, ◌≡◌, ℤ, ◌+◌, ◌<◌, ◌≤◌, true, All, IsSome, List, [], ◌∷◌, ◌++◌, length, map, vec_capacity, Option, Some, None, option_map, refl, sym, ap, subst, ◌∙◌, length-append}
 use Rattle.std.proofs.lemmas.List.{map-append, length-map}
 use Rattle.std.specs.Global.{Vec}

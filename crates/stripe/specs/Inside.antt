@@ -1,4 +1,4 @@
--- What is true of every stripe.
+-- The invariant of stripes.
 use Rattle.std.specs.Prelude.{◌≡◌, ℤ, ◌<◌, ◌≤◌, length, map, true, vec_capacity, Some, None, IsSome, option_map}
 use Rattle.std.specs.FinMap as stored
 use Rattle.stripe.specs.declared.stripe.Stripe.TheInside.{Inside}
@@ -10,7 +10,8 @@ use Rattle.stripe.specs.Kept.{Kept, AreOf, IsHeld, IsOf, may_make, entry_of}
 abbrev pub kept : Inside → Kept
 kept s = record { stripes = s.stripes; place = s.place; stored = s.table; records = map record_of s.records.items; journal = s.journal; running = option_map begun_of s.running }
 
--- an open call has room for its record, is of a key of the stripe, and found its entry; where it may make one, the key is stored
+-- `IsOpen` holds if the history has capacity for the open call's record, and the call is on a key of the stripe and found the key's entry.
+-- If it may create an entry, the key is stored.
 pub record IsOpen (s : Kept) (c : OpenCall) : Type 0 where
   pub room : length s.records < s.journal
   pub of : IsOf s (key_of (begun_of c).call)

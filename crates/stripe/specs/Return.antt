@@ -1,4 +1,4 @@
--- What is true of stripes that come back.
+-- The invariant of the collector of stripes.
 use Rattle.std.specs.Prelude.{◌≡◌, ◌≤◌, length, map, vec_capacity, All}
 use Rattle.stripe.specs.declared.rest.Rest.TheInside.{Inside}
 use Rattle.stripe.specs.Seen.{record_of}

@@ -1,11 +1,11 @@
--- The room that a split takes.
+-- The buffers of a split.
 use Rattle.std.specs.Prelude.{◌≡◌, ℕ, ◌≤◌, List, [], length, vec_capacity, All}
 use Rattle.std.specs.Global.{Vec}
 use Rattle.stripe.specs.declared.call.Record.{Record}
 use Rattle.stripe.specs.declared.tables.SplitRoom.{SplitRoom}
 use Rattle.stripe.specs.Tables.{none_back}
 
--- so many histories without a record, each with room for so many
+-- `AreEmpty` holds if there are `stripes` empty histories, each with capacity for `journal` records.
 pub record AreEmpty (stripes journal : ℕ) (hs : List (Vec Record)) : Type 0 where
   pub count : length hs ≡ stripes
   pub none : All (λ (h : Vec Record). h.items ≡ []) hs

@@ -1,4 +1,4 @@
--- The arguments that a call carries.
+-- The arguments of an invocation.
 use Rattle.std.specs.Prelude.{List}
 use Rattle.jtypes.specs.declared.types.Arg.{Arg}
 use Rattle.stripe.specs.declared.args.ArgSlice.{ArgSlice}

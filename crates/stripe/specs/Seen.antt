@@ -1,4 +1,4 @@
--- Calls and records of the code, as the definitions see them: a class is named by itself, not by where it lies.
+-- The models of the calls and the records of the code. They have the class as a value, not as a reference.
 use Rattle.stripe.specs.Rows.{arguments}
 use Rattle.stripe.specs.declared.call.Call.{Call as CallTaken}
 use Rattle.stripe.specs.declared.call.Call.TheVariants as taken

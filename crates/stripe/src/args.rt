@@ -1,10 +1,10 @@
-//! The arguments that a call carries.
+//! The arguments of an invocation.
 
 ghost use Rattle.std.specs.Prelude.{◌≡◌, ◌≤◌, [], length};
 
 use jtypes::{Arg, Args};
 
-/// The arguments of an invocation, where its caller has them: at most eight. Whoever keeps the call keeps no copy of them.
+/// The arguments of an invocation, at most eight, borrowed from the caller. A call and its record don't copy them.
 #[derive(Clone, Copy)]
 pub struct ArgSlice<'a> {
     pub items: &'a [Arg],
@@ -15,14 +15,14 @@ impl<'a> ArgSlice<'a> {
     ghost use Rattle.std.specs.Prelude.{◌≡◌};
     ghost use Rattle.stripe.specs.Rows.{arguments};
 
-    /// No arguments.
+    /// Returns no arguments.
     pub fn none() -> ArgSlice<'a>
         ensures { arguments result ≡ [] }
     {
         ArgSlice { items: &[] }
     }
 
-    /// All of these.
+    /// Borrows all of these arguments.
     pub fn of(args: &'a Args) -> ArgSlice<'a>
         ensures { arguments result ≡ args.now }
     {
@@ -31,7 +31,7 @@ impl<'a> ArgSlice<'a> {
         }
     }
 
-    /// The same arguments, for a run.
+    /// Returns the same arguments as `Args`, for a run.
     pub fn args(&self) -> Args
         ensures { result ≡ arguments self.now }
     {

@@ -1,4 +1,4 @@
-//! What is asked of a stripe, and what it writes down.
+//! Calls on a stripe, their replies and their records.
 
 ghost use Rattle.std.specs.Prelude.{◌≡◌, Bool};
 ghost use Rattle.jtypes.specs.Entry.{after_effect};
@@ -12,7 +12,7 @@ use jtypes::{Effect, JavaFault, LoadAnswer, Loader, Outcome};
 use mutentry::effect_leads_from_before_to_now;
 use verify::Verified;
 
-/// What a caller asks (JSR 107, `Cache`).
+/// A call on a key (JSR 107, `Cache`).
 #[derive(Clone, Copy)]
 pub enum Call<'a> {
     /// `invoke`, of an entry processor of this class.
@@ -40,33 +40,33 @@ pub enum Call<'a> {
     },
 }
 
-/// What a caller is told.
+/// The reply to a call.
 #[derive(Clone, Copy, PartialEq, Eq)]
 pub enum Reply {
-    /// How an invocation ended.
+    /// The outcome of an invocation, or of a `get` whose loader failed.
     Result(Outcome),
-    /// Of `put`.
+    /// The reply to `put`.
     Done,
-    /// Of `get`: the entry. Where the loader failed a `get` is told that by a result.
+    /// The reply to `get`: the entry, if any. A `get` whose loader failed has a `Result`.
     Value(Option<i64>),
-    /// Of `remove` and `containsKey`: whether there was an entry.
+    /// The reply to `remove` and `containsKey`: whether there was an entry.
     Flag(bool),
 }
 
-/// A call that was made, with its reply and the entry that it left.
+/// The record of a committed call, with its reply and the entry that it left.
 #[derive(Clone, Copy)]
 pub struct Record<'a> {
     pub caller: u8,
-    /// The number of the call among its caller's, from 0.
+    /// The number of the call among its caller's calls, from 0.
     pub number: u32,
     pub call: Call<'a>,
     pub reply: Reply,
     pub after: Option<i64>,
-    /// What the loader answered, if the call asked it.
+    /// The loader's answer, if the call asked it.
     pub asked: Option<LoadAnswer>,
 }
 
-/// A call that is open, with the entry that it found.
+/// An open call, with the entry that it found.
 #[derive(Clone, Copy)]
 pub struct OpenCall<'a> {
     pub caller: u8,
@@ -83,7 +83,7 @@ impl<'a> Call<'a> {
     ghost use Rattle.stripe.specs.Kept.{may_make};
     ghost use Rattle.stripe.specs.Seen.{call_of};
 
-    /// The key that the call names.
+    /// Returns the key of the call.
     pub fn key(&self) -> i64
         ensures { result ≡ key_of (call_of self.now) }
     {
@@ -96,7 +96,7 @@ impl<'a> Call<'a> {
         }
     }
 
-    /// Whether the call may make an entry, with a loader to ask or without one.
+    /// Returns whether the call may create an entry. `loads` says whether there is a loader to ask.
     pub(crate) fn may_make(&self, loads: bool) -> bool
         ensures { result ≡ may_make loads (call_of self.now) }
     {
@@ -108,7 +108,7 @@ impl<'a> Call<'a> {
     }
 }
 
-/// The entry that an invocation leaves, by what it does to the one that it found.
+/// Returns the entry that an invocation leaves, by its effect on the entry that it found.
 fn entry_after(effect: Effect, before: Option<i64>) -> Option<i64>
     ensures { result ≡ after_effect effect before }
 {
@@ -119,7 +119,8 @@ fn entry_after(effect: Effect, before: Option<i64>) -> Option<i64>
     }
 }
 
-/// Asks the loader for a `get` that found this entry, where there is none (JSR 107, `CacheLoader`).
+/// Asks the loader for a `get` that found the entry `before`, if that is none and there is a loader (JSR 107, `CacheLoader`).
+/// Returns the loader's answer, or none if it wasn't asked.
 pub fn ask<L: Loader>(loader: &L, key: i64, before: Option<i64>) -> Option<LoadAnswer>
     ensures asked { IsAsked L.ASKS before result }
     ensures given { IsGiven (L.gives loader.now) key result }
@@ -131,7 +132,7 @@ pub fn ask<L: Loader>(loader: &L, key: i64, before: Option<i64>) -> Option<LoadA
     }
 }
 
-/// What a `get` is told that found this entry, and the entry that it leaves; the loader answered this if it was asked.
+/// Returns the reply to a `get` and the entry that it leaves, by the entry that it found and the loader's answer, if it was asked.
 fn got(before: Option<i64>, asked: Option<LoadAnswer>) -> (Reply, Option<i64>)
     ensures { (loads : Bool) → IsAsked loads before asked → IsGot loads before result.0 result.1 asked }
 {
@@ -148,7 +149,7 @@ impl<'a> OpenCall<'a> {
     ghost use Rattle.stripe.specs.Kept.{IsEnd, IsRecord, asked_by};
     ghost use Rattle.stripe.specs.Seen.{call_of, begun_of, record_of};
 
-    /// The record of the call. An invocation ended so, and a `get` had this answer of the loader.
+    /// Returns the record of the call. `done` is the end of an invocation, `asked` the loader's answer to a `get`, if it was asked.
     #[inline(always)]
     pub(crate) fn record(&self, done: Option<Done>, asked: Option<LoadAnswer>) -> Record<'a>
         requires { IsEnd self.now.loads self.now.before (call_of self.now.call) done asked }

@@ -1,12 +1,12 @@
-//! Which stripe a key is of.
+//! The map from keys to stripes.
 
 ghost use Rattle.std.specs.Prelude.{◌≡◌, ◌<◌, ◌≤◌};
 ghost use Rattle.stripe.specs.History.{stripe_of};
 
-/// The most stripes.
+/// The maximum number of stripes.
 pub const MOST_STRIPES: usize = 64;
 
-/// The stripe of a key, of so many: the remainder, which isn't negative. By 16, 32 and 64 it takes no division.
+/// Returns the index of a key's stripe, of `stripes` stripes: the nonnegative remainder. The cases 16, 32 and 64 need no division.
 pub fn stripe_of(stripes: usize, key: i64) -> usize
     requires some { 0 < stripes }
     requires few { stripes ≤ 64 }

@@ -1,4 +1,4 @@
-//! Why tables are refused, and why a call doesn't begin.
+//! The refusals of tables and of calls.
 
 ghost use Rattle.std.specs.Prelude.{◌≡◌};
 ghost use Rattle.stripe.specs.declared.refusal.OpenRefusal.TheVariants as refusal;
@@ -6,18 +6,18 @@ ghost use Rattle.stripe.specs.declared.refusal.BeginRefusal.TheVariants.{NoMemor
 
 use std::alloc::{AllocError, AllocFailed};
 
-/// Why tables are not made, or not split into stripes.
+/// The reason why tables are not created, or not split into stripes.
 #[derive(Clone, Copy, Debug, PartialEq, Eq)]
 pub enum OpenRefusal {
-    /// A number of stripes outside 1 to 64, or of records outside 1 to 4,096.
+    /// A number of stripes outside 1 to 64, of records outside 1 to 4,096, or of a cache's seats outside 1 to 16.
     BadCount,
     NoMemory,
 }
 
-/// Why a call doesn't begin.
+/// The reason why a call doesn't begin.
 #[derive(Clone, Copy, Debug, PartialEq, Eq)]
 pub enum BeginRefusal {
-    /// The history has as many records as were reserved.
+    /// The history has its maximum number of records.
     JournalFull,
     NoMemory,
 }

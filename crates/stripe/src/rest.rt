@@ -1,4 +1,4 @@
-//! Stripes that come back.
+//! The return of stripes.
 
 ghost use Rattle.std.specs.Prelude.{◌≡◌, ◌↔◌, IsTrue, None, length, map};
 
@@ -8,7 +8,7 @@ use crate::table::Table;
 use crate::tables::Tables;
 use std::marker::Model;
 
-/// What takes the stripes of a split back, one after the other. All of its room was taken by `Tables::split`.
+/// The collector of the stripes of a split, one after the other. `Tables::split` preallocates its buffers.
 #[derive(Drop)]
 pub struct Rest<'a> {
     pub(crate) stripes: usize,
@@ -37,7 +37,7 @@ impl<'a> Rest<'a> {
     ghost use Rattle.stripe.specs.Seen.{record_of};
     ghost use Rattle.stripe.specs.Tables.{IsNext, added};
 
-    /// Whether a stripe is the next one, and no call is open on it.
+    /// Returns whether a stripe is the next one to add, and has no open call.
     pub fn is_next(&self, stripe: &Stripe<'a>) -> bool
         ensures next { IsTrue result → IsNext self.now stripe.now }
         ensures idle { IsTrue result → stripe.now.running ≡ None }
@@ -47,14 +47,14 @@ impl<'a> Rest<'a> {
             && stripe.running.is_none()
     }
 
-    /// Whether all stripes are back.
+    /// Returns whether all stripes were added.
     pub fn is_whole(&self) -> bool
         ensures { IsTrue result ↔ (length self.now.tables ≡ self.now.stripes) }
     {
         self.tables.len() == self.stripes
     }
 
-    /// Takes the next stripe back. No call is open on it.
+    /// Adds the next stripe, which has no open call. It allocates no memory.
     pub fn add(&mut self, stripe: Stripe<'a>)
         requires next { IsNext self.old stripe }
         requires idle { stripe.running ≡ None }
@@ -65,7 +65,7 @@ impl<'a> Rest<'a> {
         self.histories.push_reserved(records);
     }
 
-    /// The entries and the histories of all stripes, which are back.
+    /// Returns the entries and the histories of all stripes. All of them were added.
     pub fn finish(self) -> (Tables, Vec<Vec<Record<'a>>>)
         requires { length self.tables ≡ self.stripes }
         ensures tables { result.0 ≡ self.entry.tables }

@@ -1,4 +1,4 @@
-//! A stripe.
+//! The stripe: begin and commit of calls.
 
 ghost use Rattle.std.specs.Prelude.{◌≡◌, ◌↔◌, ℕ, ℤ, ◌<◌, ◌≤◌, length, map, option_map, None, Some, Err, IfSome, IfOk, OnOk, OnErr, IsTrue};
 ghost use Rattle.std.specs.FinMap as stored;
@@ -11,10 +11,10 @@ use ended::Done;
 use jtypes::{LoadAnswer, Loader, NoLoader};
 use std::marker::Model;
 
-/// A stripe of a cache: the entries of its keys, the call that is open on it, if any, and the history of its calls.
+/// A stripe of a cache: the entries of its keys, its open call, if any, and the history of its calls.
 ///
-/// A call begins, and for an invocation the class is run then; the commit makes the entry what the call leaves, and writes the
-/// record. The room for records was taken by `Tables::split`, so a commit takes no memory.
+/// `begin` opens a call. The caller runs the class of an invocation. `commit` stores the entry that the call leaves and writes the record.
+/// `Tables::split` preallocates the records, so a commit allocates no memory.
 #[derive(Drop)]
 pub struct Stripe<'a> {
     pub(crate) stripes: usize,
@@ -51,7 +51,7 @@ impl<'a> Stripe<'a> {
     ghost use Rattle.jtypes.specs.Loading.{IsGiven};
     ghost use Rattle.stripe.specs.Seen.{call_of, begun_of, record_of};
 
-    /// The calls that were made on the stripe, in their order.
+    /// Returns the records of the committed calls, in order.
     pub fn history(&self) -> &[Record<'a>]
         ensures records { map record_of result.now ≡ self.now.records }
         ensures few { length self.now.records ≤ self.now.journal }
@@ -60,7 +60,7 @@ impl<'a> Stripe<'a> {
         &self.records
     }
 
-    /// No key is stored without a value but that of an open call which may make an entry.
+    /// Proves that only the key of an open call that may create an entry is stored without a value.
     pub fn has_values(&self)
         ensures held { (k : ℤ) → stored.get self.now.stored k ≡ Some None → IsHeld self.now.running k }
         ensures idle { self.now.running ≡ None → HasValues self.now.stored }
@@ -68,7 +68,7 @@ impl<'a> Stripe<'a> {
         let _table = &self.table;
     }
 
-    /// The call that is open, with the entry that it found.
+    /// Returns the open call, if any, with the entry that it found.
     pub fn open(&self) -> Option<OpenCall<'a>>
         ensures running { option_map begun_of result ≡ self.now.running }
         ensures before { IfSome result (λ c. c.before ≡ entry_of self.now (key_of (call_of c.call))) }
@@ -78,14 +78,14 @@ impl<'a> Stripe<'a> {
         self.running
     }
 
-    /// The entry of a key of the stripe.
+    /// Returns the entry of a key.
     pub fn entry(&self, key: i64) -> Option<i64>
         ensures { result ≡ entry_of self.now key }
     {
         self.table.entry(key)
     }
 
-    /// Whether a call on a key may begin: none is open, and the key is one of this stripe.
+    /// Returns whether a call on a key may begin: no call is open, and the key belongs to this stripe.
     pub fn is_ready(&self, key: i64) -> bool
         ensures idle { IsTrue result → self.now.running ≡ None }
         ensures of { IsTrue result → IsOf self.now key }
@@ -95,8 +95,8 @@ impl<'a> Stripe<'a> {
         self.running.is_none() && stripes > 0 && stripes <= 64 && stripe_of(stripes, key) == place
     }
 
-    /// Begins a call, and answers the entry that it finds. An Invoke or a Put that finds none has a place made for one, and so
-    /// has a Get where there is a loader, which isn't asked yet.
+    /// Begins a call, and returns the entry that it finds. An error leaves the stripe unchanged.
+    /// If there is no entry, an `Invoke` or a `Put` preallocates a slot for it, and so does a `Get` with a loader, which isn't asked yet.
     pub fn begin<L: Loader>(
         &mut self,
         caller: u8,
@@ -129,7 +129,8 @@ impl<'a> Stripe<'a> {
         Ok(before)
     }
 
-    /// Ends the call that was begun. An invocation is given what its run answered, a `get` what the loader did if it was asked.
+    /// Commits the open call, and returns its record.
+    /// `done` is the end of an invocation, `asked` the loader's answer to a `get`, if it was asked.
     #[inline(always)]
     pub fn commit(&mut self, done: Option<Done>, asked: Option<LoadAnswer>) -> Record<'a>
         requires { CanCommit self.old done asked }
@@ -150,7 +151,7 @@ impl<'a> Stripe<'a> {
         record
     }
 
-    /// Makes a call that is neither an invocation nor a `get`: it begins and ends at once.
+    /// Begins and commits a call that is neither an invocation nor a `get`.
     fn make(&mut self, caller: u8, number: u32, call: Call<'a>) -> Result<Record<'a>, BeginRefusal>
         requires idle { self.old.running ≡ None }
         requires of { IsOf self.old (key_of (call_of call)) }
@@ -165,7 +166,7 @@ impl<'a> Stripe<'a> {
         Ok(self.commit(None, None))
     }
 
-    /// `get` (JSR 107, `Cache`), of this caller and number. Where there is no entry the loader is asked for it, if there is one.
+    /// Makes a `get` (JSR 107, `Cache`) of this caller and number. The loader, if any, is asked for an absent entry.
     pub fn get<L: Loader>(
         &mut self,
         caller: u8,
@@ -186,7 +187,7 @@ impl<'a> Stripe<'a> {
         Ok(self.commit(None, ask(loader, key, before)))
     }
 
-    /// `put` (JSR 107, `Cache`), of this caller and number.
+    /// Makes a `put` (JSR 107, `Cache`) of this caller and number.
     pub fn put(
         &mut self,
         caller: u8,
@@ -205,7 +206,7 @@ impl<'a> Stripe<'a> {
         self.make(caller, number, Call::Put { key, value })
     }
 
-    /// `remove` (JSR 107, `Cache`), of this caller and number.
+    /// Makes a `remove` (JSR 107, `Cache`) of this caller and number.
     pub fn remove(&mut self, caller: u8, number: u32, key: i64) -> Result<Record<'a>, BeginRefusal>
         requires idle { self.old.running ≡ None }
         requires of { IsOf self.old key }
@@ -218,7 +219,7 @@ impl<'a> Stripe<'a> {
         self.make(caller, number, Call::Remove { key })
     }
 
-    /// `containsKey` (JSR 107, `Cache`), of this caller and number.
+    /// Makes a `containsKey` (JSR 107, `Cache`) of this caller and number.
     pub fn contains(
         &mut self,
         caller: u8,

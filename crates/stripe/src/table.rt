@@ -1,4 +1,4 @@
-//! What a stripe stores.
+//! The table of a stripe's entries.
 
 ghost use Rattle.std.specs.Prelude.{◌≡◌, None, Some, IsSome, IsTrue, IfOk, OnOk, OnErr};
 ghost use Rattle.std.specs.FinMap as map;
@@ -15,7 +15,7 @@ use indexmap::IndexMap;
 use std::alloc::Global;
 use std::marker::Model;
 
-/// What is stored under the keys: a value or, while a call is open, perhaps none yet. The order of the hash table isn't seen.
+/// The entries of a stripe. A stored key has a value, or none yet while a call is open. The order of the hash table is not observable.
 #[derive(Drop)]
 pub struct Table {
     stored: IndexMap<i64, Option<i64>>,
@@ -33,7 +33,7 @@ impl Model for Table {
 }
 
 impl Table {
-    /// Nothing is stored.
+    /// Returns an empty table.
     pub fn new(alloc: Global) -> Table
         ensures { result ≡ map.empty }
     {
@@ -42,14 +42,14 @@ impl Table {
         }
     }
 
-    /// What is stored under a key.
+    /// Returns the item that is stored under a key. `Some(None)` is a slot without a value.
     fn get(&self, key: i64) -> Option<Option<i64>>
         ensures { result ≡ map.get self.now key }
     {
         self.stored.get(&key).copied()
     }
 
-    /// Keeps a place for the entry of a key.
+    /// Stores a slot without a value under a key.
     fn hold(&mut self, key: i64) -> Result<(), BeginRefusal>
         ensures ok { OnOk result (self.new ≡ map.insert self.old key None) }
         ensures err { OnErr result (self.new ≡ self.old) }
@@ -59,14 +59,15 @@ impl Table {
         Ok(())
     }
 
-    /// The entry of a key.
+    /// Returns the entry of a key. A slot without a value is no entry.
     pub fn entry(&self, key: i64) -> Option<i64>
         ensures { result ≡ entry_in self.now key }
     {
         self.get(key).flatten()
     }
 
-    /// Finds the entry of a call, and keeps a place for one that the call may make, with a loader to ask or without one.
+    /// Returns the entry of a call's key. If the key is absent and the call may create an entry, it preallocates the slot.
+    /// `loads` says whether there is a loader to ask.
     pub fn find(&mut self, call: &Call<'_>, loads: bool) -> Result<Option<i64>, BeginRefusal>
         ensures entry { IfOk result (λ entry. entry ≡ entry_in self.old (key_of (call_of call.now))) }
         ensures held { OnOk result (self.new ≡ held loads self.old (call_of call.now)) }
@@ -82,7 +83,7 @@ impl Table {
         Ok(found.flatten())
     }
 
-    /// Stores a value under a key that has a place.
+    /// Stores a value under a key that has a slot.
     fn write(&mut self, key: i64, value: i64)
         requires { IsSome (map.get self.old key) }
         ensures { self.new ≡ map.insert self.old key (Some value) }
@@ -90,14 +91,14 @@ impl Table {
         self.stored.insert(key, Some(value)).unwrap();
     }
 
-    /// Takes out what is stored under a key.
+    /// Removes a key.
     fn remove(&mut self, key: i64)
         ensures { self.new ≡ map.remove self.old key }
     {
         self.stored.swap_remove(&key);
     }
 
-    /// Makes this the entry of a key, which has a place for a value.
+    /// Sets the entry of a key. A value needs a slot under the key.
     pub fn leave(&mut self, key: i64, entry: Option<i64>)
         requires { IsSome entry → IsSome (map.get self.old key) }
         ensures { self.new ≡ left self.old key entry }

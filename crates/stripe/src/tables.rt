@@ -1,4 +1,4 @@
-//! The tables of a cache, and how they become stripes.
+//! The tables of a cache, and their split into stripes.
 
 ghost use Rattle.std.specs.Prelude.{◌≡◌, ◌↔◌, ◌≤◌, [], ℤ, Err, length, replicate, vec_capacity, IfOk, IfErr, OnOk};
 ghost use Rattle.std.specs.FinMap as map;
@@ -16,10 +16,10 @@ use crate::table::Table;
 use std::alloc::{AllocError, Global};
 use std::marker::Model;
 
-/// The most records of a history.
+/// The maximum number of records of a history.
 pub const MOST_RECORDS: usize = 4096;
 
-/// The entries of a cache, in as many tables as it has stripes.
+/// The entries of a cache, in one table for each stripe.
 #[derive(Drop)]
 pub struct Tables {
     pub(crate) tables: Vec<Table>,
@@ -40,7 +40,7 @@ impl Model for Tables {
     ghost invariant = { λ t. AreTables t.tables.items };
 }
 
-/// So many empty tables.
+/// Returns `stripes` empty tables.
 fn empty_tables(alloc: Global, stripes: usize) -> Result<Vec<Table>, OpenRefusal>
     requires { IsCount stripes }
     ensures ok { IfOk result (λ t. t.items ≡ replicate stripes map.empty) }
@@ -55,7 +55,7 @@ fn empty_tables(alloc: Global, stripes: usize) -> Result<Vec<Table>, OpenRefusal
 }
 
 impl Tables {
-    /// No entries, for 1 to 64 stripes.
+    /// Returns empty tables for `stripes` stripes, 1 to 64.
     pub fn new(alloc: Global, stripes: usize) -> Result<Tables, OpenRefusal>
         ensures ok { IfOk result (λ t. t ≡ replicate stripes map.empty) }
         ensures count { (result ≡ Err BadCount) ↔ (¬ IsCount stripes) }
@@ -67,7 +67,7 @@ impl Tables {
         Ok(Tables { tables })
     }
 
-    /// How many stripes there are.
+    /// Returns the number of stripes.
     pub fn stripes(&self) -> usize
         ensures stripes { result ≡ length self.now }
         ensures count { IsCount result }
@@ -75,7 +75,7 @@ impl Tables {
         self.tables.len()
     }
 
-    /// The entry of a key.
+    /// Returns the entry of a key.
     pub fn entry(&self, key: i64) -> Option<i64>
         ensures { result ≡ entry_among self.now key }
     {
@@ -83,7 +83,8 @@ impl Tables {
         self.tables[place].entry(key)
     }
 
-    /// The stripes, each with a reserved history of 1 to 4,096 records, and what takes them back; or the tables again.
+    /// Splits the tables into stripes, and returns them with their collector. An error returns the tables.
+    /// The history of each stripe is preallocated for `journal` records, 1 to 4,096.
     pub fn split<'a>(
         self,
         alloc: Global,
@@ -113,7 +114,7 @@ impl Tables {
     }
 }
 
-/// The room that stripes take, and to come back.
+/// The buffers of a split, and of the collector of its stripes.
 #[derive(Drop)]
 struct SplitRoom<'a> {
     histories: Vec<Vec<Record<'a>>>,
@@ -121,7 +122,7 @@ struct SplitRoom<'a> {
     rest: Rest<'a>,
 }
 
-/// So many histories without a record, each with this room.
+/// Returns `stripes` empty histories, each with capacity for `journal` records.
 fn empty_histories<'a>(
     alloc: Global,
     stripes: usize,
@@ -136,7 +137,7 @@ fn empty_histories<'a>(
     Ok(histories)
 }
 
-/// All the room that a split takes.
+/// Allocates all buffers of a split.
 fn room_for<'a>(alloc: Global, stripes: usize, journal: usize) -> Result<SplitRoom<'a>, AllocError>
     requires { IsCount stripes }
     ensures { IfOk result (λ r. IsRoom stripes journal r) }
@@ -152,7 +153,7 @@ fn room_for<'a>(alloc: Global, stripes: usize, journal: usize) -> Result<SplitRo
     })
 }
 
-/// The stripes with these tables, in the room for them.
+/// Returns the stripes with these tables, in the preallocated buffers.
 fn into_stripes<'a>(
     tables: Vec<Table>,
     mut histories: Vec<Vec<Record<'a>>>,

@@ -1,4 +1,4 @@
--- What an event does, by what becomes of the seat.
+-- The effect of an event on a world, from its effect on a seat.
 use Rattle.std.proofs.Common.{◌≡◌, ◌↔◌, ℕ, ℤ, Bool, true, false, not, ◌&&◌, cond, ◌==◌, IsTrue, length, map, Option, Some, None, is_some, IsSome, slice_get, slice_set, refl, sym, ap, subst, ◌∙◌, true≢false}
 use Rattle.std.proofs.lemmas.Bool.{eq-eqb, eqb-true}
 use Rattle.std.specs.FinMap as map
@@ -56,7 +56,7 @@ module _ (p : Parts) (h : IsSteady p) (i : ℕ) (x : Seated) (there : slice_get 
   entry_is : entry_of x.stripe (key_of call) ≡ entries_now (world_of p) (key_of call)
   entry_is = start_at.left (key_of call) of_stripe
 
-  -- the event asks whom the get asks
+  -- The start event asks for the key that the `get` asks for.
   asked_is : x.running ≡ None → asked_in (world_of p) (Start caller call) ≡ asked_by_get p.loads (entry_of x.stripe (key_of call)) call
   asked_is none = ap (asked_at_start (world_of p) call) (found ∙ ap Some none) ∙ ap (λ e. asked_by_get p.loads e call) (sym entry_is)
 
@@ -228,7 +228,7 @@ kept_finish w i o e b = (ap (after_finish w i) e ∙ by o b, ap is_final e ∙ b
     by None t = refl
     by (Some r) t = inner r r.progress t
 
--- ---- records of what became of an event
+-- ---- the results of an event
 
 pub was_done : (gives : ℤ → LoadAnswer → Type 0) (w : World) (e : definition.Event) (new : World) → Happens gives w e new → is_possible w e ≡ true → is_start_on_full w e ≡ false → IsApplied gives w e Done new
 was_done gives w e new is possible full =

@@ -1,4 +1,4 @@
--- How far calls are.
+-- The progress of calls.
 use Rattle.std.proofs.Common.{arith, ◌≡◌, ℕ, zero, suc, ◌≤◌, ℤ, Bool, true, false, not, ◌⊎◌, inl, inr, List, Option, Some, None, is_some, option_map, option_and_then, refl, sym, ap, subst, ◌∙◌, true≢false}
 use Rattle.jtypes.specs.declared.types.Arg.{Arg}
 use Rattle.jtypes.specs.Entry.{Entry, effect, after_effect}
@@ -24,7 +24,7 @@ use Rattle.world.specs.Going.{known, state_in, got_by, progress_in, is_ended, Is
 
 -- ---- states, step by step
 
--- the state before the first step has none
+-- The step count of the first state is 0.
 pub start_zero : (c : Class) (call : Invocation) (s : State) → start c call ≡ Some s → s.steps ≡ 0
 start_zero c call s e = by (number_of_process c) e
   where
@@ -54,13 +54,13 @@ pub got_answer : (before : Entry) (asked : Option LoadAnswer) → answer_to (got
 got_answer before None = refl
 got_answer before (Some x) = refl
 
--- what is answered is what was got
+-- The reply of a `get` is its progress.
 got_as : (loads : Bool) (before : Entry) (r : Reply) (after : Entry) (told asked : Option LoadAnswer) → IsGot loads before r after told → told ≡ asked → got_by before asked ≡ Settled r after told
 got_as true None r after told asked (x, is, says, leaves) same = ap (got_by None) (sym same ∙ is) ∙ (λ i. Settled (sym says i) (sym leaves i) (sym is i))
 got_as true (Some v) r after told asked (says, leaves, none) same = ap (got_by (Some v)) (sym same ∙ none) ∙ (λ i. Settled (sym says i) (sym leaves i) (sym none i))
 got_as false before r after told asked (says, leaves, none) same = ap (got_by before) (sym same ∙ none) ∙ (λ i. Settled (sym says i) (sym leaves i) (sym none i))
 
--- ---- the call that runs
+-- ---- the running call
 
 module _ (loads : Bool) (before : Entry) (m : Machine) where
   pub going_some : {call : Call} {done : Option Done} {asked : Option LoadAnswer} → IsGoing loads before m call done asked → (q : Progress) × (progress_in loads before m call done asked ≡ Some q)
@@ -71,7 +71,7 @@ module _ (loads : Bool) (before : Entry) (m : Machine) where
   going_some (removing k) = (Settled (reply.Flag (is_some before)) None None, refl)
   going_some (containing k) = (Settled (reply.Flag (is_some before)) before None, refl)
 
--- the call that runs, as far as it is
+-- The running call with its progress.
 abbrev pub call_in : ℕ → ℕ → Bool → Entry → Machine → Call → Option Done → Option LoadAnswer → Option Running
 call_in caller number loads before m call done asked = option_map (running_call caller number call) (progress_in loads before m call done asked)
 
@@ -101,7 +101,7 @@ module _ (caller number : ℕ) (loads : Bool) (before : Entry) where
   turned_ended a m (removing k) e = refl
   turned_ended a m (containing k) e = refl
 
-  -- a step goes on, or ends
+  -- A step gives the next state or an end.
   pub turned_goes : (c : Class) (k : ℤ) (args : List Arg) (m new : Machine) (h : IsUnderWay c (invocation loads k args before) m) (a : LoadAnswer) (t : State) → step_with c a h.state ≡ Some (Goes t)
       → state_in c (invocation loads k args before) (known new.entry.now.asked) new.steps ≡ Some t
       → turned a (call_in caller number loads before m (Invoke c k args) None None) ≡ call_in caller number loads before new (Invoke c k args) None None
@@ -119,7 +119,7 @@ module _ (caller number : ℕ) (loads : Bool) (before : Entry) where
       ∙ ap (λ n. Some (running_call caller number (Invoke c k args) (progress_after c h.state n))) ends
       ∙ (λ i. Some (running_call caller number (Invoke c k args) (Settled (reply.Result (sym told.outcome i)) (entry i) (sym told.asked i))))
 
--- a call that is final has an end
+-- A final call has an end.
 pub going_end : (loads : Bool) (before : Entry) (m : Machine) {call : Call} {done : Option Done} {asked : Option LoadAnswer} → IsGoing loads before m call done asked → is_ended call done ≡ true → IsEnd loads before call done asked
 going_end loads before m (ended c k args d h) e = h
 going_end loads before m (working c k args h) e = absurd (true≢false (sym e))
@@ -128,7 +128,7 @@ going_end loads before m (putting k v) e = tt
 going_end loads before m (removing k) e = tt
 going_end loads before m (containing k) e = tt
 
--- what a call that is final answers is its progress
+-- The record of a final call is its progress.
 module _ (loads : Bool) (before : Entry) (m : Machine) (r : Reply) (after : Entry) (told : Option LoadAnswer) (leads : (b now : Entry) → after_effect (effect b now) b ≡ now) where
   settled_as : (x : Reply) (e : Entry) (a : Option LoadAnswer) → x ≡ r → e ≡ after → a ≡ told → Some (Settled x e a) ≡ Some (Settled r after told)
   settled_as x e a p q s = λ i. Some (Settled (p i) (q i) (s i))

@@ -1,4 +1,4 @@
--- A call ends.
+-- The finish of a call.
 use Rattle.std.proofs.Common.{arith, ◌≡◌, ℕ, ◌+◌, ◌*◌, ◌<◌, ◌≤◌, ℤ, Bool, true, false, ◌==◌, inl, inr, [], ◌∷◌, ◌++◌, length, map, Some, None, is_some, slice_get, slice_set, slice_index, sum_by, refl, sym, ap, subst, ◌∙◌, length-append, true≢false}
 use Rattle.std.proofs.lemmas.Bool.Decides.{Decides-int_eq}
 use Rattle.std.proofs.lemmas.List.{length-set, length-map, map-set}
@@ -13,7 +13,7 @@ use Rattle.world.proofs.Places.{one_if, get_set_cases, get_map, sum_set, sum_at,
 use Rattle.world.proofs.Histories.{entry_there, entry_elsewhere, legal_more, part_there, part_elsewhere}
 use Rattle.world.proofs.Steady.{inside, running_count}
 
--- the parts with another seat at this place, and a record more
+-- The parts with another seat at index `i`, and one more record.
 abbrev pub with_end : Parts → ℕ → Seated → Record → ℕ → Parts
 with_end p i y r reserved =
     record { loads = p.loads; opening = p.opening; journal = p.journal; seats = slice_set p.seats i y; finished = p.finished ++ r ∷ []; reserved = reserved; starts = p.starts; rest = p.rest }
@@ -32,7 +32,7 @@ module _ (p : Parts) (h : IsSteady p) (i : ℕ) (x y : Seated) (there : slice_ge
   key_at : stripe_of (length p.opening) (key_of r.call) ≡ i
   key_at = ap (λ n. stripe_of n (key_of r.call)) (sym old_at.stripes) ∙ is.of ∙ old_at.place
 
-  -- the call that ran had room for its record
+  -- The history has a free record for the call that ran.
   has_room : length x.stripe.records < p.journal
   has_room = old_at.room (ap is_some is.runs)
 
@@ -122,7 +122,7 @@ module _ (p : Parts) (h : IsSteady p) (i : ℕ) (x y : Seated) (there : slice_ge
         rest = h.rest;
       }
 
-  -- the other calls that run are on other keys
+  -- The other running calls are on other keys.
   pub keeps_ended : KeepsEntries (world_of p) (with_record (world_of p) i r)
   keeps_ended k before runs =
       elim (get_set_cases (map running_on p.seats) i runs.stripe None (Some runs.running) within runs.there) [
@@ -142,7 +142,7 @@ module _ (p : Parts) (h : IsSteady p) (i : ℕ) (x y : Seated) (there : slice_ge
           let on : stripe_of (length p.opening) k ≡ runs.stripe = ap (λ q. stripe_of (length p.opening) q) (sym runs.key) ∙ ap (λ n. stripe_of n (key_of runs.running.call)) (sym at.stripes) ∙ at.of runs.running found.2 ∙ at.place in
           entry_elsewhere (opening_entries (world_of p) k) p.finished r k (λ same. other (sym on ∙ ap (stripe_of (length p.opening)) (sym same) ∙ key_at))
 
-  -- the list of finished calls has room for it
+  -- The list of finished calls has capacity for the record.
   pub finish_room : length p.finished < p.reserved
   finish_room =
       let at = sum_at room_of p.seats i x there in

@@ -1,4 +1,4 @@
--- What the loader answered in a world, it gives.
+-- The loader gives each of its recorded answers in a world.
 use Rattle.std.proofs.Common.{arith, ◌≡◌, ℕ, zero, suc, ℤ, List, [], ◌∷◌, ◌++◌, map, All, inl, inr, Option, Some, None, slice_get, slice_set, refl, sym, ap, subst, ◌∙◌}
 use Rattle.std.proofs.lemmas.Option.{slice_get_within}
 use Rattle.std.proofs.lemmas.List.Elements.{All-append}
@@ -20,7 +20,7 @@ module _ (gives : ℤ → LoadAnswer → Type 0) (p : Parts) (h : AnswersAreGive
       by None e = tt
       by (Some r) e = h.running i r (map_get running_on p.seats i x there ∙ ap Some e)
 
-  -- of the calls that run when another seat stands there
+  -- The same for the running calls with another seat at index `i`.
   running_with : (y : Seated) → AnswerIsGiven gives y.running → (j : ℕ) (r : Running) → slice_get (map running_on (slice_set p.seats i y)) j ≡ Some (Some r) → IsGiven gives (key_of r.call) (answer_to r.progress)
   running_with y given j r e =
       let f = get_map running_on (slice_set p.seats i y) j (Some r) e in

@@ -1,4 +1,4 @@
--- A legal history is legal stripe by stripe.
+-- Each stripe's part of a legal history is legal.
 use Rattle.std.proofs.Common.{◌≡◌, ℕ, ℤ, Bool, true, false, cond, if◌then◌else◌, List, [], ◌∷◌, ◌++◌, length, refl, sym, ap, subst, ◌∙◌, true≢false}
 use Rattle.std.proofs.lemmas.Bool.{eq-eqb, eqb-true}
 use Rattle.std.proofs.lemmas.Bool.Decides.{Decides-int_eq}
@@ -13,7 +13,7 @@ use Rattle.world.proofs.Histories.{part_there, part_elsewhere}
 -- ---- the records on a stripe
 
 module _ (n i : ℕ) where
-  -- the others don't tell an entry of it
+  -- Records on other stripes do not affect an entry.
   pub part_after : (e : Entry) (rs : List Record) (k : ℤ) → stripe_of n k ≡ i → entry_after e (records_on n i rs) k ≡ entry_after e rs k
   part_after e [] k at = refl
   part_after e (r ∷ rs) k at = by (is_on n i r) refl (part_after (if int_eq (key_of r.call) k then r.after else e) rs k at) (part_after e rs k at)
@@ -44,7 +44,7 @@ module _ (n i : ℕ) where
       by false t rest =
           subst (λ (xs : List Record). IsLegalAfter loads opening xs (records_on n i rs)) (part_elsewhere n i seen r (λ q. true≢false (sym (eq-eqb (stripe_of n (key_of r.call)) i q) ∙ t))) rest
 
--- ---- all of it
+-- ---- the whole history
 
 pub is_lawful : (loads : Bool) (opening : List Stored) (finished : List Record) (now : Entries) → IsLegal loads (entry_among opening) finished
     → ((k : ℤ) → now k ≡ entries_after (entry_among opening) finished k) → IsLawful loads opening finished now

@@ -1,4 +1,4 @@
--- Worlds that open and close.
+-- Opening and closing a world.
 use Rattle.std.proofs.Common.{Bool, arith, ◌≡◌, ℕ, zero, suc, ◌+◌, ◌-◌, ◌*◌, ◌≤◌, ℤ, List, [], ◌∷◌, ◌++◌, length, map, All, Option, Some, None, option_and_then, slice_get, slice_index, sum_by, count_by, refl, sym, ap, subst, ◌∙◌, true≢false, zero-add}
 use Rattle.std.proofs.lemmas.List.{length-map}
 use Rattle.std.specs.Prelude.{replicate}
@@ -95,7 +95,7 @@ module _ (gives : ℤ → LoadAnswer → Type 0) (loads : Bool) (ms : List Store
         rest = refl;
       }
 
-  -- nobody was asked
+  -- A new world has no recorded answers.
   pub given_opened : AnswersAreGiven gives (world_of (opened_parts loads ms journal reserved starts))
   given_opened =
       record {
@@ -127,7 +127,7 @@ module _ (p : Parts) where
       by None e = refl
       by (Some r) e = absurd (none i r (map_get running_on p.seats i x there ∙ ap Some e))
 
-  -- what is stored is what the finished calls leave
+  -- The stored entries are those that the finished calls leave.
   pub stored_left : IsSteady p → (k : ℤ) → entry_among (map stored_on p.seats) k ≡ entries_now (world_of p) k
   stored_left h k =
       let many : length (map stored_on p.seats) ≡ length p.opening = length-map p.seats stored_on ∙ h.same in

@@ -1,4 +1,4 @@
--- Lists, place by place.
+-- Lemmas on lists by index.
 use Rattle.std.proofs.Common.{arith, ◌≡◌, ℕ, zero, suc, ◌+◌, ◌<◌, ◌≤◌, Bool, true, false, cond, ◌⊎◌, inl, inr, List, [], ◌∷◌, ◌++◌, length, Some, slice_get, slice_set, slice_index, replicate, map, filter, sum_by, ◌==◌, refl, sym, ap, subst, ◌∙◌, zero-add, true≢false}
 use Rattle.std.proofs.lemmas.Bool.{eq-eqb, eqb-true}
 use Rattle.std.proofs.lemmas.List.Elements.{filter-append}
@@ -28,7 +28,7 @@ get_set_other (y ∷ xs) zero (suc p) x h = refl
 get_set_other (y ∷ xs) (suc n) zero x h = refl
 get_set_other (y ∷ xs) (suc n) (suc p) x h = get_set_other xs n p x (λ e. h (ap suc e))
 
--- what is at the place, or was
+-- An element after a write is the new one, or the old one at another index.
 pub get_set_cases : {X : Type 0} → (xs : List X) (n p : ℕ) (x y : X) → n < length xs → slice_get (slice_set xs n x) p ≡ Some y → ((p ≡ n) × (y ≡ x)) ⊎ ((¬ (p ≡ n)) × (slice_get xs p ≡ Some y))
 get_set_cases [] n p x y h e = absurd (none_less n h)
 get_set_cases (z ∷ xs) zero zero x y h e = inl (refl, cc)
@@ -63,7 +63,7 @@ filter_more p xs y = filter-append p xs (y ∷ []) ∙ by (p y)
     by true = refl
     by false = append-nil (filter p xs)
 
--- an element of a list whose elements were changed by a function
+-- An element of a mapped list is the image of an element.
 pub get_map : {X Y : Type 0} (f : X → Y) (xs : List X) (i : ℕ) (y : Y) → slice_get (map f xs) i ≡ Some y → (x : X) × (slice_get xs i ≡ Some x) × (f x ≡ y)
 get_map f [] i y e = absurd (cc)
 get_map f (x ∷ xs) zero y e = (x, refl, cc)
@@ -91,7 +91,7 @@ nat_split n m le = by (n == suc m) refl
     by true e = inr (eqb-true n (suc m) e)
     by false e = inl (omega (arith, (λ (q : n ≡ suc m). true≢false (sym (eq-eqb n (suc m) q) ∙ e))))
 
--- below, the same, or above
+-- A number is less than, equal to, or greater than another.
 pub trichotomy : (n m : ℕ) → (suc n ≤ m) ⊎ ((n ≡ m) ⊎ (suc m ≤ n))
 trichotomy zero zero = inr (inl refl)
 trichotomy zero (suc m) = inl (omega arith)

@@ -1,4 +1,4 @@
--- One event more.
+-- Runs with one more event.
 use Rattle.std.proofs.Common.{◌≡◌, ℕ, ℤ, zero, suc, Bool, true, false, IsTrue, List, [], ◌∷◌, ◌++◌, map, take, Option, Some, None, slice_get, refl, ap, ◌∙◌}
 use Rattle.stripe.specs.declared.refusal.BeginRefusal.{BeginRefusal}
 use Rattle.stripe.specs.declared.refusal.BeginRefusal.TheVariants.{JournalFull, NoMemory}
@@ -24,7 +24,7 @@ pub not_true : (b : Bool) → (b ≡ true → ⊥) → b ≡ false
 not_true true n = absurd (n refl)
 not_true false n = refl
 
--- ---- the opening tables stay
+-- ---- the opening tables do not change
 
 opening_applied : (a : LoadAnswer) (w : World) (e : Event) → (apply a w e).opening ≡ w.opening
 opening_applied a w (Start caller call) = started (slice_get w.running (stripe_in w call))

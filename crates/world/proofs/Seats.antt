@@ -1,4 +1,4 @@
--- What a seat holds of its call.
+-- The contents of a seat for its call.
 use Rattle.std.proofs.Common.{arith, ◌≡◌, suc, ◌+◌, ◌-◌, ◌<◌, ◌≤◌, ℤ, Bool, true, false, not, List, Option, Some, None, is_some, IsSome, IsTrue, option_map, refl, sym, ap, subst, ◌∙◌, true≢false}
 use Rattle.jtypes.specs.declared.types.Arg.{Arg}
 use Rattle.jtypes.specs.declared.loader.LoadAnswer.{LoadAnswer}
@@ -30,7 +30,7 @@ use Rattle.world.specs.Stepping.{IsCounted, StepsOn}
 use Rattle.world.proofs.Calls.{start_zero, first_state, going_some, call_in, works_going, turned_goes, turned_ends, going_end, ended_progress}
 use Rattle.jtypes.specs.Profile.{Second}
 
--- each open call is under way, or ended
+-- Each open call is in progress or has ended.
 abbrev pub AreGoing : Kept → Machine → Option Done → Option LoadAnswer → Type 0
 AreGoing s m done asked = (b : Begun) → s.running ≡ Some b → IsGoing b.loads (entry_of s (key_of b.call)) m b.call done asked
 
@@ -63,9 +63,9 @@ module _ (s : Kept) (m : Machine) (done : Option Done) (asked : Option LoadAnswe
       by false q = absurd (true≢false (sym q))
   idle_open t (Some c) i e = (λ q. absurd (true≢false (i ∙ ap not q)), λ q. no_some (sym (e ∙ none_runs q)))
 
--- ---- the call that is open
+-- ---- the open call
 
--- the entry that it found
+-- The entry that the call found.
 abbrev pub before_in : Kept → OpenCall → Entry
 before_in s o = entry_of s (key_of (call_of o.call))
 
@@ -82,7 +82,7 @@ module _ (s : Kept) (m : Machine) (done : Option Done) (asked : Option LoadAnswe
   pub can_commit : is_ended (call_of o.call) done ≡ true → CanCommit s done asked
   can_commit e = record { begun = begun_of o; running = sym runs; ends = going_end o.loads (before_in s o) m open_going e }
 
-  -- the record that was made is that of the call
+  -- The committed record is that of the call.
   pub open_ended : ((b now : Entry) → after_effect (effect b now) b ≡ now) → is_ended (call_of o.call) done ≡ true → (r : Record) → IsRecord (begun_of o) (before_in s o) r → r.asked ≡ asked_by done asked
       → IsOf s (key_of (call_of o.call)) → (new : Kept) (m' : Machine) → new ≡ committed s r → entry_of new (key_of r.call) ≡ r.after → ((k : ℤ) → ¬ (k ≡ key_of r.call) → entry_of new k ≡ entry_of s k)
       → IsEnded (record { stripe = s; running = running_in s m done asked s.running }) r (record { stripe = new; running = running_in new m' None None new.running })
@@ -105,7 +105,7 @@ module _ (s : Kept) (m : Machine) (done : Option Done) (asked : Option LoadAnswe
         idle = ap (running_in new m' None None) (ap (λ (s : Kept). s.running) is);
       }
 
--- ---- an invocation that is under way
+-- ---- an invocation in progress
 
 under_way : (loads : Bool) (before : Entry) (m : Machine) {call : Call} {done : Option Done} {asked : Option LoadAnswer} → IsGoing loads before m call done asked → (c : Class) (k : ℤ) (args : List Arg) → call ≡ Invoke c k args → is_ended call done ≡ false
     → (done ≡ None) × (asked ≡ None) × IsUnderWay c (invocation loads k args before) m
@@ -133,7 +133,7 @@ module _ (s : Kept) (m : Machine) (done : Option Done) (asked : Option LoadAnswe
   same_begun : (b : Begun) → s.running ≡ Some b → begun_of o ≡ b
   same_begun b e = let both : Some (begun_of o) ≡ Some b = runs ∙ e in cc both
 
-  -- the open call is this invocation
+  -- The open call is this invocation.
   of_open : (now : Option Done) (new : Machine) → IsGoing o.loads (before_in s o) new (Invoke c k args) now None → AreGoing s new now None
   of_open now new h b e =
       subst (λ (x : Begun). IsGoing x.loads (entry_of s (key_of x.call)) new x.call now None) (same_begun b e) (subst (λ x. IsGoing o.loads (before_in s o) new x now None) (sym is) h)
@@ -144,7 +144,7 @@ module _ (s : Kept) (m : Machine) (done : Option Done) (asked : Option LoadAnswe
   first_seen : running_in s m done asked s.running ≡ call_in o.caller o.number o.loads (before_in s o) m (Invoke c k args) None None
   first_seen = (λ i. running_in s m (way.0 i) (way.1 i) s.running) ∙ seen_as None m
 
-  -- as far as it is
+  -- The running call that the seat shows.
   seen_old : running_in s m done asked s.running ≡ Some (running_call o.caller o.number (Invoke c k args) (Working c way.2.state))
   seen_old = first_seen ∙ ap (λ x. option_map (running_call o.caller o.number (Invoke c k args)) (option_map (λ s. Working c s) x)) way.2.is
 
@@ -154,7 +154,7 @@ module _ (s : Kept) (m : Machine) (done : Option Done) (asked : Option LoadAnswe
   pub key_is : k ≡ m.key
   key_is = sym (ap (λ (i : Invocation). i.key) way.2.call_is) ∙ ap (λ (i : Invocation). i.key) way.2.running.state.at.rest.call
 
-  -- what was answered before, and the key
+  -- The loader gives the answer that the machine recorded for its key.
   pub given_before : (gives : ℤ → LoadAnswer → Type 0) → AnswerIsGiven gives (running_in s m done asked s.running) → IsGiven gives m.key m.entry.now.asked
   given_before gives h =
       let state = way.2.state in
@@ -241,7 +241,7 @@ module _ (s : Kept) (m : Machine) (done : Option Done) (asked : Option LoadAnswe
     pub ends_answered : KeepsGiven gives m new → new.key ≡ m.key → d.asked ≡ new.entry.now.asked → AnswerIsGiven gives (running_in s m done asked s.running) → AnswerIsGiven gives (running_in s new (Some d) asked s.running)
     ends_answered kept key answer h = ends_given (subst (λ (x : ℤ × Option LoadAnswer). IsGiven gives x.0 x.1) (λ i. ((key ∙ sym key_is) i, sym answer i)) (kept (given_before gives h)))
 
--- ---- an invocation begins
+-- ---- the start of an invocation
 
 module _ (old new : Kept) (b : Begun) (is : new ≡ begun old b) (same : (k : ℤ) → entry_of new k ≡ entry_of old k) (c : Class) (k : ℤ) (args : List Arg) (call_is : b.call ≡ Invoke c k args) (m : Machine)
     (h : IsStarted c (invocation b.loads k args (entry_of old (key_of b.call))) m) where
@@ -280,7 +280,7 @@ module _ (old new : Kept) (b : Begun) (is : new ≡ begun old b) (same : (k : �
         running = start_seen;
       }
 
-  -- nobody was asked yet
+  -- A new invocation has no recorded answer.
   pub start_given : (gives : ℤ → LoadAnswer → Type 0) → m.entry.now.asked ≡ None → AnswerIsGiven gives (running_in new m None None new.running)
   start_given gives none =
       subst (AnswerIsGiven gives) (sym start_seen)
@@ -290,7 +290,7 @@ module _ (old new : Kept) (b : Begun) (is : new ≡ begun old b) (same : (k : �
       → Starts gives (record { stripe = old; running = running }) b (record { stripe = new; running = running_in new m None None new.running })
   start_starts gives none running = (load.None, subst (λ x. MayAnswer gives load.None (asked_by_get b.loads (entry_of old (key_of b.call)) x)) (sym call_is) tt, start_begun load.None running, start_given gives none)
 
--- ---- another call begins
+-- ---- the start of another call
 
 module _ (old new : Kept) (b : Begun) (is : new ≡ begun old b) (same : (k : ℤ) → entry_of new k ≡ entry_of old k) (m : Machine) (asked : Option LoadAnswer) where
   pub other_going : IsGoing b.loads (entry_of old (key_of b.call)) m b.call None asked → AreGoing new m None asked

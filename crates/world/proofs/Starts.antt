@@ -1,4 +1,4 @@
--- A get, or another call that is no invocation, begins.
+-- The start of a `get`, or of another call that is no invocation.
 use Rattle.std.proofs.Common.{◌≡◌, ℤ, Bool, true, false, List, Option, Some, None, is_some, refl, sym, ap, subst, ◌∙◌, true≢false}
 use Rattle.jtypes.specs.declared.loader.LoadAnswer.{LoadAnswer}
 use Rattle.jtypes.specs.declared.loader.LoadAnswer.TheVariants as load
@@ -43,7 +43,7 @@ module _ (gives : ℤ → LoadAnswer → Type 0) (old new : Kept) (b : Begun) (i
         (ap (λ x. progress_in b.loads found m x None asked) call_is)
         (ap (λ x. progress_of b.loads (known asked) found x) call_is ∙ ap Some (got_known b.loads found asked told))
 
-    -- as far as it is
+    -- The running call that the seat shows.
     get_seen : running_in new m None asked new.running ≡ Some (running_call b.caller b.number b.call (got_by found asked))
     get_seen = seen_other old new b is same m asked (got_by found asked) (ap (λ x. progress_in b.loads found m x None asked) call_is)
 
@@ -56,7 +56,7 @@ module _ (gives : ℤ → LoadAnswer → Type 0) (old new : Kept) (b : Begun) (i
           (subst (λ x. IsGiven gives (key_of x) (answer_to (got_by found asked))) (sym call_is) (subst (IsGiven gives k) (sym (got_answer found asked)) given)),
     )
 
-  -- ---- another one
+  -- ---- another call
 
   plain_going : (call : Call) → IsPlain call → IsGoing b.loads (entry_of old (key_of b.call)) m call None None
   plain_going (Invoke c k args) p = absurd p

@@ -1,4 +1,4 @@
--- What is true of a world stays true.
+-- Events preserve the invariant of a world.
 use Rattle.std.proofs.Common.{arith, ◌≡◌, ℕ, ◌+◌, ◌-◌, ◌*◌, ◌<◌, ◌≤◌, Bool, true, false, ◌==◌, inl, inr, List, length, map, Option, Some, None, IsSome, slice_get, slice_set, slice_index, sum_by, count_by, refl, sym, ap, subst, ◌∙◌, true≢false}
 use Rattle.std.proofs.Math.Nat.{mul-le-mul}
 use Rattle.std.proofs.lemmas.Bool.{eq-eqb, eqb-true}
@@ -14,12 +14,12 @@ use Rattle.world.specs.Inside.{Parts, running_on, world_of, IsAt, AreSeats, room
 use Rattle.std.proofs.lemmas.Option.{slice_get_within}
 use Rattle.world.proofs.Places.{one_if, get_set, get_set_cases, set_same, map_get, sum_set}
 
--- the parts with another seat at this place, and other counts
+-- The parts with another seat at index `i`, and other start counts.
 abbrev pub with_seat : Parts → ℕ → Seated → List ℕ → Parts
 with_seat p i y starts =
     record { loads = p.loads; opening = p.opening; journal = p.journal; seats = slice_set p.seats i y; finished = p.finished; reserved = p.reserved; starts = starts; rest = p.rest }
 
--- the world's calls that run are no part of what is true of a seat
+-- `IsAt` does not depend on the running calls of the world.
 at_running : (w : World) (rs : List (Option Running)) (i : ℕ) (x : Seated) → IsAt w i x → IsAt (record { loads = w.loads; opening = w.opening; journal = w.journal; running = rs; finished = w.finished }) i x
 at_running w rs i x h =
     record { stripes = h.stripes; place = h.place; journal = h.journal; records = h.records; few = h.few; left = h.left; room = h.room; of = h.of; loads = h.loads }
@@ -27,7 +27,7 @@ at_running w rs i x h =
 pub running_set : (p : Parts) (i : ℕ) (y : Seated) (starts : List ℕ) → world_of (with_seat p i y starts) ≡ with_running (world_of p) i y.running
 running_set p i y starts = ap (λ rs. record { loads = p.loads; opening = p.opening; journal = p.journal; running = rs; finished = p.finished }) (map-set running_on p.seats i y)
 
--- the call on one stripe comes nearer to its end
+-- The bound on the events of the call on stripe `i` decreases.
 pub turned_nearer : (p : Parts) (i : ℕ) (x y : Seated) (starts : List ℕ) → slice_get p.seats i ≡ Some x → turns_on (Some y.running) < turns_on (Some x.running)
     → turns_left (world_of (with_seat p i y starts)) i < turns_left (world_of p) i
 turned_nearer p i x y starts there less =
@@ -35,7 +35,7 @@ turned_nearer p i x y starts there less =
     let is : slice_get (map running_on (slice_set p.seats i y)) i ≡ Some y.running = map_get running_on (slice_set p.seats i y) i y (get_set p.seats i y (slice_get_within p.seats i x there)) in
     subst (λ o. turns_on o < turns_on (slice_get (map running_on p.seats) i)) (sym is) (subst (λ o. turns_on (Some y.running) < turns_on o) (sym was) less)
 
--- a call starts or takes a step: no more is finished
+-- A call starts or takes a step; no call finishes.
 module _ (p : Parts) (h : IsSteady p) (i : ℕ) (x y : Seated) (there : slice_get p.seats i ≡ Some x) where
   pub inside : i < length p.seats
   inside = slice_get_within p.seats i x there
@@ -69,7 +69,7 @@ module _ (p : Parts) (h : IsSteady p) (i : ℕ) (x y : Seated) (there : slice_ge
       same_sum : sum_by room_of (slice_set p.seats i y) + room_of x ≡ sum_by room_of p.seats + room_of y → sum_by room_of (slice_set p.seats i y) ≡ sum_by room_of p.seats
       same_sum e = omega (arith, e, room)
 
-  -- how many calls of a caller run
+  -- The number of running calls of a caller.
   pub running_count : (caller : ℕ) → count_by (is_by caller) (map running_on (slice_set p.seats i y)) + one_if (is_by caller x.running) ≡ count_by (is_by caller) (map running_on p.seats) + one_if (is_by caller y.running)
   running_count caller =
       ap (λ rs. count_by (is_by caller) rs + one_if (is_by caller x.running)) (map-set running_on p.seats i y)
@@ -179,7 +179,7 @@ module _ (p : Parts) (h : IsSteady p) (i : ℕ) (x y : Seated) (there : slice_ge
   pub steady_turned : IsSteady (with_seat p i y p.starts)
   steady_turned = steady_seat p h i x y there p.starts turned_at (ap (λ (s : Kept). s.journal - length s.records) stripe) h.callers turned_numbers
 
--- ---- nothing happens
+-- ---- nothing changes
 
 module _ (p : Parts) (h : IsSteady p) (i : ℕ) (x y : Seated) (there : slice_get p.seats i ≡ Some x) (same : y ≡ x) where
   as_it_was : slice_set p.seats i y ≡ p.seats
@@ -194,7 +194,7 @@ module _ (p : Parts) (h : IsSteady p) (i : ℕ) (x y : Seated) (there : slice_ge
   pub world_same : world_of (with_seat p i y p.starts) ≡ world_of p
   world_same = ap world_of with_same
 
--- how many starts a caller has made
+-- The number of starts of a caller is bounded.
 pub few_starts : (p : Parts) → IsSteady p → (caller : ℕ) → caller < 256 → slice_index p.starts caller ≤ 64 * 4096 + 64
 few_starts p h caller lt =
     let a = count_by-le-length (λ (r : Record). r.caller == caller) p.finished in

@@ -22,10 +22,10 @@ use Rattle.world.specs.Going.{known, state_in}
 use Rattle.world.specs.Stepping.{MayAnswerStep, StepsOn}
 use Rattle.world.proofs.Calls.{start_zero}
 
--- ---- the loader gives what it answered
+-- ---- the loader gives its recorded answer
 
 module _ (gives : ℤ → LoadAnswer → Type 0) (c : Class) (s : State) (old new : Machine) (h : IsRunning c s old) (kept : KeepsGiven gives old new) (key : new.key ≡ old.key) where
-  -- who asks has not asked before
+  -- A state that asks has no recorded answer.
   first_asked : asks c s ≡ true → old.entry.now.asked ≡ None
   first_asked is = sym (ap (λ (n : EntryNow). n.asked) h.state.at.rest.now) ∙ unasked_before s.call.loads s.call.before s.now (is_get_next c s.activations) is
 
@@ -50,7 +50,7 @@ module _ (gives : ℤ → LoadAnswer → Type 0) (c : Class) (s : State) (old ne
   steps_on going.Going told (a, t, goes, call, running) = (a, t, may_go a t goes running, goes, call, running)
   steps_on (going.Ended d) told (a, f, ends, means, is) = (a, f, may_end a f ends (sym is.asked ∙ told d refl), ends, means, is)
 
--- ---- what runs is the state after so many steps
+-- ---- the machine's state is the one after the counted steps
 
 agrees : (o : Option LoadAnswer) → Agrees (known o) o
 agrees None x e = absurd (cc)

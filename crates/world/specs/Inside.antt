@@ -1,4 +1,4 @@
--- What is true of every world.
+-- The invariant of a world.
 use Rattle.std.specs.Prelude.{◌≡◌, Bool, ℕ, ◌+◌, ◌-◌, ◌*◌, ◌<◌, ◌≤◌, ℤ, List, length, map, vec_capacity, Option, Some, IsSome, slice_get, slice_index, sum_by}
 use Rattle.jtypes.specs.declared.loader.LoadAnswer.{LoadAnswer}
 use Rattle.stripe.specs.History.{Record, key_of, IsLegal}
@@ -10,7 +10,8 @@ use Rattle.world.specs.declared.world.World.TheInside.{Inside}
 use Rattle.world.specs.World.{World, ReadThrough, AnswersAreGiven, Running, opening_entries, entries_now, history_of, starts_of}
 use Rattle.world.specs.Seated.{Seated, HasLoader}
 
--- the parts of a world; `loads` is whether its loader is asked, `reserved` is how many finished calls there is room for, and `starts` counts each caller's starts
+-- The parts of a world. `loads` is whether its loader is asked, and `reserved` is the capacity of the list of finished calls.
+-- `starts` counts the starts of each caller.
 pub record Parts : Type 0 where
   pub loads : Bool
   pub opening : List Stored
@@ -42,7 +43,8 @@ world_of p = record { loads = p.loads; opening = p.opening; journal = p.journal;
 abbrev pub reading : {L : Type 0} → Bool → Inside L → ReadThrough L
 reading loads s = record { world = world_of (parts loads s); loader = s.loader.now }
 
--- the seat at this place: its stripe's history is that stripe's part of the finished calls, and what it stores is what they leave; the call that runs has room for its record, and is of a key of the stripe
+-- Seat `i`: its history is the part of the finished calls on its stripe, and its entries are those that they leave.
+-- If a call runs, there is a free record for it, and its key is on the stripe.
 pub record IsAt (w : World) (i : ℕ) (x : Seated) : Type 0 where
   pub stripes : x.stripe.stripes ≡ length w.opening
   pub place : x.stripe.place ≡ i
@@ -54,11 +56,11 @@ pub record IsAt (w : World) (i : ℕ) (x : Seated) : Type 0 where
   pub of : (r : Running) → x.running ≡ Some r → IsOf x.stripe (key_of r.call)
   pub loads : HasLoader w.loads x.stripe
 
--- each stripe has its seat
+-- Each seat is that of its stripe.
 abbrev pub AreSeats : World → List Seated → Type 0
 AreSeats w xs = (i : ℕ) (x : Seated) → slice_get xs i ≡ Some x → IsAt w i x
 
--- how many records a stripe's history has room for
+-- The number of free records in a stripe's history.
 abbrev pub room_of : Seated → ℕ
 room_of x = x.stripe.journal - length x.stripe.records
 
@@ -74,7 +76,7 @@ pub record IsSteady (p : Parts) : Type 0 where
   pub callers : length p.starts ≡ 256
   pub rest : p.rest ≡ none_back (length p.opening)
 
--- with a loader that gives such answers and is asked, or isn't
+-- The parts are consistent, and the loader gives each of its recorded answers.
 pub record IsSound {L : Type 0} (gives : ℤ → LoadAnswer → Type 0) (loads : Bool) (s : Inside L) : Type 0 where
   pub steady : IsSteady (parts loads s)
   pub given : AnswersAreGiven gives (world_of (parts loads s))

@@ -1,4 +1,4 @@
--- The room that a world takes.
+-- The preallocated memory of a world.
 use Rattle.std.specs.Prelude.{◌≡◌, ℕ, ◌≤◌, ◌*◌, List, [], Some, None, length, map, vec_capacity, slice_get}
 use Rattle.stripe.specs.Stored.{Stored}
 use Rattle.stripe.specs.Tables.{Back}
@@ -15,11 +15,11 @@ pub record IsRoom (stripes journal : ℕ) (r : WorldRoom) : Type 0 where
 abbrev pub stored_on : Seated → Stored
 stored_on x = x.stripe.stored
 
--- the stripes of these seats came back, of so many
+-- The returned stripes of these seats, out of `stripes`.
 abbrev pub back_of : ℕ → List Seated → Back
 back_of stripes xs = record { stripes = stripes; tables = map stored_on xs; histories = map (λ (x : Seated). x.stripe.records) xs }
 
--- the seat of this stripe, of so many, on which no call runs
+-- The seat of stripe `i` of `count`, on which no call runs.
 pub record IsReturning (count i : ℕ) (x : Seated) : Type 0 where
   pub stripes : x.stripe.stripes ≡ count
   pub place : x.stripe.place ≡ i

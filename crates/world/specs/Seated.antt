@@ -1,4 +1,4 @@
--- A stripe with the call that runs on it, as contracts see it.
+-- A stripe and the call that runs on it, as contracts see them.
 use Rattle.std.specs.Prelude.{Bool, ◌≡◌, ℕ, ℤ, List, slice_get, Option, Some, None}
 use Rattle.jtypes.specs.Entry.{Entry}
 use Rattle.jtypes.specs.declared.loader.LoadAnswer.{LoadAnswer}
@@ -13,20 +13,20 @@ pub record Seated : Type 0 where
   pub stripe : Kept
   pub running : Option Running
 
--- no call runs
+-- The seat of a stripe on which no call runs.
 abbrev pub idle_seat : Kept → Seated
 idle_seat s = record { stripe = s; running = None }
 
--- no call runs on any of these seats
+-- No call runs on any of these seats.
 abbrev pub AreIdle : List Seated → Type 0
 AreIdle xs = (i : ℕ) (x : Seated) → slice_get xs i ≡ Some x → x.running ≡ None
 
--- what the loader answered to the call that runs, it gives
+-- The loader gives its recorded answer to the running call.
 abbrev pub AnswerIsGiven : (ℤ → LoadAnswer → Type 0) → Option Running → Type 0
 AnswerIsGiven gives None = Unit {0}
 AnswerIsGiven gives (Some r) = IsGiven gives (key_of r.call) (answer_to r.progress)
 
--- no call ran, and this one does now; a get that asked the loader had this answer
+-- The call `b` runs on the seat, and is in its first progress; `a` is the loader's answer to a `get` that asks it.
 pub record IsBegun (a : LoadAnswer) (old : Seated) (b : Begun) (new : Seated) : Type 0 where
   pub progress : Progress
   pub is : progress_of b.loads a (entry_of old.stripe (key_of b.call)) b.call ≡ Some progress
@@ -34,11 +34,11 @@ pub record IsBegun (a : LoadAnswer) (old : Seated) (b : Begun) (new : Seated) : 
   pub entries : (k : ℤ) → entry_of new.stripe k ≡ entry_of old.stripe k
   pub running : new.running ≡ Some (running_call b.caller b.number b.call progress)
 
--- a call starts: where a get asks the loader, that gives the answer
+-- A call starts. If a `get` asks the loader, the loader gives the answer.
 abbrev pub Starts : (ℤ → LoadAnswer → Type 0) → Seated → Begun → Seated → Type 0
 Starts gives old b new = (a : LoadAnswer) × MayAnswer gives a (asked_by_get b.loads (entry_of old.stripe (key_of b.call)) b.call) × IsBegun a old b new × AnswerIsGiven gives new.running
 
--- a step further, if the call isn't final; the loader answers this if it is asked
+-- The progress after one step, unless the call is final; `a` is the loader's answer, if it is asked.
 abbrev pub further : LoadAnswer → Progress → Progress
 further a (Working c s) = progress_after c s (step_with c a s)
 further a (Settled reply after asked) = Settled reply after asked
@@ -47,15 +47,15 @@ abbrev pub turned : LoadAnswer → Option Running → Option Running
 turned a None = None
 turned a (Some r) = Some (with_progress r (further a r.progress))
 
--- a step of the call that runs, by an answer that the loader gives if it was asked
+-- One step of the running call, with an answer that the loader gives if it is asked.
 abbrev pub Turns : (ℤ → LoadAnswer → Type 0) → Option Running → Option Running → Type 0
 Turns gives old new = (a : LoadAnswer) × MayAnswer gives a (asked_on (Some old)) × (new ≡ turned a old)
 
--- the loader of the open call, if there is one, is one that is asked or not
+-- The open call, if there is one, has a loader exactly if `loads`.
 abbrev pub HasLoader : Bool → Kept → Type 0
 HasLoader loads s = (b : Begun) → s.running ≡ Some b → b.loads ≡ loads
 
--- the call that ran was final, and this is its record
+-- The running call was final, and `r` is its record.
 pub record IsEnded (old : Seated) (r : Record) (new : Seated) : Type 0 where
   pub running : Running
   pub reply : Reply

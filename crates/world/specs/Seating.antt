@@ -1,4 +1,4 @@
--- What is true of every seat.
+-- The invariant of a seat.
 use Rattle.std.specs.Prelude.{◌≡◌, Option, Some, None, option_map}
 use Rattle.jtypes.specs.declared.loader.LoadAnswer.{LoadAnswer}
 use Rattle.interpreter.specs.declared.machine.Machine.{Machine}
@@ -10,7 +10,7 @@ use Rattle.world.specs.World.{Running, running_call}
 use Rattle.world.specs.Seated.{Seated}
 use Rattle.world.specs.Going.{progress_in, IsGoing}
 
--- the call that is open on the stripe, as far as it is
+-- The call that is open on the stripe, with its progress.
 abbrev pub running_in : Kept → Machine → Option Done → Option LoadAnswer → Option Begun → Option Running
 running_in s m ended asked None = None
 running_in s m ended asked (Some b) = option_map (running_call b.caller b.number b.call) (progress_in b.loads (entry_of s (key_of b.call)) m b.call ended asked)

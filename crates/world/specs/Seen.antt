@@ -1,4 +1,4 @@
--- Events of the code, as the definitions see them.
+-- The events of the code as events of the definitions.
 use Rattle.stripe.specs.Seen.{call_of}
 use Rattle.world.specs.declared.event.Event.{Event as EventTaken}
 use Rattle.world.specs.declared.event.Event.TheVariants as taken

@@ -1,4 +1,4 @@
--- A world: running calls, and the calls that are finished. One event is a start, one instruction, or a finish (JSR 107, Cache and EntryProcessor).
+-- A world of running and finished calls. An event is a start, one instruction, or a finish (JSR 107, Cache and EntryProcessor).
 use Rattle.std.specs.Prelude.{◌≡◌, ℕ, ℤ, ◌+◌, ◌==◌, Bool, true, false, not, ◌&&◌, List, [], ◌∷◌, ◌++◌, Option, Some, None, is_some, slice_get, slice_set, replicate, length, filter, count_by}
 use Rattle.jtypes.specs.declared.loader.LoadAnswer.{LoadAnswer}
 use Rattle.jtypes.specs.Lists.{only_if}
@@ -11,7 +11,8 @@ use Rattle.stripe.specs.declared.call.Reply.TheVariants.{Result, Done, Value, Fl
 use Rattle.stripe.specs.History.{Call, Invoke, Get, Put, Remove, Contains, Record, Entries, key_of, entries_after, invocation, told_by, stripe_of, AreGiven}
 use Rattle.stripe.specs.Stored.{Stored, entry_among}
 
--- how far a running call is: in a state of its class, or final, with its reply, the entry that it leaves, and what the loader answered if it was asked
+-- The progress of a running call: a state of its class, or final,
+-- with its reply, the entry that it leaves, and the loader's answer if it was asked.
 pub data Progress : Type 0 where
   Working : Class → State → Progress
   Settled : Reply → Entry → Option LoadAnswer → Progress
@@ -22,8 +23,8 @@ pub record Running : Type 0 where
   pub call : Call
   pub progress : Progress
 
--- whether it has a loader that is asked, the tables that it opened with, how many records each stripe's history may have, the running call of each stripe, and
--- the finished calls in their order
+-- Whether there is a loader, the opening tables, the capacity of each stripe's history in records,
+-- the running call of each stripe, and the finished calls in order.
 pub record World : Type 0 where
   pub loads : Bool
   pub opening : List Stored
@@ -31,7 +32,7 @@ pub record World : Type 0 where
   pub running : List (Option Running)
   pub finished : List Record
 
--- a world that reads through a loader (JSR 107, CacheLoader)
+-- A world with a loader for read-through (JSR 107, CacheLoader).
 pub record ReadThrough (X : Type 0) : Type 0 where
   pub world : World
   pub loader : X
@@ -41,46 +42,46 @@ pub data Event : Type 0 where
   Step : (stripe : ℕ) → Event
   Finish : (stripe : ℕ) → Event
 
--- no call runs, and none is finished
+-- The world without running or finished calls.
 abbrev pub opened : Bool → List Stored → ℕ → World
 opened loads opening journal = record { loads = loads; opening = opening; journal = journal; running = replicate (length opening) None; finished = [] }
 
 abbrev pub opening_entries : World → Entries
 opening_entries w = entry_among w.opening
 
--- the entries after the finished calls
+-- The entries after the finished calls.
 abbrev pub entries_now : World → Entries
 entries_now w = entries_after (opening_entries w) w.finished
 
--- the stripe of a call's key
+-- The stripe of a call's key.
 abbrev pub stripe_in : World → Call → ℕ
 stripe_in w call = stripe_of (length w.opening) (key_of call)
 
--- whether a record is of a key of this stripe, of so many
+-- Whether a record is of a key on stripe `i` of `stripes`.
 abbrev pub is_on : ℕ → ℕ → Record → Bool
 is_on stripes i r = stripe_of stripes (key_of r.call) == i
 
--- the records on a stripe, of so many
+-- The records on stripe `i` of `stripes`.
 abbrev pub records_on : ℕ → ℕ → List Record → List Record
 records_on stripes i records = filter (is_on stripes i) records
 
--- the finished calls of a stripe
+-- The finished calls of a stripe.
 abbrev pub history_of : World → ℕ → List Record
 history_of w i = records_on (length w.opening) i w.finished
 
--- ---- how a call begins
+-- ---- the start of a call
 
--- a class that is accepted has a start
+-- The progress of an invocation from its first state. An accepted class has a first state.
 abbrev pub begun : Class → Option State → Option Progress
 begun c None = None
 begun c (Some s) = Some (Working c s)
 
--- a get of an absent key is told what the loader answers, if there is one
+-- The progress of a `get`. If there is a loader, its answer is the reply for an absent key.
 abbrev pub got : Bool → LoadAnswer → Entry → Progress
 got true a None = Settled (told_by a) (entry_loaded None a) (Some a)
 got loads a before = Settled (Value before) before None
 
--- a call that isn't an invocation is final at its start; the loader answers this if it is asked then
+-- The progress of a call at its start. It is final unless the call is an invocation; `a` is the loader's answer, if it is asked.
 abbrev pub progress_of : Bool → LoadAnswer → Entry → Call → Option Progress
 progress_of loads a before (Invoke c k args) = begun c (start c (invocation loads k args before))
 progress_of loads a before (Get k) = Some (got loads a before)
@@ -94,7 +95,7 @@ abbrev pub is_by : ℕ → Option Running → Bool
 is_by caller None = false
 is_by caller (Some r) = r.caller == caller
 
--- the earlier starts of a caller
+-- The number of earlier starts of a caller.
 abbrev pub starts_of : World → ℕ → ℕ
 starts_of w caller = count_by (λ r. r.caller == caller) w.finished + count_by (is_by caller) w.running
 
@@ -110,7 +111,7 @@ abbrev pub after_begin : World → ℕ → Call → Option Progress → World
 after_begin w caller call None = w
 after_begin w caller call (Some p) = with_running w (stripe_in w call) (Some (running_call caller (starts_of w caller) call p))
 
--- a start is possible where no call runs on the key's stripe
+-- A start is possible if no call runs on the key's stripe.
 abbrev pub after_start : LoadAnswer → World → ℕ → Call → Option (Option Running) → World
 after_start a w caller call (Some None) = after_begin w caller call (progress_of w.loads a (entries_now w (key_of call)) call)
 after_start a w caller call _ = w
@@ -123,7 +124,7 @@ progress_after c s (Some (Ends f)) = Settled (Result f.outcome) f.entry f.asked
 abbrev pub with_progress : Running → Progress → Running
 with_progress r p = running_call r.caller r.number r.call p
 
--- a step is possible where a call runs that is not final
+-- A step is possible if a call runs that is not final.
 abbrev pub stepped : LoadAnswer → World → ℕ → Running → Progress → World
 stepped a w i r (Working c s) = with_running w i (Some (with_progress r (progress_after c s (step_with c a s))))
 stepped a w i r (Settled reply after asked) = w
@@ -135,11 +136,11 @@ after_step a w i _ = w
 abbrev pub record_of_call : Running → Reply → Entry → Option LoadAnswer → Record
 record_of_call r reply after asked = record { caller = r.caller; number = r.number; call = r.call; reply = reply; after = after; asked = asked }
 
--- a record more, and no call runs on the stripe
+-- The world with one more record, and with no call on the stripe.
 abbrev pub with_record : World → ℕ → Record → World
 with_record w i r = record w { running = slice_set w.running i None; finished = w.finished ++ r ∷ [] }
 
--- a finish is possible where a call runs that is final
+-- A finish is possible if a call runs that is final.
 abbrev pub finished : World → ℕ → Running → Progress → World
 finished w i r (Working c s) = w
 finished w i r (Settled reply after asked) = with_record w i (record_of_call r reply after asked)
@@ -148,15 +149,15 @@ abbrev pub after_finish : World → ℕ → Option (Option Running) → World
 after_finish w i (Some (Some r)) = finished w i r r.progress
 after_finish w i _ = w
 
--- the world after an event, in which the loader answers this if it is asked; one that is not possible changes nothing
+-- The world after an event; `a` is the loader's answer, if it is asked. An event that is not possible changes nothing.
 abbrev pub apply : LoadAnswer → World → Event → World
 apply a w (Start caller call) = after_start a w caller call (slice_get w.running (stripe_in w call))
 apply a w (Step i) = after_step a w i (slice_get w.running i)
 apply a w (Finish i) = after_finish w i (slice_get w.running i)
 
--- ---- whom the loader is asked for
+-- ---- the keys that the loader is asked for
 
--- the key that a state asks for, if it asks
+-- The key that the next step of a call asks for, if it asks.
 abbrev pub asked_by : Progress → Option ℤ
 asked_by (Working c s) = only_if (asks c s) (Some s.call.key)
 asked_by (Settled reply after asked) = None
@@ -165,12 +166,12 @@ abbrev pub asked_on : Option (Option Running) → Option ℤ
 asked_on (Some (Some r)) = asked_by r.progress
 asked_on _ = None
 
--- a get asks where there is a loader and no entry
+-- A `get` asks if there is a loader and no entry.
 abbrev pub asked_by_get : Bool → Entry → Call → Option ℤ
 asked_by_get loads before (Get k) = only_if (loads && not (is_some before)) (Some k)
 asked_by_get loads before call = None
 
--- it does so at its start, if that is possible
+-- A `get` asks at its start, if the start is possible.
 abbrev pub asked_at_start : World → Call → Option (Option Running) → Option ℤ
 asked_at_start w call (Some None) = asked_by_get w.loads (entries_now w (key_of call)) call
 asked_at_start w call o = None
@@ -180,26 +181,26 @@ asked_in w (Start caller call) = asked_at_start w call (slice_get w.running (str
 asked_in w (Step i) = asked_on (slice_get w.running i)
 asked_in w (Finish i) = None
 
--- where an event asks for a key, this is an answer that the loader gives for it
+-- If an event asks for a key, the loader gives this answer for it.
 abbrev pub MayAnswer : (ℤ → LoadAnswer → Type 0) → LoadAnswer → Option ℤ → Type 0
 MayAnswer gives a None = Unit {0}
 MayAnswer gives a (Some k) = gives k a
 
--- an event happens, and where it asks the loader that gives the answer
+-- The event happens, with an answer that the loader gives if it is asked.
 abbrev pub Happens : (ℤ → LoadAnswer → Type 0) → World → Event → World → Type 0
 Happens gives w e new = (a : LoadAnswer) × MayAnswer gives a (asked_in w e) × (new ≡ apply a w e)
 
--- these events lead from the one world to the other
+-- The run of these events, in order, from one world to another.
 pub data Runs (gives : ℤ → LoadAnswer → Type 0) (w : World) : List Event → World → Type 0 where
   none : Runs gives w [] w
   more : {events : List Event} {v u : World} (e : Event) → Runs gives w events v → Happens gives v e u → Runs gives w (events ++ e ∷ []) u
 
--- what the loader answered to a call that runs, if it was asked
+-- The loader's answer to a running call, if it was asked.
 abbrev pub answer_to : Progress → Option LoadAnswer
 answer_to (Working c s) = s.now.asked
 answer_to (Settled reply after asked) = asked
 
--- the loader gives each of its answers, to calls that are finished and to those that run
+-- The loader gives each of its recorded answers, to finished and to running calls.
 pub record AnswersAreGiven (gives : ℤ → LoadAnswer → Type 0) (w : World) : Type 0 where
   pub finished : AreGiven gives w.finished
   pub running : (i : ℕ) (r : Running) → slice_get w.running i ≡ Some (Some r) → IsGiven gives (key_of r.call) (answer_to r.progress)

@@ -1,24 +1,24 @@
-//! What happens in a world, and what becomes of it.
+//! The events of a world, and their results.
 
 use stripe::{BeginRefusal, Call};
 
-/// Something that happens.
+/// An event of a world.
 #[derive(Clone, Copy)]
 pub enum Event<'a> {
-    /// A caller's call begins.
+    /// A caller starts a call.
     Start { caller: u8, call: Call<'a> },
-    /// One instruction of the call that runs on a stripe.
+    /// The call that runs on a stripe executes one instruction.
     Step { stripe: usize },
-    /// The call that runs on a stripe is final, and is written down.
+    /// The call that runs on a stripe, which must be final, finishes and is recorded.
     Finish { stripe: usize },
 }
 
-/// What became of an event.
+/// The result of an event.
 #[derive(Clone, Copy, Debug, PartialEq, Eq)]
 pub enum Applied {
     Done,
-    /// It wasn't possible, and changed nothing.
+    /// The event was not possible, and changed nothing.
     Ignored,
-    /// It was possible, and changed nothing for want of room or memory.
+    /// The event was possible, but was refused because a history was full or memory was exhausted. It changed nothing.
     Refused(BeginRefusal),
 }

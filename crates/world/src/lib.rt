@@ -1,5 +1,5 @@
-//! A world of calls on a cache, for one thread: calls of any callers start, take single steps and finish in any order, each on a
-//! stripe of its own while it runs.
+//! A single-threaded world of calls on a cache.
+//! Calls of any callers start, take single steps and finish in any order, with at most one running call per stripe.
 #![tactic(auto)]
 
 mod event;

@@ -1,4 +1,4 @@
-//! The room of a world.
+//! The preallocated memory of a world.
 
 ghost use Rattle.std.specs.Prelude.{◌≡◌, ◌≤◌, ◌*◌, None, [], List, length, vec_capacity, map, All, IfOk};
 ghost use Rattle.stripe.specs.Kept.{Kept};
@@ -11,7 +11,7 @@ use machine::Workspace;
 use std::alloc::{AllocError, Global};
 use stripe::{Record, Rest, Stripe, Tables};
 
-/// All the room that a world takes beside its stripes' histories: a workspace for each stripe, and the list of finished calls.
+/// The memory of a world without its stripes' histories: the workspaces, the seats, and the list of finished calls.
 #[derive(Drop)]
 pub struct WorldRoom<'a> {
     pub workspaces: Vec<Workspace>,
@@ -19,7 +19,7 @@ pub struct WorldRoom<'a> {
     pub finished: Vec<Record<'a>>,
 }
 
-/// So many workspaces.
+/// Allocates one workspace for each stripe.
 fn workspaces(alloc: Global, stripes: usize) -> Result<Vec<Workspace>, AllocError>
     ensures { IfOk result (λ w. length w.items ≡ stripes) }
 {
@@ -30,7 +30,7 @@ fn workspaces(alloc: Global, stripes: usize) -> Result<Vec<Workspace>, AllocErro
     Ok(made)
 }
 
-/// The room for so many stripes, each with this many records.
+/// Allocates the memory for this number of stripes, each with a history of at most `journal` records.
 pub fn room_for<'a>(
     alloc: Global,
     stripes: usize,
@@ -47,7 +47,7 @@ pub fn room_for<'a>(
     })
 }
 
-/// The stripes, each with a workspace, in the room for them.
+/// Returns a seat for each stripe, with a workspace, in the preallocated vector.
 pub fn seated<'a>(
     stripes: Vec<Stripe<'a>>,
     mut workspaces: Vec<Workspace>,
@@ -67,7 +67,7 @@ pub fn seated<'a>(
     seats
 }
 
-/// The tables of the stripes, which come back from their seats. No call runs.
+/// Returns the tables of the stripes. No call may be running.
 pub fn give_back<'a>(seats: Vec<Seat<'a>>, mut rest: Rest<'a>) -> Tables
     requires none { rest ≡ none_back (length seats.items) }
     requires returning { AreReturning (length seats.items) seats.items }

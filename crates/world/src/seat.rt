@@ -1,4 +1,4 @@
-//! A stripe with the call that runs on it.
+//! A stripe and the call that runs on it.
 
 ghost use Rattle.std.specs.Prelude.{◌≡◌, ◌↔◌, ◌≤◌, IfSome, IfNone, IsSome, IsTrue, None, Some, map, length, suc, if◌then◌else◌};
 ghost use Rattle.jtypes.specs.Profile.{Second};
@@ -21,7 +21,7 @@ use std::marker::Model;
 use stripe::{Call, Record, Stripe, ask};
 use verify::{Verified, is_checked};
 
-/// A stripe, the workspace of its calls, how the invocation that runs on it ended, if it has, and what the loader answered to a `get`.
+/// A stripe, the workspace of its calls, the end of the running invocation if it has ended, and the loader's answer to a `get`.
 #[derive(Drop)]
 pub struct Seat<'a> {
     stripe: Stripe<'a>,
@@ -46,7 +46,7 @@ impl<'a> Model for Seat<'a> {
     ghost invariant = { IsSound };
 }
 
-/// Whether a call is final, by how its invocation ended.
+/// Returns whether a call is final. An invocation is final once it has ended, any other call from its start.
 fn is_ended(call: &Call<'_>, done: &Option<Done>) -> bool
     ensures { result ≡ is_ended (call_of call.now) done.now }
 {
@@ -59,7 +59,7 @@ fn is_ended(call: &Call<'_>, done: &Option<Done>) -> bool
     }
 }
 
-/// One instruction of an invocation of the class.
+/// Runs one instruction of an invocation of the class.
 fn one_step<L: Loader>(workspace: &mut Workspace, class: &Verified, loader: &L) -> Going
     requires { (s : State) × IsRunningWith L.ASKS class.now s workspace.old }
     ensures steps { (s : State) → IsRunningWith L.ASKS class.now s workspace.old → StepsOn (L.gives loader.now) class.now s result workspace.new }
@@ -87,7 +87,7 @@ impl<'a> Seat<'a> {
     ghost use Rattle.world.specs.Seated.{IsEnded, Starts, Turns, HasLoader, AnswerIsGiven};
     ghost use Rattle.world.specs.Forward.{turns_on};
 
-    /// A stripe on which no call runs.
+    /// Returns the seat of a stripe on which no call runs.
     pub fn new(stripe: Stripe<'a>, workspace: Workspace) -> Seat<'a>
         requires { stripe.running ≡ None }
         ensures stripe { result.stripe ≡ stripe.entry }
@@ -101,7 +101,7 @@ impl<'a> Seat<'a> {
         }
     }
 
-    /// Begins a call, if none runs. A `get` of an absent key asks the loader, if there is one.
+    /// Starts a call, if none runs. A `get` of an absent key asks the loader, if there is one.
     pub fn start<L: Loader>(
         &mut self,
         caller: u8,
@@ -138,7 +138,7 @@ impl<'a> Seat<'a> {
         }
     }
 
-    /// One instruction of the call that runs, if it isn't final.
+    /// Runs one instruction of the running call, unless the call is final.
     pub fn step<L: Loader>(&mut self, loader: &L) -> Applied
         requires { HasLoader L.ASKS self.old.stripe }
         ensures answer { result ≡ (if works (Some self.old.running) then Applied.Done else Applied.Ignored) }
@@ -164,7 +164,7 @@ impl<'a> Seat<'a> {
         Applied::Done
     }
 
-    /// Ends the call that runs, if it is final.
+    /// Finishes the running call, if it is final, and returns its record.
     pub fn finish(&mut self) -> Option<Record<'a>>
         ensures ended { IfSome result (λ r. IsEnded self.old (record_of r) self.new) }
         ensures same { IfNone result (self.new ≡ self.old) }
@@ -181,14 +181,14 @@ impl<'a> Seat<'a> {
         Some(record)
     }
 
-    /// Whether no call runs.
+    /// Returns whether no call runs.
     pub fn is_idle(&self) -> bool
         ensures { IsTrue result ↔ (self.now.running ≡ None) }
     {
         self.stripe.open().is_none()
     }
 
-    /// The stripe again.
+    /// Returns the stripe.
     pub fn into_stripe(self) -> Stripe<'a>
         ensures stripe { result ≡ self.entry.stripe }
         ensures idle { self.entry.running ≡ None → result.running ≡ None }
@@ -197,14 +197,14 @@ impl<'a> Seat<'a> {
         stripe
     }
 
-    /// The records of the stripe.
+    /// Returns the records of the stripe.
     pub fn history(&self) -> &[Record<'a>]
         ensures { map record_of result.now ≡ self.now.stripe.records }
     {
         self.stripe.history()
     }
 
-    /// The entry of a key of the stripe.
+    /// Returns the entry of a key of the stripe.
     pub fn entry(&self, key: i64) -> Option<i64>
         ensures { result ≡ entry_of self.now.stripe key }
     {
@@ -212,7 +212,7 @@ impl<'a> Seat<'a> {
     }
 }
 
-/// Whether no call runs on any of these seats.
+/// Returns whether no call runs on any of these seats.
 pub fn are_idle(seats: &[Seat<'_>]) -> bool
     ensures { IsTrue result ↔ AreIdle seats.now }
 {

@@ -1,4 +1,4 @@
-//! A world of calls.
+//! A world of calls on a cache.
 
 ghost use Rattle.std.specs.Prelude.{◌≡◌, ◌↔◌, ℕ, ℤ, ◌<◌, ◌≤◌, length, map, slice_index, take, false, IsTrue, Err, IfOk, IfErr, OnOk};
 
@@ -11,10 +11,10 @@ use std::marker::Model;
 use std::snapshot::Snapshot;
 use stripe::{BeginRefusal, Call, MOST_RECORDS, OpenRefusal, Record, Rest, Tables, stripe_of};
 
-/// How many callers there may be: a caller is known by a byte.
+/// The number of callers. A caller is identified by a byte.
 const CALLERS: usize = 256;
 
-/// No caller has started a call.
+/// Returns a start count of zero for each caller.
 fn no_starts() -> [u32; CALLERS]
     ensures callers { length result ≡ 256 }
     ensures none { (caller : ℕ) → slice_index result caller ≡ 0 }
@@ -22,8 +22,8 @@ fn no_starts() -> [u32; CALLERS]
     [0; CALLERS]
 }
 
-/// The stripes of a cache with the calls that run on them, one a stripe, and the calls that are finished. A `get` or a
-/// `getValue` of an absent key asks the loader, if there is one.
+/// The stripes of a cache, each with at most one running call, and the finished calls.
+/// A `get` or a `getValue` of an absent key asks the loader, if there is one.
 #[derive(Drop)]
 pub struct World<'a, L: Loader> {
     seats: Vec<Seat<'a>>,
@@ -66,8 +66,8 @@ impl<'a, L: Loader> World<'a, L> {
     ghost use Rattle.world.specs.Forward.{GoesForward};
     ghost use Rattle.world.specs.Lawful.{IsLawful};
 
-    /// A world on these tables, in which no call has started; each stripe may have so many records, 1 to 4,096. Or the tables
-    /// again.
+    /// Opens a world without calls on these tables. `journal` is the capacity of each stripe's history, from 1 to 4,096 records.
+    /// An error returns the tables.
     pub fn new(
         alloc: Global,
         tables: Tables,
@@ -100,9 +100,10 @@ impl<'a, L: Loader> World<'a, L> {
         })
     }
 
-    /// What an event does, if it is possible.
+    /// Applies an event, if it is possible.
     ///
-    /// What is refused for want of room or memory is no event of the definitions: it changes nothing.
+    /// An event that is refused because a history is full or memory is exhausted changes nothing.
+    /// It corresponds to no event of the definitions.
     pub fn apply(&mut self, event: Event<'a>) -> Applied
         ensures applied { IsApplied (L.gives self.old.loader) self.old.world (event_of event.entry) result self.new.world }
         ensures held { KeepsEntries self.old.world self.new.world }
@@ -133,7 +134,7 @@ impl<'a, L: Loader> World<'a, L> {
         applied
     }
 
-    /// One instruction of the call that runs on a stripe.
+    /// Runs one instruction of the call that runs on a stripe.
     fn step(&mut self, stripe: usize) -> Applied
         ensures applied { IsApplied (L.gives self.old.loader) self.old.world (Step stripe) result self.new.world }
         ensures held { KeepsEntries self.old.world self.new.world }
@@ -147,7 +148,7 @@ impl<'a, L: Loader> World<'a, L> {
         seat.step(self.loader)
     }
 
-    /// Writes down the call that runs on a stripe, if it is final.
+    /// Finishes and records the call that runs on a stripe, if it is final.
     fn finish(&mut self, stripe: usize) -> Applied
         ensures applied { IsApplied (L.gives self.old.loader) self.old.world (Finish stripe) result self.new.world }
         ensures held { KeepsEntries self.old.world self.new.world }
@@ -164,7 +165,7 @@ impl<'a, L: Loader> World<'a, L> {
         Applied::Done
     }
 
-    /// What these events do, one after the other, up to the first that is refused; of that one its place, from 0.
+    /// Applies these events in order, up to the first that is refused. An error returns the index of that event, from 0.
     pub fn run(&mut self, events: &[Event<'a>]) -> Result<(), (usize, BeginRefusal)>
         ensures ok { OnOk result (RunsWithRoom (L.gives self.old.loader) self.old.world (map event_of events.now) self.new.world) }
         ensures stopped { IfErr result (λ e. IsStopped (L.gives self.old.loader) self.old.world (map event_of events.now) e.0 e.1 self.new.world) }
@@ -183,8 +184,8 @@ impl<'a, L: Loader> World<'a, L> {
         Ok(())
     }
 
-    /// The finished calls are a legal history from the opening entries, and so are those of each stripe: each answers on the entry
-    /// that those before it leave. What the loader answered to them, it gives.
+    /// The finished calls are a legal history from the opening entries, and so are those of each stripe.
+    /// Each call answers on the entry that the earlier ones leave, and the loader gives each of its recorded answers.
     pub fn is_legal(&self)
         ensures legal { IsLegal L.ASKS (opening_entries self.now.world) self.now.world.finished }
         ensures lawful { IsLawful L.ASKS self.now.world.opening self.now.world.finished (entries_now self.now.world) }
@@ -194,14 +195,14 @@ impl<'a, L: Loader> World<'a, L> {
         let _seats = &self.seats;
     }
 
-    /// How many stripes there are.
+    /// Returns the number of stripes.
     pub fn stripes(&self) -> usize
         ensures { result ≡ length self.now.world.opening }
     {
         self.seats.len()
     }
 
-    /// The finished calls of a stripe, in their order: its history.
+    /// Returns the finished calls of a stripe in order: its history.
     pub fn history(&self, stripe: usize) -> &[Record<'a>]
         requires { stripe < length self.now.world.opening }
         ensures history { map record_of result.now ≡ history_of self.now.world stripe }
@@ -211,14 +212,14 @@ impl<'a, L: Loader> World<'a, L> {
         seat.history()
     }
 
-    /// The finished calls, in their order.
+    /// Returns the finished calls in order.
     pub fn finished(&self) -> &[Record<'a>]
         ensures { map record_of result.now ≡ self.now.world.finished }
     {
         &self.finished
     }
 
-    /// The entry of a key after the finished calls.
+    /// Returns the entry of a key after the finished calls.
     pub fn entry(&self, key: i64) -> Option<i64>
         ensures { result ≡ entries_now self.now.world key }
     {
@@ -227,14 +228,14 @@ impl<'a, L: Loader> World<'a, L> {
         seat.entry(key)
     }
 
-    /// Whether no call runs.
+    /// Returns whether no call runs.
     pub fn is_idle(&self) -> bool
         ensures { IsTrue result ↔ NoneRuns self.now.world }
     {
         are_idle(&self.seats)
     }
 
-    /// The entries, and the finished calls in their order. No call runs.
+    /// Returns the tables, and the finished calls in order. No call may be running.
     pub fn close(self) -> (Tables, Vec<Record<'a>>)
         requires { NoneRuns self.world }
         ensures finished { map record_of result.1.items ≡ self.entry.world.finished }

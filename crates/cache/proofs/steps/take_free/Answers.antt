@@ -6,7 +6,7 @@ use Rattle.cache.specs.Plays.{Sat, IsFree, with_held}
 use Rattle.cache.proofs.Moves.{may_take_as}
 use Rattle.cache.proofs.steps.take_free.Goals as goal
 
--- a word that isn't 0 stays so, and 0 becomes 1
+-- The word is nonzero afterwards: 0 becomes 1, and a nonzero word is unchanged.
 stays_taken : (n : ℕ) → 0 < either (n == 0) 1 n
 stays_taken n = go (n == 0) refl
   where

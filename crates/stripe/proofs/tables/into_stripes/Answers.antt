@@ -25,11 +25,11 @@ loop-table-init c =
 left : (rest next : List Stored) (t : Stored) (j : ℕ) (hs : List (Vec Record)) → rest ≡ t ∷ next → AreEmpty (length rest) j hs → AreEmpty (suc (length next)) j hs
 left rest next t j hs steps are = subst (λ ms. AreEmpty (length ms) j hs) steps are
 
--- as many stripes as tables so far
+-- There are as many stripes as tables so far.
 done : (stripes : List Kept) (n j : ℕ) (ms : List Stored) → stripes ≡ fresh_from n j 0 ms → length stripes ≡ length ms
 done stripes n j ms is = ap length is ∙ length_fresh n j 0 ms
 
--- and one more to come
+-- All tables are the yielded ones, the current one and the remaining ones.
 few : (yielded rest next all : List Stored) (t : Stored) → yielded ++ rest ≡ all → rest ≡ t ∷ next → length yielded + suc (length next) ≡ length all
 few yielded rest next all t is steps = sym (length-append yielded (t ∷ next)) ∙ ap (λ ms. length (yielded ++ ms)) (sym steps) ∙ ap length is
 

@@ -7,7 +7,7 @@ use Rattle.world.specs.Room.{IsReturning, stored_on}
 use Rattle.world.proofs.Opening.{get_middle}
 use Rattle.world.proofs.room.give_back.Goals as goal
 
--- the next seat is the one at the place behind those before it
+-- The next seat is the one at index `length yielded`.
 next_at : (n : ℕ) (all yielded rest next : List Seated) (x : Seated) → yielded ++ rest ≡ all → rest ≡ x ∷ next → ((i : ℕ) (y : Seated) → slice_get all i ≡ Some y → IsReturning n i y) → IsReturning n (length yielded) x
 next_at n all yielded rest next x is steps are =
     are (length yielded) x (ap (λ ys. slice_get ys (length yielded)) (sym is ∙ ap (λ ys. yielded ++ ys) steps) ∙ get_middle yielded x next)

@@ -21,7 +21,7 @@ returns-then-is_some-clause-ignored g c = (
   λ _. refl,
 )
 
--- the invocation was started on the entry that was found
+-- The invocation is started on the entry that the seat found.
 started : (g : Over) (c : goal.After-start g) → IsStarted c.in-Invoke.class.now (invocation g.L.Loader.ASKS c.in-Invoke.key (arguments c.in-Invoke.args) (entry_of c.self.inside.stripe (key_of (call_of c.args.call)))) c.start.new.self
 started g c =
     let key = to_z-of_z w64 c.in-Invoke.key (search rules) in
