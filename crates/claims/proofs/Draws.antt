@@ -1,4 +1,4 @@
--- The steps on a counter keep its rule.
+-- The operations on a counter preserve its invariant.
 use Rattle.std.proofs.Common.{◌≡◌, ◌≢◌, ◌⊎◌, ℕ, zero, suc, ◌+◌, ◌%◌, ◌^◌, ◌<◌, ◌≤◌, ◌==◌, ltb, List, [], ◌∷◌, ◌++◌, length, get_or, set, refl, sym, ap, ◌∙◌, subst, ⊎_elim, arith, length-append, length-set, get_or-set_same}
 use Rattle.std.proofs.lemmas.Bool.Decides.{nat_tests}
 use mathlib.Core.Option.{some, none, some-injective, some-ne-none}
@@ -44,7 +44,7 @@ fair_snoc views w mine old j v e = ⊎_elim
     (λ (h : w ≡ v). subst IsFair h mine)
     (at_snoc views w v j e)
 
--- how many were told that no number is left
+-- The number of claimers that found no number left.
 abbrev ended_in : List View → ℕ
 ended_in views = total (λ (v : View). v.ended) views
 
@@ -63,7 +63,7 @@ all_given k s g beyond = ⊎_elim
     (λ (h : ended_in s.views ≤ 0). let a = g.few in let b = g.word in omega arith)
     (either_way 0 (ended_in s.views))
 
--- the word is one further
+-- The word after an increment, which doesn't overflow.
 next_word : (k : Terms) (s : S) (g : IsOnce k s) → get_or (set s.words 0 ((get_or s.words 0 0 + 1) % 2 ^ 64)) 0 0 ≡ get_or s.words 0 0 + 1
 next_word k s g =
     let m : ℕ = get_or s.words 0 0 in
@@ -137,7 +137,7 @@ module _ (k : Terms) (n id : ℕ) (drawn : List ℕ) (s : S) (g : IsOnce k s) (a
         each = fair_set s.views id w ((λ e. absurd (omega arith)), omega arith) g.each;
       }
 
--- a claimer that was not told that no number is left may take the next
+-- A claimer that hasn't found the end may claim the next number.
 pub may_draw : (k : Terms) (n id : ℕ) (drawn : List ℕ) → Allows (IsOnce k) n id (hand k.jobs k.workers 1 0 drawn, []) 0 (λ m. (m + 1) % 2 ^ 64) (on_next (step n 0 1 0 none) (hand k.jobs k.workers 1 0 drawn, []))
 may_draw k n id drawn s g homes at small =
     let v : View = hand k.jobs k.workers 1 0 drawn in
@@ -152,7 +152,7 @@ may_draw k n id drawn s g homes at small =
 pub may_draw_as : (k : Terms) (n id : ℕ) (drawn : List ℕ) (m : Me ℕ View) → m ≡ (hand k.jobs k.workers 1 0 drawn, []) → Allows (IsOnce k) n id m 0 (λ x. (x + 1) % 2 ^ 64) (on_next (step n 0 1 0 none) m)
 may_draw_as k n id drawn m is = subst (λ (x : Me ℕ View). Allows (IsOnce k) n id x 0 (λ y. (y + 1) % 2 ^ 64) (on_next (step n 0 1 0 none) x)) (sym is) (may_draw k n id drawn)
 
--- claimers that have drawn nothing may be cut
+-- A view of claimers that have claimed nothing may be split.
 pub may_cut : (k : Terms) (id parts : ℕ) → 0 < parts → Splits (IsOnce k) id (hand k.jobs k.workers parts 0 []) (without_one (hand k.jobs k.workers parts 0 [])) (one_alone (hand k.jobs k.workers parts 0 []))
 may_cut k id parts some_part s g at =
     let v : View = hand k.jobs k.workers parts 0 [] in
@@ -173,7 +173,7 @@ may_cut k id parts some_part s g at =
       each = fair_snoc (set s.views id a) b ((λ _. refl), omega arith) (fair_set s.views id a ((λ _. refl), omega arith) g.each);
     }
 
--- claimers may be joined
+-- Two views of claimers may be joined.
 pub may_join : (k : Terms) (id : ℕ) (v : View) (other : ℕ) (w : View) → 0 < v.parts → Joins (IsOnce k) id v other w (together v w) spent
 may_join k id v other w some_part s g at apart there =
     let a : View = together v w in
@@ -199,7 +199,7 @@ may_join k id v other w some_part s g at apart there =
       each = fair_set one other spent ((λ _. refl), omega arith) (fair_set s.views id a ((λ e. absurd (omega arith)), omega (arith, left.1, right.1)) g.each);
     }
 
--- who stands for all claimers knows all that was drawn
+-- A view of all claimers has all claimed numbers.
 pub all_known : (k : Terms) (s : S) (id : ℕ) (v : View) (g : IsOnce k s) → get_elem? s.views id ≡ some v → v.parts ≡ k.workers → (x : ℕ) → times x v.drawn ≡ one_if (ltb x g.given)
 all_known k s id v g at all x = sym (total_alone (λ (y : View). times x y.drawn) (λ (y : View). y.parts) s.views id v at (g.parts ∙ sym all) (λ j w e none. ap (times x) ((g.each j w e).0 none))) ∙ g.once x
 
@@ -209,7 +209,7 @@ all_counted k s id v g at all = sym (total_alone (λ (y : View). length y.drawn)
 pub all_ended : (k : Terms) (s : S) (id : ℕ) (v : View) (g : IsOnce k s) → get_elem? s.views id ≡ some v → 0 < v.ended → g.given ≡ k.jobs
 all_ended k s id v g at some_end = let a = total_has (λ (y : View). y.ended) s.views id v at in g.last (omega arith)
 
--- a counter as it is opened
+-- A new counter satisfies the invariant.
 pub begins : (k : Terms) → k.jobs + k.workers + 1 < 2 ^ 64 → IsOnce k (opening (0 ∷ []) [] (hand k.jobs k.workers k.workers 0 []))
 begins k fits = record {
   given = 0;

@@ -1,4 +1,4 @@
--- Claimers that were joined.
+-- The view of joined claimers.
 use Rattle.std.proofs.Common.{◌≡◌, ℕ, ◌+◌, ◌<◌, ◌≤◌, ◌==◌, ltb, List, [], ◌∷◌, ◌++◌, length, get_or, drop, Bool, true, false, refl, sym, ap, ◌∙◌, append_assoc, length-append, ⊎_elim, arith}
 use Rattle.std.proofs.lemmas.Bool.Decides.{nat_tests}
 use mathlib.Core.Option.{some}
@@ -16,7 +16,7 @@ use Rattle.claims.proofs.Draws.{all_known, all_counted, all_ended}
 abbrev pub Sat : Type 0
 Sat = Me ℕ View
 
--- what is known of a claimer is a hand
+-- The view of a claimer as a `hand`.
 pub is_hand : (m : Sat) (ended : ℕ) → m.0.parts ≡ 1 → m.0.ended ≡ ended → m.1 ≡ [] → m ≡ (hand m.0.jobs m.0.workers 1 ended m.0.drawn, [])
 is_hand m ended alone end free = λ i. (record { jobs = m.0.jobs; workers = m.0.workers; parts = alone i; ended = end i; drawn = m.0.drawn }, free i)
 
@@ -28,7 +28,7 @@ drawn_more [] x = append_nil x.drawn
     append_nil (y ∷ l) = ap (λ (m : List ℕ). y ∷ m) (append_nil l)
 drawn_more (y ∷ ys) x = ap (λ (l : List ℕ). y.drawn ++ l) (drawn_more ys x) ∙ sym (append_assoc y.drawn (all_drawn ys) x.drawn)
 
--- one claimer more
+-- The view after one further claimer is joined.
 pub view_more : (k : Terms) (ys : List Share) (x : Share) (w : View) → w.parts ≡ 1 → w.ended ≡ one_if x.done → w.drawn ≡ x.drawn → together (view_of k ys) w ≡ view_of k (ys ++ x ∷ [])
 view_more k ys x w alone ended drawn =
     let parts : length ys + w.parts ≡ length (ys ++ x ∷ []) = let a = length-append ys (x ∷ []) in omega (arith, alone) in
@@ -47,7 +47,7 @@ length_all (s ∷ claimers) = let a = length-append s.drawn (all_drawn claimers)
 some_ended : (claimers : List Share) (c : ℕ) (s : Share) → get_elem? claimers c ≡ some s → s.done ≡ true → 0 < total (λ (z : Share). one_if z.done) claimers
 some_ended claimers c s at done = let a = total_has (λ (z : Share). one_if z.done) claimers c s at in let b : one_if s.done ≡ 1 = ap one_if done in omega arith
 
--- all claimers know what was drawn
+-- All claimers together satisfy `AreClaimed`.
 pub claims : (k : Terms) (d : Numbering) (claimers : List Share) (s : State ℕ View) (id : ℕ) → d.jobs ≡ k.jobs → length claimers ≡ k.workers → IsOnce k s → get_elem? s.views id ≡ some (view_of k claimers) → AreClaimed d claimers
 claims k d claimers s id jobs count g at = record {
   next = g.given;
@@ -57,7 +57,7 @@ claims k d claimers s id jobs count g at = record {
   last = λ c x e done. all_ended k s id (view_of k claimers) g at (some_ended claimers c x e done) ∙ sym jobs;
 }
 
--- so each was drawn at most once
+-- So each number was claimed at most once.
 pub at_most_once : (d : Numbering) (claimers : List Share) → AreClaimed d claimers → (x : ℕ) → times_drawn x claimers ≤ 1
 at_most_once d claimers g x = let a = g.each x in let b = few (ltb x g.next) in omega arith
   where
@@ -65,7 +65,7 @@ at_most_once d claimers g x = let a = g.each x in let b = few (ltb x g.next) in 
     few true = omega arith
     few false = omega arith
 
--- and each once, where a claimer was told that none is left
+-- Each job number was claimed once, if a claimer found no number left.
 pub just_once : (d : Numbering) (claimers : List Share) → AreClaimed d claimers → (c : ℕ) (s : Share) → get_elem? claimers c ≡ some s → s.done ≡ true → (x : ℕ) → x < d.jobs → times_drawn x claimers ≡ 1
 just_once d claimers g c s at done x below = g.each x ∙ within x g.next (omega (arith, g.last c s at done))
   where
@@ -75,14 +75,14 @@ just_once d claimers g c s at done x below = g.each x ∙ within x g.next (omega
 abbrev pub AllFresh : Numbering → List Share → Type 0
 AllFresh d claimers = (c : ℕ) (s : Share) → get_elem? claimers c ≡ some s → s ≡ fresh d
 
--- one fresh claimer more
+-- `AllFresh` holds after a fresh claimer is appended.
 pub fresh_more : (d : Numbering) (ys : List Share) (x : Share) → x ≡ fresh d → AllFresh d ys → AllFresh d (ys ++ x ∷ [])
 fresh_more d ys x is old c s e = ⊎_elim
     (λ (h : get_elem? ys c ≡ some s). old c s h)
     (λ (h : x ≡ s). sym h ∙ is)
     (at_snoc ys x s c e)
 
--- what a loop meets behind what it has met
+-- The element that a loop yields after `ys` has the index `length ys`.
 pub at_yielded : (ys zs ws : List Share) (x : Share) (all : List Share) → zs ≡ x ∷ ws → ys ++ zs ≡ all → get_elem? all (length ys) ≡ some x
 at_yielded ys zs ws x all e f = ap (λ (l : List Share). get_elem? l (length ys)) (sym f ∙ ap (λ (l : List Share). ys ++ l) e) ∙ middle ys
   where
@@ -90,12 +90,12 @@ at_yielded ys zs ws x all e f = ap (λ (l : List Share). get_elem? l (length ys)
     middle [] = refl
     middle (y ∷ l) = middle l
 
--- the first claimer, and the others
+-- A list that isn't empty, as its first claimer and the rest.
 pub after_first : (l rest : List Share) (x : Share) → 0 < length l → x ≡ get_or l 0 x → rest ≡ drop 1 l → l ≡ x ∷ rest
 after_first [] rest x h e f = absurd (omega arith)
 after_first (y ∷ ys) rest x h e f = λ k. sym e k ∷ sym f k
 
--- the first alone
+-- The view of the first claimer before a join.
 pub view_one : (k : Terms) (x : Share) (m : Sat) → m ≡ (hand k.jobs k.workers 1 (one_if x.done) x.drawn, []) → m ≡ (view_of k (x ∷ []), [])
 view_one k x m is =
     let ends : one_if x.done ≡ one_if x.done + 0 = omega arith in

@@ -1,22 +1,22 @@
--- Counters and claimers, as contracts see them.
+-- The models of counters and claimers.
 use Rattle.std.specs.Prelude.{◌≡◌, ℕ, ◌+◌, ◌<◌, ◌≤◌, ◌==◌, ltb, List, [], ◌∷◌, ◌++◌, Bool, true, false, if◌then◌else◌, length}
 use mathlib.Core.Option.{some}
 use lib.ListN.{get_elem?}
 use Rattle.atomic_table.specs.Seated.{TableId}
 
--- a counter: which one it is, and for how many jobs and workers
+-- A counter: its table, and the numbers of its jobs and workers.
 pub record Numbering : Type 0 where
   pub table : TableId
   pub jobs : ℕ
   pub workers : ℕ
 
--- a claimer: its counter, the numbers that it drew, in order, and whether it was told that none is left
+-- A claimer: its counter, the numbers that it claimed, in order, and whether a claim found none left.
 pub record Share : Type 0 where
   pub counter : Numbering
   pub drawn : List ℕ
   pub done : Bool
 
--- at most 4,096 jobs
+-- At most 4,096 jobs.
 abbrev pub IsJobCount : ℕ → Type 0
 IsJobCount jobs = jobs ≤ 4096
 
@@ -24,16 +24,16 @@ IsJobCount jobs = jobs ≤ 4096
 abbrev pub IsWorkerCount : ℕ → Type 0
 IsWorkerCount workers = (0 < workers) × (workers ≤ 16)
 
--- a claimer before any claim
+-- A claimer before any claim.
 abbrev pub fresh : Numbering → Share
 fresh d = record { counter = d; drawn = []; done = false }
 
--- one claimer for each worker, before any claim
+-- `AreFresh` holds if there is one claimer for each worker, before any claim.
 pub record AreFresh (d : Numbering) (claimers : List Share) : Type 0 where
   pub count : length claimers ≡ d.workers
   pub each : (c : ℕ) (s : Share) → get_elem? claimers c ≡ some s → s ≡ fresh d
 
--- all the claimers of a counter, in any order
+-- `AreAll` holds if these are all claimers of the counter, in any order.
 pub record AreAll (d : Numbering) (claimers : List Share) : Type 0 where
   pub count : length claimers ≡ d.workers
   pub each : (c : ℕ) (s : Share) → get_elem? claimers c ≡ some s → s.counter ≡ d
@@ -48,7 +48,7 @@ at_end s = record { counter = s.counter; drawn = s.drawn; done = true }
 
 -- ---- which numbers were claimed
 
--- f of each, added up
+-- The sum of `f` over a list.
 abbrev pub total : {A : Type 0} → (A → ℕ) → List A → ℕ
 total f [] = 0
 total f (x ∷ xs) = f x + total f xs
@@ -56,19 +56,20 @@ total f (x ∷ xs) = f x + total f xs
 abbrev pub one_if : Bool → ℕ
 one_if b = if b then 1 else 0
 
--- how often a number stands in a list
+-- The number of occurrences of `x` in a list.
 abbrev pub times : ℕ → List ℕ → ℕ
 times x xs = total (λ (y : ℕ). one_if (x == y)) xs
 
--- each number of a list is below this one
+-- `IsAbove` holds if each number in the list is less than `n`.
 abbrev pub IsAbove : List ℕ → ℕ → Type 0
 IsAbove xs n = (x : ℕ) → 0 < times x xs → x < n
 
--- how often these claimers drew it
+-- The number of times that these claimers claimed `x`.
 abbrev pub times_drawn : ℕ → List Share → ℕ
 times_drawn x claimers = total (λ (s : Share). times x s.drawn) claimers
 
--- the numbers below `next` were drawn, each once, and no other; whoever was told that none is left was told so after the last
+-- `AreClaimed` holds if the numbers below `next`, and no other number, were claimed, each once.
+-- If a claim found no number left, all job numbers were claimed.
 pub record AreClaimed (d : Numbering) (claimers : List Share) : Type 0 where
   pub next : ℕ
   pub jobs : next ≤ d.jobs

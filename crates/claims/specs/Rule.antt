@@ -1,4 +1,4 @@
--- The rule of the word of a counter, and what a step on it tells.
+-- The invariant of a counter's word, and the effect of an operation on the ghost state.
 use Rattle.std.specs.Prelude.{◌≡◌, ℕ, ◌+◌, ◌<◌, ◌≤◌, ◌^◌, ltb, [], ◌∷◌, ◌++◌, length, slice_index}
 use mathlib.Core.Option.{some}
 use lib.ListN.{get_elem?}
@@ -7,11 +7,12 @@ use Rattle.claims.specs.declared.known.Terms.{Terms}
 use Rattle.claims.specs.Counters.{total, one_if, times, IsAbove}
 use Rattle.claims.specs.Views.{View, hand}
 
--- who stands for no claimer has drawn nothing
+-- `IsFair` holds if a view of no claimer has no numbers, and `ended` is at most the number of its claimers.
 abbrev pub IsFair : View → Type 0
 IsFair v = (v.parts ≡ 0 → v.drawn ≡ []) × (v.ended ≤ v.parts)
 
--- the numbers below `given` were drawn, each once, and no other; the word is further by one for each claimer that was told that no number is left
+-- `IsOnce` holds if the numbers below `given`, and no other number, were claimed, each once.
+-- The word is `given` plus one for each claimer that found no number left.
 pub record IsOnce (k : Terms) (s : State ℕ View) : Type 0 where
   pub given : ℕ
   pub words : length s.words ≡ 1
@@ -30,7 +31,8 @@ with_drawn v n = hand v.jobs v.workers v.parts v.ended (v.drawn ++ n ∷ [])
 abbrev pub with_end : View → View
 with_end v = hand v.jobs v.workers v.parts (v.ended + 1) v.drawn
 
--- a number that is a job's is drawn, and is above those that were drawn before; another tells that no number is left
+-- `HasNext` holds if `w` is the view `v` after it read the number `n`: a job number is claimed, another number is the end.
+-- `n` is greater than each number that `v` claimed before.
 abbrev pub HasNext : View → ℕ → View → Type 0
 HasNext v n w = (n < v.jobs → w ≡ with_drawn v n) × (v.jobs ≤ n → w ≡ with_end v) × (length v.drawn ≤ n) × IsAbove v.drawn n
 

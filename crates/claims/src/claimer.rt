@@ -1,4 +1,4 @@
-//! Claimers.
+//! The claimers of a counter.
 
 ghost use Rattle.std.specs.Prelude.{◌≡◌, ◌<◌, ◌≤◌, [], ◌∷◌, ◌++◌, ℕ, List, length};
 ghost use Rattle.claims.specs.Views.{hand};
@@ -9,11 +9,11 @@ use crate::ends::{Board, Place};
 use crate::rule::Next;
 use std::marker::Model;
 
-/// One worker's right to claim jobs of a counter.
+/// A worker's handle to a counter, with which it claims job numbers.
 #[derive(Drop)]
 pub struct Claimer {
     pub(crate) place: Place,
-    /// It was told that no number is left.
+    /// Whether a claim found no number left.
     pub(crate) done: bool,
 }
 
@@ -38,7 +38,7 @@ impl Claimer {
     ghost use Rattle.std.specs.Prelude.{◌≡◌, ◌<◌, ◌≤◌, false, length, IfSome, IfNone};
     ghost use Rattle.claims.specs.Counters.{with_number, at_end, IsAbove};
 
-    /// The next number, which no other claimer gets; none where all are given, from then on.
+    /// Claims the next number, which no other claimer gets. Returns none once all numbers are claimed.
     pub fn claim(&mut self, counter: &Counter) -> Option<usize>
         requires { self.old.counter ≡ counter.now }
         ensures counter { self.new.counter ≡ self.old.counter }
@@ -60,7 +60,7 @@ impl Claimer {
     }
 }
 
-/// Takes the next number, in one step. It may be beyond the jobs.
+/// Reads and increments the counter atomically. The number may be out of the range of the jobs.
 fn draw(board: &Board, place: &mut Place) -> u64
     requires table { place.old.table_id ≡ board.now.table_id }
     requires board { 0 < board.now.table_id.words }

@@ -1,4 +1,4 @@
-//! Counters: how they are opened and closed.
+//! The counter, and how it is opened and closed.
 
 ghost use Rattle.std.specs.Prelude.{IfOk, ◌≡◌};
 ghost use Rattle.claims.specs.Counters.{IsJobCount, IsWorkerCount, AreFresh};
@@ -11,7 +11,7 @@ use atomic_table::Table;
 use std::alloc::{AllocError, Global};
 use std::marker::Model;
 
-/// Hands out the numbers of jobs, which many threads claim, each with a claimer of its own.
+/// A shared counter of job numbers. Each thread claims numbers with its own claimer.
 #[derive(Drop)]
 pub struct Counter {
     pub(crate) table: Table<u8, Known, Terms, Once, Global>,
@@ -35,7 +35,7 @@ impl Model for Counter {
     ghost invariant = { IsCounter };
 }
 
-/// A counter for at most 4,096 jobs, and a claimer for each of 1 to 16 workers. An error is want of memory.
+/// Opens a counter for at most 4,096 jobs, and returns it with a claimer for each of 1 to 16 workers. The error is out of memory.
 pub fn open(
     alloc: Global,
     jobs: usize,
@@ -60,7 +60,7 @@ impl Counter {
     ghost use lib.ListN.{get_elem?};
     ghost use Rattle.claims.specs.Counters.{Share, AreAll, AreClaimed, times_drawn};
 
-    /// Ends the counter, by all its claimers, in any order. It takes no memory.
+    /// Closes the counter. `claimers` are all its claimers, in any order. It allocates no memory.
     pub fn close(self, mut claimers: Vec<Claimer>)
         requires { AreAll self claimers.items }
         ensures claimed { AreClaimed self claimers.items }

@@ -1,4 +1,4 @@
-//! Claimers are cut off, and joined again.
+//! The split and the join of claimers.
 
 ghost use Rattle.std.specs.Prelude.{◌≡◌, ◌+◌, ◌<◌, ◌≤◌, [], ◌∷◌, ℕ, length, vec_capacity};
 ghost use mathlib.Core.Option.{some};
@@ -12,13 +12,13 @@ use crate::known::{Known, Terms};
 use crate::rule::{Once, OneClaimer};
 use atomic_table::{Seat, Shared};
 
-/// The word of a counter, under its rule.
+/// The shared word of a counter, with its invariant.
 pub type Board = Shared<u8, Known, Terms, Once>;
 
-/// What a claimer steps with.
+/// The table handle of a claimer.
 pub type Place = Seat<u8, Known>;
 
-/// Makes one claimer for each worker, in the room for them.
+/// Pushes one claimer for each worker to the preallocated `list`.
 pub fn cut_all(board: &Board, place: Place, list: &mut Vec<Claimer>, workers: usize)
     requires count { IsWorkerCount workers × (board.now.key.workers ≡ workers) }
     requires board { (place.table_id ≡ board.now.table_id) × (0 < board.now.table_id.words) }
@@ -37,7 +37,7 @@ pub fn cut_all(board: &Board, place: Place, list: &mut Vec<Claimer>, workers: us
     list.push_reserved(Claimer { place, done: false });
 }
 
-/// Joins claimers into the first.
+/// Joins all claimers into the first, and returns its table handle.
 pub fn join_all(board: &Board, first: Claimer, rest: Vec<Claimer>) -> Place
     requires board { 0 < board.now.table_id.words }
     requires first { first.counter ≡ numbering board.now.table_id board.now.key }

@@ -1,8 +1,8 @@
-//! What the table of a counter is told, and what it knows. `Known` stands in proofs alone.
+//! The parameters and the ghost state of a counter's table.
 
 use std::marker::Model;
 
-/// What is known of a claimer. No value of it is made.
+/// The ghost state of a claimer, a `View`. No value of the type is constructed.
 pub struct Known;
 
 impl Model for Known {
@@ -17,7 +17,7 @@ impl Model for Known {
     ghost view = { λ _. hand 0 0 0 0 [] };
 }
 
-/// How many jobs and workers a counter is for.
+/// The numbers of jobs and of workers of a counter.
 #[derive(Drop)]
 pub struct Terms {
     pub jobs: usize,

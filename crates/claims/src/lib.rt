@@ -1,4 +1,5 @@
-//! The claim counter of a round: numbers 0, 1, 2 .., each of which one worker claims. What has a number is called a job here; in a round it is a group of jobs.
+//! The claim counter of a round: each of the numbers 0, 1, 2 .. is claimed by at most one worker.
+//! A job is here anything with a number. In a round it is a group of jobs.
 #![tactic(auto)]
 
 mod claimer;

@@ -1,9 +1,9 @@
-//! The rule of a counter's one word, and what each step tells. No value of these types is made.
+//! The invariant of a counter's word, and the effect of each operation on the ghost state. No value of these types is constructed.
 
 use crate::known::{Known, Terms};
 use atomic_table::{Join, Play, Split, TableRule};
 
-/// Each number below the word was given once, as far as it is a job's.
+/// The invariant of the counter: each job number below the word was claimed exactly once.
 pub struct Once;
 
 impl TableRule<u8, Known, Terms> for Once {
@@ -16,7 +16,7 @@ impl TableRule<u8, Known, Terms> for Once {
     ghost first = { λ k. hand k.jobs k.workers k.workers 0 [] };
 }
 
-/// A number is taken.
+/// The operation that claims the next number.
 pub struct Next;
 
 impl Play<u8, Known> for Next {
@@ -25,7 +25,7 @@ impl Play<u8, Known> for Next {
     ghost then = { on_next };
 }
 
-/// One claimer is cut off, and claimers are put together at the end.
+/// The split of one claimer, and the join of claimers when the counter is closed.
 pub struct OneClaimer;
 
 impl Split<Known> for OneClaimer {

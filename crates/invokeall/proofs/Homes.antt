@@ -1,4 +1,4 @@
--- Seats of a cache stay its seats.
+-- The seats of a cache remain its seats.
 use Rattle.std.proofs.Common.{◌≡◌, ℕ, zero, suc, ◌<◌, List, [], ◌∷◌, length, get_or, refl, sym, ap, ◌∙◌, arith}
 use Rattle.std.specs.List.{All}
 use mathlib.Core.Option.{some, some-ne-none}
@@ -17,7 +17,7 @@ below_at [] i x e = absurd (some-ne-none x (sym e))
 below_at (y ∷ ys) zero x e = omega arith
 below_at (y ∷ ys) (suc i) x e = let h = below_at ys i x e in omega arith
 
--- the seats that a cache is opened with
+-- The fresh seats of a cache are all its seats.
 pub fresh_seats : {L : Type 0} (d : Opened L) (n : ℕ) (seats : List Sitting) → d.seats ≡ n → AreFresh d.table n seats → AreSeats d seats
 fresh_seats d n seats same f = record {
   count = f.count ∙ sym same;
@@ -32,7 +32,7 @@ fresh_seats d n seats same f = record {
 pub seats_home : {L : Type 0} (d : Opened L) (seats : List Sitting) → AreSeats d seats → All (IsAtHome d) seats
 seats_home d seats a = λ i e below. (a.each i (get_or seats i e) (at_or seats i e below)).table_is
 
--- after a round they are all the seats still
+-- After a round they are still all its seats.
 pub still_seats : {L : Type 0} (d : Opened L) (calls : List Call) (old new : List Sitting) (answers : List Answer) → AreSeats d old → IsRound d calls old new answers → AreSeats d new
 still_seats d calls old new answers a r = record {
   count = r.seats ∙ a.count;

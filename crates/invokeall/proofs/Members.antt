@@ -1,4 +1,4 @@
--- The numbers of the jobs of groups.
+-- The numbers of the jobs in groups.
 use Rattle.std.proofs.Common.{◌≡◌, ◌≢◌, ◌⊎◌, ℕ, zero, suc, ◌+◌, ◌<◌, ◌≤◌, ◌==◌, ltb, List, [], ◌∷◌, ◌++◌, Bool, true, false, if◌then◌else◌, length, get_or, set, replicate, refl, sym, ap, ◌∙◌, subst, inl, inr, ⊎_elim, arith, append_assoc, length-append}
 use Rattle.std.proofs.lemmas.Bool.Decides.{nat_tests}
 use Rattle.std.proofs.lemmas.List.{append-nil, get_or-set_same, get_or-set_other, get_or-replicate, length-set}
@@ -14,16 +14,16 @@ same_test a b e = grind (arith, nat_tests)
 pub other_test : (a b : ℕ) → a ≢ b → (a == b) ≡ false
 other_test a b e = grind (arith, nat_tests)
 
--- ---- how often a number is a member
+-- ---- the occurrences of a number among members
 
--- one number more is looked at
+-- The occurrences after one further number.
 one_step : (b c : Bool) (t x k : ℕ) → t ≡ (if ltb x k then one_if c else 0) → (x ≡ k → b ≡ c) → t + times x (if b then k ∷ [] else []) ≡ (if ltb x (suc k) then one_if c else 0)
 one_step true true t x k e same = grind (arith, nat_tests)
 one_step true false t x k e same = grind (arith, nat_tests)
 one_step false true t x k e same = grind (arith, nat_tests)
 one_step false false t x k e same = grind (arith, nat_tests)
 
--- a member of a group is a number below k whose group it is
+-- The members of a group are the numbers below `k` with that group.
 pub times_members : (of : List ℕ) (g k x : ℕ) → times x (members of g k) ≡ (if ltb x k then one_if (get_or of x 0 == g) else 0)
 times_members of g zero x = none (get_or of x 0 == g)
   where
@@ -42,7 +42,7 @@ pub same_if : (b : Bool) (z : ℕ) → z ≡ (if b then z else z)
 same_if true z = refl
 same_if false z = refl
 
--- a job stands among the jobs of these groups as often as its group does
+-- A job occurs among the jobs of groups as often as its group occurs among the groups.
 pub times_all_members : (of gs : List ℕ) (n x : ℕ) → times x (members_of_all of n gs) ≡ (if ltb x n then times (get_or of x 0) gs else 0)
 times_all_members of [] n x = same_if (ltb x n) 0
 times_all_members of (g ∷ gs) n x =
@@ -53,9 +53,9 @@ times_all_members of (g ∷ gs) n x =
     let c = times_all_members of gs n x in
     let d = sum_if (ltb x n) here there in omega arith
 
--- ---- a list of different numbers below n is at most n long
+-- ---- a list of distinct numbers below n has at most n elements
 
--- how often the numbers below n stand in a list
+-- The number of occurrences in a list of the numbers below `n`.
 abbrev tally : ℕ → List ℕ → ℕ
 tally zero xs = 0
 tally (suc n) xs = tally n xs + times n xs
@@ -70,7 +70,7 @@ below_more x n = grind (arith, nat_tests)
 below_none : (x : ℕ) → one_if (ltb x 0) ≡ 0
 below_none x = grind (arith, nat_tests)
 
--- a number is counted once where it is below n
+-- A further number counts once if it is below `n`.
 tally_more : (n y : ℕ) (ys : List ℕ) → tally n (y ∷ ys) ≡ tally n ys + one_if (ltb y n)
 tally_more zero y ys = let h = below_none y in omega arith
 tally_more (suc n) y ys = let h = tally_more n y ys in let g = below_more y n in omega arith
@@ -99,7 +99,7 @@ few_different n xs h =
     let a = tally_long n xs h in
     let b = tally_few n xs (λ x. let c = h x in let d = at_most_one (ltb x n) in omega arith) in omega arith
 
--- ---- members of one group more
+-- ---- the members of a further group
 
 if_more : (a b : Bool) (t : ℕ) → (a ≡ true → b ≡ true) → (if a then t else 0) ≤ (if b then t else 0)
 if_more true true t h = omega arith
@@ -109,40 +109,40 @@ if_more false b t h = omega arith
 below_later : (x k n : ℕ) → k ≤ n → ltb x k ≡ true → ltb x n ≡ true
 below_later x k n h e = grind (arith, nat_tests)
 
--- members below k are members below n
+-- The members below `k` are among those below `n`, if `k` is at most `n`.
 pub fewer_members : (of : List ℕ) (g k n x : ℕ) → k ≤ n → times x (members of g k) ≤ times x (members of g n)
 fewer_members of g k n x h =
     let a = times_members of g k x in
     let b = times_members of g n x in
     let c = if_more (ltb x k) (ltb x n) (one_if (get_or of x 0 == g)) (below_later x k n h) in omega arith
 
--- a job of the group is the next member
+-- A job of the group is its next member.
 pub member_here : (of : List ℕ) (g k : ℕ) → get_or of k 0 ≡ g → members of g (suc k) ≡ members of g k ++ k ∷ []
 member_here of g k e = ap (λ (b : Bool). members of g k ++ (if b then k ∷ [] else [])) (same_test (get_or of k 0) g e)
 
--- a job of another is none
+-- A job of another group is not a member.
 member_elsewhere : (of : List ℕ) (g k : ℕ) → get_or of k 0 ≢ g → members of g (suc k) ≡ members of g k
 member_elsewhere of g k e = ap (λ (b : Bool). members of g k ++ (if b then k ∷ [] else [])) (other_test (get_or of k 0) g e) ∙ append-nil (members of g k)
 
--- between a number and the first of the group there is no member
+-- There is no member from a number to the first member after it.
 pub members_skip : (of : List ℕ) (g j r : ℕ) → j ≤ r → ((k : ℕ) → j ≤ k → k < r → get_or of k 0 ≢ g) → members of g r ≡ members of g j
 members_skip of g j zero h none = let e : zero ≡ j = omega arith in ap (members of g) e
 members_skip of g j (suc r) h none = dite (ℕ_discrete (suc r) j)
     (λ (e : suc r ≡ j). ap (members of g) e)
     (λ (ne : suc r ≢ j). member_elsewhere of g r (none r (omega arith) (omega arith)) ∙ members_skip of g j r (omega arith) (λ k a b. none k a (omega arith)))
 
--- no member is before the first
+-- There is no member before the first one.
 pub members_first : (of : List ℕ) (g r : ℕ) → IsFirst of g 0 r → members of g r ≡ []
 members_first of g r f = members_skip of g 0 r f.from f.none
 
--- a member, and the next
+-- The members below the next member are those below a member, and that member.
 pub members_next : (of : List ℕ) (g k r : ℕ) → get_or of k 0 ≡ g → IsFirst of (get_or of k 0) (k + 1) r → members of g r ≡ members of g k ++ k ∷ []
 members_next of g k r is f =
     members_skip of g (suc k) r (let h = f.from in omega arith) (λ j a b same. f.none j (omega arith) b (same ∙ sym is)) ∙ member_here of g k is
 
--- ---- groups are linked
+-- ---- the links of groups
 
--- no job is linked yet
+-- The initial state, in which no job is linked.
 pub linked_none : (of : List ℕ) (groups n : ℕ) (firsts nexts : List ℕ) → length of ≡ n → length firsts ≡ groups → length nexts ≡ n → firsts ≡ replicate groups n → AreLinked of groups n firsts nexts
 linked_none of groups n firsts nexts long a b blank = record {
   groups_are = a;
@@ -153,7 +153,7 @@ linked_none of groups n firsts nexts long a b blank = record {
   next = λ k h below. absurd (omega arith);
 }
 
--- one job more, before them
+-- One further job, before the linked ones.
 module _ (of : List ℕ) (groups j g : ℕ) (firsts nexts : List ℕ) (is : get_or of j 0 ≡ g) (some_group : g < groups) (below : j < length of) (old : AreLinked of groups (j + 1) firsts nexts) where
   earlier : (i r : ℕ) → i ≢ g → IsFirst of i (j + 1) r → IsFirst of i j r
   earlier i r other f = record {
@@ -198,9 +198,9 @@ module _ (of : List ℕ) (groups j g : ℕ) (firsts nexts : List ℕ) (is : get_
     next = next_of;
   }
 
--- ---- what a worker claimed
+-- ---- the groups that a worker claimed
 
--- a group that is above those that were claimed before is none of them
+-- A group above all groups that were claimed before is a new one.
 pub claimed_once : (gs : List ℕ) (g : ℕ) → IsAbove gs g → ((x : ℕ) → times x gs ≤ 1) → (x : ℕ) → times x (gs ++ g ∷ []) ≤ 1
 claimed_once gs g above once x =
     let a = total_append (λ (y : ℕ). one_if (x == y)) gs (g ∷ []) in
@@ -226,16 +226,16 @@ if_few : (b : Bool) (t : ℕ) → t ≤ 1 → (if b then t else 0) ≤ one_if b
 if_few true t h = h
 if_few false t h = omega arith
 
--- where each group was claimed once, the numbers of their jobs are different
+-- If each group was claimed at most once, the numbers of their jobs are distinct.
 pub different_members : (of gs : List ℕ) (n : ℕ) → ((x : ℕ) → times x gs ≤ 1) → AreDifferent n (members_of_all of n gs)
 different_members of gs n once x = let a = times_all_members of gs n x in let b = if_few (ltb x n) (times (get_or of x 0) gs) (once (get_or of x 0)) in omega arith
 
--- the jobs of one group more
+-- The jobs of a further group are appended.
 pub members_more : (of gs : List ℕ) (n g : ℕ) → members_of_all of n (gs ++ g ∷ []) ≡ members_of_all of n gs ++ members of g n
 members_more of [] n g = append-nil (members of g n)
 members_more of (h ∷ gs) n g = ap (λ (l : List ℕ). members of h n ++ l) (members_more of gs n g) ∙ sym (append_assoc (members of h n) (members_of_all of n gs) (members of g n))
 
--- the next member of a group finds room
+-- There is capacity for the next member of a group.
 pub room_more : (of before : List ℕ) (g n k : ℕ) → AreDifferent n (before ++ members of g n) → k < n → get_or of k 0 ≡ g → length (before ++ members of g k) < n
 room_more of before g n k different below is =
     let next : List ℕ = before ++ members of g (suc k) in

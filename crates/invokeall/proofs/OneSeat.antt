@@ -14,11 +14,11 @@ use Rattle.invokeall.specs.Rounds.{Answer, reply_of, IsLaterSeat, IsFull, IsRoun
 use Rattle.invokeall.specs.Workers.{told_answer}
 use Rattle.invokeall.proofs.Turns.{OneCall}
 
--- a refusal for a full journal shows at the seat
+-- `IsShown` holds if the seat has the full flag of the stripe of each call refused with `JournalFull`.
 abbrev pub IsShown : {L : Type 0} → Opened L → List Call → Sitting → List Answer → Type 0
 IsShown d calls s answers = (k : ℕ) (c : Call) → get_elem? answers k ≡ some (Err JournalFull) → get_elem? calls k ≡ some c → IsFull d c s
 
--- one answer more
+-- The answered calls after one further answer.
 pub answered_more : (calls : List Call) (answers : List Answer) (n : ℕ) (c : Call) (x : Answer) → length answers ≡ n → get_elem? calls n ≡ some c
     → answered (take (suc n) calls) (map reply_of (answers ++ x ∷ [])) ≡ answered (take n calls) (map reply_of answers) ++ told_answer c x
 answered_more [] answers n c x long at = absurd (some-ne-none c (sym at))
@@ -29,7 +29,7 @@ answered_more (d ∷ calls) (a ∷ answers) zero c x long at = absurd (omega (ar
 answered_more (d ∷ calls) (Ok r ∷ answers) (suc n) c x long at = ap (λ (l : List (Call × Reply)). (d, r) ∷ l) (answered_more calls answers n c x (omega (arith, long)) at)
 answered_more (d ∷ calls) (Err e ∷ answers) (suc n) c x long at = answered_more calls answers n c x (omega (arith, long)) at
 
--- what stands in a list with one more
+-- The element at an index of a list with an appended element.
 at_more : (l : List Answer) (a b : Answer) (j : ℕ) → get_elem? (l ++ a ∷ []) j ≡ some b → (get_elem? l j ≡ some b) ⊎ ((j ≡ length l) × (a ≡ b))
 at_more [] a b zero e = inr (refl, some-injective a b e)
 at_more [] a b (suc j) e = absurd (some-ne-none b (sym e))
@@ -47,7 +47,7 @@ shown_more d calls a b answers n c x long at one old k u e there = ⊎_elim
     subst (λ (z : Call). IsFull d z b) (some-injective c u (sym at ∙ subst (λ (m : ℕ). get_elem? calls m ≡ some u) (h.0 ∙ long) there)) (one.full h.1))
     (at_more answers x (Err JournalFull) k e)
 
--- the round, once all calls are made
+-- The round after all calls are made.
 pub alone_round : {L : Type 0} (d : Opened L) (calls : List Call) (a b : Sitting) (answers : List Answer) → length answers ≡ length calls → IsLaterSeat a b
     → calls_told b.receipts ≡ calls_told a.receipts ++ answered calls (map reply_of answers) → (AreFiled (length d.tables) a.receipts → AreFiled (length d.tables) b.receipts)
     → IsShown d calls b answers → IsRound d calls (a ∷ []) (b ∷ []) answers

@@ -1,4 +1,4 @@
--- Groups that a worker makes, or puts off and comes back to.
+-- The groups that a worker makes or defers.
 use Rattle.std.proofs.Common.{◌≡◌, ◌≢◌, ◌⊎◌, ℕ, zero, suc, ◌+◌, ◌<◌, ◌≤◌, ◌==◌, List, [], ◌∷◌, ◌++◌, Bool, true, false, not, length, get_or, set, replicate, refl, sym, ap, ◌∙◌, subst, inl, inr, ⊎_elim, arith}
 use Rattle.std.proofs.lemmas.List.{get_or-set_same, get_or-set_other, length-set, length-replicate}
 use mathlib.Core.Logic.{dite}
@@ -19,7 +19,7 @@ nothing_marked zero x = refl
 nothing_marked (suc m) zero = refl
 nothing_marked (suc m) (suc x) = nothing_marked m x
 
--- the groups whose calls were made, behind one more group, where its calls were made
+-- The groups whose calls were made, with `g` appended if its calls were made.
 abbrev pub behind : Bool → List ℕ → ℕ → List ℕ
 behind true order g = order ++ g ∷ []
 behind false order g = order
@@ -28,7 +28,7 @@ some_or_none : (n : ℕ) → (0 < n) ⊎ (n ≡ 0)
 some_or_none zero = inr refl
 some_or_none (suc n) = inl (omega arith)
 
--- a number above all of a list is none of them
+-- A number above all numbers of a list isn't in it.
 none_above : (gs : List ℕ) (g : ℕ) → IsAbove gs g → times g gs ≡ 0
 none_above gs g above = ⊎_elim (λ (h : 0 < times g gs). let c = above g h in absurd (omega arith)) (λ (h : times g gs ≡ 0). h) (some_or_none (times g gs))
 
@@ -46,7 +46,7 @@ times_snoc_other x gs g ne = let a = times_snoc x gs g in let b = ap one_if (oth
 pub earlier_marks : (later : List Bool) (n x : ℕ) (b : Bool) → x < n → get_or (set later n b) x false ≡ get_or later x false
 earlier_marks later n x b below = get_or-set_other later n x b false (λ (e : x ≡ n). absurd (omega arith))
 
--- no mark so far, and none at the next place
+-- If there is no mark below `n` and none at `n`, there is none below `n + 1`.
 pub one_place_more : (later : List Bool) (n : ℕ) → ((x : ℕ) → x < n → get_or later x false ≡ false) → get_or later n false ≡ false → (x : ℕ) → x < n + 1 → get_or later x false ≡ false
 one_place_more later n none here x below = dite (ℕ_discrete x n)
     (λ (e : x ≡ n). ap (λ (y : ℕ). get_or later y false) e ∙ here)
@@ -56,7 +56,7 @@ pub unmarked_by : (b : Bool) → not b ≡ true → b ≡ false
 unmarked_by false e = refl
 unmarked_by true e = absurd (let f = e in cc)
 
--- ---- one group more is made or put off
+-- ---- a further group is made or deferred
 
 module _ (order : List ℕ) (later : List Bool) (g : ℕ) (t : ℕ → ℕ) (new : times g order ≡ 0) (once : t g ≡ 1) (others : (x : ℕ) → x ≢ g → times x order + one_if (get_or later x false) ≡ t x) (inside : g < length later) where
   marked : (made : Bool) → one_if (get_or (set later g (not made)) g false) ≡ one_if (not made)
@@ -85,7 +85,7 @@ module _ {L : Type 0} (d : Opened L) (counter : Numbering) (groups : Groups) (ca
   abbrev n : ℕ
   n = length calls
 
-  -- a worker on its way: each group that it claimed it has made or put off
+  -- The invariant of a running worker: it has made or deferred each group that it claimed.
   pub record IsOnItsWay (w : Worker) (later : List Bool) : Type 0 where
     pub at : w.claimer.counter ≡ counter
     pub once : (x : ℕ) → times x w.claimer.drawn ≤ 1
@@ -93,7 +93,7 @@ module _ {L : Type 0} (d : Opened L) (counter : Numbering) (groups : Groups) (ca
     pub long : length later ≡ 64
     pub put_off : HasPutOff d groups calls v w later
 
-  -- it has claimed nothing yet
+  -- The invariant holds before the first claim.
   pub at_start : IsReady d counter n v → IsOnItsWay v (replicate 64 false)
   at_start ready =
       let drawn : v.claimer.drawn ≡ [] = ap (λ (s : Share). s.drawn) ready.claimer in
@@ -116,7 +116,7 @@ module _ {L : Type 0} (d : Opened L) (counter : Numbering) (groups : Groups) (ca
     pub few_made : (x : ℕ) → times x order ≤ 1
     few_made x = let a = i.put_off.claimed x in let b = i.once x in omega arith
 
-    -- a group that it made no call of finds room for its answers
+    -- The answers to a group that it hasn't made have new numbers.
     pub free_group : (g : ℕ) → times g order ≡ 0 → AreDifferent n (numbers w.answers.items ++ members of g n)
     free_group g new =
         subst (AreDifferent n) (members_more of order n g ∙ ap (λ (l : List ℕ). l ++ members of g n) (sym i.put_off.answered.numbers_are))
@@ -129,7 +129,7 @@ module _ {L : Type 0} (d : Opened L) (counter : Numbering) (groups : Groups) (ca
     answered_more w' g true did did_not = subst (HasAnswered d calls v w') (sym (members_more of order n g)) (did refl)
     answered_more w' g false did did_not = did_not refl
 
-    -- a group that is claimed now
+    -- A newly claimed group.
     module _ (g : ℕ) (above : IsAbove w.claimer.drawn g) where
       pub new_claimed : times g order ≡ 0
       new_claimed = let a = none_above w.claimer.drawn g above in let b = i.put_off.claimed g in omega arith
@@ -152,7 +152,7 @@ module _ {L : Type 0} (d : Opened L) (counter : Numbering) (groups : Groups) (ca
             };
           }
 
-    -- a group that was put off
+    -- A deferred group.
     module _ (g : ℕ) (is : get_or later g false ≡ true) where
       one_marked : one_if (get_or later g false) ≡ 1
       one_marked = ap one_if is
@@ -177,7 +177,7 @@ module _ {L : Type 0} (d : Opened L) (counter : Numbering) (groups : Groups) (ca
             };
           }
 
-    -- no number is left
+    -- A claim finds no number left.
     pub told_end : (s : Share) → s ≡ at_end w.claimer → IsOnItsWay (record w { claimer = s }) later
     told_end s is =
         let same : s.drawn ≡ w.claimer.drawn = ap (λ (t : Share). t.drawn) is in
@@ -193,7 +193,7 @@ module _ {L : Type 0} (d : Opened L) (counter : Numbering) (groups : Groups) (ca
           };
         }
 
-    -- where no group is left that was put off, it made each that it claimed
+    -- If no deferred group is left, it has made each group that it claimed.
     pub none_left : ((x : ℕ) → x < counter.jobs → get_or later x false ≡ false) → (x : ℕ) → times x order ≡ times x w.claimer.drawn
     none_left none x = dite (dec_le counter.jobs x)
         (λ beyond. let a = i.put_off.claimed x in let b = i.within x beyond in omega arith)

@@ -1,4 +1,4 @@
--- Answers are put to their places, each number once.
+-- The answers, written to the indices of their jobs, each number once.
 use Rattle.std.proofs.Common.{◌≡◌, ◌≢◌, ◌⊎◌, ℕ, zero, suc, ◌<◌, ◌≤◌, ◌==◌, List, [], ◌∷◌, ◌++◌, length, map, set, replicate, Option, Some, None, Ok, Err, refl, sym, ap, ◌∙◌, subst, inl, inr, ⊎_elim, arith, append_assoc}
 use Rattle.std.specs.List.{All}
 use Rattle.std.specs.List.Sorted.{IsPermutation}
@@ -20,7 +20,7 @@ use Rattle.invokeall.specs.Rounds.{Answer, reply_of}
 use Rattle.invokeall.specs.Workers.{told_at, told_row, numbers}
 use Rattle.invokeall.specs.Buffers.{Places, blanks, placed, shown_place, shown, put_all, IsThere}
 
--- the reply at a place
+-- The reply at an index.
 abbrev pub reply_in : Option Answer → Option Reply
 reply_in (Some a) = reply_of a
 reply_in None = None
@@ -28,14 +28,14 @@ reply_in None = None
 abbrev pub told_all : List Call → Places → List (Call × Reply)
 told_all calls places = answered calls (map reply_in places)
 
--- at this place, where there is one, stands no answer
+-- `IsBlank` holds if there is no answer at index `k`.
 pub record IsBlank (places : Places) (k : ℕ) : Type 0 where
   pub blank : (p : Option Answer) → get_elem? places k ≡ some p → p ≡ None
 
 under : (places : Places) (x : Option Answer) (k : ℕ) → IsBlank (x ∷ places) (suc k) → IsBlank places k
 under places x k b = record { blank = λ a e. b.blank a e }
 
--- an answer that is put to a blank place is told beside the others
+-- An answer that is written to a blank index adds its call to the answered calls, if it isn't a refusal.
 pub told_set : (calls : List Call) (places : Places) (k : ℕ) (a : Answer) → length places ≡ length calls → IsBlank places k
     → IsPermutation (told_all calls places ++ told_at calls k a) (told_all calls (set places k (Some a)))
 told_set [] places k a same b = IsPermutation-refl []
@@ -57,7 +57,7 @@ pub length_placed : (places : Places) (es : List (ℕ × Answer)) → length (pl
 length_placed places [] = refl
 length_placed places (e ∷ es) = length_placed (set places e.0 (Some e.1)) es ∙ length_set places e.0 (Some e.1)
 
--- each number of the list stands there once
+-- `AreOnce` holds if each number occurs at most once in the list.
 pub record AreOnce (es : List (ℕ × Answer)) : Type 0 where
   pub once : (x : ℕ) → times x (numbers es) ≤ 1
 
@@ -76,7 +76,7 @@ not_again k a es o = let h = o.once k in let g = one_there k k refl in omega ari
 apart_first : (k : ℕ) (e : ℕ × Answer) (es : List (ℕ × Answer)) → times k (numbers (e ∷ es)) ≡ 0 → (k ≢ e.0) × (times k (numbers es) ≡ 0)
 apart_first k e es h = ((λ same. let g = one_there k e.0 same in absurd (omega arith)), omega arith)
 
--- the places of the list's numbers are blank
+-- `AreBlank` holds if the indices of the list's numbers are blank.
 abbrev pub AreBlank : Places → List (ℕ × Answer) → Type 0
 AreBlank places [] = Unit {0}
 AreBlank places (e ∷ es) = IsBlank places e.0 × AreBlank places es
@@ -106,7 +106,7 @@ told_placed calls places ((k, a) ∷ es) same o b =
     (subst (λ l. IsPermutation l (told_all calls next ++ told_row calls es)) (append_assoc (told_all calls places) (told_at calls k a) (told_row calls es)) first)
     rest
 
--- nothing is told of blanks
+-- Blank indices have no answered calls.
 blank_told : (calls : List Call) (n : ℕ) → told_all calls (blanks n) ≡ []
 blank_told [] zero = refl
 blank_told [] (suc n) = refl
@@ -126,13 +126,13 @@ pub length_blanks : (n : ℕ) → length (blanks n) ≡ n
 length_blanks zero = refl
 length_blanks (suc n) = ap suc (length_blanks n)
 
--- what the answers tell is what the rows tell
+-- The written answers and the lists have the same answered calls, in some order.
 pub told_rows : (calls : List Call) (es : List (ℕ × Answer)) → AreOnce es → IsPermutation (told_row calls es) (told_all calls (placed (blanks (length calls)) es))
 told_rows calls es o =
     subst (λ l. IsPermutation (l ++ told_row calls es) (told_all calls (placed (blanks (length calls)) es))) (blank_told calls (length calls))
     (told_placed calls (blanks (length calls)) es (length_blanks (length calls)) o (all_blank (length calls) es))
 
--- what stands at a place was there before, or comes from an entry
+-- The answer at an index was there before, or comes from an entry.
 pub from_entry : (places : Places) (es : List (ℕ × Answer)) (k : ℕ) (p : Option Answer) → get_elem? (placed places es) k ≡ some p
     → (get_elem? places k ≡ some p) ⊎ ((j : ℕ) × (a : Answer) × (p ≡ Some a) × (get_elem? es j ≡ some (k, a)))
 from_entry places [] k p h = inl h
@@ -144,7 +144,7 @@ from_entry places (e ∷ es) k p h = ⊎_elim
     (λ (g : (j : ℕ) × (a : Answer) × (p ≡ Some a) × (get_elem? es j ≡ some (k, a))). inr (suc g.0, g.1, g.2, g.3))
     (from_entry (set places e.0 (Some e.1)) es k p h)
 
--- there is an answer at this place, where there is one
+-- `HasAnswer` holds if there is an answer at index `k`, if it is in range.
 pub record HasAnswer (places : Places) (k : ℕ) : Type 0 where
   pub there : (p : Option Answer) → get_elem? places k ≡ some p → IsThere p
 
@@ -168,7 +168,7 @@ just_set places k a = record {
       (at_set places k k (Some a) p e);
 }
 
--- a number of the list has its answer at its place
+-- Each number of the list has an answer at its index.
 answer_there : (places : Places) (es : List (ℕ × Answer)) (k : ℕ) → 0 < times k (numbers es) → HasAnswer (placed places es) k
 answer_there places [] k h = absurd (omega arith)
 answer_there places (e ∷ es) k h = dite (ℕ_discrete k e.0)
@@ -179,20 +179,20 @@ all_there : (places : Places) → ((k : ℕ) → k < length places → HasAnswer
 all_there [] h = All-nil IsThere
 all_there (p ∷ ps) h = All-cons IsThere p ps ((h 0 (omega arith)).there p refl) (all_there ps (λ k below. record { there = λ q e. (h (suc k) (omega arith)).there q e }))
 
--- where each number stands in the list, each place has its answer
+-- If the list has each number, each index has an answer.
 pub all_filled : (n : ℕ) (es : List (ℕ × Answer)) → ((k : ℕ) → k < n → 0 < times k (numbers es)) → All IsThere (placed (blanks n) es)
 all_filled n es h =
     let long : length (placed (blanks n) es) ≡ n = length_placed (blanks n) es ∙ length_blanks n in
     all_there (placed (blanks n) es) (λ k below. answer_there (blanks n) es k (h k (omega arith)))
 
--- ---- what stands at the places
+-- ---- the answers at the indices
 
 shown_set : (places : Places) (k : ℕ) (a : Answer) → shown (set places k (Some a)) ≡ set (shown places) k a
 shown_set [] k a = refl
 shown_set (p ∷ ps) zero a = refl
 shown_set (p ∷ ps) (suc k) a = ap (λ (l : List Answer). shown_place p ∷ l) (shown_set ps k a)
 
--- answers that are put over what stands there stand at their places
+-- Answers that are written over shown answers are the shown written answers.
 pub put_shown : (places : Places) (es : List (ℕ × Answer)) → put_all (shown places) es ≡ shown (placed places es)
 put_shown places [] = refl
 put_shown places (e ∷ es) = ap (λ (l : List Answer). put_all l es) (sym (shown_set places e.0 e.1)) ∙ put_shown (set places e.0 (Some e.1)) es
@@ -201,7 +201,7 @@ pub shown_blanks : (n : ℕ) → replicate n (Err NoMemory) ≡ shown (blanks n)
 shown_blanks zero = refl
 shown_blanks (suc n) = ap (λ (l : List Answer). Err NoMemory ∷ l) (shown_blanks n)
 
--- where each place has its answer, that is what stands there
+-- If each index has an answer, it is the shown one.
 pub shown_there : (places : Places) → All IsThere places → map Some (shown places) ≡ places
 shown_there [] all = refl
 shown_there (p ∷ ps) all =

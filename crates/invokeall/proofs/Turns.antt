@@ -1,4 +1,4 @@
--- One call more, and one answer more.
+-- One further call, and one further answer.
 use Rattle.std.proofs.Common.{◌≡◌, ℕ, zero, suc, ◌≤◌, List, [], ◌∷◌, ◌++◌, length, get_or, set, Ok, Err, IfOk, IfErr, Bool, true, false, refl, sym, ap, ◌∙◌, subst, ⊎_elim, append_assoc, arith, vec_capacity}
 use Rattle.std.proofs.lemmas.List.{append-nil, map-append}
 use Rattle.std.proofs.lemmas.List.Concat.{flat_map-append}
@@ -20,7 +20,7 @@ use Rattle.invokeall.specs.Workers.{told_answer, told_at, told_row, numbers, Sho
 abbrev pub told_seat : Sitting → List (Call × Reply)
 told_seat s = calls_told s.receipts
 
--- what one call at a seat gives
+-- The effect of one call at a seat.
 pub record OneCall {L : Type 0} (d : Opened L) (c : Call) (a b : Sitting) (x : Answer) : Type 0 where
   pub later : IsLaterSeat a b
   pub receipts : calls_told b.receipts ≡ calls_told a.receipts ++ told_answer c x
@@ -94,7 +94,7 @@ pub numbers_long : (xs : List (ℕ × Answer)) → length (numbers xs) ≡ lengt
 numbers_long [] = refl
 numbers_long (y ∷ ys) = ap suc (numbers_long ys)
 
--- a worker that has no answer yet
+-- A worker that has no answer has answered no call.
 pub none_answered : {L : Type 0} (d : Opened L) (calls : List Call) (v : Worker) → v.answers.items ≡ [] → HasAnswered d calls v v []
 none_answered d calls v none = record {
   seat = same_seat v.seat v.seat refl;
@@ -105,7 +105,7 @@ none_answered d calls v none = record {
   room = omega arith;
 }
 
--- one call more is answered
+-- One further call is answered.
 pub one_answered : {L : Type 0} (d : Opened L) (calls : List Call) (v w next : Worker) (before : List ℕ) (k : ℕ) (c : Call) (x : Answer) → get_elem? calls k ≡ some c → OneCall d c w.seat next.seat x
     → next.answers.items ≡ w.answers.items ++ (k, x) ∷ [] → vec_capacity w.answers ≤ vec_capacity next.answers → HasAnswered d calls v w before → HasAnswered d calls v next (before ++ k ∷ [])
 one_answered d calls v w next before k c x at one items room old =
@@ -120,7 +120,7 @@ one_answered d calls v w next before k c x at one items room old =
       room = let more = old.room in omega arith;
     }
 
--- which claimer a worker has is another thing
+-- `HasAnswered` doesn't depend on the worker's claimer.
 pub same_answered : {L : Type 0} (d : Opened L) (calls : List Call) (v w : Worker) (claimer : Share) (before : List ℕ) → HasAnswered d calls v w before
     → HasAnswered d calls v (record w { claimer = claimer }) before
 same_answered d calls v w claimer before h = record { seat = h.seat; numbers_are = h.numbers_are; receipts = h.receipts; filed = h.filed; full = h.full; room = h.room }

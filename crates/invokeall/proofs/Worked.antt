@@ -1,4 +1,4 @@
--- What all workers did.
+-- The result of all workers.
 use Rattle.std.proofs.Common.{◌≡◌, ◌⊎◌, ℕ, zero, suc, ◌+◌, ◌<◌, ◌≤◌, ◌==◌, ltb, List, [], ◌∷◌, ◌++◌, length, map, get_or, if◌then◌else◌, Option, Some, None, Err, true, refl, sym, ap, ◌∙◌, subst, inl, inr, ⊎_elim, arith, append_assoc}
 use Rattle.std.specs.Prelude.{flat_map}
 use Rattle.std.specs.List.{All}
@@ -95,7 +95,7 @@ module _ {L : Type 0} (d : Opened L) (counter : Numbering) (groups : Groups) (ca
       let right : p ++ ((q ++ r) ++ s) ≡ (p ++ q) ++ (r ++ s) = ap (λ l. p ++ l) (append_assoc q r s) ∙ sym (append_assoc p q (r ++ s)) in
       subst (λ l. IsPermutation l ((p ++ q) ++ (r ++ s))) left (subst (λ l. IsPermutation (p ++ ((r ++ q) ++ s)) l) right b)
 
-  -- the calls at one seat more
+  -- The calls at a list of seats, by those at its first seat.
   seat_more : (s : Sitting) (ss : List Sitting) → calls_at (s ∷ ss) ≡ calls_told s.receipts ++ calls_at ss
   seat_more s ss = map-append (λ (t : Receipt). (t.call, t.reply)) s.receipts (all_receipts ss)
 
@@ -124,11 +124,11 @@ module _ {L : Type 0} (d : Opened L) (counter : Numbering) (groups : Groups) (ca
   more_entries : (x : ℕ) (w : Worker) (ws : List Worker) → times x (numbers (entries_of (rows_of (w ∷ ws)))) ≡ times x (numbers w.answers.items) + times x (numbers (entries_of (rows_of ws)))
   more_entries x w ws = ap (λ l. times x l) (numbers_append w.answers.items (entries_of (rows_of ws))) ∙ total_append (λ (y : ℕ). one_if (x == y)) (numbers w.answers.items) (numbers (entries_of (rows_of ws)))
 
-  -- the group of each call
+  -- The group of each call.
   abbrev of : List ℕ
   of = groups_in groups calls
 
-  -- a call has as many answers as its group was claimed by claimers
+  -- A call has one answer for each claim of its group.
   drawn_entries : (vs ws : List Worker) → AllWorked vs ws → (x : ℕ) → times x (numbers (entries_of (rows_of ws))) ≡ (if ltb x (length calls) then times_drawn (get_or of x 0) (claimers_of ws) else 0)
   drawn_entries [] [] a x = same_if (ltb x (length calls)) 0
   drawn_entries [] (w ∷ ws) a x = absurd a
@@ -142,7 +142,7 @@ module _ {L : Type 0} (d : Opened L) (counter : Numbering) (groups : Groups) (ca
       let h = more_entries x w ws in
       let i = sum_if (ltb x (length calls)) (times (get_or of x 0) w.claimer.drawn) (times_drawn (get_or of x 0) (claimers_of ws)) in omega arith
 
-  -- no group was claimed twice, and each once
+  -- Each group was claimed exactly once, and no other number more than once.
   pub record IsEachOnce (ws : List Worker) : Type 0 where
     pub most : (x : ℕ) → times_drawn x (claimers_of ws) ≤ 1
     pub groups_are : (x : ℕ) → x < counter.jobs → times_drawn x (claimers_of ws) ≡ 1
@@ -152,7 +152,7 @@ module _ {L : Type 0} (d : Opened L) (counter : Numbering) (groups : Groups) (ca
     once = λ x. let e = drawn_entries vs ws a x in let f = if_one (ltb x (length calls)) (times_drawn (get_or of x 0) (claimers_of ws)) (each.most (get_or of x 0)) in omega arith;
   }
 
-  -- so each call has its answer
+  -- So each call has its answer.
   pub are_filled : (vs ws : List Worker) → AllWorked vs ws → IsEachOnce ws → AreGroups calls groups → counter.jobs ≡ length groups.firsts.items → All IsThere (placed (blanks (length calls)) (entries_of (rows_of ws)))
   are_filled vs ws a each linked same = all_filled (length calls) (entries_of (rows_of ws)) (λ k below.
       let long : length of ≡ length calls = length-map calls (group_of (length groups.firsts.items)) in
@@ -162,13 +162,13 @@ module _ {L : Type 0} (d : Opened L) (counter : Numbering) (groups : Groups) (ca
       let e = drawn_entries vs ws a k in
       let f = if_below k (length calls) (times_drawn group (claimers_of ws)) below in omega arith)
 
-  -- where a worker worked, a claimer is done
+  -- If there is a worker, the first claimer found no number left.
   pub first_done : (vs ws : List Worker) → AllWorked vs ws → 0 < length vs → (s : Share) × (get_elem? (claimers_of ws) 0 ≡ some s) × (s.done ≡ true)
   first_done [] ws a some_worker = absurd (omega arith)
   first_done (v ∷ vs) [] a some_worker = absurd a
   first_done (v ∷ vs) (w ∷ ws) a some_worker = (w.claimer, refl, a.0.done)
 
-  -- all claimers are of the counter
+  -- All claimers belong to the counter.
   pub claimers_at : (vs ws : List Worker) → AllWorked vs ws → (i : ℕ) (s : Share) → get_elem? (claimers_of ws) i ≡ some s → s.counter ≡ counter
   claimers_at [] [] a i s e = absurd (some-ne-none s (sym e))
   claimers_at [] (w ∷ ws) a i s e = absurd a
@@ -219,7 +219,7 @@ module _ {L : Type 0} (d : Opened L) (counter : Numbering) (groups : Groups) (ca
       full_shown vs ws a k c there g.0 (subst (λ (b : Answer). get_elem? es g.0 ≡ some (k, b)) same g.3))
       (from_entry (blanks (length calls)) es k (Some full) (subst (λ (l : Places). get_elem? l k ≡ some (Some full)) are (some_at answers k full e)))
 
-  -- the round, from what the workers did
+  -- The results of the workers make a round.
   pub is_round : (vs ws : List Worker) (old new : List Sitting) (answers : List Answer) → AllWorked vs ws → old ≡ seats_of vs → new ≡ seats_of ws
       → map Some answers ≡ placed (blanks (length calls)) (entries_of (rows_of ws)) → IsEachOnce ws → IsRound d calls old new answers
   is_round vs ws old new answers a before after are each =
@@ -233,7 +233,7 @@ module _ {L : Type 0} (d : Opened L) (counter : Numbering) (groups : Groups) (ca
         full = full_by_all vs ws a answers are;
       }))
 
-  -- workers that were hired in order have seats of this cache, fresh claimers, and empty lists with room for all calls
+  -- Workers are ready if they have seats of this cache, fresh claimers, and empty lists with capacity for all calls.
   pub all_ready : (vs : List Worker) (seats : List Sitting) (shares : List Share) (rows : List Row) → seats_of vs ≡ seats → claimers_of vs ≡ shares → rows_of vs ≡ rows
       → All (IsAtHome d) seats → ((i : ℕ) (s : Share) → get_elem? shares i ≡ some s → s ≡ fresh counter) → All (HasRoom (length calls)) rows → All (IsReady d counter (length calls)) vs
   all_ready [] seats shares rows a b e home each room = All-nil (IsReady d counter (length calls))
@@ -249,11 +249,11 @@ module _ {L : Type 0} (d : Opened L) (counter : Numbering) (groups : Groups) (ca
   length_claimers [] = refl
   length_claimers (w ∷ ws) = ap suc (length_claimers ws)
 
-  -- the claimers that come back are all of the counter
+  -- The claimers of the workers are all claimers of the counter.
   pub all_claimers : (vs ws : List Worker) → AllWorked vs ws → length ws ≡ counter.workers → AreAll counter (claimers_of ws)
   all_claimers vs ws a long = record { count = length_claimers ws ∙ long; each = claimers_at vs ws a }
 
-  -- what the counter's close says of them
+  -- `IsEachOnce` holds by the contract of the counter's close.
   pub each_once : (vs ws : List Worker) (shares : List Share) → AllWorked vs ws → 0 < length vs → shares ≡ claimers_of ws → ((x : ℕ) → times_drawn x shares ≤ 1)
       → ((c : ℕ) (s : Share) → get_elem? shares c ≡ some s → s.done ≡ true → (x : ℕ) → x < counter.jobs → times_drawn x shares ≡ 1) → IsEachOnce ws
   each_once vs ws shares a some_worker are most done =

@@ -1,4 +1,4 @@
--- The buffers of a round, and what its workers leave in them.
+-- The buffers of a round, and the answers in them.
 use Rattle.std.specs.Prelude.{◌≡◌, ℕ, ◌≤◌, List, [], ◌∷◌, map, flat_map, length, replicate, slice_set, vec_capacity, Option, Some, None, Err, Vec}
 use Rattle.std.specs.Global.{Global}
 use Rattle.std.specs.List.{All}
@@ -14,20 +14,20 @@ use Rattle.invokeall.specs.Rounds.{Answer}
 abbrev pub Row : Type 0
 Row = Vec (ℕ × Answer) Global
 
--- a place for the answer to each job
+-- The answer to each job, or none yet.
 abbrev pub Places : Type 0
 Places = List (Option Answer)
 
--- no answer yet
+-- No answer yet to `n` jobs.
 abbrev pub blanks : ℕ → Places
 blanks n = replicate n None
 
--- the answers put to their places; a later one counts
+-- The answers after each entry is written to the index of its job. A later entry replaces an earlier one.
 abbrev pub placed : Places → List (ℕ × Answer) → Places
 placed places [] = places
 placed places (e ∷ es) = placed (slice_set places e.0 (Some e.1)) es
 
--- what stands at a place: its answer, or a refusal where there is none yet
+-- The answer at an index, or the refusal `NoMemory` if there is none yet.
 abbrev pub shown_place : Option Answer → Answer
 shown_place (Some a) = a
 shown_place None = Err NoMemory
@@ -35,12 +35,12 @@ shown_place None = Err NoMemory
 abbrev pub shown : Places → List Answer
 shown places = map shown_place places
 
--- answers put over what stands at their places
+-- The answers after each entry is written to the index of its job.
 abbrev pub put_all : List Answer → List (ℕ × Answer) → List Answer
 put_all answers [] = answers
 put_all answers (e ∷ es) = put_all (slice_set answers e.0 e.1) es
 
--- there is an answer
+-- `IsThere` holds if there is an answer.
 abbrev pub IsThere : Option Answer → Type 0
 IsThere p = (a : Answer) × (p ≡ Some a)
 
@@ -56,11 +56,11 @@ claimers_of ws = map (λ (w : Worker). w.claimer) ws
 abbrev pub rows_of : List Worker → List Row
 rows_of ws = map (λ (w : Worker). w.answers) ws
 
--- an empty list with room for so many
+-- `HasRoom` holds if the list is empty and has capacity for `n` items.
 abbrev pub HasRoom : {A : Type 0} → ℕ → Vec A Global → Type 0
 HasRoom n v = (v.items ≡ []) × (n ≤ vec_capacity v)
 
--- the buffers hold a round of so many jobs by so many workers; what the counter counts are the groups
+-- `CanHold` holds if the buffers fit a round of `jobs` jobs by `count` workers. The counter counts the groups.
 pub record CanHold (jobs count : ℕ) (r : RoundBuffers) : Type 0 where
   pub some_groups : IsCount r.counter.jobs
   pub workers_are : r.counter.workers ≡ count

@@ -1,4 +1,4 @@
--- The calls of jobs, as the definitions see them.
+-- The models of the calls of jobs.
 use Rattle.std.specs.Prelude.{List, map}
 use Rattle.boxcar.specs.Table.{Shelves}
 use Rattle.stripe.specs.History.{Call, Invoke, Get, Put, Remove, Contains}
@@ -19,7 +19,7 @@ call_of (job.Contains key) = Contains key
 abbrev pub calls_of : List Job → List Call
 calls_of jobs = map call_of jobs
 
--- the class of an invocation is of this registry
+-- `IsCallable` holds if the class of an invocation is in this registry.
 abbrev pub IsCallable : Shelves → Job → Type 0
 IsCallable registry (job.Invoke class key args) = IsOf registry class.now
 IsCallable registry (job.Get key) = Unit {0}
@@ -27,6 +27,6 @@ IsCallable registry (job.Put key value) = Unit {0}
 IsCallable registry (job.Remove key) = Unit {0}
 IsCallable registry (job.Contains key) = Unit {0}
 
--- calls of the code, as the definitions see them
+-- The models of the calls of the code.
 abbrev pub all_seen : List CallTaken → List Call
 all_seen calls = map seen_call calls

@@ -1,4 +1,4 @@
--- What a round of jobs gives.
+-- The result of a round of jobs.
 use Rattle.std.specs.Prelude.{◌≡◌, ℕ, List, ◌++◌, map, IsPermutation, length, Option, Some, None, Result, Ok, Err, true, slice_index_or, false}
 use mathlib.Core.Option.{some}
 use lib.ListN.{get_elem?}
@@ -11,7 +11,7 @@ use Rattle.cache.specs.Opened.{Opened, Sitting, stripe_in}
 use Rattle.round_outcome.specs.Outcome.{answered}
 use Rattle.round_outcome.specs.Closed.{calls_at, AllAreFiled}
 
--- what a round answers to a job
+-- The answer to a job.
 abbrev pub Answer : Type 0
 Answer = Result Reply InvokeRefusal
 
@@ -19,7 +19,7 @@ abbrev pub reply_of : Answer → Option Reply
 reply_of (Ok r) = Some r
 reply_of (Err e) = None
 
--- the seat, later: it has its receipts, and perhaps more; what it found full stays full
+-- `IsLaterSeat` holds if `b` is seat `a` after any calls: it keeps its receipts and its full flags, and may have more of both.
 pub record IsLaterSeat (a b : Sitting) : Type 0 where
   pub table : b.table ≡ a.table
   pub caller : b.caller ≡ a.caller
@@ -27,20 +27,20 @@ pub record IsLaterSeat (a b : Sitting) : Type 0 where
   pub receipts : (added : List Receipt) × (b.receipts ≡ a.receipts ++ added)
   pub full : (i : ℕ) → slice_index_or a.full i false ≡ true → slice_index_or b.full i false ≡ true
 
--- the seat found the stripe of this call full
+-- `IsFull` holds if the seat has the full flag of the stripe of the call's key.
 abbrev pub IsFull : {L : Type 0} → Opened L → Call → Sitting → Type 0
 IsFull d c s = slice_index_or s.full (stripe_in d c) false ≡ true
 
--- a seat of this cache
+-- `IsAtHome` holds if the seat is one of this cache's seats.
 abbrev pub IsAtHome : {L : Type 0} → Opened L → Sitting → Type 0
 IsAtHome d s = s.table ≡ d.table
 
--- a refusal for a full journal shows at one of these seats
+-- `ShowsAtSeats` holds if each call refused with `JournalFull` has a seat with the full flag of its stripe.
 abbrev pub ShowsAtSeats : {L : Type 0} → Opened L → List Call → List Sitting → List Answer → Type 0
 ShowsAtSeats d calls seats answers = (k : ℕ) (c : Call) → get_elem? answers k ≡ some (Err JournalFull) → get_elem? calls k ≡ some c
     → (i : ℕ) × (s : Sitting) × (get_elem? seats i ≡ some s) × IsFull d c s
 
--- One answer for each call, in order. The receipts that came are, in some order, the calls that were answered, each with its reply
+-- `IsRound` holds if there is one answer to each call, in order, and the new receipts are, in some order, those of the answered calls.
 pub record IsRound {L : Type 0} (d : Opened L) (calls : List Call) (old new : List Sitting) (answers : List Answer) : Type 0 where
   pub count : length answers ≡ length calls
   pub seats : length new ≡ length old

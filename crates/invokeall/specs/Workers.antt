@@ -13,12 +13,12 @@ use Rattle.invokeall.specs.declared.worker.Worker.{Worker}
 use Rattle.invokeall.specs.Groups.{groups_in, members_of_all}
 use Rattle.invokeall.specs.Rounds.{Answer, IsLaterSeat, IsFull}
 
--- what an answer to a call tells: the call with its reply, or nothing
+-- The call with its reply, or nothing if it was refused.
 abbrev pub told_answer : Call → Answer → List (Call × Reply)
 told_answer c (Ok r) = (c, r) ∷ []
 told_answer c (Err e) = []
 
--- the same of an answer to the call of this number
+-- The same for an answer to call `k`.
 abbrev pub told_at : List Call → ℕ → Answer → List (Call × Reply)
 told_at [] k a = []
 told_at (c ∷ cs) zero a = told_answer c a
@@ -30,18 +30,19 @@ told_row calls row = flat_map (λ (a : ℕ × Answer). told_at calls a.0 a.1) ro
 abbrev pub numbers : List (ℕ × Answer) → List ℕ
 numbers row = map (λ (a : ℕ × Answer). a.0) row
 
--- a refusal for a full journal shows at this seat
+-- `ShowsFull` holds if the seat has the full flag of the stripe of each call refused with `JournalFull`.
 abbrev pub ShowsFull : {L : Type 0} → Opened L → List Call → Sitting → List (ℕ × Answer) → Type 0
 ShowsFull d calls s row = (j k : ℕ) (c : Call) → get_elem? row j ≡ some (k, Err JournalFull) → get_elem? calls k ≡ some c → IsFull d c s
 
--- a worker that hasn't begun, with room for so many answers
+-- `IsReady` holds if the worker hasn't begun, and has capacity for `calls` answers.
 pub record IsReady {L : Type 0} (d : Opened L) (counter : Numbering) (calls : ℕ) (w : Worker) : Type 0 where
   pub home : w.seat.table ≡ d.table
   pub claimer : w.claimer ≡ fresh counter
   pub answers : w.answers.items ≡ []
   pub room : calls ≤ vec_capacity w.answers
 
--- what a worker did since: it has an answer to each call of these numbers, in their order, and what these tell is what its new receipts tell
+-- `HasAnswered` holds if `w` is the worker `v` after it has answered the calls of these numbers, in order.
+-- Its new receipts are those of the calls that weren't refused.
 pub record HasAnswered {L : Type 0} (d : Opened L) (calls : List Call) (v w : Worker) (answered : List ℕ) : Type 0 where
   pub seat : IsLaterSeat v.seat w.seat
   pub numbers_are : numbers w.answers.items ≡ answered
@@ -50,13 +51,14 @@ pub record HasAnswered {L : Type 0} (d : Opened L) (calls : List Call) (v w : Wo
   pub full : ShowsFull d calls w.seat w.answers.items
   pub room : vec_capacity v.answers ≤ vec_capacity w.answers
 
--- a worker that put off those groups that are marked: it has an answer to each call of the others that it claimed, in some order of these
+-- `HasPutOff` holds if the worker has answered the calls of all groups that it claimed, group by group,
+-- except the deferred groups, which are marked in `later`.
 pub record HasPutOff {L : Type 0} (d : Opened L) (groups : Groups) (calls : List Call) (v w : Worker) (later : List Bool) : Type 0 where
   pub order : List ℕ
   pub claimed : (x : ℕ) → times x order + one_if (slice_index_or later x false) ≡ times x w.claimer.drawn
   pub answered : HasAnswered d calls v w (members_of_all (groups_in groups calls) (length calls) order)
 
--- a worker that found no group left: it has an answer to each call of the groups that it claimed, in some order of these
+-- `HasWorked` holds if the worker found no group left, and has answered the calls of all groups that it claimed, group by group.
 pub record HasWorked {L : Type 0} (d : Opened L) (counter : Numbering) (groups : Groups) (calls : List Call) (v w : Worker) : Type 0 where
   pub at : w.claimer.counter ≡ counter
   pub done : w.claimer.done ≡ true

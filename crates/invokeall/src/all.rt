@@ -23,7 +23,7 @@ use std::sync::Wait;
 use std::thread::Threads;
 use stripe::{ArgSlice, Reply};
 
-/// Each key once, where it first stands.
+/// Returns the distinct keys, in the order of their first occurrences. The error is out of memory.
 fn once_each(alloc: Global, keys: &[i64]) -> Result<IndexSet<i64>, AllocError>
     ensures { IfOk result (λ set. set.keys ≡ different keys.now) }
 {
@@ -36,7 +36,7 @@ fn once_each(alloc: Global, keys: &[i64]) -> Result<IndexSet<i64>, AllocError>
     Ok(set)
 }
 
-/// A job for each key.
+/// Returns an `Invoke` job for each key.
 fn jobs_for<'j>(
     alloc: Global,
     class: &'j ClassId,
@@ -57,21 +57,21 @@ fn jobs_for<'j>(
     Ok(jobs)
 }
 
-/// Whether the processor returned null.
+/// Returns whether the entry processor returned null.
 fn is_null(answer: &JobReply) -> bool
     ensures { result ≡ is_null_answer answer.now }
 {
     matches!(answer, Ok(Reply::Result(Outcome::Returned(Arg::Null))))
 }
 
-/// A key with its answer.
+/// Returns a key with its answer.
 fn entry(key: &i64, answer: &JobReply) -> (i64, JobReply)
     ensures { result ≡ (key.now, answer.now) }
 {
     (*key, *answer)
 }
 
-/// Lists the keys with their answers, but for those whose processor returned null.
+/// Pushes each key with its answer to `results`, except the keys whose entry processor returned null.
 fn list(keys: &[i64], answers: &[JobReply], results: &mut Vec<(i64, JobReply)>)
     requires count { length answers.now ≡ length keys.now }
     requires room { HasRoom (length keys.now) results.old }
@@ -84,8 +84,10 @@ fn list(keys: &[i64], answers: &[JobReply], results: &mut Vec<(i64, JobReply)>)
     }
 }
 
-/// `invokeAll`, by a round: one invocation for each key, doubles dropped. The results have the keys' order. A key whose processor returned null has none; one
-/// whose processor threw has its exception (`EntryProcessorResult`), and one that the cache refused the refusal.
+/// Runs `invokeAll` as a round of one invocation for each distinct key. Returns the results in the order of the keys.
+/// A key whose entry processor returned null has no result. A key whose entry processor threw has the exception (`EntryProcessorResult`),
+/// and a key whose call was refused has the refusal.
+/// The error is out of memory before the first call, and leaves the seats and the workspaces unchanged.
 pub fn invoke_all<'a, R: Threads + Wait + Sync, G: Gate + Sync, L: Loader + Sync>(
     rt: &R,
     alloc: Global,

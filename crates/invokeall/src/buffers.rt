@@ -1,4 +1,4 @@
-//! The memory of a round. Workers get it, and it comes back from them.
+//! The buffers of a round, which move to the workers and back.
 
 ghost use Rattle.std.specs.Prelude.{◌≡◌, length, IfOk};
 ghost use Rattle.std.specs.List.{All};
@@ -14,10 +14,10 @@ use claims::{Claimer, Counter, open};
 use machine::Workspace;
 use std::alloc::{AllocError, Global};
 
-/// Answers, each with its job's number.
+/// A list of answers, each with the number of its job.
 pub type Row = Vec<(usize, JobReply)>;
 
-/// What a round needs. It is made before the first claim.
+/// The buffers of a round, which are allocated before the first claim.
 #[derive(Drop)]
 pub struct RoundBuffers<'a> {
     pub counter: Counter,
@@ -29,11 +29,11 @@ pub struct RoundBuffers<'a> {
     pub seats: Vec<Seat<'a>>,
     pub workspaces: Vec<Workspace>,
     pub spent: Vec<Claimer>,
-    /// A place for the answer to each call, in which a refusal stands until then.
+    /// The answer to each call, at the call's number. Until there is one, it is the refusal `NoMemory`.
     pub answers: Vec<JobReply>,
 }
 
-/// The buffers of a round of `jobs` jobs by `count` workers, on a cache of `stripes` stripes. `run_in` uses them.
+/// Allocates the buffers of a round of `jobs` jobs by `count` workers, on a cache of `stripes` stripes. `run_in` uses them.
 pub fn buffers_for<'a>(
     alloc: Global,
     jobs: usize,
@@ -69,7 +69,7 @@ pub fn buffers_for<'a>(
     })
 }
 
-/// A list for each worker, which has room for answers to all jobs.
+/// Returns an empty list for each worker, with capacity for the answers to all jobs.
 fn empty_rows(alloc: Global, jobs: usize, count: usize) -> Result<Vec<Row>, AllocError>
     ensures { IfOk result (λ v. (length v.items ≡ count) × All (HasRoom jobs) v.items) }
 {
@@ -81,7 +81,7 @@ fn empty_rows(alloc: Global, jobs: usize, count: usize) -> Result<Vec<Row>, Allo
     Ok(rows)
 }
 
-/// A worker for each seat, in their order, with room for the receipts of so many calls.
+/// Pushes a worker for each seat, in order. Each seat preallocates the receipts of `calls` calls, unless it is out of memory.
 pub fn make_workers<'a>(
     calls: usize,
     seats: Vec<Seat<'a>>,
@@ -111,7 +111,7 @@ pub fn make_workers<'a>(
     }
 }
 
-/// What workers had comes back, in their order.
+/// Moves the seats, the workspaces, the claimers and the answers of the workers to these lists, in order.
 pub fn into_parts<'a>(
     workers: Vec<Worker<'a>>,
     seats: &mut Vec<Seat<'a>>,
@@ -143,7 +143,7 @@ pub fn into_parts<'a>(
     }
 }
 
-/// Puts the answers of all rows to their places.
+/// Writes each answer of all lists to the index of its job.
 pub fn collect(rows: Vec<Row>, answers: &mut [JobReply])
     ensures { answers.new ≡ put_all answers.old (entries_of rows.items) }
 {

@@ -1,4 +1,4 @@
-//! Which calls of a round are of one stripe.
+//! The groups of a round's calls, by stripe.
 
 ghost use Rattle.std.specs.Prelude.{◌≡◌, ◌<◌, length, map, replicate, slice_index, IfOk};
 ghost use Rattle.claims.specs.Counters.{IsJobCount};
@@ -10,20 +10,22 @@ ghost use Rattle.invokeall.specs.Groups.{AreBlank, AreGroups, AreLinked, group_a
 use std::alloc::{AllocError, Global};
 use stripe::{Call, stripe_of};
 
-/// The calls of a round in groups, by their numbers: a group is all calls whose keys are of one stripe, or of one part of a stripe, in
-/// their order. Workers claim groups as they are numbered, so that at one time they are at groups that follow one another; the stripes of
-/// these stand apart.
+/// The groups of a round's calls, as linked lists of call numbers.
+/// A group has all calls whose keys belong to one stripe, or to one part of a stripe, in order.
+/// Workers claim groups in the order of their numbers. `FACTOR` gives consecutive groups different stripes, if there are several stripes,
+/// so that workers on consecutive groups lock different stripes.
 #[derive(Drop)]
 pub struct Groups {
-    /// The first call of each group; the count of calls stands for none.
+    /// The number of the first call of each group, or the count of calls if the group is empty.
     pub firsts: Vec<usize>,
-    /// For each call the next one of its group, in the same way. Each worker reads from all parts of this row, so its items are short.
+    /// The number of the next call in the group of each call, or the count of calls after the last one.
+    /// Each worker reads from all parts of this list, so its items are short.
     pub nexts: Vec<u16>,
 }
 
-/// How many groups calls on so many stripes are put into: four of each stripe, or two where there would be more than 64 groups, or one.
-/// A key's part of its stripe is the stripe that it would have if there were so many. Where there are more and smaller groups than
-/// stripes, workers that have made their last ones wait less for one another. A single worker has the stripes as groups.
+/// Returns the number of groups for `stripes` stripes: four for each stripe, or two or one if four or two make more than 64 groups.
+/// The part of a stripe that a key belongs to is the stripe that it would have in a cache of that many stripes.
+/// Smaller groups shorten the wait of the workers for one another at the end of a round. For a single worker each stripe is one group.
 pub fn groups_for(stripes: usize, workers: usize) -> usize
     requires { IsCount stripes }
     ensures { IsCount result }
@@ -37,7 +39,7 @@ pub fn groups_for(stripes: usize, workers: usize) -> usize
     }
 }
 
-/// So many groups without a call, and room for so many calls.
+/// Returns `groups` empty groups, with links preallocated for `calls` calls.
 pub fn no_groups(alloc: Global, calls: usize, groups: usize) -> Result<Groups, AllocError>
     requires few { IsJobCount calls }
     ensures { IfOk result (AreBlank calls groups) }
@@ -47,11 +49,11 @@ pub fn no_groups(alloc: Global, calls: usize, groups: usize) -> Result<Groups, A
     Ok(Groups { firsts, nexts })
 }
 
-/// A prime that is greater than any count of stripes.
+/// A prime that is greater than the maximum number of stripes.
 const FACTOR: usize = 71;
 
-/// The group of a stripe, of so many of both: the remainder of a product, so that no two stripes have one group. By 16, 32 and 64 it
-/// takes no division.
+/// Returns the group of a stripe, of as many groups as stripes: the remainder of a product, so different stripes have different groups.
+/// The cases 16, 32 and 64 need no division.
 fn group_at(groups: usize, stripe: usize) -> usize
     requires groups { IsCount groups }
     requires stripe { stripe < groups }
@@ -67,8 +69,8 @@ fn group_at(groups: usize, stripe: usize) -> usize
     }
 }
 
-/// The group of a call, of so many: that of its key's stripe. The counts by default are written out, so that what depends on them alone
-/// is known where this is compiled.
+/// Returns the group of a call, of `groups` groups: that of its key's stripe in a cache of as many stripes.
+/// The default counts are separate cases, so that the compiler knows the divisors.
 fn group_of(groups: usize, call: &Call<'_>) -> usize
     requires { IsCount groups }
     ensures group { result ≡ group_seen groups (seen_call call.now) }
@@ -82,7 +84,7 @@ fn group_of(groups: usize, call: &Call<'_>) -> usize
     }
 }
 
-/// Links the calls of each group, from the last one on.
+/// Links the calls of each group, from the last call of the round to the first.
 fn link(calls: &[Call<'_>], firsts: &mut [usize], nexts: &mut [u16])
     requires groups { IsCount (length firsts.old) }
     requires none { firsts.old ≡ replicate (length firsts.old) (length (all_seen calls.now)) }
@@ -105,7 +107,7 @@ impl Groups {
     ghost use Rattle.invokeall.specs.Jobs.{all_seen};
     ghost use Rattle.invokeall.specs.Groups.{AreBlank, AreGroups};
 
-    /// With each call in its group. It takes no memory.
+    /// Returns the groups with each call linked in its group. It allocates no memory.
     pub fn of(self, calls: &[Call<'_>]) -> Groups
         requires groups { IsCount (length self.firsts.items) }
         requires blank { AreBlank (length (all_seen calls.now)) (length self.firsts.items) self }
@@ -120,7 +122,7 @@ impl Groups {
         Groups { firsts, nexts }
     }
 
-    /// The first call of a group.
+    /// Returns the number of the first call of a group, or the count of calls if the group is empty.
     pub fn first(&self, group: usize) -> usize
         requires { group < length self.now.firsts.items }
         ensures { result ≡ slice_index self.now.firsts.items group }
@@ -128,7 +130,7 @@ impl Groups {
         self.firsts[group]
     }
 
-    /// The next call of the same group.
+    /// Returns the number of the next call of the same group, or the count of calls after the last one.
     pub fn next(&self, number: usize) -> usize
         requires { number < length self.now.nexts.items }
         ensures { result ≡ slice_index self.now.nexts.items number }

@@ -1,4 +1,4 @@
-//! Jobs of a round.
+//! The jobs of a round.
 
 ghost use Rattle.std.specs.Prelude.{◌≡◌, length, IfOk};
 ghost use Rattle.std.specs.List.{All};
@@ -10,7 +10,7 @@ use registry::{ClassId, Registry};
 use std::alloc::{AllocError, Global};
 use stripe::{ArgSlice, Call, Reply};
 
-/// A call that one of the workers of a round makes (JSR 107, `Cache`).
+/// A call for a worker of a round to make (JSR 107, `Cache`).
 #[derive(Clone, Copy)]
 pub enum Job<'a> {
     /// `invoke`, of the entry processor of this class.
@@ -38,10 +38,10 @@ pub enum Job<'a> {
     },
 }
 
-/// What a job is told: the reply to its call, or why the cache refused it.
+/// The answer to a job: the reply to its call, or the refusal of the cache.
 pub type JobReply = Result<Reply, InvokeRefusal>;
 
-/// The call of a job, with its class looked up.
+/// Returns the call of a job, with its class looked up in the registry.
 fn call_for<'a>(registry: &'a Registry, job: &Job<'a>) -> Call<'a>
     requires { IsCallable registry.now job.now }
     ensures { seen_call result ≡ call_of job.now }
@@ -62,7 +62,7 @@ fn call_for<'a>(registry: &'a Registry, job: &Job<'a>) -> Call<'a>
     }
 }
 
-/// The calls of jobs whose classes are of this registry, in their order.
+/// Returns the calls of the jobs, in order. The classes of the jobs are in this registry.
 pub fn calls_for<'a>(
     alloc: Global,
     registry: &'a Registry,

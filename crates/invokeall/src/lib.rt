@@ -1,4 +1,4 @@
-//! Rounds: many jobs by several workers, and `invokeAll` over them.
+//! Rounds: batches of jobs that several workers run. `invokeAll` is a round.
 #![tactic(auto)]
 
 mod all;

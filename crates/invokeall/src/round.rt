@@ -1,4 +1,4 @@
-//! A round of jobs.
+//! The run of a round of jobs.
 
 ghost use Rattle.std.specs.Prelude.{◌≡◌, ◌<◌, ◌≤◌, ℕ, length, slice_index_or, IfOk, OnErr, OnOk};
 ghost use Rattle.std.specs.List.{All};
@@ -25,12 +25,15 @@ use std::mem;
 use std::sync::Wait;
 use std::thread::Threads;
 
-/// Runs the jobs, by a worker at each seat, each with a workspace. A group is all jobs whose keys are of one stripe, or of one part of it.
-/// A worker claims one group after the other and makes the calls of its jobs in their order, until there is no group left;
-/// a group whose stripe another worker holds it makes behind the others. The answers stand in the order of the jobs. There are as many
-/// threads as workers, jobs or stripes, whichever are fewest. A single one is the caller's own; of more than one none is.
+/// Runs the jobs by one worker for each seat, each with a workspace. Returns the answers in the order of the jobs.
 ///
-/// All memory of the round itself is taken before the first claim. After that a job may be refused, by its answer.
+/// A group has all jobs whose keys belong to one stripe, or to one part of a stripe.
+/// A worker claims one group after the other, and makes the calls of its jobs in order, until no group is left.
+/// It defers a group whose stripe another worker holds until all groups are claimed.
+/// There are as many threads as workers, jobs or stripes, whichever are fewest. A single one is the caller's. Several are new threads.
+///
+/// All buffers of the round itself are allocated before the first claim. The error is out of memory then, and no job has run.
+/// Later a job may be refused by its answer.
 pub fn run_round<'a, R: Threads + Wait + Sync, G: Gate + Sync, L: Loader + Sync>(
     rt: &R,
     alloc: Global,
@@ -59,8 +62,8 @@ pub fn run_round<'a, R: Threads + Wait + Sync, G: Gate + Sync, L: Loader + Sync>
     Ok(run_in(rt, &round, seats, workspaces, buffers))
 }
 
-/// Makes the calls in the buffers for them, as `run_round` does those of its jobs.
-/// So it takes no memory of its own, and a call may be refused by its answer alone.
+/// Makes the calls of a round as `run_round` does, in preallocated buffers.
+/// It allocates no buffers itself, so it returns no error. A call may be refused by its answer.
 pub fn run_in<'a, R: Threads + Wait + Sync, G: Gate + Sync, L: Loader + Sync>(
     rt: &R,
     round: &Round<'_, 'a, '_, G, L>,
@@ -99,12 +102,12 @@ pub fn run_in<'a, R: Threads + Wait + Sync, G: Gate + Sync, L: Loader + Sync>(
     answers
 }
 
-/// How many threads serve: one a worker, but no more than there are calls or stripes.
+/// Returns the number of threads: one for each worker, and at most the number of calls and of stripes.
 fn threads_for(calls: usize, stripes: usize, workers: usize) -> usize {
     calls.min(stripes).min(workers)
 }
 
-/// Has all workers work.
+/// Runs all workers.
 fn run_all<'a, R: Threads + Wait + Sync, G: Gate + Sync, L: Loader + Sync>(
     rt: &R,
     round: &Round<'_, 'a, '_, G, L>,

@@ -1,4 +1,4 @@
-//! What a round makes, and what its workers share.
+//! The round, and the task that its workers share.
 
 use crate::groups::Groups;
 use cache::Cache;
@@ -6,8 +6,8 @@ use claims::Counter;
 use jtypes::Loader;
 use stripe::Call;
 
-/// What a round makes: these calls, on this cache.
-/// The gate hears of each of them.
+/// A round: its calls, and the cache that they are made on.
+/// The gate observes each call.
 #[derive(Drop)]
 pub struct Round<'s, 'a, 'l, G, L: Loader> {
     pub cache: &'s Cache<'a, 'l, L>,
@@ -15,7 +15,7 @@ pub struct Round<'s, 'a, 'l, G, L: Loader> {
     pub gate: &'s G,
 }
 
-/// What all workers of a round share: what the round makes, its calls in groups, and the counter by which they claim these.
+/// The task that all workers of a round share: the round, the groups of its calls, and the counter with which they claim groups.
 #[derive(Drop)]
 pub struct RoundTask<'s, 'a, 'l, R, G, L: Loader> {
     pub rt: &'s R,

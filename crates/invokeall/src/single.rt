@@ -1,4 +1,4 @@
-//! A round by one worker.
+//! The run of a round by one worker.
 
 ghost use Rattle.std.specs.Prelude.{◌≡◌, ◌∷◌, [], length};
 ghost use Rattle.invokeall.specs.Jobs.{all_seen};
@@ -13,9 +13,9 @@ use jtypes::Loader;
 use machine::Workspace;
 use std::sync::Wait;
 
-/// Makes the calls in their order at one seat, and pushes their answers, for which there is capacity.
-/// It reserves their receipts at once, if there is memory for it.
-/// The gate hears of their ends after the last call, when no stripe is locked.
+/// Makes the calls in order at one seat, and pushes their answers, for which there is capacity.
+/// It preallocates their receipts, unless it is out of memory.
+/// It reports the ends of the calls to the gate after the last one, when the seat holds no stripe.
 pub fn run_alone<'a, R: Wait, G: Gate, L: Loader>(
     rt: &R,
     round: &Round<'_, 'a, '_, G, L>,
@@ -38,7 +38,7 @@ pub fn run_alone<'a, R: Wait, G: Gate, L: Loader>(
     report_all(gate, calls.len());
 }
 
-/// Reports this many calls. Their stripes are unlocked by now.
+/// Reports the ends of the first `count` calls to the gate. The seat holds no stripe.
 fn report_all<G: Gate>(gate: &G, count: usize) {
     for number in 0..count {
         gate.answered(number);

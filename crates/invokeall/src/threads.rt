@@ -1,4 +1,4 @@
-//! Several workers at once.
+//! The run of workers on several threads.
 
 ghost use Rattle.std.specs.Prelude.{◌≡◌, ◌<◌, ℕ, length, slice_index_or};
 ghost use Rattle.std.specs.List.{All};
@@ -7,7 +7,7 @@ ghost use Rattle.invokeall.specs.Tasks.{AreServed};
 
 use std::thread::{Threads, join_mut};
 
-/// What each worker does, whichever thread it runs on.
+/// The task of each worker, on whichever thread it runs.
 pub trait WorkerTask<W> {
     ghost accepts: { Self → W → Type 0 };
 
@@ -18,7 +18,7 @@ pub trait WorkerTask<W> {
         ensures { leaves self.now worker.old worker.new };
 }
 
-/// Has each worker serve, one after the other.
+/// Runs the task for each worker, one after the other, on the current thread.
 fn run_in_sequence<W, S: WorkerTask<W>>(task: &S, workers: &mut [W])
     requires { All (S.accepts task.now) workers.old }
     ensures { AreServed (S.leaves task.now) workers.old workers.new }
@@ -28,10 +28,10 @@ fn run_in_sequence<W, S: WorkerTask<W>>(task: &S, workers: &mut [W])
     }
 }
 
-/// Has each worker serve, by at most `threads` threads.
-/// One thread is the caller's own.
-/// Where there are more, all are started for it and the caller waits for them: else the first thread that it starts may wait for the
-/// caller's processor, while others have nothing to do.
+/// Runs the task for each worker, on at most `threads` threads.
+/// A single thread is the caller's.
+/// Several are all new threads, for which the caller waits. If the caller ran a worker itself, the first thread that it starts might wait
+/// for the caller's processor while other processors are idle.
 pub fn run_on_threads<R: Threads + Sync, W: Send, S: WorkerTask<W> + Sync>(
     rt: &R,
     task: &S,
@@ -48,7 +48,7 @@ pub fn run_on_threads<R: Threads + Sync, W: Send, S: WorkerTask<W> + Sync>(
     }
 }
 
-/// Has each worker serve, by `threads` threads that are started for it; the last one has all the workers that are left.
+/// Runs the task for each worker, on at most `threads` new threads. The last thread runs all remaining workers.
 #[cycle(serving)]
 fn run_on_thread<R: Threads + Sync, W: Send, S: WorkerTask<W> + Sync>(
     rt: &R,
@@ -69,7 +69,7 @@ fn run_on_thread<R: Threads + Sync, W: Send, S: WorkerTask<W> + Sync>(
     spawn_first(rt, task, threads - 1, first, others);
 }
 
-/// Has each worker serve, one after the other, in a thread of its own.
+/// Runs the task for each worker, one after the other, on one new thread.
 fn spawn_rest<R: Threads + Sync, W: Send, S: WorkerTask<W> + Sync>(
     rt: &R,
     task: &S,
@@ -86,7 +86,7 @@ fn spawn_rest<R: Threads + Sync, W: Send, S: WorkerTask<W> + Sync>(
     join_mut(rt, &mut all, &mut nothing);
 }
 
-/// Has the first worker serve in a thread of its own, and the others by `threads` threads.
+/// Runs the task for the first worker on a new thread, and for `others` on at most `threads` further threads.
 #[cycle(serving)]
 fn spawn_first<R: Threads + Sync, W: Send, S: WorkerTask<W> + Sync>(
     rt: &R,

@@ -20,8 +20,7 @@ use std::sync::Wait;
 use std::time::Duration;
 use stripe::Call;
 
-/// What nothing uses, as long as two cache lines. Where it stands between two things, a processor that writes one of them takes no line
-/// from another that reads the other one.
+/// Unused padding, as long as two cache lines of 64 bytes. It prevents false sharing between the data before it and the data after it.
 #[derive(Drop)]
 pub struct CacheLinePad {
     words: [u64; 16],
@@ -33,8 +32,8 @@ impl CacheLinePad {
     }
 }
 
-/// A worker of a round: what it makes calls with, its share of the numbers, and the answers that it got, each with its call's number.
-/// Workers stand side by side, and each writes to its own at each call; so it has a gap on either side.
+/// A worker of a round: its seat, its workspace, its claimer, and the answers to its calls, each with the number of the call.
+/// Workers are adjacent in memory and each writes its fields at each call, so it has padding at both ends.
 #[derive(Drop)]
 pub struct Worker<'a> {
     pub before: CacheLinePad,
@@ -61,12 +60,12 @@ impl<'s, 'a, 'l, R: Wait, G: Gate, L: Loader> WorkerTask<Worker<'a>>
     }
 }
 
-/// The milliseconds that a worker waits at most for the stripe of a group that it put off, before it goes on to the next one of these.
+/// The most milliseconds that a worker sleeps for the stripe of a deferred group, before it tries the next deferred group.
 const PATIENCE: u64 = 1;
 
-/// Claims groups of calls and makes them, until there is no group left.
-/// A group whose stripe another worker holds is put off until all are claimed: so a worker waits for a stripe only where it can make no call
-/// of another one.
+/// Claims groups and makes their calls, until no group is left.
+/// A group whose stripe another worker holds is deferred until all groups are claimed.
+/// So a worker waits for a stripe only after it has found no group left to claim.
 pub fn work<'a, R: Wait, G: Gate, L: Loader>(
     task: &RoundTask<'_, 'a, '_, R, G, L>,
     worker: &mut Worker<'a>,
@@ -97,8 +96,8 @@ pub fn work<'a, R: Wait, G: Gate, L: Loader>(
     unreachable!()
 }
 
-/// Makes the calls of one group, if its stripe is free or is given back within the time of `patience`: whether it does.
-/// A group without a call has no stripe.
+/// Makes the calls of one group, if it can lock its stripe within `patience`, and returns whether it did.
+/// An empty group needs no lock.
 #[inline(always)]
 fn work_within<'a, R: Wait, G: Gate, L: Loader>(
     task: &RoundTask<'_, 'a, '_, R, G, L>,
@@ -133,8 +132,8 @@ fn work_within<'a, R: Wait, G: Gate, L: Loader>(
     true
 }
 
-/// Makes the calls of one group, in their order.
-/// The stripe is locked from the first one on and unlocked after the last one; then the gate hears of each of them.
+/// Makes the calls of one group, in order.
+/// The stripe is unlocked after the last call. Then the end of each call is reported to the gate.
 #[inline(always)]
 fn work_on<'a, R: Wait, G: Gate, L: Loader>(
     task: &RoundTask<'_, 'a, '_, R, G, L>,
@@ -174,14 +173,14 @@ fn work_on<'a, R: Wait, G: Gate, L: Loader>(
     report_answered(gate, worker.answers.as_slice(), before);
 }
 
-/// Reports the calls whose answers a worker has got since it had `before` of them. Their stripe is unlocked by now.
+/// Reports the ends of the calls of all answers after the first `before` to the gate. Their stripe is unlocked.
 fn report_answered<G: Gate>(gate: &G, answers: &[(usize, JobReply)], before: usize) {
     for (number, _) in answers.iter().skip(before) {
         gate.answered(*number);
     }
 }
 
-/// The call of this number.
+/// Returns the call of this number.
 pub fn call_numbered<'a>(calls: &[Call<'a>], number: usize) -> Call<'a>
     requires { number < length calls.now }
     ensures { get_elem? (all_seen calls.now) number ≡ some (seen_call result) }

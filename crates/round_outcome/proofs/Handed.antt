@@ -1,4 +1,4 @@
--- What a closed cache hands out is a history of the calls at its seats.
+-- The concatenated histories of a closed cache are a history of the calls that its seats have receipts of.
 use Rattle.std.proofs.Common.{arith, ◌≡◌, ℕ, ℤ, Bool, ◌<◌, zero, suc, ◌+◌, List, [], ◌∷◌, ◌++◌, map, length, refl, sym, ap, ◌∙◌, subst, IsPermutation}
 use Rattle.std.proofs.lemmas.List.Sorted.{IsPermutation-map, IsPermutation-trans, IsPermutation-refl, IsPermutation-append}
 use Rattle.std.proofs.lemmas.List.{append-nil, map-append}
@@ -25,7 +25,7 @@ use Rattle.round_outcome.proofs.Merge.{AreFrom, each_of, after_append, legal_app
 
 -- ---- receipts and records are the same calls
 
--- a call that was made, with both its places
+-- A call, with the indices of its receipt and of its record.
 record Made : Type 0 where
   caller : ℕ
   number : ℕ
@@ -62,7 +62,7 @@ one_made c n t r e f g h =
     let b : t.stripe ≡ 0 + t.stripe = omega arith in
     λ k. record { caller = a k; number = sym f k; stripe = b k; place = t.place; call = g k; reply = h k }
 
--- the record of a receipt is the one whose receipt it is
+-- The record that the receipt of a record names is that record.
 module _ (journal n : ℕ) (seats : List Sitting) (hs : List (List Record)) (a : Accounts journal n (history_at hs) (receipts_at seats) (full_at seats)) (i q : ℕ) (r : Record) (here : get_elem? (history_at hs i) q ≡ some r) where
   abbrev its_receipt : Receipt
   its_receipt = (a.recorded i q r here).1.receipt
@@ -127,7 +127,7 @@ same_calls journal n seats hs a =
         same_members ts rs (distinct_rows by_receipt (λ (m : Made). (m.caller, m.number)) (λ c k t. refl) 0 (lists_of seats))
         (distinct_rows by_record (λ (m : Made). (m.stripe, m.place)) (λ i q r. refl) 0 hs) to back
 
--- ---- what the loader answered
+-- ---- the answers of the loader
 
 all_given : (gives : ℤ → LoadAnswer → Type 0) (hs : List (List Record)) → ((j : ℕ) → j < length hs → AreGiven gives (history_at hs j)) → AreGiven gives (all_records hs)
 all_given gives [] each = All-nil (λ (r : Record). IsGiven gives (key_of r.call) r.asked)
@@ -136,13 +136,13 @@ all_given gives (h ∷ hs) each =
 
 -- ---- a closed cache
 
--- the receipts of a seat
+-- `AreFiled` holds for each seat.
 filed_at : (stripes : ℕ) (seats : List Sitting) → AllAreFiled stripes seats → (c : ℕ) → AreFiled stripes (receipts_at seats c)
 filed_at stripes [] filed c n t e = absurd (some-ne-none t (sym e))
 filed_at stripes (s ∷ ss) filed zero n t e = filed 0 s refl n t e
 filed_at stripes (s ∷ ss) filed (suc c) n t e = filed_at stripes ss (λ d x f. filed (suc d) x f) c n t e
 
--- each record is on its key's stripe, since its receipt is
+-- Each record is in the history of its key's stripe, since its receipt has that stripe.
 own_keys : {L : Type 0} (loads : Bool) (gives : ℤ → LoadAnswer → Type 0) (d : Opened L) (seats : List Sitting) (tables : List Stored) (hs : List (List Record)) → Settles loads gives d seats tables hs → AllAreFiled (length d.tables) seats → AreFrom (length d.tables) 0 hs
 own_keys loads gives d seats tables hs s filed j lt = each_of (λ r. stripe_of n (key_of r.call) ≡ 0 + j) (history_at hs j) each
   where

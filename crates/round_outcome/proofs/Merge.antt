@@ -1,4 +1,4 @@
--- Histories of stripes, one behind the other, are one history.
+-- The concatenated histories of stripes are one history.
 use Rattle.std.proofs.Common.{arith, ◌≡◌, ◌≢◌, ℕ, zero, suc, ◌+◌, ◌<◌, ℤ, Bool, true, false, if◌then◌else◌, List, [], ◌∷◌, ◌++◌, length, refl, sym, ap, ◌∙◌, subst, append_assoc}
 use Rattle.std.proofs.lemmas.List.{append-nil}
 use Rattle.std.proofs.lemmas.Bool.Decides.{Decides-int_eq}
@@ -10,7 +10,7 @@ use Rattle.stripe.specs.History.{Record, Entries, key_of, entry_after, entries_a
 use Rattle.cache.specs.Closing.{history_at}
 use Rattle.round_outcome.specs.Closed.{all_records}
 
--- ---- a fact of each record
+-- ---- a property of each record
 
 abbrev pub Each : (Record → Type 0) → List Record → Type 0
 Each P [] = Unit {0}
@@ -28,7 +28,7 @@ pub each_of : (P : Record → Type 0) (xs : List Record) → ((q : ℕ) (r : Rec
 each_of P [] f = tt
 each_of P (x ∷ xs) f = (f 0 x refl, each_of P xs (λ q r e. f (suc q) r e))
 
--- ---- records that don't name a key
+-- ---- records of calls on other keys
 
 other : (x k : ℤ) (a b : Entry) → x ≢ k → (if int_eq x k then a else b) ≡ b
 other x k a b h = by (int_eq x k) refl
@@ -50,7 +50,7 @@ legal_append loads b seen [] ys h g = subst (λ (l : List Record). IsLegalAfter 
 legal_append loads b seen (x ∷ xs) ys h g =
     (h.0, legal_append loads b (seen ++ x ∷ []) xs ys h.1 (subst (λ (l : List Record). IsLegalAfter loads b l ys) (sym (append_assoc seen (x ∷ []) xs)) g))
 
--- they may stand in front
+-- A history is legal after records of calls on other keys.
 legal_behind : (loads : Bool) (b : Entries) (front own xs : List Record) → Each (λ r. Each (λ f. key_of f.call ≢ key_of r.call) front) xs → IsLegalAfter loads b own xs → IsLegalAfter loads b (front ++ own) xs
 legal_behind loads b front own [] apart h = tt
 legal_behind loads b front own (r ∷ rs) apart h =
@@ -60,7 +60,7 @@ legal_behind loads b front own (r ∷ rs) apart h =
       subst (λ (l : List Record). IsLegalAfter loads b l rs) (sym (append_assoc front own (r ∷ []))) (legal_behind loads b front (own ++ r ∷ []) rs apart.1 h.1),
     )
 
--- ---- behind what others left
+-- ---- a history after other records
 
 pub legal_from : (loads : Bool) (b m : Entries) (front own xs : List Record) → ((k : ℤ) → m k ≡ entries_after b front k) → IsLegalAfter loads m own xs → IsLegalAfter loads b (front ++ own) xs
 legal_from loads b m front own [] same h = tt
@@ -70,17 +70,17 @@ legal_from loads b m front own (r ∷ rs) same h =
       subst (λ (l : List Record). IsLegalAfter loads b l rs) (sym (append_assoc front own (r ∷ []))) (legal_from loads b m front (own ++ r ∷ []) rs same h.1),
     )
 
--- ---- the records of one stripe behind those of others
+-- ---- the records of one stripe after those of earlier stripes
 
--- each record is of a key of this stripe, of so many
+-- `AreOn` holds if the key of each record belongs to stripe `i` of `n`.
 abbrev pub AreOn : ℕ → ℕ → List Record → Type 0
 AreOn n i rs = Each (λ r. stripe_of n (key_of r.call) ≡ i) rs
 
--- each record is of a key of an earlier stripe
+-- `AreBelow` holds if the key of each record belongs to a stripe below `i` of `n`.
 abbrev AreBelow : ℕ → ℕ → List Record → Type 0
 AreBelow n i rs = Each (λ r. stripe_of n (key_of r.call) < i) rs
 
--- the histories are those of the stripes from i on
+-- `AreFrom` holds if the histories are those of the stripes from `i` on.
 abbrev pub AreFrom : ℕ → ℕ → List (List Record) → Type 0
 AreFrom n i hs = (j : ℕ) → j < length hs → AreOn n (i + j) (history_at hs j)
 
@@ -118,7 +118,7 @@ none_named n i k (h ∷ hs) low each =
     (each_map (λ r. stripe_of n (key_of r.call) ≡ i) (λ r. key_of r.call ≢ k) h (λ r at e. away n i k (key_of r.call) low at (sym e)) (first_from n i h hs each))
     (none_named n (suc i) k hs (omega (arith, low)) (rest_from n i h hs each))
 
--- of all records those of the key's stripe tell its entry
+-- The entry of a key after all records is that after the records of its stripe.
 pub after_all : (e : Entry) (n i : ℕ) (k : ℤ) (hs : List (List Record)) → AreFrom n i hs → (j : ℕ) → stripe_of n k ≡ i + j → entry_after e (all_records hs) k ≡ entry_after e (history_at hs j) k
 after_all e n i k [] each j here = refl
 after_all e n i k (h ∷ hs) each zero here =

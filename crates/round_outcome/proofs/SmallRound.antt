@@ -1,4 +1,4 @@
--- The small round is done, and one with a value from nowhere isn't.
+-- The example round is done, and a round with a value that no call stored isn't.
 use Rattle.std.proofs.Common.{arith, ◌≡◌, ℕ, zero, suc, pos, Bool, true, false, List, [], ◌∷◌, All, Some, None, if◌then◌else◌, IsPermutation, refl, subst}
 use Rattle.std.proofs.lemmas.List.Elements.{All-cons, All-nil, All-head}
 use Rattle.std.proofs.lemmas.List.Sorted.{IsPermutation-middle, All-permutation, length_permutation}
@@ -32,7 +32,7 @@ round_is_done =
     by true = refl
     by false = refl
 
--- the call and its reply
+-- The call and its reply.
 abbrev told : Call × Reply
 told = (Get (pos 1), Value (Some (pos 7)))
 

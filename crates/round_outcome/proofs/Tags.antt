@@ -1,4 +1,4 @@
--- The elements of several lists, each with its place.
+-- The elements of several lists, each with its indices.
 use Rattle.std.proofs.Common.{◌≡◌, ℕ, zero, suc, ◌+◌, List, [], ◌∷◌, ◌++◌, map, refl, sym, ap, ◌∙◌, subst, inl, inr, ⊎_elim, arith}
 use Rattle.std.specs.Prelude.{flat_map}
 use Rattle.std.proofs.lemmas.List.{map-append}
@@ -6,7 +6,7 @@ use mathlib.Core.Option.{some, some-injective, some-ne-none}
 use lib.ListN.{get_elem?}
 use Rattle.round_outcome.proofs.Members.{In, Distinct, in_left, in_right, in_either, distinct_append}
 
--- the list at this place, or none
+-- The list at index `i`, or the empty list.
 abbrev pub at : {X : Type 0} → List (List X) → ℕ → List X
 at [] i = []
 at (l ∷ ls) zero = l

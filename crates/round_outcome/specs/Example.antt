@@ -1,4 +1,4 @@
--- A round of four calls on a cache without entries: two answered calls see the put that stands between them, and the other put is refused.
+-- A round of four calls on an empty cache: a `get` and a `containsKey` read the entry of the first `put`, and the second `put` is refused.
 use Rattle.std.specs.Prelude.{ℕ, ℤ, false, pos, List, [], ◌∷◌, Option, Some, None, true, if◌then◌else◌}
 use Rattle.std.specs.Ordering.{int_eq}
 use Rattle.jtypes.specs.declared.loader.LoadAnswer.{LoadAnswer}
@@ -19,17 +19,17 @@ replies = Some (Value (Some (pos 7))) ∷ Some Done ∷ None ∷ Some (Flag true
 abbrev made : ℕ → Call → Reply → Record
 made number call reply = record { caller = 0; number = number; call = call; reply = reply; after = Some (pos 7); asked = None }
 
--- the put comes first
+-- A history of the round. The `put` precedes the `get`.
 abbrev pub round_history : List Record
 round_history = made 0 (Put (pos 1) (pos 7)) Done ∷ made 1 (Get (pos 1)) (Value (Some (pos 7))) ∷ made 2 (Contains (pos 1)) (Flag true) ∷ []
 
 abbrev pub left_by_round : Entries
 left_by_round k = if int_eq (pos 1) k then Some (pos 7) else None
 
--- there is no loader, which answers nothing
+-- The answers that a loader may give, if there is no loader: none.
 abbrev pub no_answers : ℤ → LoadAnswer → Type 0
 no_answers k a = ⊥
 
--- then no history explains a value that no call put there
+-- `NoValueFromNowhere` holds if a round is not done whose only call, a `get`, returns a value from an empty cache.
 abbrev pub NoValueFromNowhere : Type 0
 NoValueFromNowhere = (after : Entries) → IsDone false no_answers no_entries (Get (pos 1) ∷ []) (Some (Value (Some (pos 7))) ∷ []) after → ⊥

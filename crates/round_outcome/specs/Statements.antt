@@ -1,4 +1,4 @@
--- What the laws say.
+-- The statements of the laws.
 use Rattle.std.specs.Prelude.{◌≡◌, ℕ, ℤ, Bool, List, [], ◌++◌, length, Option, IsPermutation}
 use Rattle.stripe.specs.declared.call.Reply.{Reply}
 use Rattle.jtypes.specs.declared.loader.LoadAnswer.{LoadAnswer}
@@ -11,14 +11,14 @@ use Rattle.world.specs.Lawful.{IsLawful}
 use Rattle.round_outcome.specs.Outcome.{IsHistoryOf, IsDone, answered, calls_in}
 use Rattle.round_outcome.specs.Closed.{all_records, calls_at, AreFiled, AllAreFiled}
 
--- a closed cache: the histories of its stripes, one behind the other, are a history of the calls at its seats, from the entries that it was opened with to
--- those that it hands out
+-- The concatenated histories of a closed cache are a history of the calls that its seats have receipts of,
+-- from the entries that it was opened with to those that it returns.
 abbrev pub CachesHandOutHistories : Type 0 → Bool → (ℤ → LoadAnswer → Type 0) → Type 0
 CachesHandOutHistories L loads gives =
     (d : Opened L) (seats : List Sitting) (tables : List Stored) (histories : List (List Record)) → Settles loads gives d seats tables histories
     → AllAreFiled (length d.tables) seats → IsHistoryOf loads gives (entry_among d.tables) (calls_at seats) (entry_among tables) (all_records histories)
 
--- receipts are filed where there is none, and stay so when a call is answered, or refused
+-- `AreFiled` holds without receipts. An answered call (`CallsAreFiled`) and a refused one (`RefusedCallsAreFiled`) preserve it.
 abbrev pub NoneIsFiled : Type 0
 NoneIsFiled = (stripes : ℕ) → AreFiled stripes []
 
@@ -32,20 +32,20 @@ RefusedCallsAreFiled L =
     (d : Opened L) (old new : Sitting) (call : Call) (refusal : InvokeRefusal) → IsTurnedAway d old call refusal new → AreFiled (length d.tables) old.receipts
     → AreFiled (length d.tables) new.receipts
 
--- a world, closed or not: its finished calls are a history of themselves, from the entries that it was opened with to those now
+-- The finished calls of a world, open or closed, are a history of these calls, from its opening entries to its current ones.
 abbrev pub WorldsHandOutHistories : Bool → (ℤ → LoadAnswer → Type 0) → Type 0
 WorldsHandOutHistories loads gives =
     (opening : List Stored) (finished : List Record) (now : Entries) → IsLawful loads opening finished now → AreGiven gives finished
     → IsHistoryOf loads gives (entry_among opening) (calls_in finished) now finished
 
--- a round is done where its answered calls are, in some order, those of a history
+-- A round is done if its answered calls are, in some order, those of a history.
 abbrev pub RoundsAreDone : Bool → (ℤ → LoadAnswer → Type 0) → Type 0
 RoundsAreDone loads gives =
     (before : Entries) (made : List (Call × Reply)) (after : Entries) (history : List Record) → IsHistoryOf loads gives before made after history
     → (calls : List Call) (answers : List (Option Reply)) → length answers ≡ length calls → IsPermutation (answered calls answers) made
     → IsDone loads gives before calls answers after
 
--- two histories, of which the second begins with the entries that the first leaves, are one
+-- Two histories, the second from the entries that the first leaves, concatenate to one history.
 abbrev pub HistoriesFollow : Bool → (ℤ → LoadAnswer → Type 0) → Type 0
 HistoriesFollow loads gives =
     (before between after : Entries) (made more : List (Call × Reply)) (first second : List Record) → IsHistoryOf loads gives before made between first

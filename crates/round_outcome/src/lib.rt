@@ -1,5 +1,5 @@
-//! What a finished round of calls leaves, whoever ran it: a legal history of the answered calls, from the entries before to those
-//! after. Definitions and their laws; nothing here runs.
+//! The outcome of a finished round of calls, for every scheduler: a legal history of the answered calls, from the entries before the round
+//! to those after it. The crate has definitions and their laws, and no code that runs.
 #![tactic(auto)]
 
 mod laws;

@@ -1,4 +1,4 @@
--- What an event does to a world.
+-- The effect of an event on a world.
 use Rattle.std.proofs.Common.{arith, ◌≡◌, ℕ, ◌<◌, Bool, true, false, not, ◌&&◌, ◌==◌, length, Option, Some, None, IsSome, IsTrue, slice_get, refl, sym, ap, ◌∙◌, true≢false}
 use Rattle.std.proofs.lemmas.Bool.{eqb-true}
 use Rattle.stripe.specs.declared.call.Reply.{Reply}
@@ -13,20 +13,20 @@ use Rattle.world.specs.Forward.{turns_of, turns_on}
 pub no_some : {X : Type 0} {P : Type 0} {x : X} → None ≡ Some x → P
 no_some e = absurd (cc)
 
--- ---- turns
+-- ---- the bound of a call's events
 
 pub some_turns : (q : Progress) → 0 < turns_of q
 some_turns (Working c s) = omega arith
 some_turns (Settled reply after asked) = omega arith
 
--- no turns are left exactly where no call runs
+-- If the bound is 0, no call runs.
 pub no_turns : (o : Option Running) → turns_on (Some o) ≡ 0 → o ≡ None
 no_turns None e = refl
 no_turns (Some r) e = let more = some_turns r.progress in absurd (omega (arith, more, e))
 
 -- ---- a step
 
--- the call of a stripe goes on, or nothing happens
+-- The effect of a step: the stripe's call progresses, or nothing changes.
 pub data Steps (w : World) (i : ℕ) : World → Type 0 where
   nothing : Steps w i w
   goes : (r : Running) (q : Progress) → slice_get w.running i ≡ Some (Some r) → Steps w i (with_running w i (Some (with_progress r q)))
@@ -71,7 +71,7 @@ start_moves a w call idle some = by (progress_of w.loads a (entries_now w (key_o
     by None e s = absurd (true≢false (sym s))
     by (Some q) e s = record { progress = q; is = ap (after_start a w 0 call) idle ∙ ap (after_begin w 0 call) e }
 
--- ---- what may be refused
+-- ---- the calls that may be refused
 
 both : (a b : Bool) → (a && b) ≡ true → (a ≡ true) × (b ≡ true)
 both true b e = (refl, e)

@@ -1,4 +1,4 @@
--- Replies in their places, and other lists.
+-- Lists of replies, and other lists.
 use Rattle.std.proofs.Common.{arith, ◌≡◌, ℕ, zero, suc, ◌-◌, ◌<◌, ◌≤◌, Bool, true, false, cond, ◌⊎◌, inl, inr, List, [], ◌∷◌, ◌++◌, length, map, filter, replicate, Option, Some, None, slice_get, slice_set, get_or, IsPermutation, refl, sym, ap, subst, ◌∙◌}
 use Rattle.std.proofs.lemmas.List.Sorted.{IsPermutation-refl, IsPermutation-cons, IsPermutation-trans, IsPermutation-sym, IsPermutation-middle, IsPermutation-to_front}
 use Rattle.std.proofs.lemmas.List.{map-append}
@@ -27,7 +27,7 @@ get_other (y ∷ xs) zero (suc p) x h = refl
 get_other (y ∷ xs) (suc n) zero x h = refl
 get_other (y ∷ xs) (suc n) (suc p) x h = get_other xs n p x (λ e. h (ap suc e))
 
--- what is at a place, or was
+-- The element at an index after a write: the written one, or the earlier one.
 pub get_cases : {X : Type 0} → (xs : List X) (n p : ℕ) (x y : X) → n < length xs → slice_get (slice_set xs n x) p ≡ Some y → ((p ≡ n) × (y ≡ x)) ⊎ ((¬ (p ≡ n)) × (slice_get xs p ≡ Some y))
 get_cases [] n p x y h e = absurd (none_less n h)
 get_cases (z ∷ xs) zero zero x y h e = inl (refl, cc)
@@ -56,11 +56,11 @@ map_get f [] i x e = absurd (cc)
 map_get f (z ∷ xs) zero x e = let same : z ≡ x = cc in ap (λ v. Some (f v)) same
 map_get f (z ∷ xs) (suc i) x e = map_get f xs i x e
 
--- what was read at a place
+-- The element that was read at an index.
 pub number_at : {X : Type 0} (xs : List X) (n len i : ℕ) (x : X) → n ≡ length xs → length xs ≡ len → i < len → x ≡ get_or xs i x → slice_get xs i ≡ Some x
 number_at xs n len i x many same lt is = slice_get_read xs n i x many (omega (arith, lt, same, many)) is
 
--- the last element of a list that was made longer by one
+-- The last element of a list with an appended element.
 pub last_of : {X Y : Type 0} (f : X → Y) (xs : List X) (ys : List Y) (x : X) (y : Y) → map f xs ≡ ys ++ y ∷ [] → slice_get xs (length xs - 1) ≡ Some x → f x ≡ y
 last_of f [] ys x y e at = absurd (cc)
 last_of f (z ∷ []) [] x y e at = let same : z ≡ x = cc in let is : f z ∷ [] ≡ y ∷ [] = e in ap f (sym same) ∙ cc is
@@ -92,7 +92,7 @@ none_answered [] n = refl
 none_answered (c ∷ calls) zero = refl
 none_answered (c ∷ calls) (suc n) = none_answered calls n
 
--- a reply more is an answered call more
+-- A further reply adds one answered call.
 pub answered_set : (calls : List Call) (replies : List (Option Reply)) (k : ℕ) (call : Call) (reply : Reply) → slice_get calls k ≡ Some call → slice_get replies k ≡ Some None
     → IsPermutation ((call, reply) ∷ answered calls replies) (answered calls (slice_set replies k (Some reply)))
 answered_set [] replies k call reply e none = absurd (cc)
@@ -107,7 +107,7 @@ answered_set (c ∷ calls) (Some x ∷ replies) (suc k) call reply e none =
     (IsPermutation-middle ((call, reply) ∷ []) (c, x) (answered calls replies))
     (IsPermutation-cons (c, x) ((call, reply) ∷ answered calls replies) (answered calls (slice_set replies k (Some reply))) (answered_set calls replies k call reply e none))
 
--- a record more, whose call has its reply now
+-- The answered calls are still those of the records after a further record, whose call now has its reply.
 pub answered_more : (calls : List Call) (replies : List (Option Reply)) (finished : List Record) (k : ℕ) (r : Record) → slice_get calls k ≡ Some r.call → slice_get replies k ≡ Some None
     → IsPermutation (answered calls replies) (calls_in finished) → IsPermutation (answered calls (slice_set replies k (Some r.reply))) (calls_in (finished ++ r ∷ []))
 answered_more calls replies finished k r e none p =
@@ -125,7 +125,7 @@ few_answered (c ∷ calls) [] = omega arith
 few_answered (c ∷ calls) (Some x ∷ replies) = omega (arith, few_answered calls replies)
 few_answered (c ∷ calls) (None ∷ replies) = omega (arith, few_answered calls replies)
 
--- where a call has no reply, fewer are answered than there are
+-- If a call has no reply, fewer calls are answered than there are.
 pub fewer_answered : (calls : List Call) (replies : List (Option Reply)) (k : ℕ) → slice_get replies k ≡ Some None → length (answered calls replies) < length replies
 fewer_answered calls [] k e = absurd (cc)
 fewer_answered [] (x ∷ replies) k e = omega arith

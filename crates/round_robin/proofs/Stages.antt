@@ -1,4 +1,4 @@
--- What is true of a round on its way stays true.
+-- The events of a round preserve its invariant.
 use Rattle.std.proofs.Common.{arith, ◌≡◌, ℕ, ◌+◌, ◌<◌, ◌≤◌, Bool, true, false, ◌==◌, inl, inr, List, [], length, replicate, Option, Some, None, is_some, slice_get, slice_set, IsPermutation, refl, sym, ap, subst, ◌∙◌, true≢false}
 use Rattle.std.proofs.lemmas.Bool.{eq-eqb, eqb-true}
 use Rattle.std.proofs.lemmas.Option.{slice_get_within}
@@ -17,9 +17,9 @@ use Rattle.round_robin.specs.Scheduling.{Stage, IsNumbered, IsRight, RunsOrRefus
 use Rattle.round_robin.proofs.Replies.{get_set, get_other, get_cases, get_in, get_replicate, replicate_get, none_answered, answered_more, fewer_answered, few_filtered}
 use Rattle.round_robin.proofs.Moves.{no_some, some_turns, no_turns, Steps, nothing, goes}
 
--- ---- numbers and calls that run
+-- ---- numbers and running calls
 
--- a call runs where there is a number
+-- A call runs on a stripe with a number.
 pub numbered : (s : Stage) → IsGoing s → (i k : ℕ) → slice_get s.numbers i ≡ Some (Some k) → (r : Running) × (slice_get s.world.running i ≡ Some (Some r)) × IsNumbered s i k r
 numbered s h i k e =
     let many = slice_get_within s.numbers i (Some k) e in
@@ -35,7 +35,7 @@ numbered_turns s h i k e =
     let found = numbered s h i k e in
     subst (λ o. 0 < turns_on o) (sym found.1) (some_turns found.0.progress)
 
--- none where there isn't
+-- No call runs on a stripe without a number.
 pub no_number : (s : Stage) → IsGoing s → (i : ℕ) → slice_get s.numbers i ≡ Some None → slice_get s.world.running i ≡ Some None
 no_number s h i e =
     let many = slice_get_within s.numbers i None e in
@@ -49,7 +49,7 @@ no_number s h i e =
 pub no_turns_left : (s : Stage) → IsGoing s → (i : ℕ) → slice_get s.numbers i ≡ Some None → turns_left s.world i ≡ 0
 no_turns_left s h i e = ap turns_on (no_number s h i e)
 
--- where no turns are left no call runs, and there is no number
+-- If the bound of a stripe is 0, no call runs on it (`idle_running`), and it has no number (`idle_number`).
 pub idle_running : (s : Stage) → IsGoing s → (i : ℕ) → i < length s.world.opening → turns_left s.world i ≡ 0 → slice_get s.world.running i ≡ Some None
 idle_running s h i lt e =
     let found = get_in s.world.running i (omega (arith, lt, h.running)) in
@@ -164,7 +164,7 @@ module _ (s : Stage) (h : IsGoing s) (i k : ℕ) (r : Running) (number : slice_g
   same_number : {a b : ℕ} → Some (Some a) ≡ Some (Some b) → a ≡ b
   same_number e = cc e
 
-  -- another call that runs has another number
+  -- Another running call has another number.
   ended_numbered : (j m : ℕ) (p : Running) → ¬ (j ≡ i) → IsNumbered s j m p → IsNumbered ended j m p
   ended_numbered j m p other x =
       let apart : ¬ (m ≡ k) = λ q. away (call_same (sym x.call ∙ ap (slice_get s.calls) q ∙ it.call)) in
@@ -233,7 +233,7 @@ module _ (s : Stage) (h : IsGoing s) (call : Call) (next : slice_get s.calls s.b
   waiting : slice_get s.replies s.begun ≡ Some None
   waiting = h.ahead s.begun (omega arith) (slice_get_within s.calls s.begun call next)
 
-  -- the histories of fewer calls than there are, are not full
+  -- The history of the next call's stripe is not full, since fewer calls are finished than there are.
   pub not_full : length (history_of s.world (stripe_in s.world call)) ≡ s.world.journal → ⊥
   not_full e =
       let few = few_filtered (is_on (length s.world.opening) (stripe_in s.world call)) s.world.finished in
@@ -242,7 +242,7 @@ module _ (s : Stage) (h : IsGoing s) (call : Call) (next : slice_get s.calls s.b
       let fewer = fewer_answered s.calls s.replies s.begun waiting in
       absurd (omega (arith, few, made, are, fewer, h.replies, h.room, e))
 
-  -- it is refused
+  -- The call is refused.
 
   abbrev pub passed : Stage
   passed = record { calls = s.calls; begun = s.begun + 1; world = s.world; numbers = s.numbers; replies = s.replies }
@@ -279,7 +279,7 @@ module _ (s : Stage) (h : IsGoing s) (call : Call) (next : slice_get s.calls s.b
       by k c lt e none true t = inr (subst (λ (x : Call). may_make s.world.loads x ≡ true) (this_call (sym next ∙ ap (slice_get s.calls) (sym (eqb-true k s.begun t)) ∙ e)) may)
       by k c lt e none false t = h.refused k c (later k lt (λ q. true≢false (sym (eq-eqb k s.begun q) ∙ t))) e none
 
-  -- it runs
+  -- The call runs.
 
   module _ (q : Progress) where
     abbrev runner : Running
@@ -345,7 +345,7 @@ module _ (s : Stage) (h : IsGoing s) (call : Call) (next : slice_get s.calls s.b
 
 -- ---- the end
 
--- no call runs
+-- At the end no call runs.
 pub none_runs : (s : Stage) → IsGoing s → AreIdleBefore (length s.world.opening) s → (i : ℕ) (r : Running) → ¬ (slice_get s.world.running i ≡ Some (Some r))
 none_runs s h idle i r e =
     let inside = slice_get_within s.world.running i (Some r) e in
@@ -354,7 +354,7 @@ none_runs s h idle i r e =
     let is : turns_left s.world i ≡ turns_on (Some (Some r)) = ap turns_on e in
     absurd (omega (arith, none, is, more))
 
--- each call has begun, and the ones without a reply were refused
+-- If all calls have begun and none runs, `AreRefused` holds: each call without a reply may create an entry.
 pub all_refused : (s : Stage) → IsGoing s → AreIdleBefore (length s.world.opening) s → s.begun ≡ length s.calls → AreRefused s.world.loads s.calls s.replies
 all_refused s h idle all k call e none =
     let inside = slice_get_within s.calls k call e in

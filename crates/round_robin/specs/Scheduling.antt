@@ -1,4 +1,4 @@
--- A round of calls on its way.
+-- The state of a running round.
 use Rattle.std.specs.Prelude.{◌≡◌, ℕ, ◌<◌, ◌≤◌, ◌⊎◌, Bool, true, List, length, map, replicate, Option, Some, None, slice_get, IsPermutation}
 use Rattle.stripe.specs.declared.call.Reply.{Reply}
 use Rattle.stripe.specs.History.{Call, key_of, stripe_of}
@@ -10,7 +10,8 @@ use Rattle.round_outcome.specs.Outcome.{answered, calls_in}
 use Rattle.round_robin.specs.declared.scheduler.Scheduler.{Scheduler}
 use Rattle.round_robin.specs.declared.scheduler.SchedulerBuffers.{SchedulerBuffers}
 
--- the calls, how many of them have begun or were refused, the world that they run on, the number of the call that runs on each stripe, and the replies
+-- The state of a round: the calls, the number of them that have begun or were refused, the world that they run on,
+-- the number of the call that runs on each stripe, and the replies.
 pub record Stage : Type 0 where
   pub calls : List Call
   pub begun : ℕ
@@ -21,25 +22,26 @@ pub record Stage : Type 0 where
 abbrev pub stage : {L : Type 0} → Scheduler L → Stage
 stage c = record { calls = map call_of c.calls.now; begun = c.begun; world = c.world.world; numbers = c.numbers.items; replies = c.replies.items }
 
--- the call with this number runs on this stripe, which is its key's, and has no reply yet
+-- `IsNumbered` holds if call `k` has begun, runs on stripe `i`, the stripe of its key, and has no reply yet.
 pub record IsNumbered (s : Stage) (i k : ℕ) (r : Running) : Type 0 where
   pub begun : k < s.begun
   pub call : slice_get s.calls k ≡ Some r.call
   pub stripe : stripe_of (length s.world.opening) (key_of r.call) ≡ i
   pub unanswered : slice_get s.replies k ≡ Some None
 
--- a stripe has a number exactly where a call runs on it, and it is that call's
+-- `IsRight` holds if stripe `i` has a number if and only if a call runs on it, and the number is that of the call.
 abbrev pub IsRight : Stage → ℕ → Option ℕ → Option Running → Type 0
 IsRight s i None None = Unit {0}
 IsRight s i None (Some r) = ⊥
 IsRight s i (Some k) None = ⊥
 IsRight s i (Some k) (Some r) = IsNumbered s i k r
 
--- the call with this number runs, or it may make an entry, and was refused
+-- `RunsOrRefused` holds if call `k` runs, or may create an entry, as every refused call may.
 abbrev pub RunsOrRefused : Stage → ℕ → Call → Type 0
 RunsOrRefused s k call = ((i : ℕ) × (slice_get s.numbers i ≡ Some (Some k))) ⊎ (may_make s.world.loads call ≡ true)
 
--- the finished calls are those that have a reply; those that have begun without one run or were refused, and the others have none
+-- `IsGoing` is the invariant of a round. The finished calls are those that have a reply. A call that has begun and has no reply runs or
+-- was refused. A call that has not begun has no reply.
 pub record IsGoing (s : Stage) : Type 0 where
   pub replies : length s.replies ≡ length s.calls
   pub numbers : length s.numbers ≡ length s.world.opening
@@ -50,26 +52,26 @@ pub record IsGoing (s : Stage) : Type 0 where
   pub right : (i : ℕ) (n : Option ℕ) (o : Option Running) → slice_get s.numbers i ≡ Some n → slice_get s.world.running i ≡ Some o → IsRight s i n o
   pub refused : (k : ℕ) (call : Call) → k < s.begun → slice_get s.calls k ≡ Some call → slice_get s.replies k ≡ Some None → RunsOrRefused s k call
 
--- the same calls on a world with the same opening tables, of which as many have begun
+-- `IsAsBefore` holds if both states have the same calls, the same number of begun calls, and the same opening tables.
 pub record IsAsBefore (old new : Stage) : Type 0 where
   pub calls : new.calls ≡ old.calls
   pub begun : new.begun ≡ old.begun
   pub opening : new.world.opening ≡ old.world.opening
 
--- places for this many calls and stripes, all empty
+-- `IsRoom` holds if the buffers have an empty item for each of `calls` calls and each of `stripes` stripes.
 pub record IsRoom (calls stripes : ℕ) (r : SchedulerBuffers) : Type 0 where
   pub numbers : r.numbers.items ≡ replicate stripes None
   pub replies : r.replies.items ≡ replicate calls None
 
--- no call runs on any of the stripes before this one
+-- `AreIdleBefore` holds if no call runs on a stripe below `i`.
 abbrev pub AreIdleBefore : ℕ → Stage → Type 0
 AreIdleBefore i s = (j : ℕ) → j < i → turns_left s.world j ≡ 0
 
--- all calls have begun, and none runs
+-- `IsOver` holds if all calls have begun and none runs.
 pub record IsOver (s : Stage) : Type 0 where
   pub begun : s.begun ≡ length s.calls
   pub idle : AreIdleBefore (length s.world.opening) s
 
--- a call without a reply may make an entry
+-- `AreRefused` holds if each call without a reply may create an entry.
 abbrev pub AreRefused : Bool → List Call → List (Option Reply) → Type 0
 AreRefused loads calls replies = (k : ℕ) (call : Call) → slice_get calls k ≡ Some call → slice_get replies k ≡ Some None → may_make loads call ≡ true

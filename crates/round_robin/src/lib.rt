@@ -1,4 +1,4 @@
-//! One round of calls on the entries of a cache, on one thread: calls on different stripes run in turn, one instruction a turn.
+//! A round of calls on one thread by a round-robin scheduler: calls on different stripes run interleaved, one instruction at a time.
 #![tactic(auto)]
 
 mod run;

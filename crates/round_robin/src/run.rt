@@ -1,4 +1,4 @@
-//! A round, from its tables to what it leaves.
+//! The run of a round, from tables to tables.
 
 ghost use Rattle.std.specs.Prelude.{◌≡◌, ◌≤◌, length, map, replicate, IfOk, IfErr, None};
 ghost use Rattle.stripe.specs.Seen.{call_of};
@@ -13,16 +13,16 @@ use std::alloc::{AllocError, Global};
 use stripe::{Call, Reply, Tables};
 use world::World;
 
-/// What a round leaves.
+/// The result of a round.
 #[derive(Drop)]
 pub struct TurnsLeft {
-    /// The entries afterwards.
+    /// The entries after the round.
     pub tables: Tables,
-    /// For each call, in order, its reply; none where the call was refused for want of memory.
+    /// The reply to each call, in the order of the calls, or none if the call was refused out of memory.
     pub replies: Vec<Option<Reply>>,
 }
 
-/// The room of a round.
+/// Allocates the buffers of a round.
 fn room_for(alloc: Global, calls: usize, stripes: usize) -> Result<SchedulerBuffers, AllocError>
     ensures { IfOk result (λ r. IsRoom calls stripes r) }
 {
@@ -32,8 +32,9 @@ fn room_for(alloc: Global, calls: usize, stripes: usize) -> Result<SchedulerBuff
     })
 }
 
-/// Runs these calls on one thread, and waits for nothing: each starts once no earlier call runs on its key's stripe, and calls on
-/// different stripes run in turn, one instruction a turn. Or the tables again, for want of memory; then no call has run.
+/// Runs these calls on one thread, without blocking. The calls start in order, each once no earlier call runs on the stripe of its key.
+/// Calls on different stripes run interleaved, one instruction at a time.
+/// An error is out of memory before the first call, and returns the tables unchanged.
 pub fn run_in_turns<'a, L: Loader>(
     alloc: Global,
     tables: Tables,

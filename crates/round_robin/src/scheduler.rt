@@ -1,24 +1,24 @@
-//! A round on its way.
+//! The scheduler of a round.
 
 use jtypes::Loader;
 use stripe::{Call, Reply, stripe_of};
 use world::{Applied, Event, World};
 
-/// The room of a round: a place for each stripe, and one for each call.
+/// The buffers of a round: an item for each stripe, and one for each call.
 #[derive(Drop)]
 pub struct SchedulerBuffers {
     pub numbers: Vec<Option<usize>>,
     pub replies: Vec<Option<Reply>>,
 }
 
-/// A round on its way.
+/// A running round.
 #[derive(Drop)]
 pub struct Scheduler<'c, 'a, L: Loader> {
     calls: &'c [Call<'a>],
-    /// How many calls have begun, or were refused.
+    /// The number of calls that have begun or were refused.
     begun: usize,
     world: World<'a, L>,
-    /// For each stripe the number of the call that runs on it, if one does.
+    /// For each stripe the number of the call that runs on it, if any.
     numbers: Vec<Option<usize>>,
     /// For each call its reply, once it is finished.
     replies: Vec<Option<Reply>>,
@@ -33,7 +33,7 @@ impl<'c, 'a, L: Loader> Scheduler<'c, 'a, L> {
     ghost use Rattle.world.specs.World.{opened};
     ghost use Rattle.round_robin.specs.Scheduling.{stage, IsGoing, IsRoom, IsAsBefore, AreIdleBefore, IsOver};
 
-    /// No call has begun.
+    /// Returns a round of which no call has begun.
     pub fn new(
         calls: &'c [Call<'a>],
         world: World<'a, L>,
@@ -57,7 +57,7 @@ impl<'c, 'a, L: Loader> Scheduler<'c, 'a, L> {
         }
     }
 
-    /// One turn of the call that runs on a stripe, if one does: an instruction, or its finish if it is final.
+    /// Runs one instruction of the call that runs on a stripe, if any, or finishes the call if it is in a final state.
     fn turn_on(&mut self, stripe: usize)
         requires going { IsGoing (stage self.old) }
         requires stripe { stripe < length self.old.world.world.opening }
@@ -84,7 +84,7 @@ impl<'c, 'a, L: Loader> Scheduler<'c, 'a, L> {
         self.numbers[stripe] = None;
     }
 
-    /// One turn of each call that runs.
+    /// Runs one instruction of each running call, or finishes it.
     fn turn(&mut self)
         requires { IsGoing (stage self.old) }
         ensures going { IsGoing (stage self.new) }
@@ -97,7 +97,7 @@ impl<'c, 'a, L: Loader> Scheduler<'c, 'a, L> {
         }
     }
 
-    /// Takes turns till no call runs on a stripe.
+    /// Runs all running calls until no call runs on this stripe.
     fn wait_for(&mut self, stripe: usize)
         requires going { IsGoing (stage self.old) }
         requires stripe { stripe < length self.old.world.world.opening }
@@ -112,7 +112,7 @@ impl<'c, 'a, L: Loader> Scheduler<'c, 'a, L> {
         }
     }
 
-    /// Starts the next call on its stripe, where none runs.
+    /// Starts the next call on its stripe, on which no call runs. A refused call counts as begun, and gets no reply.
     fn start(&mut self, call: Call<'a>, stripe: usize)
         requires going { IsGoing (stage self.old) }
         requires next { slice_get (stage self.old).calls self.old.begun ≡ Some (call_of call) }
@@ -134,7 +134,7 @@ impl<'c, 'a, L: Loader> Scheduler<'c, 'a, L> {
         }
     }
 
-    /// Starts the next call, once none runs on its stripe.
+    /// Runs calls until none runs on the next call's stripe, and starts the next call.
     fn begin(&mut self)
         requires going { IsGoing (stage self.old) }
         requires more { self.old.begun < length self.old.calls.now }
@@ -151,7 +151,7 @@ impl<'c, 'a, L: Loader> Scheduler<'c, 'a, L> {
         self.start(call, stripe);
     }
 
-    /// Starts all calls.
+    /// Starts all calls, in order.
     fn begin_all(&mut self)
         requires going { IsGoing (stage self.old) }
         requires none { self.old.begun ≡ 0 }
@@ -167,7 +167,7 @@ impl<'c, 'a, L: Loader> Scheduler<'c, 'a, L> {
         }
     }
 
-    /// Takes turns till no call runs.
+    /// Runs all running calls to their ends.
     fn wait_for_all(&mut self)
         requires { IsGoing (stage self.old) }
         ensures going { IsGoing (stage self.new) }
@@ -180,7 +180,7 @@ impl<'c, 'a, L: Loader> Scheduler<'c, 'a, L> {
         }
     }
 
-    /// Runs all calls.
+    /// Starts all calls and runs them to their ends.
     pub fn run(&mut self)
         requires going { IsGoing (stage self.old) }
         requires none { self.old.begun ≡ 0 }
@@ -195,7 +195,7 @@ impl<'c, 'a, L: Loader> Scheduler<'c, 'a, L> {
         self.wait_for_all();
     }
 
-    /// The world, in which no call runs, and the replies.
+    /// Returns the world and the replies.
     pub fn end(self) -> (World<'a, L>, Vec<Option<Reply>>)
         ensures world { result.0 ≡ self.entry.world }
         ensures replies { result.1.items ≡ self.entry.replies.items }

@@ -1,4 +1,4 @@
--- A round on a cache that was opened for it is done.
+-- A round on a new cache is done.
 use Rattle.std.proofs.Common.{◌≡◌, ℕ, ℤ, Bool, suc, List, [], ◌∷◌, ◌++◌, length, map, refl, sym, ap, ◌∙◌, subst, IsPermutation}
 use mathlib.Core.Option.{some}
 use lib.ListN.{get_elem?}
@@ -13,7 +13,7 @@ use Rattle.round_outcome.specs.Closed.{all_records, all_receipts, calls_told, ca
 use Rattle.round_outcome.proofs.Handed.{caches_hand_out_histories, none_is_filed, rounds_are_done}
 use Rattle.invokeall.specs.Rounds.{Answer, reply_of, IsRound}
 
--- seats without a receipt
+-- Seats without receipts have no receipt in all.
 no_receipts : (seats : List Sitting) → ((c : ℕ) (s : Sitting) → get_elem? seats c ≡ some s → s.receipts ≡ []) → all_receipts seats ≡ []
 no_receipts [] none = refl
 no_receipts (s ∷ ss) none = ap (λ (l : List Receipt). l ++ all_receipts ss) (none 0 s refl) ∙ no_receipts ss (λ c x e. none (suc c) x e)
@@ -26,20 +26,20 @@ module _ {L : Type 0} (loads : Bool) (gives : ℤ → LoadAnswer → Type 0) (d 
   none_yet : (c : ℕ) (s : Sitting) → get_elem? old c ≡ some s → s.receipts ≡ []
   none_yet c s e = ap (λ (x : Sitting). x.receipts) (fresh.each c s e)
 
-  -- the calls at the seats are the answered ones
+  -- The seats have, in some order, the receipts of the answered calls.
   pub once_told : IsPermutation (answered calls (map reply_of answers)) (calls_at new)
   once_told =
       let told : calls_at old ≡ [] = ap calls_told (no_receipts old none_yet) in
       subst (λ l. IsPermutation (l ++ answered calls (map reply_of answers)) (calls_at new)) told round.receipts
 
   module _ (tables : List Stored) (histories : List (List Record)) (settled : Settles loads gives d new tables histories) where
-    -- and their records are a history
+    -- The records of these calls are a history.
     pub history_left : IsHistoryOf loads gives (entry_among d.tables) (calls_at new) (entry_among tables) (all_records histories)
     history_left =
         let filed : AllAreFiled (length d.tables) old = λ c s e. subst (AreFiled (length d.tables)) (sym (none_yet c s e)) (none_is_filed (length d.tables)) in
         caches_hand_out_histories L loads gives d new tables histories settled (round.filed filed)
 
-    -- so the round is done
+    -- So the round is done.
     pub round_done : IsDone loads gives (entry_among d.tables) calls (map reply_of answers) (entry_among tables)
     round_done =
         rounds_are_done loads gives (entry_among d.tables) (calls_at new) (entry_among tables) (all_records histories) history_left calls (map reply_of answers) (as_many answers ∙ round.count) once_told

@@ -1,4 +1,4 @@
--- A round has no more jobs than a history has room for records, so none is refused for a full history.
+-- A round has at most as many jobs as a history may have records, so no job is refused for a full history.
 use Rattle.std.proofs.Common.{◌≡◌, ◌≢◌, ℕ, ℤ, zero, suc, ◌<◌, ◌≤◌, List, [], ◌∷◌, length, map, get_or, Bool, true, false, Ok, Err, refl, sym, ap, ◌∙◌, arith, length-append, IsPermutation}
 use Rattle.std.specs.Prelude.{slice_index_or}
 use Rattle.std.specs.List.{All}
@@ -18,7 +18,7 @@ use Rattle.invokeall.specs.Rounds.{Answer, reply_of, IsRound, ShowsAtSeats}
 use Rattle.workers.specs.Buffers.{HasPlace}
 use Rattle.workers.proofs.Done.{once_told, history_left}
 
--- a history is among all of them
+-- A history has at most as many records as all histories have.
 some_records : (hs : List (List Record)) (j : ℕ) → length (history_at hs j) ≤ length (all_records hs)
 some_records [] j = omega arith
 some_records (h ∷ hs) zero = let e = length-append h (all_records hs) in omega arith
@@ -34,7 +34,7 @@ at_most (c ∷ cs) [] = omega arith
 at_most (c ∷ cs) (Ok r ∷ rest) = let h = at_most cs rest in omega arith
 at_most (c ∷ cs) (Err e ∷ rest) = let h = at_most cs rest in omega arith
 
--- a refused call is not among the answered ones
+-- If a call was refused, fewer calls are answered than there are.
 fewer : (calls : List Call) (answers : List Answer) (k : ℕ) (e : InvokeRefusal) → length answers ≡ length calls → get_elem? answers k ≡ some (Err e) → length (answered calls (map reply_of answers)) < length calls
 fewer calls [] k e same at = absurd (some-ne-none (Err e) (sym at))
 fewer [] (x ∷ xs) k e same at = absurd (omega (arith, same))

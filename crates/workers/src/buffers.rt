@@ -1,4 +1,4 @@
-//! The memory of a round. It is taken before the first job runs.
+//! The buffers of a round, which are allocated before its first job runs.
 
 ghost use Rattle.std.specs.Prelude.{◌≡◌, length, IfOk};
 ghost use Rattle.claims.specs.Counters.{IsJobCount};
@@ -10,22 +10,22 @@ use invokeall::RoundBuffers;
 use machine::Workspace;
 use std::alloc::{AllocError, Global};
 
-/// What a round hands on to the next one: to make a workspace takes longer than a short call.
+/// The workspaces that a round keeps for the next one. To allocate a workspace takes longer than a short call.
 #[derive(Drop)]
 pub struct WorkspacePool {
     pub workspaces: Vec<Workspace>,
 }
 
 impl WorkspacePool {
-    /// Nothing yet.
+    /// Returns an empty pool.
     pub fn new(alloc: Global) -> WorkspacePool {
         WorkspacePool {
             workspaces: Vec::new(alloc),
         }
     }
 
-    /// A workspace for each of so many workers, as far as there is memory. Made before all else that lives as long, their rows stand side
-    /// by side in memory, rather than between what other workers read and write.
+    /// Returns a pool with a workspace for each of `workers` workers, or with fewer if it is out of memory.
+    /// If it is allocated before all other long-lived data, its workspaces are adjacent in memory, and not between data of other workers.
     pub fn with_workspaces(alloc: Global, workers: usize) -> WorkspacePool {
         let mut kept = WorkspacePool::new(alloc);
         for _ in 0..workers {
@@ -37,19 +37,19 @@ impl WorkspacePool {
         kept
     }
 
-    /// Keeps a workspace, if there is memory for it.
+    /// Adds a workspace to the pool, or drops it if it is out of memory.
     pub fn keep(&mut self, workspace: Workspace) {
         let _ = self.workspaces.push(workspace);
     }
 
-    /// Keeps these workspaces.
+    /// Adds these workspaces to the pool, as `keep` does.
     pub fn keep_all(&mut self, workspaces: Vec<Workspace>) {
         for workspace in workspaces {
             self.keep(workspace);
         }
     }
 
-    /// A workspace that was kept, or a new one.
+    /// Returns a workspace from the pool, or a new one if the pool is empty.
     pub fn workspace(&mut self, alloc: Global) -> Result<Workspace, AllocError> {
         match self.workspaces.pop() {
             Some(workspace) => Ok(workspace),
@@ -58,15 +58,15 @@ impl WorkspacePool {
     }
 }
 
-/// What a round needs beside its cache.
+/// The buffers of a round, without those of its cache.
 #[derive(Drop)]
 pub struct PoolBuffers<'a> {
     pub round: RoundBuffers<'a>,
     pub workspaces: Vec<Workspace>,
 }
 
-/// The buffers of a round of `jobs` jobs by `workers` workers, on a cache of `stripes` stripes. The workspaces are those that were kept, as
-/// far as they go.
+/// Allocates the buffers of a round of `jobs` jobs by `workers` workers, on a cache of `stripes` stripes.
+/// The workspaces come from the pool, and are allocated once that is empty.
 pub fn buffers_for<'a>(
     alloc: Global,
     jobs: usize,
@@ -84,7 +84,7 @@ pub fn buffers_for<'a>(
     Ok(PoolBuffers { round, workspaces })
 }
 
-/// So many workspaces, of those that were kept first.
+/// Returns `count` workspaces, from the pool first.
 fn workspaces(
     alloc: Global,
     count: usize,

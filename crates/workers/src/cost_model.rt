@@ -1,24 +1,22 @@
-//! How many workers a round is worth.
+//! The cost model, which chooses the number of workers of a round.
 
 ghost use Rattle.std.specs.Prelude.{◌≡◌, ◌<◌, ◌≤◌};
 
 use verify::Verified;
 
-/// The instructions that make a worker more worth its thread: some four hundred microseconds of work. A thread that does
-/// nothing takes some thirty to start and end, and rounds were seen to lose more by a further worker.
+/// The number of instructions that justifies a further worker. With less work, the start and the end of its thread cost more than it saves.
 pub const STEPS_PER_WORKER: u32 = 524_288;
 
-/// The instructions that a call is reckoned to take beside those of its class: to take a stripe, find an entry, put it and leave a
-/// record takes as long.
+/// The estimated cost in instructions of a call without its class: to lock a stripe, find and store an entry, and write a record.
 pub const CALL_COST: u64 = 192;
 
-/// The instructions that an invocation of this class is reckoned to take at most: those of a call, and those that the class states.
+/// Returns the estimated maximum cost in instructions of an invocation of this class: `CALL_COST` plus the step bound of the class.
 pub fn cost_of(class: &Verified) -> u64 {
     CALL_COST + u64::from(class.bounds().steps)
 }
 
-/// How many of at most so many workers a round is worth whose calls are reckoned to take so many instructions: one for each `share` of
-/// them, and at least one. Where `share` is 0 it is worth all of them.
+/// Returns the number of workers for a round with an estimated cost of `steps` instructions: one for each `share`, from 1 to `most`.
+/// It returns `most` if `share` is 0.
 pub fn workers_for(steps: u64, most: usize, share: u32) -> usize
     requires { 0 < most }
     ensures some { 0 < result }

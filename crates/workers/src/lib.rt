@@ -1,4 +1,4 @@
-//! A round of calls by worker threads, on a cache that is opened for it and closed behind it.
+//! A round of calls by worker threads, on a cache that is opened for the round and closed after it.
 #![tactic(auto)]
 
 mod buffers;

@@ -1,4 +1,4 @@
-//! A cache is opened, a round is run on it, and it is closed.
+//! The run of a round: opens a cache, runs the round on it and closes it.
 
 ghost use Rattle.std.specs.Prelude.{◌≡◌, ◌<◌, ◌≤◌, length, map, IfOk, IfErr};
 ghost use Rattle.std.specs.List.{All};
@@ -21,11 +21,11 @@ use std::sync::Wait;
 use std::thread::Threads;
 use stripe::{Call, MOST_RECORDS, Tables};
 
-/// One worker makes so few calls in their order. More of them it makes stripe by stripe, since what a stripe stores stays at hand then.
+/// The most calls that a single worker makes in order. It makes more calls stripe by stripe, so that their entries stay in the CPU cache.
 const FEW: usize = 512;
 
-/// What a round makes: these calls, of classes of the registry.
-/// The gate hears of each of them, and the loader is asked where they find no entry.
+/// The calls of a round, with the class registry and the loader of its cache.
+/// The gate observes each call, and the loader is asked for absent entries.
 #[derive(Drop)]
 pub struct PoolRound<'s, 'a, G, L> {
     pub registry: &'a Registry,
@@ -34,16 +34,16 @@ pub struct PoolRound<'s, 'a, G, L> {
     pub loader: &'s L,
 }
 
-/// What a round leaves.
+/// The result of a round.
 #[derive(Drop)]
 pub struct RoundLeft {
-    /// The entries afterwards.
+    /// The entries after the round.
     pub tables: Tables,
-    /// An answer to each call, in the order of the calls. A call that was refused, for want of memory, changed nothing.
+    /// The answer to each call, in the order of the calls. A refused call was out of memory, and changed no entry.
     pub answers: Vec<JobReply>,
 }
 
-/// How many of something a round takes that needs no more of it than it has calls: at least one.
+/// Returns the number of seats or of records that a round needs: as many as calls, from 1 to `most`.
 fn needed(calls: usize, most: usize) -> usize
     requires { 0 < most }
     ensures some { 0 < result }
@@ -59,12 +59,13 @@ fn needed(calls: usize, most: usize) -> usize
     }
 }
 
-/// Makes the calls by `workers` workers, or one for each call where there are fewer calls.
-/// Where there are several, each has a thread of its own, for which the caller waits.
+/// Makes the calls by `workers` workers, or by one for each call if there are fewer calls.
+/// There are as many threads as workers, calls or stripes, whichever are fewest. A single one is the caller's. Several are new threads,
+/// for which the caller waits.
 ///
-/// All memory of the round itself is taken before the first call.
-/// Where that fails, no call is made, and the tables come back as they are.
-/// What is kept is used, and what the next round can use is kept.
+/// All buffers of the round itself are allocated before the first call.
+/// If that fails, no call is made, and the error returns the tables unchanged.
+/// The workspaces come from `kept`, and return to it after the round.
 pub fn run_by_workers<'a, R: Threads + Wait + Sync, G: Gate + Sync, L: Loader + Sync>(
     rt: &R,
     alloc: Global,
@@ -95,7 +96,7 @@ pub fn run_by_workers<'a, R: Threads + Wait + Sync, G: Gate + Sync, L: Loader + 
     }
 }
 
-/// Makes the calls on a cache without a call yet, and closes it.
+/// Makes the calls on a new cache, and closes it.
 fn run_on<'a, R: Threads + Wait + Sync, G: Gate + Sync, L: Loader + Sync>(
     rt: &R,
     cache: Cache<'a, '_, L>,

@@ -1,4 +1,4 @@
-//! A cache is opened for one worker, and closed behind its calls.
+//! The run of a round by one worker: opens a cache, makes the calls and closes it.
 
 ghost use Rattle.std.specs.Prelude.{◌≡◌, ◌≤◌, length, map, IfOk, IfErr};
 ghost use Rattle.std.specs.List.{All};
@@ -20,7 +20,7 @@ use std::alloc::Global;
 use std::sync::Wait;
 use stripe::Tables;
 
-/// Makes the calls by one worker, on the caller's thread.
+/// Makes the calls by one worker, in order, on the caller's thread. An error returns the tables, and no call was made.
 /// It needs no groups of calls.
 pub fn run_by_one<'a, R: Wait, G: Gate, L: Loader>(
     rt: &R,
@@ -52,7 +52,7 @@ pub fn run_by_one<'a, R: Wait, G: Gate, L: Loader>(
     }
 }
 
-/// Makes the calls on a cache of one seat without a call yet, and closes it.
+/// Makes the calls on a new cache of one seat, and closes it.
 fn run_at_one<'a, R: Wait, G: Gate, L: Loader>(
     rt: &R,
     cache: Cache<'a, '_, L>,

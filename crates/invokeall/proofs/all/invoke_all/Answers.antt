@@ -15,7 +15,7 @@ one_key keys k = go (list_any (int_eq k) keys)
     go true = omega arith
     go false = omega (arith, length-append keys (k ∷ []))
 
--- there are no more different keys than keys
+-- There are at most as many distinct keys as keys.
 few_keys : (first keys : List ℤ) → length (fold with_key first keys) ≤ length first + length keys
 few_keys first [] = omega arith
 few_keys first (k ∷ keys) = let a = few_keys (with_key first k) keys in let b = one_key first k in omega arith

@@ -4,7 +4,7 @@ use Rattle.invokeall.specs.Collected.{is_null, listed}
 use Rattle.invokeall.proofs.all.list.Goals.{then-not-is_null, else-not-is_null}
 use Rattle.invokeall.proofs.all.list.Goals as goal
 
--- what is listed from one place on, and from the next
+-- The listed results from an index on, by those from the next index on.
 listed_drop : (keys : List ℤ) (answers : List Answer) (i : ℕ) (k : ℤ) (a : Answer) → i < length keys → i < length answers
     → listed (drop i keys) (drop i answers) ≡ (if is_null (get_or answers i a) then listed (drop (suc i) keys) (drop (suc i) answers) else (get_or keys i k, get_or answers i a) ∷ listed (drop (suc i) keys) (drop (suc i) answers))
 listed_drop [] answers i k a h g = absurd (omega arith)

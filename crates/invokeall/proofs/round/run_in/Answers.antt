@@ -15,7 +15,7 @@ use Rattle.invokeall.proofs.Worked.{all_worked, all_ready, all_claimers, are_fil
 use Rattle.invokeall.proofs.Rows.{put_shown, shown_blanks, shown_there}
 use Rattle.invokeall.proofs.round.run_in.Goals as goal
 
--- what stands in a vector after a write of its whole slice
+-- The items of a vector after a write of its whole slice.
 written : {A : Type 0} (len : ℕ) (new items rest : List A) → len ≡ length items → length new ≡ length items → take len (new ++ rest) ≡ new
 written len new items rest a b = take-append-le len new rest (omega arith) ∙ take_all len new (omega arith)
 

@@ -6,7 +6,7 @@ use Rattle.invokeall.specs.Workers.{HasAnswered}
 use Rattle.invokeall.proofs.worker.work_within.Goals.{then-first-calls+else-not-hold_within, else-first-calls}
 use Rattle.invokeall.proofs.worker.work_within.Goals as goal
 
--- whether or not the seat was told to hold a stripe, the worker has answered what it had
+-- The lock of a stripe changes no answer, whether the group has a stripe or not.
 pub returns-clause-made : goal.returns-clause-made
 returns-clause-made g c = λ made v before h.
     let w : Worker = c.args.worker.now in

@@ -18,7 +18,7 @@ set_only [] x e = absurd (omega (arith, e))
 set_only (y ∷ []) x e = refl
 set_only (y ∷ z ∷ l) x e = absurd (omega (arith, e))
 
--- the round at the seat is one at all the seats
+-- A round at the only seat is a round at all seats.
 all_seats : {L : Type 0} (d : Opened L) (calls : List Call) (seats : List Sitting) (first new : Sitting) (answers : List Answer) → length seats ≡ 1 → first ≡ get_or seats 0 first → IsRound d calls (first ∷ []) (new ∷ []) answers
     → IsRound d calls seats (set seats 0 new) answers
 all_seats d calls seats first new answers one is round =
