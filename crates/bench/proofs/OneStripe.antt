@@ -1,10 +1,10 @@
--- The stripe of a table that is alone.
+-- The only stripe of a table.
 use Rattle.std.proofs.Common.{◌≡◌, ℕ, List, [], ◌∷◌, length, slice_index_or, None, ap, ◌∙◌, arith}
 use Rattle.stripe.specs.Stored.{Stored}
 use Rattle.stripe.specs.Kept.{Kept, fresh}
 use Rattle.stripe.specs.Tables.{fresh_stripes}
 
--- the only one, on which no call is open
+-- `IsAlone` holds if the stripe is the only one, and no call is open on it.
 pub record IsAlone (s : Kept) : Type 0 where
   pub stripes : s.stripes ≡ 1
   pub place : s.place ≡ 0

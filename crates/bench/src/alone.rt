@@ -1,6 +1,7 @@
-//! Calls on one stripe, by the processor time of this thread.
+//! Calls on one stripe, measured in CPU time of this thread.
 //!
-//! A round makes as many calls as the stripe's history may have records. The calls alone are timed; that the tables become a stripe, and the stripe tables again, is not.
+//! A round makes as many calls as the history of a stripe may have records.
+//! Only the calls are timed, not the conversion of the tables to a stripe and back.
 
 ghost use Rattle.std.specs.Prelude.{◌≡◌, ◌<◌, false, None, length, IfOk};
 ghost use Rattle.stripe.specs.History.{stripe_of};
@@ -17,10 +18,10 @@ use std::time::{CpuClock, Duration};
 use stripe::{ArgSlice, Call, MOST_RECORDS, Stripe, Tables, stripe_of};
 use verify::Verified;
 
-/// The calls of a round: as many as a stripe has records.
+/// The calls of a round: the capacity of a stripe's history.
 const CALLS: u32 = MOST_RECORDS as u32;
 
-/// What each call of a round is.
+/// The kind of the calls of a round.
 #[derive(Clone, Copy)]
 pub enum Kind<'a> {
     Put,
@@ -28,7 +29,7 @@ pub enum Kind<'a> {
     Invoke(&'a Verified),
 }
 
-/// What the calls take, in tenths of a nanosecond: a put on a key that is there and on one that is absent, an invocation, and of an invocation the run of its class.
+/// The times of the calls: a put on a present key and on an absent key, an invocation, and the run of its class.
 #[derive(Clone, Copy)]
 pub struct StripeTimes {
     pub there: Times,
@@ -37,14 +38,14 @@ pub struct StripeTimes {
     pub run: Times,
 }
 
-/// Each key is of the one stripe.
+/// Shows that a key is in the only stripe.
 fn has_one_stripe(key: i64)
     ensures { stripe_of 1 key ≡ 0 }
 {
     let _place = stripe_of(1, key);
 }
 
-/// How a call ends that found this entry, an invocation by a run of its class.
+/// Returns the result of the run if the call is an invocation, else none. The run is on the entry `before`.
 fn end_of(call: &Call<'_>, before: Option<i64>, workspace: &mut Workspace) -> Option<Done>
     ensures { IsEnd false before (call_of call.now) result None }
 {
@@ -59,7 +60,7 @@ fn end_of(call: &Call<'_>, before: Option<i64>, workspace: &mut Workspace) -> Op
     }
 }
 
-/// Makes a call: it begins, a class that it invokes is run, and it ends.
+/// Makes a call: begins it, runs the class if it is an invocation, and commits it.
 fn make<'a>(stripe: &mut Stripe<'a>, number: u32, call: Call<'a>, workspace: &mut Workspace)
     requires one { (stripe.old.stripes ≡ 1) × (stripe.old.place ≡ 0) }
     requires idle { stripe.old.running ≡ None }
@@ -74,7 +75,7 @@ fn make<'a>(stripe: &mut Stripe<'a>, number: u32, call: Call<'a>, workspace: &mu
     let _record = stripe.commit(done, None);
 }
 
-/// Makes a call of a kind.
+/// Makes a call of this kind.
 fn ask<'a>(
     stripe: &mut Stripe<'a>,
     number: u32,
@@ -102,7 +103,7 @@ fn ask<'a>(
     }
 }
 
-/// Makes a call of a kind on each key.
+/// Makes a call of this kind on each key.
 fn ask_all<'a>(stripe: &mut Stripe<'a>, kind: Kind<'a>, keys: &[i64], workspace: &mut Workspace)
     requires one { (stripe.old.stripes ≡ 1) × (stripe.old.place ≡ 0) }
     requires idle { stripe.old.running ≡ None }
@@ -116,7 +117,7 @@ fn ask_all<'a>(stripe: &mut Stripe<'a>, kind: Kind<'a>, keys: &[i64], workspace:
     }
 }
 
-/// One round: how long its calls take, and the entries that they leave.
+/// Makes the calls of one round. Returns their time, and the tables that they leave.
 fn asked<'a>(
     clock: &impl CpuClock,
     alloc: Global,
@@ -144,7 +145,7 @@ fn asked<'a>(
     Ok((time, tables))
 }
 
-/// A table with so many entries, which are put in as many rounds as it takes.
+/// Returns a table with `keys` entries, put in as many rounds as needed.
 fn filled(
     clock: &impl CpuClock,
     alloc: Global,
@@ -165,7 +166,7 @@ fn filled(
     Ok(tables)
 }
 
-/// The keys of a round, of so many from the first on.
+/// Returns the keys of a round, out of `keys` keys from `first` on.
 fn plan(alloc: Global, round: u32, first: u32, keys: u32) -> Result<Vec<i64>, AllocError>
     requires { 0 < keys }
 {
@@ -178,7 +179,7 @@ fn plan(alloc: Global, round: u32, first: u32, keys: u32) -> Result<Vec<i64>, Al
     Ok(list)
 }
 
-/// The keys of each round, of so many from the first on.
+/// Returns the keys of each round, out of `keys` keys from `first` on.
 fn plans(alloc: Global, first: u32, keys: u32) -> Result<Vec<Vec<i64>>, AllocError>
     requires { 0 < keys }
 {
@@ -189,7 +190,7 @@ fn plans(alloc: Global, first: u32, keys: u32) -> Result<Vec<Vec<i64>>, AllocErr
     Ok(list)
 }
 
-/// What each call of a kind takes, and the entries afterwards.
+/// Returns the times of a call of this kind, and the tables afterwards.
 fn timed<'a>(
     clock: &impl CpuClock,
     alloc: Global,
@@ -210,7 +211,7 @@ fn timed<'a>(
     Ok((times_of(&mut times), tables))
 }
 
-/// What a put on an absent key takes. After each round the keys are taken out again.
+/// Returns the times of a put on an absent key. After each round its keys are removed.
 fn timed_absent(
     clock: &impl CpuClock,
     alloc: Global,
@@ -230,7 +231,7 @@ fn timed_absent(
     Ok(times_of(&mut times))
 }
 
-/// The entries of some keys.
+/// Returns the entries of these keys.
 fn found(
     alloc: Global,
     tables: &Tables,
@@ -243,7 +244,7 @@ fn found(
     Ok(entries)
 }
 
-/// Runs a class on each of some entries, and answers the instructions of all runs.
+/// Runs a class on each of these entries. Returns the instructions of all runs.
 fn run_on_each(class: &Verified, entries: &[(i64, Option<i64>)], workspace: &mut Workspace) -> u64 {
     let args = Args::none();
     let mut steps = 0u64;
@@ -254,7 +255,7 @@ fn run_on_each(class: &Verified, entries: &[(i64, Option<i64>)], workspace: &mut
     steps
 }
 
-/// What a run takes on each of the entries of the first round's keys.
+/// Returns the times of a run on the entries of the first round's keys.
 fn timed_runs(
     clock: &impl CpuClock,
     alloc: Global,
@@ -272,7 +273,7 @@ fn timed_runs(
     Ok(run)
 }
 
-/// What an invocation, a run of its class and a put on a key that is there take, and the entries afterwards.
+/// Returns the times of an invocation, of a run of its class and of a put on a present key, and the tables afterwards.
 fn timed_there(
     clock: &impl CpuClock,
     alloc: Global,
@@ -291,7 +292,7 @@ fn timed_there(
     Ok(([invoke, run, there], tables))
 }
 
-/// The same of the first so many keys, by rounds of them all.
+/// Returns the times of `timed_there` for a stripe with the first `keys` keys.
 fn timed_some(
     clock: &impl CpuClock,
     alloc: Global,
@@ -308,7 +309,7 @@ fn timed_some(
     timed_there(clock, alloc, class, &plans, &first, workspace, tables)
 }
 
-/// What calls on one stripe of so many keys take.
+/// Returns the times of calls on one stripe with `keys` keys.
 pub fn on_stripe(
     clock: &impl CpuClock,
     alloc: Global,

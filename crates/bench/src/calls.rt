@@ -1,6 +1,7 @@
-//! Calls on a cache, by the clock on the wall.
+//! Calls on a cache, measured in wall-clock time.
 //!
-//! A round is one cache's life. Its calls alone are timed, from the start of the seats' threads to the end of the last; opening and closing are not.
+//! A round opens one cache, makes the calls and closes it.
+//! Only the calls are timed, from the start of the threads of the seats to the end of the last one.
 
 ghost use Rattle.std.specs.Prelude.{◌≡◌, ◌<◌, IfOk};
 ghost use Rattle.cache.specs.Opened.{AreFresh};
@@ -18,21 +19,21 @@ use std::thread::Threads;
 use std::time::{Clock, Duration, Instant};
 use stripe::{MOST_RECORDS, Tables};
 
-/// The stripes of a cache.
+/// The number of stripes of a cache.
 const STRIPES: u32 = 16;
 
-/// The calls of a round: as many as the stripes have records.
+/// The calls of a round: the capacity of the histories of all stripes.
 const CALLS: u32 = 65_536;
 
-/// How many rows calls behind one another are apart, so that they are far from each other in a table.
+/// The distance between the keys of consecutive calls, so that they are far from each other in a table.
 const STEP: u32 = 7919;
 
 pub const LEAST_KEYS: u32 = STRIPES;
 
 pub const MOST_KEYS: u32 = 1_000_000;
 
-/// What an invocation and a put take, in tenths of a nanosecond: the time of all seats' calls, shared out among them all. And what the entries add up to
-/// after the invocations and after the puts.
+/// The times of an invocation and of a put: the time of a round, divided by the calls of all seats.
+/// `sums` has the sums of the entries after the invocations and after the puts.
 #[derive(Clone, Copy)]
 pub struct CallTimes {
     pub invoke: Times,
@@ -40,7 +41,7 @@ pub struct CallTimes {
     pub sums: [i64; 2],
 }
 
-/// The time of the clock on the wall.
+/// Returns the wall-clock time.
 pub fn now(clock: &impl Clock) -> Result<Instant, Failure> {
     match Instant::now(clock) {
         Ok(time) => Ok(time),
@@ -48,7 +49,7 @@ pub fn now(clock: &impl Clock) -> Result<Instant, Failure> {
     }
 }
 
-/// The class of these bytes, in a registry.
+/// Defines a class file in a registry.
 pub fn defined<R: Wait>(
     rt: &R,
     alloc: Global,
@@ -64,7 +65,7 @@ pub fn defined<R: Wait>(
     }
 }
 
-/// Empty tables, in so many stripes as a cache has.
+/// Returns empty tables with the stripes of a cache.
 pub fn empty(alloc: Global) -> Result<Tables, Failure> {
     match Tables::new(alloc, STRIPES as usize) {
         Ok(tables) => Ok(tables),
@@ -72,7 +73,7 @@ pub fn empty(alloc: Global) -> Result<Tables, Failure> {
     }
 }
 
-/// The keys from one to another.
+/// Returns the keys from `from` up to `to`, exclusive.
 pub fn keys_from(alloc: Global, from: u32, to: u32) -> Result<Vec<i64>, AllocError> {
     let mut keys = Vec::new(alloc);
     for key in from..to {
@@ -81,14 +82,14 @@ pub fn keys_from(alloc: Global, from: u32, to: u32) -> Result<Vec<i64>, AllocErr
     Ok(keys)
 }
 
-/// The keys from one to another, for one seat.
+/// Returns the keys from `from` up to `to`, exclusive, for one seat.
 fn part(alloc: Global, from: u32, to: u32) -> Result<Vec<Vec<i64>>, AllocError> {
     let mut plan = Vec::new(alloc);
     plan.push(keys_from(alloc, from, to)?)?;
     Ok(plan)
 }
 
-/// A list of no keys for each seat.
+/// Returns an empty list of keys for each seat.
 fn no_keys(alloc: Global, seats: usize) -> Result<Vec<Vec<i64>>, AllocError> {
     let mut plan = Vec::new(alloc);
     for _ in 0..seats {
@@ -97,14 +98,14 @@ fn no_keys(alloc: Global, seats: usize) -> Result<Vec<Vec<i64>>, AllocError> {
     Ok(plan)
 }
 
-/// The row of a call on one stripe: one row after another that is far from it.
+/// Returns the index in its stripe of a call's key. The indices of consecutive calls are far apart.
 pub fn row_at(number: u32, rows: u32) -> u32
     requires { 0 < rows }
 {
     number.wrapping_mul(STEP) % rows
 }
 
-/// The key of a call: the stripes in turn, and in each one its rows.
+/// Returns the key of a call. Consecutive calls are on consecutive stripes.
 fn key_at(number: u32, rows: u32) -> i64
     requires { 0 < rows }
 {
@@ -112,7 +113,7 @@ fn key_at(number: u32, rows: u32) -> i64
     i64::from(row) * i64::from(STRIPES) + i64::from(number % STRIPES)
 }
 
-/// The keys of each seat's calls in a round. No two seats have keys of one stripe.
+/// Returns the keys of each seat's calls in a round. No two seats have keys of one stripe.
 pub fn shared_out(
     alloc: Global,
     round: u32,
@@ -134,7 +135,7 @@ pub fn shared_out(
     Ok(plan)
 }
 
-/// Whether each seat of a plan has keys of stripes that no other seat has.
+/// Returns whether each key of a seat is in one of the stripes of that seat.
 fn are_apart(plan: &[Vec<i64>], seats: usize) -> bool
     requires { 0 < seats }
 {
@@ -148,7 +149,7 @@ fn are_apart(plan: &[Vec<i64>], seats: usize) -> bool
     true
 }
 
-/// The same of each plan.
+/// Returns whether `are_apart` holds of each plan.
 fn are_all_apart(plans: &[Vec<Vec<i64>>], seats: usize) -> bool
     requires { 0 < seats }
 {
@@ -160,7 +161,7 @@ fn are_all_apart(plans: &[Vec<Vec<i64>>], seats: usize) -> bool
     true
 }
 
-/// How many calls a plan has.
+/// Returns the number of calls of a plan.
 fn planned(plan: &[Vec<i64>]) -> usize {
     let mut calls = 0usize;
     for keys in plan {
@@ -169,7 +170,7 @@ fn planned(plan: &[Vec<i64>]) -> usize {
     calls
 }
 
-/// How many calls of a cache were answered.
+/// Returns the number of answered calls of a cache.
 fn answered(closed: &Closed<'_>) -> usize {
     let mut calls = 0usize;
     for receipts in &closed.receipts {
@@ -178,7 +179,7 @@ fn answered(closed: &Closed<'_>) -> usize {
     calls
 }
 
-/// A cache with these entries, and so many seats.
+/// Opens a cache with these entries and `seats` seats.
 fn opened<'a>(
     alloc: Global,
     registry: &'a Registry,
@@ -194,7 +195,7 @@ fn opened<'a>(
     }
 }
 
-/// One cache's life: how long the calls of a plan take, and the entries that they leave.
+/// Opens a cache, makes the calls of a plan, and closes it. Returns the time of the calls, and the tables that they leave.
 pub fn lived<R: Threads + Wait + Clock + Sync>(
     rt: &R,
     alloc: Global,
@@ -225,7 +226,7 @@ pub fn lived<R: Threads + Wait + Clock + Sync>(
     Ok((time, closed.tables))
 }
 
-/// What the entries of the first keys add up to.
+/// Returns the sum of the entries of the first `keys` keys.
 pub fn sum_of(tables: &Tables, keys: u32) -> i64 {
     let mut sum = 0i64;
     for key in 0..keys {
@@ -236,7 +237,7 @@ pub fn sum_of(tables: &Tables, keys: u32) -> i64 {
     sum
 }
 
-/// Tables with so many entries, which are put in as many rounds as it takes.
+/// Returns tables with `keys` entries, put in as many rounds as needed.
 pub fn filled<R: Threads + Wait + Clock + Sync>(
     rt: &R,
     alloc: Global,
@@ -256,7 +257,7 @@ pub fn filled<R: Threads + Wait + Clock + Sync>(
     Ok(tables)
 }
 
-/// What each call of a kind takes, and the entries afterwards.
+/// Returns the times of a call of this kind, and the tables afterwards.
 fn timed<R: Threads + Wait + Clock + Sync>(
     rt: &R,
     alloc: Global,
@@ -277,7 +278,7 @@ fn timed<R: Threads + Wait + Clock + Sync>(
     Ok((times_of(&mut times), tables))
 }
 
-/// The plan of each round.
+/// Returns the plan of each round.
 fn plans(alloc: Global, keys: u32, seats: usize) -> Result<Vec<Vec<Vec<i64>>>, AllocError>
     requires keys { 15 < keys }
     requires seats { 0 < seats }
@@ -289,7 +290,7 @@ fn plans(alloc: Global, keys: u32, seats: usize) -> Result<Vec<Vec<Vec<i64>>>, A
     Ok(list)
 }
 
-/// What an invocation and a put take, by these plans.
+/// Returns the times of an invocation and of a put, by these plans.
 fn timed_on<R: Threads + Wait + Clock + Sync>(
     rt: &R,
     alloc: Global,
@@ -311,7 +312,7 @@ fn timed_on<R: Threads + Wait + Clock + Sync>(
     })
 }
 
-/// What calls of 1 to 16 seats take on a cache of so many keys.
+/// Returns the times of calls by `seats` seats on a cache with `keys` keys.
 pub fn calls<R: Threads + Wait + Clock + Sync>(
     rt: &R,
     alloc: Global,

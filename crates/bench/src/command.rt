@@ -1,4 +1,4 @@
-//! One command.
+//! Execution of one command.
 
 use crate::alone::on_stripe;
 use crate::calls::{LEAST_KEYS, MOST_KEYS, calls};
@@ -52,10 +52,10 @@ fn verifying(
     Ok(of_verdicts(alloc, times, accepted)?)
 }
 
-/// The most seats of a cache.
+/// The maximum number of seats of a cache.
 const MOST_SEATS: usize = 16;
 
-/// The most jobs of a round.
+/// The maximum number of jobs of a round.
 const MOST_JOBS: u32 = 4096;
 
 fn calling<R: Threads + Wait + Clock + Sync>(
@@ -99,7 +99,7 @@ fn striping(
     Ok(of_stripe(alloc, times, keys)?)
 }
 
-/// Runs the class of these bytes, or makes calls of it on one stripe.
+/// Measures runs of a class, or without `call` calls on one stripe.
 fn on_class<R: CpuClock>(
     clock: &R,
     alloc: Global,
@@ -116,7 +116,7 @@ fn on_class<R: CpuClock>(
     }
 }
 
-/// Does what a line asks, and answers the line that tells it.
+/// Executes a command line, and returns its line of output.
 pub fn measured<R: CpuClock + Clock + Threads + Wait + Sync + Files>(
     rt: &R,
     alloc: Global,

@@ -1,4 +1,4 @@
-//! Seats of a cache at work, each in a thread of its own.
+//! Seats of a cache that make calls on threads.
 
 ghost use Rattle.std.specs.Prelude.{◌≡◌, ◌<◌, ℕ, length, slice_index_or};
 ghost use Rattle.std.specs.List.{All};
@@ -14,14 +14,14 @@ use std::thread;
 use std::thread::Threads;
 use stripe::ArgSlice;
 
-/// What each call of a round is.
+/// The kind of the calls of a round.
 #[derive(Clone, Copy)]
 pub enum Kind {
     Invoke,
     Put,
 }
 
-/// What a worker does, at its place among all.
+/// The work of a worker, given its index among all workers.
 pub trait Shift<W> {
     ghost accepts: { Self → W → Type 0 };
 
@@ -32,7 +32,7 @@ pub trait Shift<W> {
         ensures { leaves self.now worker.old worker.new };
 }
 
-/// Has each worker serve in a thread of its own.
+/// Runs `shift.serve` for each worker, on threads.
 pub fn serve_all<R: Threads + Sync, W: Send, S: Shift<W> + Sync>(
     rt: &R,
     crew: &mut Vec<W>,
@@ -46,7 +46,7 @@ pub fn serve_all<R: Threads + Sync, W: Send, S: Shift<W> + Sync>(
     thread::for_each_mut(rt, workers, 16, &|place, worker| shift.serve(place, worker));
 }
 
-/// Callers of a cache, with the keys of each one's calls.
+/// The callers of a cache, with the keys of each one's calls.
 #[derive(Drop)]
 pub struct Callers<'s, 'a, R> {
     pub rt: &'s R,

@@ -1,4 +1,4 @@
-//! The class file.
+//! Reading of the class file.
 
 use crate::report::Failure;
 use std::alloc::Global;
@@ -6,10 +6,10 @@ use std::fs::OpenOptions;
 use std::io::{ErrorKind, Read};
 use std::rt::Files;
 
-/// The most bytes that are asked of a file: one more than a class may have.
+/// The number of bytes at which reading stops: one more than a class file may have.
 const MOST: usize = 65_537;
 
-/// The bytes of a file, or so many that it is no class.
+/// Returns the bytes of a file, or of a longer one at least `MOST` bytes.
 pub fn read_class(rt: &impl Files, alloc: Global, name: &str) -> Result<Vec<u8>, Failure> {
     let Ok(mut file) = OpenOptions::new().read(true).open(rt, name) else {
         return Err(Failure::CannotRead);

@@ -1,8 +1,9 @@
-//! The command line: `verify FILE COUNT`, `run FILE COUNT KEY VALUE [ARGS..]`, in which all numbers are longs, `calls FILE KEYS SEATS`, `rounds FILE JOBS SEATS` and `stripe FILE KEYS`.
+//! The command line: `verify FILE COUNT`, `run FILE COUNT KEY VALUE [ARGS..]`, `calls FILE KEYS SEATS`,
+//! `rounds FILE JOBS SEATS` and `stripe FILE KEYS`. The key, value and arguments of `run` are longs.
 
 use jtypes::{Arg, Args};
 
-/// What an invocation is made with.
+/// The key, the entry and the arguments of an invocation.
 #[derive(Clone, Copy)]
 pub struct Call {
     pub key: i64,
@@ -10,20 +11,21 @@ pub struct Call {
     pub args: Args,
 }
 
-/// What is to be measured.
+/// The work to measure.
 #[derive(Clone, Copy)]
 pub enum Work {
     Verifying,
     Running(Call),
-    /// Calls on a cache of as many keys as the count says.
+    /// Calls on a cache with `count` keys.
     Calling { seats: usize },
-    /// Rounds of as many jobs as the count says.
+    /// Rounds of `count` jobs.
     Serving { seats: usize },
-    /// Calls on one stripe of as many keys as the count says.
+    /// Calls on one stripe with `count` keys.
     Striping,
 }
 
-/// A class file, and a count: how often a round does the work, or of how many keys or jobs it is. A count of 0 asks what one invocation takes.
+/// A class file, the work, and a count: the repetitions of a round, or its keys or jobs.
+/// With a count of 0, `run` reports the cost of one invocation.
 #[derive(Clone, Copy)]
 pub struct Request<'a> {
     pub file: &'a str,
@@ -31,7 +33,7 @@ pub struct Request<'a> {
     pub work: Work,
 }
 
-/// The call of a key, an entry (`none`, or its value) and arguments.
+/// Parses a key, an entry (`none`, or its value) and arguments.
 fn call_of(key: &str, value: &str, words: &[&str]) -> Option<Call> {
     if words.len() > Args::MOST {
         return None;
@@ -51,7 +53,7 @@ fn call_of(key: &str, value: &str, words: &[&str]) -> Option<Call> {
     })
 }
 
-/// The request of a line, none where it has another form.
+/// Parses a command line, or returns none if it is malformed.
 pub fn parse<'a>(words: &[&'a str]) -> Option<Request<'a>> {
     let [name, file, count, rest @ ..] = words else {
         return None;

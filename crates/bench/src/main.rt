@@ -1,4 +1,4 @@
-//! Loops of `run` and `verify` over one class file, of calls on a stripe and on a cache, and of rounds, for measuring.
+//! Benchmarks: loops of `run` and `verify` on a class file, calls on a stripe and on a cache, and rounds.
 #![tactic(auto)]
 
 mod alone;
@@ -19,7 +19,7 @@ use std::io::{ErrorKind, Write};
 use std::process::ExitCode;
 use std::rt::Env;
 
-/// The words of the command line; none where one is not UTF-8.
+/// Returns the arguments of the command line, or an empty list if one is not UTF-8.
 fn words_of(rt: &(impl Env + AllocGlobal)) -> Result<Vec<String>, AllocError> {
     let mut words = Vec::new(rt.alloc());
     match env::args(rt) {
@@ -42,7 +42,7 @@ fn texts_of<'a>(alloc: Global, words: &'a [String]) -> Result<Vec<&'a str>, Allo
     Ok(texts)
 }
 
-/// Writes a line, and answers its status.
+/// Writes a line and flushes. Returns `status`, or that of `CannotWrite`.
 fn write<W: Write>(output: &mut W, text: &str, status: u8) -> ExitCode {
     let written = output
         .write_all(text.as_bytes())

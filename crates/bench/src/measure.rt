@@ -1,4 +1,4 @@
-//! Rounds of the same work, by the processor time of this thread.
+//! Rounds of the same work, measured in CPU time of this thread.
 
 ghost use Rattle.std.specs.Prelude.{◌≡◌, ◌*◌, ◌/◌, ◌<◌, length};
 ghost use Rattle.std.specs.Duration.{as_nanos};
@@ -11,17 +11,17 @@ use std::alloc::Global;
 use std::time::{CpuClock, Duration};
 use verify::{Verified, verify};
 
-/// How many rounds there are.
+/// The number of rounds.
 pub const ROUNDS: usize = 9;
 
-/// What one piece of work takes, in tenths of a nanosecond, in the fastest round and in the median one.
+/// The time of one unit of work, in tenths of a nanosecond, in the fastest round and in the median one.
 #[derive(Clone, Copy, PartialEq, Eq)]
 pub struct Times {
     pub least: u128,
     pub median: u128,
 }
 
-/// Tenths of a nanosecond for one of so many.
+/// Returns the time of one of `count` units of work, in tenths of a nanosecond.
 pub fn tenths(time: Duration, count: u32) -> u128
     requires { 0 < count }
     ensures { result ≡ as_nanos time * 10 / count }
@@ -29,7 +29,7 @@ pub fn tenths(time: Duration, count: u32) -> u128
     time.as_nanos() * 10 / u128::from(count)
 }
 
-/// The least and the median of some times.
+/// Returns the least and the median of these times, which it sorts.
 pub fn times_of(times: &mut [u128]) -> Times
     requires { 0 < length times.old }
 {
@@ -40,7 +40,7 @@ pub fn times_of(times: &mut [u128]) -> Times
     }
 }
 
-/// Runs a call so often, and answers the instructions of all of them.
+/// Runs a call `count` times. Returns the instructions of all runs.
 fn run_often(class: &Verified, call: &Call, count: u32, workspace: &mut Workspace) -> u64 {
     let mut steps = 0u64;
     for _ in 0..count {
@@ -57,7 +57,7 @@ fn run_often(class: &Verified, call: &Call, count: u32, workspace: &mut Workspac
     steps
 }
 
-/// Verifies a class so often, and answers how often it was accepted.
+/// Verifies a class `count` times. Returns how often it is accepted.
 fn verify_often(alloc: Global, bytes: &[u8], count: u32) -> u64 {
     let mut accepted = 0u64;
     for _ in 0..count {
@@ -68,7 +68,7 @@ fn verify_often(alloc: Global, bytes: &[u8], count: u32) -> u64 {
     accepted
 }
 
-/// The processor time of this thread.
+/// Returns the CPU time of this thread.
 pub fn now(clock: &impl CpuClock) -> Result<Duration, Failure> {
     match clock.thread_cpu_time() {
         Ok(time) => Ok(time),
@@ -76,7 +76,7 @@ pub fn now(clock: &impl CpuClock) -> Result<Duration, Failure> {
     }
 }
 
-/// The fastest and the median of the rounds, and what the rounds told, added up.
+/// Measures all rounds. Returns the times, and the sum of the results of `work`.
 pub fn rounds<F: FnMut(u32) -> u64>(
     clock: &impl CpuClock,
     count: u32,
@@ -95,7 +95,7 @@ pub fn rounds<F: FnMut(u32) -> u64>(
     Ok((times_of(&mut times), told))
 }
 
-/// What running a call takes, and the instructions that all runs took.
+/// Returns the times of running a call, and the instructions of all runs.
 pub fn runs(
     clock: &impl CpuClock,
     class: &Verified,
@@ -108,7 +108,7 @@ pub fn runs(
     rounds(clock, count, |n| run_often(class, call, n, workspace))
 }
 
-/// What verifying takes, and how often the class was accepted.
+/// Returns the times of verifying a class, and how often it is accepted.
 pub fn verdicts(
     clock: &impl CpuClock,
     alloc: Global,

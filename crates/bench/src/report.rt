@@ -1,4 +1,4 @@
-//! What the program writes.
+//! The output of the program.
 
 use crate::alone::StripeTimes;
 use crate::calls::CallTimes;
@@ -48,12 +48,12 @@ impl Failure {
     }
 }
 
-/// What one invocation takes.
+/// Formats the cost of one invocation.
 pub fn cost(alloc: Global, steps: u32, words: u32) -> Result<String, AllocError> {
     format!(in alloc; "steps {steps} words {words}\n")
 }
 
-/// What each invocation took, of so many steps, and each of its steps in the median round; and the steps of all rounds.
+/// Formats the times of an invocation of `steps` instructions and of one instruction, and the instructions of all rounds.
 pub fn of_runs(alloc: Global, times: Times, steps: u32, all: u64) -> Result<String, AllocError> {
     let each = if steps == 0 {
         0
@@ -72,7 +72,7 @@ pub fn of_runs(alloc: Global, times: Times, steps: u32, all: u64) -> Result<Stri
     )
 }
 
-/// What each verdict took, and how often the class was accepted in all rounds.
+/// Formats the times of a verdict, and how often the class was accepted in all rounds.
 pub fn of_verdicts(alloc: Global, times: Times, accepted: u64) -> Result<String, AllocError> {
     let (least, median) = (times.least / 1000, times.median / 1000);
     format!(in alloc;
@@ -84,7 +84,7 @@ pub fn of_verdicts(alloc: Global, times: Times, accepted: u64) -> Result<String,
     )
 }
 
-/// What each call on a cache took, and what the entries add up to after the invocations and at the end.
+/// Formats the times of calls on a cache, and the sums of the entries after the invocations and at the end.
 pub fn of_calls(alloc: Global, times: CallTimes, seats: usize) -> Result<String, AllocError> {
     let CallTimes { invoke, put, sums } = times;
     format!(in alloc;
@@ -102,7 +102,7 @@ pub fn of_calls(alloc: Global, times: CallTimes, seats: usize) -> Result<String,
     )
 }
 
-/// What each call on one stripe of so many keys took.
+/// Formats the times of calls on one stripe with `keys` keys.
 pub fn of_stripe(alloc: Global, times: StripeTimes, keys: u32) -> Result<String, AllocError> {
     let StripeTimes {
         there,
@@ -131,7 +131,7 @@ pub fn of_stripe(alloc: Global, times: StripeTimes, keys: u32) -> Result<String,
     )
 }
 
-/// What each round of so many jobs took, the jobs of a second in the median round, and what the entries add up to behind all rounds.
+/// Formats the times of a round of `jobs` jobs, the jobs per second in the median round, and the sum of the entries at the end.
 pub fn of_rounds(alloc: Global, times: Times, jobs: u32, sum: i64) -> Result<String, AllocError> {
     let (least, median) = (times.least / 1000, times.median / 1000);
     let each_second = if times.median == 0 {

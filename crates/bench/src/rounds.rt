@@ -1,4 +1,4 @@
-//! Rounds of jobs, by the clock on the wall: opening a cache, running the jobs and closing it.
+//! Rounds of jobs, measured in wall-clock time: opening a cache, running the jobs and closing it.
 
 ghost use Rattle.std.specs.Prelude.{◌≡◌, ◌<◌, ◌≤◌, length, IfOk};
 ghost use Rattle.std.specs.List.{All};
@@ -22,10 +22,10 @@ use std::time::{Clock, Duration};
 use stripe::{ArgSlice, Tables};
 use workers::{PoolRound, STEPS_PER_WORKER, WorkspacePool, cost_of, run_by_workers, workers_for};
 
-/// How many rounds there are.
+/// The number of rounds.
 const ROUNDS: usize = 201;
 
-/// So many invocations, each on a key of its own.
+/// Returns `count` invocations of a class, each on a different key.
 pub fn jobs_of<'j>(
     alloc: Global,
     class: &'j ClassId,
@@ -43,7 +43,7 @@ pub fn jobs_of<'j>(
     Ok(jobs)
 }
 
-/// How long a round takes whose jobs are reckoned to take so many instructions, and the entries that it leaves.
+/// Runs a round of jobs with an estimated cost of `steps` instructions. Returns its time, and the tables that it leaves.
 pub fn one<R: Threads + Wait + Clock + Sync>(
     rt: &R,
     alloc: Global,
@@ -77,7 +77,7 @@ pub fn one<R: Threads + Wait + Clock + Sync>(
     Ok((time, left.tables))
 }
 
-/// What each of the rounds takes, in tenths of a nanosecond, and the entries afterwards.
+/// Returns the times of a round, in tenths of a nanosecond, and the tables afterwards.
 fn timed<R: Threads + Wait + Clock + Sync>(
     rt: &R,
     alloc: Global,
@@ -101,7 +101,7 @@ fn timed<R: Threads + Wait + Clock + Sync>(
     Ok((times_of(&mut times), tables))
 }
 
-/// What a round of so many invocations of a class takes, and what the entries add up to behind the rounds.
+/// Returns the times of a round of `jobs` invocations of a class, and the sum of the entries after all rounds.
 fn timed_on<R: Threads + Wait + Clock + Sync>(
     rt: &R,
     alloc: Global,
@@ -121,7 +121,8 @@ fn timed_on<R: Threads + Wait + Clock + Sync>(
     Ok((times, sum_of(&tables, jobs)))
 }
 
-/// What a round of so many invocations takes, by 1 to 16 workers, each on an entry that is there; and what the entries add up to behind the rounds.
+/// Returns the times of a round of `jobs` invocations on present entries, by up to `seats` workers,
+/// and the sum of the entries after all rounds.
 pub fn rounds<R: Threads + Wait + Clock + Sync>(
     rt: &R,
     alloc: Global,

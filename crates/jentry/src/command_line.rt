@@ -7,30 +7,30 @@ use jtypes::{Arg, Args};
 use serve::{STEPS_PER_WORKER, Settings};
 use std::alloc::{AllocError, Global};
 
-/// How many workers serve where the line doesn't say.
+/// The default number of workers of `serve`.
 const WORKERS: usize = 4;
-/// In how many stripes the entries are kept where the line doesn't say.
+/// The default number of stripes of `serve`.
 const STRIPES: usize = 16;
 
-/// What is asked of the program.
+/// The action that a command line asks for.
 #[derive(Drop)]
 pub enum Action<'a> {
-    /// Judge the class in this file.
+    /// Verifies the class in this file.
     Check {
         file: &'a str,
     },
-    /// Judge it, and tell where it is refused, or what its methods take.
+    /// Verifies it, and explains where it is refused, or what its methods cost.
     Explain {
         file: &'a str,
     },
-    /// Judge it, and run it on this key, with this entry before and these arguments.
+    /// Verifies it, and runs it on this key, with this entry before and these arguments.
     Run {
         file: &'a str,
         key: i64,
         before: Option<i64>,
         args: Args,
     },
-    /// Serve the requests of the input, with the rows of this file as a loader, if there is one.
+    /// Serves the requests of the input, with the table in this file as the loader if there is one.
     Serve {
         settings: Settings,
         load: Option<&'a str>,
@@ -41,17 +41,17 @@ fn value<'a>(alloc: Global, name: &'a str) -> Word<'a> {
     Word::new(alloc, name).required(true).action(ArgAction::Set)
 }
 
-/// An option with a value, at most once.
+/// Returns an option with a value, which may occur once.
 fn option<'a>(alloc: Global, name: &'a str) -> Word<'a> {
     Word::new(alloc, name).long(name).action(ArgAction::Set)
 }
 
-/// A command with no options yet.
+/// Returns a command without options.
 fn command<'a>(alloc: Global, name: &'a str) -> Command<'a> {
     Command::new(alloc, name).disable_help_flag(true)
 }
 
-/// A command on a file.
+/// Returns a command with the argument `FILE`.
 fn on_file<'a>(alloc: Global, name: &'a str) -> Result<Command<'a>, AllocError> {
     command(alloc, name).arg(value(alloc, "FILE"))
 }
@@ -75,7 +75,7 @@ fn serve_form<'a>(alloc: Global) -> Result<Command<'a>, AllocError> {
         .arg(option(alloc, "load"))
 }
 
-/// The form of a line: `check FILE`, `explain FILE`, and those of `run` and `serve`, with no other options.
+/// Returns the grammar of the command line: `check FILE`, `explain FILE`, `run` and `serve`.
 fn form<'a>(alloc: Global) -> Result<Command<'a>, AllocError> {
     command(alloc, "jentry")
         .no_binary_name(true)
@@ -91,7 +91,7 @@ fn matches_of<'a>(alloc: Global, words: &'a [&'a str]) -> Result<ArgMatches<'a>,
     form(alloc)?.try_get_matches_from(words)
 }
 
-/// A decimal number that a long holds; leading zeros are digits as others.
+/// Parses an unsigned decimal number that fits a `long`. Leading zeros are allowed.
 fn number(text: &str) -> Option<i64> {
     if text.is_empty() || !text.bytes().all(|b| b.is_ascii_digit()) {
         return None;
@@ -99,7 +99,7 @@ fn number(text: &str) -> Option<i64> {
     text.parse::<i64>().ok()
 }
 
-/// An argument: a number, a number that an int holds followed by `i`, or `null`.
+/// Parses an argument: a number, a number that fits an `int` followed by `i`, or `null`.
 fn argument(text: &str) -> Option<Arg> {
     if text == "null" {
         return Some(Arg::Null);
@@ -113,7 +113,7 @@ fn argument(text: &str) -> Option<Arg> {
     }
 }
 
-/// An entry: a number, or `none`.
+/// Parses an entry: a number, or `none`.
 fn entry(text: &str) -> Option<Option<i64>> {
     if text == "none" {
         return Some(None);
@@ -121,7 +121,7 @@ fn entry(text: &str) -> Option<Option<i64>> {
     Some(Some(number(text)?))
 }
 
-/// The arguments, of which there are at most eight.
+/// Parses the arguments, at most eight.
 fn arguments(words: &[&str]) -> Option<Args> {
     if words.len() > Args::MOST {
         return None;
@@ -133,7 +133,7 @@ fn arguments(words: &[&str]) -> Option<Args> {
     Args::of(&args[..words.len()])
 }
 
-/// The values of a line that runs a class.
+/// Parses the values of `run`.
 fn run_of<'a>(matches: &ArgMatches<'a>, file: &'a str) -> Option<Action<'a>> {
     let key = number(matches.get_str("KEY")?)?;
     let before = entry(matches.get_str("VALUE")?)?;
@@ -149,7 +149,7 @@ fn run_of<'a>(matches: &ArgMatches<'a>, file: &'a str) -> Option<Action<'a>> {
     })
 }
 
-/// The count of an option: 1 to 9 digits, or what it is where the option isn't there.
+/// Parses the value of an option, 1 to 9 digits, or returns `without` if the option is absent.
 fn count(matches: &ArgMatches<'_>, name: &str, without: usize) -> Option<usize> {
     let Some(text) = matches.get_str(name) else {
         return Some(without);
@@ -160,7 +160,7 @@ fn count(matches: &ArgMatches<'_>, name: &str, without: usize) -> Option<usize> 
     usize::try_from(number(text)?).ok()
 }
 
-/// The settings of a line that serves.
+/// Parses the settings of `serve`.
 fn settings_of(matches: &ArgMatches<'_>) -> Option<Settings> {
     Some(Settings {
         workers: count(matches, "workers", WORKERS)?,
@@ -197,7 +197,7 @@ fn action_of<'a>(matches: &ArgMatches<'a>) -> Result<Action<'a>, Failure<'a>> {
     }
 }
 
-/// The request of a line: its form is judged first, then its values.
+/// Parses a command line, first its form and then its values.
 pub fn parse<'a>(alloc: Global, words: &'a [&'a str]) -> Result<Action<'a>, Failure<'a>> {
     match matches_of(alloc, words) {
         Ok(matches) => action_of(&matches),

@@ -6,7 +6,7 @@ use explain::{Explained, explain};
 use explain_text::{refusal_of, report};
 use std::alloc::Global;
 
-/// The answer to a class that is to be explained: the line of `check`, and what is told beside it.
+/// Returns the answer of `explain`: the line of `check`, then the report.
 pub fn explain_answer<'a>(
     alloc: Global,
     files: &impl Files,

@@ -4,23 +4,23 @@ use std::alloc::Global;
 use std::fs::OpenOptions;
 use std::io::{ErrorKind, Read};
 
-/// The most bytes that a class may have.
+/// The maximum size of a class file, in bytes.
 pub const MOST_CLASS: usize = 65_536;
 
-/// Why a file was not read.
+/// Why a file could not be read.
 #[derive(Clone, Copy, Debug, PartialEq, Eq)]
 pub enum FileFault {
     CannotRead,
     NoMemory,
 }
 
-/// Where a command finds its files.
+/// A source of files.
 pub trait Files {
-    /// The bytes of a file by its name. Of a file of more than `most` bytes, more than `most` of them.
+    /// Returns the bytes of the named file. Of a file longer than `most` bytes it returns more than `most`, and maybe not all.
     fn read(&self, alloc: Global, name: &str, most: usize) -> Result<Vec<u8>, FileFault>;
 }
 
-/// The files of the machine.
+/// The files of the host.
 #[derive(Drop)]
 pub struct RealFiles<'a, R> {
     rt: &'a R,
@@ -32,7 +32,7 @@ impl<'a, R: std::rt::Files> RealFiles<'a, R> {
     }
 }
 
-/// Reads to the end, or more than so many bytes.
+/// Reads to the end, or until it has more than `most` bytes.
 fn read_to_most<F: Read>(alloc: Global, file: &mut F, most: usize) -> Result<Vec<u8>, FileFault> {
     let mut bytes = Vec::new(alloc);
     let mut buffer = [0u8; 4096];

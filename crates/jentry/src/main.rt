@@ -1,4 +1,4 @@
-//! The program.
+//! The `jentry` program.
 #![tactic(auto)]
 
 mod command_line;
@@ -15,7 +15,7 @@ use std::io::ErrorKind;
 use std::process::ExitCode;
 use std::rt::Env;
 
-/// The words of the command line; none where one is not UTF-8.
+/// Returns the arguments of the command line, or an empty list if one is not UTF-8.
 fn words_of(rt: &(impl Env + AllocGlobal)) -> Result<Vec<String>, AllocError> {
     let mut words = Vec::new(rt.alloc());
     match env::args(rt) {

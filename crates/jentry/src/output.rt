@@ -1,4 +1,4 @@
-//! What the program writes, and its statuses.
+//! The output of the program, and its exit statuses.
 
 ghost use Rattle.std.specs.Prelude.{◌≡◌};
 ghost use Rattle.jtypes.specs.Entry.{after_effect};
@@ -10,25 +10,25 @@ use std::alloc::{AllocError, Global};
 use thiserror::Error;
 use verify::Bounds;
 
-/// The status of a class that is accepted, and of a run that returns.
+/// Exit status: the class is accepted, the run returns, or the stream is served up to its end.
 pub const OK: u8 = 0;
-/// Of a word that is not understood.
+/// Exit status: the command line, an argument or the load file is bad.
 pub const USAGE: u8 = 1;
-/// Of a class that is refused.
+/// Exit status: the class is refused.
 pub const REFUSED: u8 = 2;
-/// Of a file that can't be read, an output that can't be written, want of memory, and a stream that ends by a fault.
+/// Exit status: a file can't be read, the output can't be written, out of memory, or the stream ends with a fault.
 pub const OTHER: u8 = 3;
-/// Of a run that throws.
+/// Exit status: the run throws.
 pub const THREW: u8 = 4;
 
-/// Why a command was not done.
+/// Why a command failed.
 #[derive(Clone, Copy, Debug, PartialEq, Eq, Error)]
 pub enum Failure<'a> {
     #[error("error: bad command line")]
     BadCommandLine,
     #[error("error: bad argument")]
     BadArgument,
-    /// The file of a loader has no whole number of rows, or too many.
+    /// The load file is no list of 16-byte pairs, or has too many.
     #[error("error: bad load file")]
     BadLoadFile,
     #[error("error: cannot read {0}")]
@@ -59,7 +59,7 @@ impl<'a> Failure<'a> {
         }
     }
 
-    /// The failure of a file by its name.
+    /// Returns the failure for a fault of the named file.
     pub fn of_file(fault: FileFault, name: &'a str) -> Failure<'a> {
         match fault {
             FileFault::CannotRead => Failure::CannotRead(name),
@@ -68,14 +68,14 @@ impl<'a> Failure<'a> {
     }
 }
 
-/// What is written to the output, and the program's status.
+/// The output of a command, and its exit status.
 #[derive(Drop)]
 pub struct Answer {
     pub text: String,
     pub status: u8,
 }
 
-/// The line of a class that is accepted.
+/// Returns the line for an accepted class, with its bounds.
 pub fn accepted(alloc: Global, bounds: Bounds) -> Result<Answer, AllocError> {
     let Bounds {
         steps,
@@ -91,7 +91,7 @@ pub fn accepted(alloc: Global, bounds: Bounds) -> Result<Answer, AllocError> {
     })
 }
 
-/// The line of a class that is refused: the number, the name, and for some the pc or the opcode.
+/// Returns the line for a refused class: the number, the name, and for some refusals the pc or the opcode.
 pub fn refused(alloc: Global, refusal: Refusal) -> Result<Answer, AllocError> {
     let number = refusal.number();
     Ok(Answer {
@@ -100,7 +100,7 @@ pub fn refused(alloc: Global, refusal: Refusal) -> Result<Answer, AllocError> {
     })
 }
 
-/// A result: a number, a number followed by `i`, or `null`.
+/// Formats a result: a number, a number followed by `i`, or `null`.
 fn result_text(alloc: Global, returned: Arg) -> Result<String, AllocError> {
     match returned {
         Arg::Null => String::from_str(alloc, "null"),
@@ -109,7 +109,7 @@ fn result_text(alloc: Global, returned: Arg) -> Result<String, AllocError> {
     }
 }
 
-/// The entry after an effect on the entry before.
+/// Returns the entry after an effect on the entry `before`.
 fn entry_after(effect: Effect, before: Option<i64>) -> Option<i64>
     ensures { result ≡ after_effect effect before }
 {
@@ -127,7 +127,7 @@ fn entry_text(alloc: Global, entry: Option<i64>) -> Result<String, AllocError> {
     }
 }
 
-/// The first line of a run, and the status.
+/// Returns the first line of a run, and its exit status.
 fn outcome(alloc: Global, outcome: Outcome) -> Result<Answer, AllocError> {
     match outcome {
         Outcome::Returned(value) => {
@@ -148,7 +148,7 @@ fn outcome(alloc: Global, outcome: Outcome) -> Result<Answer, AllocError> {
     }
 }
 
-/// The lines of a run behind its outcome: the entry that it leaves, its steps and its words.
+/// Returns the lines of a run after its outcome: the entry that it leaves, its steps and its array words.
 fn left(alloc: Global, done: Done, before: Option<i64>) -> Result<String, AllocError> {
     let entry = entry_text(alloc, entry_after(done.effect, before))?;
     let steps = done.steps;
@@ -156,7 +156,7 @@ fn left(alloc: Global, done: Done, before: Option<i64>) -> Result<String, AllocE
     format!(in alloc; "value {entry}\nsteps {steps} words {words}\n")
 }
 
-/// The three lines of a run on an entry.
+/// Returns the three lines of a run on an entry.
 pub fn ran(alloc: Global, done: Done, before: Option<i64>) -> Result<Answer, AllocError> {
     let rest = left(alloc, done, before)?;
     let Answer { mut text, status } = outcome(alloc, done.outcome)?;

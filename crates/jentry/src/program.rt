@@ -1,4 +1,4 @@
-//! One command.
+//! Execution of one command.
 
 use crate::command_line::{Action, parse};
 use crate::explaining::explain_answer;
@@ -16,13 +16,13 @@ use table_loader::Table;
 use verify::{Verified, verify};
 use wire::Counted;
 
-/// How many bytes of the input are read ahead at most.
+/// The capacity of the input buffer, in bytes.
 const AHEAD: usize = 65_536;
 
-/// The most bytes of a loader's file: 16,777,216 rows.
+/// The maximum size of a load file, in bytes: 16,777,216 pairs.
 const MOST_ROWS: usize = 268_435_456;
 
-/// The class of a file, verified.
+/// Reads a class file and verifies it.
 fn verified<'a>(
     alloc: Global,
     files: &impl Files,
@@ -35,7 +35,7 @@ fn verified<'a>(
     Ok(verify(alloc, &bytes))
 }
 
-/// The answer to a class that is to be judged.
+/// Returns the answer of `check`.
 fn check_answer<'a>(
     alloc: Global,
     files: &impl Files,
@@ -47,7 +47,7 @@ fn check_answer<'a>(
     }
 }
 
-/// The answer to a run of a class.
+/// Runs a class and returns the answer.
 fn run_of(
     alloc: Global,
     class: &Verified,
@@ -60,7 +60,7 @@ fn run_of(
     ran(alloc, done, before)
 }
 
-/// The answer to a class that is to be run.
+/// Returns the answer of `run`.
 fn run_answer<'a>(
     alloc: Global,
     files: &impl Files,
@@ -75,7 +75,7 @@ fn run_answer<'a>(
     }
 }
 
-/// The table of a loader's file.
+/// Reads the table in a load file.
 fn table_of<'a>(alloc: Global, files: &impl Files, file: &'a str) -> Result<Table, Failure<'a>> {
     let bytes = match files.read(alloc, file, MOST_ROWS) {
         Ok(bytes) => bytes,
@@ -90,7 +90,7 @@ fn table_of<'a>(alloc: Global, files: &impl Files, file: &'a str) -> Result<Tabl
     }
 }
 
-/// Serves the requests of the input to its end.
+/// Serves the requests of the input up to its end.
 fn serve_input<'a, T: Threads + Wait + Sync, I: Read, W: Write, L: Loader + Sync>(
     rt: &T,
     alloc: Global,
@@ -118,7 +118,7 @@ fn serve_input<'a, T: Threads + Wait + Sync, I: Read, W: Write, L: Loader + Sync
     }
 }
 
-/// Writes all of an answer.
+/// Writes an answer and flushes. Returns its exit status.
 fn write_answer<'a, W: Write>(output: &mut W, answer: &Answer) -> Result<u8, Failure<'a>> {
     if output.write_all(answer.text.as_bytes()).is_err() || output.flush().is_err() {
         return Err(Failure::CannotWrite);
@@ -172,7 +172,7 @@ fn perform<'a, T: Threads + Wait + Sync, I: Read, W: Write>(
     }
 }
 
-/// Tells a failure; nothing is done where even that can't be written.
+/// Writes a failure to `errors` and returns its exit status. Errors of writing are ignored.
 fn tell<W: Write>(alloc: Global, errors: &mut W, failure: Failure<'_>) -> u8 {
     let Ok(text) = format!(in alloc; "{failure}\n") else {
         return no_memory(errors);
@@ -182,15 +182,16 @@ fn tell<W: Write>(alloc: Global, errors: &mut W, failure: Failure<'_>) -> u8 {
     failure.status()
 }
 
-/// Tells want of memory, and answers its status.
+/// Writes the failure `NoMemory` without allocating, and returns its exit status.
 pub fn no_memory<W: Write>(errors: &mut W) -> u8 {
     let _ = errors.write_all(b"error: no memory\n");
     let _ = errors.flush();
     Failure::NoMemory.status()
 }
 
-/// The program: does the command of these words, over these files, and answers its status. Lines that begin with `error` or
-/// `serve fault` go to `errors`, all other output to `output`; `serve` alone reads the input.
+/// Executes the command in `words` and returns its exit status.
+/// Lines that begin with `error` or `serve fault` go to `errors`, all other output goes to `output`.
+/// Only `serve` reads `input`.
 pub fn command<T: Threads + Wait + Sync, I: Read, W: Write, E: Write>(
     rt: &T,
     alloc: Global,

@@ -1,4 +1,4 @@
--- At first there are no entries.
+-- Fresh tables have no entries.
 use Rattle.std.proofs.Common.{◌≡◌, ◌≢◌, ◌==◌, [], ◌∷◌, Result, Ok, Err, IfErr, Bool, true, false, arith, ℕ, ℤ, List, None, length, slice_get, replicate, zero, suc, refl, ap, ◌∙◌}
 use Rattle.std.specs.FinMap as map
 use Rattle.std.specs.Prelude.{option_and_then}
@@ -28,7 +28,7 @@ pub nil_of : {A : Type 0} (xs : List A) → length xs ≡ 0 → xs ≡ []
 nil_of [] e = refl
 nil_of (x ∷ xs) e = absurd (omega (arith, e))
 
--- what is so of whatever error there is
+-- What follows from a property of an error holds of the error of a result.
 pub err_as : {A E : Type 0} (res : Result A E) {P Q : E → Type 0} → IsErrAnd res P → ((e : E) → P e → Q e) → IfErr res Q
 err_as (Ok x) h f = tt
 err_as (Err e) h f = f e h

@@ -1,4 +1,4 @@
--- Failures of readers and writers, one call after the other.
+-- Failures of readers and writers over consecutive calls.
 use Rattle.std.proofs.Common.{◌≡◌, ℕ, List, Option, Err, ◌∙◌, subst, inl, inr}
 use Rattle.std.specs.Io.KnownBytes.{IsAtEnd}
 use Rattle.wire.specs.declared.fault.WireFault.{WireFault}
@@ -13,7 +13,7 @@ use Rattle.serve.specs.Kept.{fault_of_wire}
 pub stays_on : {T : Type 0} (a b c : Counting T) → StaysCounted a b → StaysCounted b c → StaysCounted a c
 stays_on a b c h k = (k.0 ∙ h.0, k.1 ∙ h.1)
 
--- a count that stayed and then rose has risen
+-- A count that is unchanged by one step and rises in the next has risen over both.
 risen_later : (a b c : ℕ) → b ≡ a → HasRisen b c → HasRisen a c
 risen_later a b c e h = subst (λ n. HasRisen n c) e h
 
@@ -46,7 +46,7 @@ write_fails_later fault.NoMemory a b c h k = stays_on a b c h k
 write_fails_later fault.Write a b c h k = failed_later a b c h k
 write_fails_later fault.BadCount a b c h k = stays_on a b c h k
 
--- a frame that is cut was cut by the end of the input
+-- If a frame is `Truncated`, the input is at its end.
 pub ends : (e : WireFault) (left : Option (List ℕ)) (bytes : List ℕ) → ReadGives left bytes (Err e) → fault_of_wire e ≡ fault.Truncated → IsAtEnd left
 ends wire.TooLong left bytes gives is = absurd cc
 ends wire.Truncated left bytes gives is = gives.1

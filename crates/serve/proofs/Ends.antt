@@ -21,7 +21,7 @@ fails_not (unread requests extra f are t g stops) e = stops_not stops e
 fails_not (no_memory requests are t g) e = absurd cc
 fails_not (writer requests replies t missing are took round text) e = absurd cc
 
--- what ends a stream early is no count
+-- A stream that is cut short ends early, with a fault other than `BadCount`.
 pub ends_early : (loads : Bool) (gives : ℤ → LoadAnswer → Type 0) (input output : List ℕ) (f : ServeFault) → IsCutShort loads gives input output f → EndsEarly loads gives input output f
 ends_early loads gives input output fault.TooLong h = h
 ends_early loads gives input output fault.Truncated h = h

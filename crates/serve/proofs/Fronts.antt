@@ -1,4 +1,4 @@
--- Two readings of the same bytes as frames.
+-- Two parses of the same bytes as frames.
 use Rattle.std.proofs.Common.{◌≡◌, ℕ, List, [], ◌∷◌, ◌++◌, refl, sym, ap, ◌∙◌, append_assoc}
 use Rattle.std.specs.List.{AllByRecursion}
 use Rattle.wire.specs.Requests.{Request}
@@ -18,7 +18,7 @@ rest_of AtEnd = []
 rest_of (Whole r rest) = rest
 rest_of (Faulty f) = []
 
--- of two readings one goes on where the other ends
+-- Of two lists of frames that the same bytes begin with, one is a prefix of the other.
 pub data Compared (xs ys : List Request) (a b : List ℕ) : Type 0 where
   shorter : (zs : List Request) → ys ≡ xs ++ zs → Compared xs ys a b
   longer : (z : Request) (zs : List Request) → xs ≡ ys ++ z ∷ zs → AllByRecursion IsRequest (z ∷ zs) → b ≡ requests_text (z ∷ zs) ++ a → Compared xs ys a b
@@ -36,7 +36,7 @@ compare once (x ∷ xs) (y ∷ ys) a b h k e =
     let same : Whole x (requests_text xs ++ a) ≡ Whole y (requests_text ys ++ b) = once (requests_text (x ∷ xs) ++ a) (Whole x (requests_text xs ++ a)) (Whole y (requests_text ys ++ b)) one two in
     next x y xs ys a b (ap (request_of x) same) (compare once xs ys a b h.1 k.1 (ap rest_of same))
 
--- ---- where no whole frame stands
+-- ---- bytes that begin with no whole frame
 
 differ : (f : ReadFault) (r : Request) (rest : List ℕ) → Faulty f ≡ Whole r rest → ⊥
 differ f r rest e = cc

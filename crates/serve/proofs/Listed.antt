@@ -1,4 +1,4 @@
--- There are no more outcomes than keys.
+-- A list of outcomes is at most as long as the list of its keys.
 use Rattle.std.proofs.Common.{◌≤◌, List, [], ◌∷◌, ℤ, Option, Some, None, length, length-append, arith}
 use Rattle.jtypes.specs.declared.types.Arg.TheVariants as arg
 use Rattle.jtypes.specs.declared.types.Outcome.TheVariants.{Returned, Threw}

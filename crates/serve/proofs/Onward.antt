@@ -1,4 +1,4 @@
--- A stream that was cut short goes on.
+-- A stream that was cut short can be continued.
 use Rattle.std.proofs.Common.{◌≡◌, ◌≢◌, ◌⊎◌, ℕ, ℤ, Bool, List, [], ◌∷◌, ◌++◌, length, map, Option, None, refl, sym, ap, ◌∙◌, subst, inl, inr, arith, append_assoc, append-nil}
 use Rattle.std.specs.List.{AllByRecursion}
 use Rattle.std.proofs.lemmas.Bool.{cases_lt}
@@ -37,7 +37,7 @@ is_end RoundEnd = inl refl
 
 -- ---- each round can be answered
 
--- each request but a round's end has a part
+-- Each request other than `RoundEnd` has a part.
 some_part : (classes : List Class) (at : ℕ) (r : Request) → r ≢ RoundEnd → (p : Part) × (later : List Class) × Adds classes at r p later
 some_part classes at (Define bytes) open_yet = elim (cases_lt (length classes) most_classes) [
   | inl few ↦ (told (reply.Refused refusal.NoMemory), classes, rounds.lacks_memory bytes few)
@@ -82,7 +82,7 @@ none_is_answered [] = refl
 none_is_answered (c ∷ calls) = none_is_answered calls
 
 module _ (loads : Bool) (gives : ℤ → LoadAnswer → Type 0) where
-  -- a round is done where none of its calls is answered
+  -- A round in which no call is answered is done.
   none_done : (before : Entries) (calls : List Call) → IsDone loads gives before calls (no_answers calls) before
   none_done before calls = record {
     count = as_many_answers calls;
@@ -103,12 +103,12 @@ module _ (loads : Bool) (gives : ℤ → LoadAnswer → Type 0) where
         is = record { works = g.works; calls = g.calls; answers = no_answers g.calls; gathered = g.gathered; done = none_done s.entries g.calls; told = refl };
       }
 
-  -- ---- so can each stream
+  -- ---- each stream can be answered
 
   behind : (input told text : List ℕ) → GoesOn loads gives input (told ++ text) → GoesOn loads gives input told
   behind input told text g = record { more = g.more; later = text ++ g.later; served = subst (IsServed loads gives (input ++ g.more)) (append_assoc told text g.later) g.served }
 
-  -- behind whole rounds that were served stand these requests of an open round, and the rest
+  -- Whole rounds that were served, requests of an open round and further requests can be continued.
   answer_all : (front told : List ℕ) (s : Stand) → Serves loads gives front told s → (begun rest : List Request) → AreOpen begun → AllByRecursion IsRequest rest
       → GoesOn loads gives ((front ++ requests_text begun) ++ requests_text rest) told
   answer_all front told s v begun [] are each =
@@ -138,9 +138,9 @@ module _ (loads : Bool) (gives : ℤ → LoadAnswer → Type 0) where
         subst (λ l. GoesOn loads gives l told) parts later
   ]
 
-  -- ---- so does each that was cut short
+  -- ---- each stream that was cut short can be continued
 
-  -- nothing was written behind the answers to whole rounds
+  -- Nothing was written after the answers to whole rounds.
   unwritten : OneFront → (front told : List ℕ) (s : Stand) → Serves loads gives front told s → (back input output : List ℕ) → input ≡ front ++ back → output ≡ told → FramesGoOn loads gives input output
   unwritten once front told s v back input output input_is output_is requests b =
       let same : requests_text requests ++ b.rest ≡ requests_text v.requests ++ back = sym b.parts ∙ input_is ∙ ap (λ l. l ++ back) v.read in
@@ -158,7 +158,7 @@ module _ (loads : Bool) (gives : ℤ → LoadAnswer → Type 0) where
           let all = ap (λ l. l ++ requests_text (z ∷ zs)) read ∙ sym (texts_append request_frame v.requests (z ∷ zs)) ∙ ap requests_text (sym is) in
           subst (λ l. GoesOn loads gives l told) all (answer_all front told s v [] (z ∷ zs) tt each)
 
-  -- an answer was written in part
+  -- An answer was partly written.
   begun : (whole answer output missing : List ℕ) → IsServed loads gives whole answer → answer ≡ output ++ missing → FramesGoOn loads gives whole output
   begun whole answer output missing v is requests b = record {
     more = b.rest;

@@ -1,4 +1,4 @@
--- Plans grow, and their jobs keep their calls.
+-- Growth of plans, and the calls of their jobs.
 use Rattle.std.proofs.Common.{◌≡◌, ◌⊎◌, inl, inr, ℕ, ℤ, zero, ◌+◌, ◌<◌, ◌≤◌, List, [], ◌∷◌, ◌++◌, length, map, take, drop, append-nil, append_assoc, Result, Ok, Err, OnOk, Bool, true, false, if◌then◌else◌, Option, Some, None, slice_get, get_or, length-append, arith, refl, sym, ap, ◌∙◌, subst, suc}
 use Rattle.std.specs.Prelude.{nat_le, All, Vec}
 use Rattle.std.specs.Global.{Global}
@@ -43,7 +43,7 @@ few_of (Invoke class key args) h = h.2.few
 few_of (InvokeAll class keys args) h = h.3.few
 few_of RoundEnd h = tt
 
--- ---- a round has no more jobs than it may have
+-- ---- the number of jobs of a round is at most the maximum
 
 with_room_fits : (at : ℕ) (p : Part) → at ≤ most_jobs → at + length (with_room at p).calls ≤ most_jobs
 with_room_fits at p h = go (nat_le (at + length p.calls) most_jobs) refl
@@ -79,7 +79,7 @@ pub few_jobs : {first later : List Class} {requests : List Request} {works : Lis
 few_jobs rounds.none = omega arith
 few_jobs (rounds.more requests works calls now later r p g a) = let fits = adds_fit a (few_jobs g) in omega (arith, fits, length-append calls p.calls)
 
--- ---- room
+-- ---- capacity of a round
 
 pub has_room : (at : ℕ) (p : Part) → at + length p.calls ≤ most_jobs → with_room at p ≡ p
 has_room at p h = ap (λ (b : Bool). if b then p else told (reply.Denied TooManyJobs)) (le-leb (at + length p.calls) most_jobs h)
@@ -87,7 +87,7 @@ has_room at p h = ap (λ (b : Bool). if b then p else told (reply.Denied TooMany
 pub lacks_room : (at : ℕ) (p : Part) → most_jobs < at + length p.calls → with_room at p ≡ told (reply.Denied TooManyJobs)
 lacks_room at p h = ap (λ (b : Bool). if b then p else told (reply.Denied TooManyJobs)) (lt-leb (at + length p.calls) most_jobs h)
 
--- ---- what a call adds to a plan
+-- ---- growth of a plan
 
 pub grows_jobs : {E : Type 0} (res : Result (Unit {0}) E) (old new : Batch) (w : Planned) (q : Part) → OnOk res (new.works.items ≡ old.works.items ++ w ∷ []) → work_of w ≡ q.work
     → calls_of new ≡ calls_of old ++ q.calls → OnOk res (Grows old new q)
@@ -97,7 +97,7 @@ grows_jobs (Ok x) old new w q works is calls = record {
 }
 grows_jobs (Err e) old new w q works is calls = tt
 
--- a work without a job
+-- A work without a job leaves the calls unchanged.
 one_more_told : (old new : Batch) (w : Planned) → new.works.items ≡ old.works.items ++ w ∷ [] → new.calls ≡ old.calls → Grows old new (part (work_of w) [])
 one_more_told old new w works calls = record {
   works = ap (λ l. map work_of l) works ∙ map-append work_of old.works.items (w ∷ []);
@@ -109,12 +109,12 @@ pub grows_told : {E : Type 0} (res : Result (Unit {0}) E) (old new : Batch) (w :
 grows_told (Ok x) old new w works calls = one_more_told old new w works calls
 grows_told (Err x) old new w works calls = tt
 
--- what is told of a plan whose works are those of another
+-- A push onto an equal list is a push onto the original list.
 pub grown : {E : Type 0} (res : Result (Unit {0}) E) (new : List Planned) (w : Planned) (old middle : Vec Planned Global) → middle ≡ old → OnOk res (new ≡ middle.items ++ w ∷ []) → OnOk res (new ≡ old.items ++ w ∷ [])
 grown (Ok x) new w old middle e h = h ∙ ap (λ (v : Vec Planned Global). v.items ++ w ∷ []) e
 grown (Err x) new w old middle e h = tt
 
--- one more call
+-- A call pushed in the code is a call appended in the definitions.
 pub one_more_call : (old new : List CallTaken) (c : CallTaken) → new ≡ old ++ c ∷ [] → all_seen new ≡ all_seen old ++ seen_call c ∷ []
 one_more_call old new c is = ap all_seen is ∙ map-append seen_call old (c ∷ [])
 
@@ -129,11 +129,11 @@ adds_told (Ok x) classes later old new r s w e works calls a =
     subst (λ (z : Request). Adding classes old z new later) (sym e) (record { part = part (work_of w) []; adds = a; grows = one_more_told old new w works calls })
 adds_told (Err x) classes later old new r s w e works calls a = tt
 
--- there are as many calls as the definitions see
+-- The list of calls has the same length in the code and in the definitions.
 pub as_many_calls : (p : Batch) → length (calls_of p) ≡ length p.calls.items
 as_many_calls p = length-map p.calls.items seen_call
 
--- a job for which there is room, and one for which there is none
+-- A job that the round has capacity for, and a job that it denies.
 pub grows_one : {E : Type 0} (res : Result (Unit {0}) E) (old new : Batch) (c : Call) → length old.calls.items < most_jobs → OnOk res (Grows old new (part (Job (length (calls_of old))) (c ∷ []))) → OnOk res (Grows old new (one (length (calls_of old)) c))
 grows_one res old new c few g =
     let at : ℕ = length (calls_of old) in
@@ -145,7 +145,7 @@ denies_one res old new c many works calls =
     let at : ℕ = length (calls_of old) in
     subst (λ p. OnOk res (Grows old new p)) (sym (lacks_room at (part (Job at) (c ∷ [])) (omega (arith, many, as_many_calls old)))) (grows_told res old new (planned.Denied TooManyJobs) works calls)
 
--- what stands below the length is there
+-- An index below the length of a list has an element.
 pub there : {A : Type 0} (xs : List A) (n : ℕ) → n < length xs → (x : A) × (slice_get xs n ≡ Some x)
 there [] n h = absurd (omega (arith, h))
 there (x ∷ xs) zero h = (x, refl)
@@ -190,7 +190,7 @@ map_step f front xs i d y all h e g =
 pub of_ok : {A E P : Type 0} (res : Result A E) (x : A) → res ≡ Ok x → OnOk res P → P
 of_ok {P = P} res x e h = subst (λ r. OnOk r P) e h
 
--- a call for one more key
+-- A call for the next key extends the calls, and shortens the keys to come.
 pub pushed : (x : Class) (args : List Arg) (old new : List CallTaken) (c : CallTaken) (keys : List ℤ) (i : ℕ) (d : ℤ) (all : List Call) → i < length keys → seen_call c ≡ call.Invoke x (get_or keys i d) args
     → new ≡ old ++ c ∷ [] → all_seen old ++ invocations x args (drop i keys) ≡ all → all_seen new ++ invocations x args (drop (i + 1) keys) ≡ all
 pushed x args old new c keys i d all h called is g =
@@ -201,7 +201,7 @@ pub refused_as : (classes : List Class) (at : ℕ) (bytes : List ℕ) (r : Refus
 refused_as classes at bytes r few (inl e) = subst (λ x. Adds classes at (Define bytes) (told (reply.Refused x)) classes) (sym e) (lacks_memory bytes few)
 refused_as classes at bytes r few (inr is) = refuses bytes r few is
 
--- the number and the classes as the code has them
+-- A class is defined with the number and the list of classes that the code has.
 pub defined_as : (classes later : List Class) (at n : ℕ) (bytes : List ℕ) (c : Class) (b : Bounds) → length classes < most_classes → n ≡ length classes → later ≡ classes ++ c ∷ [] → IsAccepted Second bytes → IsClassOf Second bytes c
     → ((j : ℕ) → IsProcessOf c j → AreBounds c j b) → Adds classes at (Define bytes) (told (reply.Defined n b.steps b.words)) later
 defined_as classes later at n bytes c b few count items accepted class bounds =

@@ -1,4 +1,4 @@
--- A request more, a round more.
+-- One more request, and one more round.
 use Rattle.std.proofs.Common.{◌≡◌, ℕ, ℤ, ◌+◌, Bool, List, [], ◌∷◌, ◌++◌, length, map, Option, None, Err, refl, sym, ap, ◌∙◌, subst, arith, length-append, append_assoc, append-nil}
 use Rattle.std.proofs.lemmas.List.{map-append}
 use Rattle.std.specs.List.{AllByRecursion}
@@ -44,7 +44,7 @@ texts_append f (x ∷ xs) ys = ap (λ l. f x ++ l) (texts_append f xs ys) ∙ sy
 pub texts_more : {A : Type 0} (f : A → List ℕ) (xs : List A) (x : A) → texts f (xs ++ x ∷ []) ≡ texts f xs ++ f x
 texts_more f xs x = texts_append f xs (x ∷ []) ∙ ap (λ l. texts f xs ++ l) (append-nil (f x))
 
--- ---- a request more
+-- ---- one more request
 
 pub took_more : (a b c : Option (List ℕ)) (xs : List Request) (r : Request) (bytes : List ℕ) → Consumes a b (requests_text xs) → Consumes b c bytes → IsRead bytes r []
     → Consumes a c (requests_text (xs ++ r ∷ []))
@@ -71,7 +71,7 @@ stops_of left requests bytes wire.Malformed gives = served.malformed bytes gives
 stops_of left requests bytes wire.Read gives = served.reader bytes gives
 stops_of left requests bytes wire.NoMemory gives = served.frame_memory bytes gives
 
--- ---- a round more
+-- ---- one more round
 
 pub end_is_request : IsRequest RoundEnd
 end_is_request = record { in_range = tt; short = omega arith }
@@ -87,13 +87,13 @@ serves_more loads gives taken given s t requests replies v are r = record {
   answers = served.round v.requests v.replies s t requests replies v.answers r;
 }
 
--- nothing was served yet
+-- Nothing is served at the start.
 pub nothing_yet : (loads : Bool) (gives : ℤ → LoadAnswer → Type 0) (classes : List Class) (entries : Entries) → classes ≡ [] → ((k : lib.IntN.ℤ) → entries k ≡ None) → Serves loads gives [] [] (stand classes entries)
 nothing_yet loads gives classes entries e f =
     let same : first_stand ≡ stand classes entries = λ i. stand (sym e i) (λ k. sym (f k) i) in
     record { requests = []; replies = []; each = tt; read = refl; written = refl; answers = subst (λ (s : Stand). Answers loads gives [] [] s) same served.Answers.none }
 
--- nothing was read or written, for want of memory
+-- A stream that reads and writes nothing is cut short by `NoMemory`.
 pub nothing_served : (loads : Bool) (gives : ℤ → LoadAnswer → Type 0) → IsCutShort loads gives [] [] Rattle.serve.specs.declared.fault.ServeFault.TheVariants.NoMemory
 nothing_served loads gives = record {
   front = [];
@@ -107,14 +107,14 @@ nothing_served loads gives = record {
   fails = served.unread [] [] Rattle.serve.specs.declared.fault.ServeFault.TheVariants.NoMemory tt refl refl served.memory;
 }
 
--- a round that was read and run
+-- A round that was read and run is a round of the definitions.
 pub round_of : {loads : Bool} {gives : ℤ → LoadAnswer → Type 0} {old new : Option (List ℕ)} {first later : List Class} {plan : Batch} (w : IsWhole old new first plan later) (before after : Entries) (text : List ℕ) (run : IsRun loads gives before (calls_of plan) (works_of plan) after text)
     → IsRound loads gives (stand first before) w.requests (map (rounds.work_reply run.answers) (works_of plan)) (stand later after)
 round_of {plan = plan} w before after text run = record { works = works_of plan; calls = calls_of plan; answers = run.answers; gathered = w.gathered; done = run.done; told = refl }
 
 -- ---- texts
 
--- a reply more
+-- One more reply.
 pub told_more : (f : Work → Reply) (ys : List Planned) (w : Planned) (old new : List ℕ) (r : Reply) → old ≡ replies_text (map f (map work_of ys)) → new ≡ old ++ reply_frame r → r ≡ f (work_of w)
     → new ≡ replies_text (map f (map work_of (ys ++ w ∷ [])))
 told_more f ys w old new r h e is =

@@ -16,7 +16,7 @@ use Rattle.serve.proofs.Fronts.{OneFront, Compared, shorter, longer, compare, no
 use Rattle.serve.proofs.Begun.{nil_of}
 use Rattle.serve.proofs.Rounds.{each_more, open_requests, end_is_request, nothing_yet}
 
--- ---- how many rounds end
+-- ---- the number of rounds that end
 
 ends_append : (xs ys : List Request) → ends (xs ++ ys) ≡ ends xs + ends ys
 ends_append [] ys = omega arith
@@ -43,17 +43,17 @@ none_ends (RoundEnd ∷ xs) are = absurd (are.0.1 refl)
 one_ends : (xs : List Request) → AreOpen xs → ends (ended xs) ≡ 1
 one_ends xs are = let e = ends_append xs (RoundEnd ∷ []) in let n = none_ends xs are in omega (arith, e, n)
 
--- no whole frame stands first
+-- `HasNone` holds if the bytes begin with no whole frame.
 abbrev HasNone : List ℕ → Type 0
 HasNone bytes = (r : Request) (rest : List ℕ) → IsRead bytes r rest → ⊥
 
--- a part of a frame is none
+-- A part of a frame begins with no whole frame.
 part_has_none : OneFront → (bytes : List ℕ) → IsPart bytes → HasNone bytes
 part_has_none once [] (of_length short) = nothing_is_read once
 part_has_none once (b ∷ bytes) (of_length short) = no_fault_is_read once (b ∷ bytes) frames.Truncated (frames.cut_length (omega arith) short)
 part_has_none once bytes (of_text n rest is few some) = no_fault_is_read once bytes frames.Truncated (frames.cut_body n rest is (omega (arith, some)) few some)
 
--- of the whole frames before such bytes no more rounds end than of all of them
+-- If no whole frame follows `requests`, no more rounds end in the whole frames of `back` than in `requests`.
 few_end : OneFront → (back : List ℕ) (requests : List Request) (extra : List ℕ) → AllByRecursion IsRequest requests → back ≡ requests_text requests ++ extra → HasNone extra → (n : ℕ) → ends requests ≤ n
     → EndAtMost n back
 few_end once back requests extra each parts none n few whole b = go (compare once whole requests b.rest extra b.each each (sym b.parts ∙ parts))
@@ -70,7 +70,7 @@ last once back requests are taken =
     let n = one_ends requests are in
     few_end once back (ended requests) [] (each_more IsRequest requests RoundEnd (open_requests requests are) end_is_request) (taken ∙ sym (append-nil (requests_text (ended requests)))) (nothing_is_read once) 1 (omega (arith, n))
 
--- of a frame, or a beginning of one, nothing stands behind a whole frame
+-- If a frame, or a prefix of one, begins with a whole frame, nothing follows that frame.
 nothing_behind : (extra : List ℕ) → IsBegun extra → (r : Request) (tail : List ℕ) → IsRequest r → extra ≡ request_frame r ++ tail → tail ≡ []
 nothing_behind extra b r tail is e =
     let short = b.short in
@@ -81,7 +81,7 @@ nothing_behind extra b r tail is e =
     let within = b.within in
     nil_of tail (omega (arith, count, length_is, within))
 
--- so at most one round ends in it
+-- At most one round ends in a frame, or in a prefix of one.
 one_at_most : OneFront → (extra : List ℕ) → IsBegun extra → (r : Request) (requests : List Request) (rest : List ℕ) → AllByRecursion IsRequest (r ∷ requests) → extra ≡ requests_text (r ∷ requests) ++ rest → ends (r ∷ requests) ≤ 1
 one_at_most once extra b r requests rest are parts = alone requests are.1 (nothing_behind extra b r (requests_text requests ++ rest) are.0 (parts ∙ append_assoc (request_frame r) (requests_text requests) rest))
   where
@@ -107,7 +107,7 @@ begun once back requests extra are taken is whole b = go (compare once whole req
     go (longer z zs parts each more) = let e = ap ends parts ∙ ends_append requests (z ∷ zs) in let n = none_ends requests are in let one = one_at_most once extra is z zs b.rest each more in omega (arith, e, n, one)
 
 module _ (loads : Bool) (gives : ℤ → LoadAnswer → Type 0) where
-  -- ---- what was told
+  -- ---- answered rounds
 
   all_but : (n : ℕ) (input output front back : List ℕ) (s : Stand) → input ≡ front ++ back → Serves loads gives front output s → EndAtMost n back → AnsweredBut loads gives n input output
   all_but n input output front back s parts v few = record { front = front; back = back; parts = parts; served = record { left = s; serves = v }; unanswered = few }

@@ -1,4 +1,4 @@
--- What the code keeps, as the definitions see it.
+-- The state of the code in terms of the definitions.
 use Rattle.std.specs.Prelude.{Bool, ℤ, ◌≡◌, ◌≤◌, ℕ, List, [], ◌∷◌, ◌++◌, length, map, Option, Some, None, All}
 use Rattle.std.specs.Io.KnownBytes.{Consumes, Appends, IsAtEnd}
 use Rattle.boxcar.specs.Table.{Shelves, Where}
@@ -25,7 +25,7 @@ use Rattle.serve.specs.Served.{Stand, stand, IsRound, ended, all_told, AreOpen, 
 
 -- ---- faults
 
--- a fault of a frame is one of its stream
+-- The fault of a stream for the fault of a frame.
 abbrev pub fault_of_wire : WireFault → ServeFault
 fault_of_wire wire.TooLong = fault.TooLong
 fault_of_wire wire.Truncated = fault.Truncated
@@ -38,13 +38,13 @@ fault_of_wire wire.NoMemory = fault.NoMemory
 abbrev pub classes_of : List (Where Class) → List Class
 classes_of ids = map class_of ids
 
--- the registry gave each of these ids
+-- `AreOf` holds if the registry issued each of these ids.
 abbrev pub AreOf : Shelves → List (Where Class) → Type 0
 AreOf registry ids = All (IsOf registry) ids
 
 -- ---- plans
 
--- an invocation has at most eight arguments
+-- `HasFew` holds if an invocation has at most eight arguments.
 abbrev pub HasFew : Request → Type 0
 HasFew (Invoke class key args) = length args ≤ 8
 HasFew (InvokeAll class keys args) = length args ≤ 8
@@ -63,12 +63,12 @@ works_of p = map work_of p.works.items
 abbrev pub calls_of : Batch → List Call
 calls_of p = all_seen p.calls.items
 
--- a part was added to the plan
+-- `Grows` holds if this part was added to the plan.
 pub record Grows (old new : Batch) (p : Part) : Type 0 where
   pub works : works_of new ≡ works_of old ++ p.work ∷ []
   pub calls : calls_of new ≡ calls_of old ++ p.calls
 
--- a request was added to the plan
+-- `Adding` holds if this request was added to the plan.
 pub record Adding (classes : List Class) (old : Batch) (r : Request) (new : Batch) (later : List Class) : Type 0 where
   pub part : Part
   pub adds : Adds classes (length (calls_of old)) r part later
@@ -76,19 +76,19 @@ pub record Adding (classes : List Class) (old : Batch) (r : Request) (new : Batc
 
 -- ---- rounds
 
--- a round was read to its end
+-- `IsWhole` holds if a round was read up to its end.
 pub record IsWhole (old new : Option (List ℕ)) (first : List Class) (plan : Batch) (later : List Class) : Type 0 where
   pub requests : List Request
   pub are : AreOpen requests
   pub took : Consumes old new (requests_text (ended requests))
   pub gathered : Gathers first requests (works_of plan) (calls_of plan) later
 
--- a round was read to its end, or the input ended before one
+-- `RoundRead` holds if a round was read up to its end, or none at the end of the input.
 abbrev pub RoundRead : Option (List ℕ) → Option (List ℕ) → List Class → List Class → Option Batch → Type 0
 RoundRead old new first later (Some plan) = IsWhole old new first plan later
 RoundRead old new first later None = Consumes old new [] × IsAtEnd new
 
--- a round was not read to its end
+-- `IsBroken` holds if a round was not read up to its end because of this fault.
 pub record IsBroken (old new : Option (List ℕ)) (f : ServeFault) : Type 0 where
   pub requests : List Request
   pub extra : List ℕ
@@ -96,13 +96,13 @@ pub record IsBroken (old new : Option (List ℕ)) (f : ServeFault) : Type 0 wher
   pub took : Consumes old new (requests_text requests ++ extra)
   pub stops : Stops requests extra f
 
--- the calls were answered, and this is the text of the round's replies
+-- `IsRun` holds if the calls were answered, and `text` is the frames of the round's replies.
 pub record IsRun (loads : Bool) (gives : ℤ → LoadAnswer → Type 0) (before : Entries) (calls : List Call) (works : List Work) (after : Entries) (text : List ℕ) : Type 0 where
   pub answers : List (Option Answer)
   pub done : IsDone loads gives before calls answers after
   pub text_is : text ≡ replies_text (all_told (map (work_reply answers) works))
 
--- a round was served from this stand on, and left these classes and tables
+-- `IsAnswered` holds if a round was served from state `s`, and left these classes and tables.
 pub record IsAnswered (loads : Bool) (gives : ℤ → LoadAnswer → Type 0) (old new before after : Option (List ℕ)) (s : Stand) (classes : List Class) (tables : List Stored) : Type 0 where
   pub requests : List Request
   pub replies : List Reply
@@ -111,12 +111,12 @@ pub record IsAnswered (loads : Bool) (gives : ℤ → LoadAnswer → Type 0) (ol
   pub gave : Appends before after (replies_text (all_told replies))
   pub round : IsRound loads gives s requests replies (stand classes (entry_among tables))
 
--- a round was served, or the input ended before one
+-- `RoundServed` holds if a round was served, or none at the end of the input.
 abbrev pub RoundServed : Bool → (ℤ → LoadAnswer → Type 0) → Option (List ℕ) → Option (List ℕ) → Option (List ℕ) → Option (List ℕ) → Stand → List Class → Option (List Stored) → Type 0
 RoundServed loads gives old new before after s classes (Some tables) = IsAnswered loads gives old new before after s classes tables
 RoundServed loads gives old new before after s classes None = Consumes old new [] × IsAtEnd new × Appends before after []
 
--- what a round took and gave that failed
+-- `RoundFailed` holds if a round failed with this fault, with the bytes that it read and wrote.
 pub record RoundFailed (loads : Bool) (gives : ℤ → LoadAnswer → Type 0) (old new before after : Option (List ℕ)) (s : Stand) (f : ServeFault) : Type 0 where
   pub taken : List ℕ
   pub given : List ℕ

@@ -1,4 +1,4 @@
--- What the requests of a round ask, and what they are told (JSR 107, Cache).
+-- The work and the replies for the requests of a round (JSR 107, Cache).
 use Rattle.std.specs.Prelude.{◌≡◌, ℕ, ℤ, ◌+◌, ◌<◌, ◌≤◌, nat_le, List, [], ◌∷◌, ◌++◌, length, drop, Option, Some, None, slice_get, slice_index_or, if◌then◌else◌}
 use Rattle.jtypes.specs.declared.refusal.Refusal.{Refusal}
 use Rattle.jtypes.specs.declared.refusal.Refusal.TheVariants as refusal
@@ -21,23 +21,23 @@ use Rattle.wire.specs.declared.reply.Reply.{Reply}
 use Rattle.wire.specs.declared.reply.Reply.TheVariants as reply
 use Rattle.jtypes.specs.Profile.{Second}
 
--- the most classes of a stream
+-- The maximum number of classes of a stream.
 abbrev pub most_classes : ℕ
 most_classes = 4096
 
--- the most jobs of a round
+-- The maximum number of jobs of a round.
 abbrev pub most_jobs : ℕ
 most_jobs = 4096
 
--- ---- what a request asks of its round
+-- ---- the work of a request
 
--- a reply that is known at once, that of the job at this place, or those of the jobs from this place on, one for each key
+-- A known reply, the reply of the job at an index, or the replies of the jobs from an index on, one for each key.
 pub data Work : Type 0 where
   Told : Reply → Work
   Job : (at : ℕ) → Work
   JobForEach : (at : ℕ) → (keys : List ℤ) → Work
 
--- a request's work, and the calls of its jobs
+-- The work of a request, and the calls of its jobs.
 pub record Part : Type 0 where
   pub work : Work
   pub calls : List Call
@@ -48,24 +48,24 @@ part work calls = record { work = work; calls = calls }
 abbrev pub told : Reply → Part
 told r = part (Told r) []
 
--- the part, where the round has room for its jobs behind so many
+-- The part, or a denial if its jobs and the `at` jobs before are too many for a round.
 abbrev pub with_room : ℕ → Part → Part
 with_room at p = if nat_le (at + length p.calls) most_jobs then p else told (reply.Denied TooManyJobs)
 
--- one job
+-- The part of a request with one job.
 abbrev pub one : ℕ → Call → Part
 one at c = with_room at (part (Job at) (c ∷ []))
 
--- an invocation on each of these keys
+-- The part of a request that invokes a class on each of these keys.
 abbrev pub each : ℕ → List ℤ → List Arg → Class → Part
 each at keys args c = with_room at (part (JobForEach at keys) (invocations c args keys))
 
--- a class that was not accepted before is denied first
+-- The part for a class, or a denial if there is none.
 abbrev pub of_class : Option Class → (Class → Part) → Part
 of_class None f = told (reply.Denied UnknownClass)
 of_class (Some c) f = f c
 
--- a class is accepted, and defined by its number and its bounds
+-- `IsDefined` holds if the class is accepted, and the reply has its number and its bounds.
 pub record IsDefined (bytes : List ℕ) (n : ℕ) (c : Class) (r : Reply) : Type 0 where
   pub accepted : IsAccepted Second bytes
   pub class : IsClassOf Second bytes c
@@ -73,7 +73,7 @@ pub record IsDefined (bytes : List ℕ) (n : ℕ) (c : Class) (r : Reply) : Type
   pub bounds_are : (j : ℕ) → IsProcessOf c j → AreBounds c j bounds
   pub reply : r ≡ reply.Defined n bounds.steps bounds.words
 
--- the part of a request behind so many jobs of its round, and the classes that are accepted then; a round's end has none
+-- `Adds` holds if a request adds this part to a round with `at` jobs, and leaves these accepted classes. A `RoundEnd` adds none.
 pub data Adds (classes : List Class) (at : ℕ) : Request → Part → List Class → Type 0 where
   defines : (bytes : List ℕ) (c : Class) (r : Reply) → length classes < most_classes → IsDefined bytes (length classes) c r
       → Adds classes at (Define bytes) (told r) (classes ++ c ∷ [])
@@ -87,15 +87,15 @@ pub data Adds (classes : List Class) (at : ℕ) : Request → Part → List Clas
   invokes : (n : ℕ) (key : ℤ) (args : List Arg) → Adds classes at (Invoke n key args) (of_class (slice_get classes n) (λ c. one at (call.Invoke c key args))) classes
   invokes_all : (n : ℕ) (keys : List ℤ) (args : List Arg) → Adds classes at (InvokeAll n keys args) (of_class (slice_get classes n) (λ c. each at (different keys) args c)) classes
 
--- the works of a round's requests so far, the calls of its jobs, and the classes that are accepted then
+-- `Gathers` holds if these are the works of a round's requests so far, the calls of its jobs, and the accepted classes.
 pub data Gathers (first : List Class) : List Request → List Work → List Call → List Class → Type 0 where
   none : Gathers first [] [] [] first
   more : (requests : List Request) (works : List Work) (calls : List Call) (now later : List Class) (r : Request) (p : Part) → Gathers first requests works calls now
       → Adds now (length calls) r p later → Gathers first (requests ++ r ∷ []) (works ++ p.work ∷ []) (calls ++ p.calls) later
 
--- ---- what is told
+-- ---- replies
 
--- the reply to a job; one that is not answered found no memory
+-- The reply to a job. A job without an answer is denied with `NoMemory`.
 abbrev pub job_reply : Option Answer → Reply
 job_reply None = reply.Denied NoMemory
 job_reply (Some (answer.Result o)) = reply.Result o
@@ -103,7 +103,7 @@ job_reply (Some answer.Done) = reply.Done
 job_reply (Some (answer.Value v)) = reply.Value v
 job_reply (Some (answer.Flag b)) = reply.Flag b
 
--- what is listed of a key: nothing where its processor returned null
+-- The outcomes listed for a key: none if its entry processor returned null.
 abbrev pub listed : ℤ → Option Answer → List (ℤ × JobOutcome)
 listed key None = (key, job.Denied NoMemory) ∷ []
 listed key (Some (answer.Result (Returned Null))) = []
@@ -115,7 +115,7 @@ all_listed answers [] = []
 all_listed [] (k ∷ ks) = listed k None ++ all_listed [] ks
 all_listed (a ∷ answers) (k ∷ ks) = listed k a ++ all_listed answers ks
 
--- the reply to a request, from the answers to the jobs of its round
+-- The reply to a request, from the answers to the jobs of its round.
 abbrev pub work_reply : List (Option Answer) → Work → Reply
 work_reply answers (Told r) = r
 work_reply answers (Job at) = job_reply (slice_index_or answers at None)

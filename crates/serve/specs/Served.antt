@@ -1,4 +1,4 @@
--- Streams of requests, and what is served to them, round by round.
+-- Streams of requests, and the replies to them, round by round.
 use Rattle.std.specs.Prelude.{Bool, ℤ, ◌≡◌, ◌≢◌, ℕ, List, [], ◌∷◌, ◌++◌, map, Option, None}
 use Rattle.std.specs.List.{AllByRecursion}
 use Rattle.jtypes.specs.declared.loader.LoadAnswer.{LoadAnswer}
@@ -23,7 +23,7 @@ replies_text replies = texts reply_frame replies
 
 -- ---- rounds
 
--- the classes that are accepted so far, and the entries
+-- The state between rounds: the accepted classes, and the entries.
 pub record Stand : Type 0 where
   pub classes : List Class
   pub entries : Entries
@@ -31,11 +31,11 @@ pub record Stand : Type 0 where
 abbrev pub stand : List Class → Entries → Stand
 stand classes entries = record { classes = classes; entries = entries }
 
--- at first no class is accepted, and no entry is there
+-- The state before the first round: no classes and no entries.
 abbrev pub first_stand : Stand
 first_stand = stand [] (λ k. None)
 
--- a round's requests without its end, their replies, and what it leaves
+-- `IsRound` holds if a round of these requests, without its `RoundEnd`, has these replies and leaves state `t`.
 pub record IsRound (loads : Bool) (gives : ℤ → LoadAnswer → Type 0) (s : Stand) (requests : List Request) (replies : List Reply) (t : Stand) : Type 0 where
   pub works : List Work
   pub calls : List Call
@@ -44,20 +44,20 @@ pub record IsRound (loads : Bool) (gives : ℤ → LoadAnswer → Type 0) (s : S
   pub done : IsDone loads gives s.entries calls answers t.entries
   pub told : replies ≡ map (work_reply answers) works
 
--- requests, and the end of their round
+-- The requests of a round and its `RoundEnd`.
 abbrev pub ended : List Request → List Request
 ended requests = requests ++ RoundEnd ∷ []
 
 abbrev pub all_told : List Reply → List Reply
 all_told replies = replies ++ reply.RoundEnd ∷ []
 
--- the replies to whole rounds, and what they leave
+-- `Answers` holds if these are the replies to the requests of whole rounds, which leave this state.
 pub data Answers (loads : Bool) (gives : ℤ → LoadAnswer → Type 0) : List Request → List Reply → Stand → Type 0 where
   none : Answers loads gives [] [] first_stand
   round : (requests : List Request) (replies : List Reply) (s t : Stand) (more : List Request) (others : List Reply) → Answers loads gives requests replies s → IsRound loads gives s more others t
       → Answers loads gives (requests ++ ended more) (replies ++ all_told others) t
 
--- these bytes are served with those, and leave this
+-- `Serves` holds if `input` consists of whole rounds, `output` is the answer to them, and `s` is the state that they leave.
 pub record Serves (loads : Bool) (gives : ℤ → LoadAnswer → Type 0) (input output : List ℕ) (s : Stand) : Type 0 where
   pub requests : List Request
   pub replies : List Reply
@@ -66,18 +66,18 @@ pub record Serves (loads : Bool) (gives : ℤ → LoadAnswer → Type 0) (input 
   pub written : output ≡ replies_text replies
   pub answers : Answers loads gives requests replies s
 
--- these bytes are served with those
+-- `IsServed` holds if `input` consists of whole rounds, and `output` is the answer to them.
 pub record IsServed (loads : Bool) (gives : ℤ → LoadAnswer → Type 0) (input output : List ℕ) : Type 0 where
   pub left : Stand
   pub serves : Serves loads gives input output left
 
 -- ---- a stream that ends early
 
--- requests of a round that has not ended
+-- `AreOpen` holds if these requests are of a round that has not ended.
 abbrev pub AreOpen : List Request → Type 0
 AreOpen requests = AllByRecursion (λ r. IsRequest r × (r ≢ RoundEnd)) requests
 
--- why a round was not read to its end, and what stands behind its requests
+-- `Stops` holds if a round isn't read up to its end because of this fault, with the bytes read after its last request.
 pub data Stops (requests : List Request) : List ℕ → ServeFault → Type 0 where
   too_long : (extra : List ℕ) → IsFaulty extra frames.TooLong → Stops requests extra fault.TooLong
   cut : (extra : List ℕ) → IsFaulty extra frames.Truncated → Stops requests extra fault.Truncated
@@ -87,7 +87,7 @@ pub data Stops (requests : List Request) : List ℕ → ServeFault → Type 0 wh
   frame_memory : (extra : List ℕ) → IsBegun extra → Stops requests extra fault.NoMemory
   memory : Stops requests [] fault.NoMemory
 
--- how a round ended early, and which bytes it took and gave
+-- `Fails` holds if a round ends early with this fault, after it read `taken` and wrote `given`.
 pub data Fails (loads : Bool) (gives : ℤ → LoadAnswer → Type 0) (s : Stand) (taken given : List ℕ) : ServeFault → Type 0 where
   unread : (requests : List Request) (extra : List ℕ) (f : ServeFault) → AreOpen requests → taken ≡ requests_text requests ++ extra → given ≡ []
       → Stops requests extra f → Fails loads gives s taken given f
@@ -95,7 +95,7 @@ pub data Fails (loads : Bool) (gives : ℤ → LoadAnswer → Type 0) (s : Stand
   writer : (requests : List Request) (replies : List Reply) (t : Stand) (missing : List ℕ) → AreOpen requests → taken ≡ requests_text (ended requests)
       → IsRound loads gives s requests replies t → replies_text (all_told replies) ≡ given ++ missing → Fails loads gives s taken given fault.Write
 
--- whole rounds were served, and one ended early
+-- `IsCutShort` holds if whole rounds were served, and the next one ended early with this fault.
 pub record IsCutShort (loads : Bool) (gives : ℤ → LoadAnswer → Type 0) (input output : List ℕ) (f : ServeFault) : Type 0 where
   pub front : List ℕ
   pub back : List ℕ
@@ -107,7 +107,7 @@ pub record IsCutShort (loads : Bool) (gives : ℤ → LoadAnswer → Type 0) (in
   pub serves : Serves loads gives front told left
   pub fails : Fails loads gives left back part f
 
--- a stream that isn't served to its end: with counts that can't be, nothing is read or written
+-- `EndsEarly` holds if a stream isn't served up to its end. With `BadCount` nothing is read or written.
 abbrev pub EndsEarly : Bool → (ℤ → LoadAnswer → Type 0) → List ℕ → List ℕ → ServeFault → Type 0
 EndsEarly loads gives input output fault.BadCount = (input ≡ []) × (output ≡ [])
 EndsEarly loads gives input output f = IsCutShort loads gives input output f

@@ -5,12 +5,12 @@ use Rattle.serve.specs.declared.fault.ServeFault.{ServeFault}
 use Rattle.serve.specs.declared.fault.ServeFault.TheVariants as fault
 use Rattle.serve.specs.declared.settings.Settings.{Settings}
 
--- the counts of settings: 0 to 16 workers, 1 to 64 stripes
+-- `CanServe` holds if the settings have 0 to 16 workers and 1 to 64 stripes.
 pub record CanServe (s : Settings) : Type 0 where
   pub workers : s.workers ≤ 16
   pub stripes : IsCount s.stripes
 
--- the numbers of faults
+-- The number of each fault.
 abbrev pub fault_number : ServeFault → ℕ
 fault_number fault.TooLong = 1
 fault_number fault.Truncated = 2

@@ -1,4 +1,4 @@
-//! What a round has to do.
+//! The plan of a round: the work of each request, and the calls of its jobs.
 
 ghost use Rattle.std.specs.Prelude.{◌≡◌, ◌<◌, ◌≤◌, ◌++◌, ◌∷◌, [], length, OnOk, IfOk};
 ghost use Rattle.stripe.specs.History.{Invoke, Get, Put, Remove, Contains};
@@ -19,38 +19,38 @@ use verify::Verified;
 use wire::Denial;
 use workers::{CALL_COST, cost_of};
 
-/// The most jobs of a round.
+/// The maximum number of jobs of a round.
 pub const MOST_JOBS: usize = 4096;
 
-/// How a request is answered: at once, or by its jobs.
+/// How a request is answered: with a known reply, or from the answers to its jobs.
 #[derive(Clone, Copy)]
 pub enum Work<'r> {
     Defined { class: u32, steps: u32, words: u32 },
     Refused(Refusal),
     Denied(Denial),
-    /// The answer to the job of this number.
+    /// The answer to the job with this index.
     Job(u32),
-    /// The answers to the jobs from this number on, one for each of the keys.
+    /// The answers to the jobs from this index on, one for each of the keys.
     JobForEach(u32, Keys<'r>),
 }
 
-/// The work of each request of a round, and the calls of its jobs. Their arguments stand in the round's arena.
+/// The work of each request of a round, and the calls of its jobs. The arguments of the calls are in the round's arena.
 #[derive(Drop)]
 pub struct Batch<'r> {
     pub works: Vec<Work<'r>>,
     pub calls: Vec<Call<'r>>,
-    /// The instructions that the calls are reckoned to take at most; at the greatest value it stays.
+    /// The estimated cost of the calls in instructions, saturated at `u64::MAX`.
     pub steps: u64,
 }
 
-/// For how many requests and calls a round has room before it grows: as many as the round before had.
+/// The capacity to preallocate for a round, in requests and calls: the size of the previous round.
 #[derive(Clone, Copy)]
 pub struct Room {
     pub works: usize,
     pub calls: usize,
 }
 
-/// Nothing yet. Where there is no memory for so many it grows as it is filled.
+/// Returns an empty vector of capacity `room`, or without capacity if there is no memory for it.
 pub fn no_items<T>(alloc: Global, room: usize) -> Vec<T>
     ensures { result.items ≡ [] }
 {
@@ -60,7 +60,7 @@ pub fn no_items<T>(alloc: Global, room: usize) -> Vec<T>
     }
 }
 
-/// No request yet.
+/// Returns a plan without requests, with this capacity preallocated if there is memory for it.
 pub fn no_requests<'r>(alloc: Global, room: Room) -> Batch<'r>
     ensures works { result.works.items ≡ [] }
     ensures calls { result.calls.items ≡ [] }
@@ -72,7 +72,7 @@ pub fn no_requests<'r>(alloc: Global, room: Room) -> Batch<'r>
     }
 }
 
-/// As much room as these requests and calls take.
+/// Returns the capacity that these requests and calls need.
 pub fn room_of(plan: &Batch<'_>) -> Room {
     Room {
         works: plan.works.len(),
@@ -107,7 +107,7 @@ pub fn contains<'r>(key: &i64) -> Call<'r>
     Call::Contains { key: *key }
 }
 
-/// The request has no job.
+/// Adds the work of a request. The calls are unchanged.
 pub fn tell<'r>(plan: &mut Batch<'r>, work: Work<'r>) -> Result<(), AllocError>
     ensures works { OnOk result (plan.new.works.items ≡ plan.old.works.items ++ work.entry ∷ []) }
     ensures calls { plan.new.calls ≡ plan.old.calls }
@@ -116,7 +116,7 @@ pub fn tell<'r>(plan: &mut Batch<'r>, work: Work<'r>) -> Result<(), AllocError>
     Ok(())
 }
 
-/// So many calls more, which take so many instructions each.
+/// Adds the cost of `calls` calls of `steps` instructions each.
 fn add_cost(plan: &mut Batch<'_>, steps: u64, calls: usize)
     ensures works { plan.new.works ≡ plan.old.works }
     ensures calls { plan.new.calls ≡ plan.old.calls }
@@ -125,7 +125,7 @@ fn add_cost(plan: &mut Batch<'_>, steps: u64, calls: usize)
     plan.steps = plan.steps.saturating_add(more);
 }
 
-/// The request has this job, which is reckoned to take so many instructions.
+/// Adds a request with this job, of an estimated cost of `steps` instructions.
 fn add_job<'r>(plan: &mut Batch<'r>, call: Call<'r>, steps: u64) -> Result<(), AllocError>
     requires { length plan.old.calls.items < most_jobs }
     ensures { OnOk result (Grows plan.old plan.new (part (Job (length (calls_of plan.old))) (seen_call call.entry ∷ []))) }
@@ -136,7 +136,7 @@ fn add_job<'r>(plan: &mut Batch<'r>, call: Call<'r>, steps: u64) -> Result<(), A
     tell(plan, Work::Job(at as u32))
 }
 
-/// The request has this job, if there is room. It runs no class.
+/// Adds a request with this job, which runs no class. It is denied with `TooManyJobs` if the round is full.
 pub fn push_call<'r>(plan: &mut Batch<'r>, call: Call<'r>) -> Result<(), AllocError>
     ensures { OnOk result (Grows plan.old plan.new (one (length (calls_of plan.old)) (seen_call call.entry))) }
 {
@@ -147,7 +147,7 @@ pub fn push_call<'r>(plan: &mut Batch<'r>, call: Call<'r>) -> Result<(), AllocEr
     add_job(plan, call, CALL_COST)
 }
 
-/// The arguments, as long as the arena has them.
+/// Copies the arguments into the arena.
 fn keep<'r>(arena: &'r Bump, args: &[Arg]) -> Result<ArgSlice<'r>, AllocError>
     requires { length args.now ≤ 8 }
     ensures { IfOk result (λ kept. arguments kept ≡ args.now) }
@@ -159,7 +159,7 @@ fn keep<'r>(arena: &'r Bump, args: &[Arg]) -> Result<ArgSlice<'r>, AllocError>
     Ok(ArgSlice { items })
 }
 
-/// An invocation.
+/// Returns the call that invokes a class on a key.
 fn invocation<'r>(class: &'r Verified, key: &i64, args: ArgSlice<'r>) -> Call<'r>
     ensures { seen_call result ≡ Invoke class.now key.now (arguments args.entry) }
 {
@@ -170,7 +170,7 @@ fn invocation<'r>(class: &'r Verified, key: &i64, args: ArgSlice<'r>) -> Call<'r
     }
 }
 
-/// The request has an invocation of a class, if there is room.
+/// Adds a request that invokes a class on a key. It is denied with `TooManyJobs` if the round is full.
 #[inline(always)]
 pub fn one_invocation<'r>(
     arena: &'r Bump,
@@ -190,7 +190,8 @@ pub fn one_invocation<'r>(
     add_job(plan, invocation(class, key, kept), cost_of(class))
 }
 
-/// The request has an invocation of a class on each of these keys, doubles dropped, if there is room.
+/// Adds a request that invokes a class on each of these keys once, duplicates dropped.
+/// It is denied with `TooManyJobs` if the round has no capacity for all of them.
 pub fn many_jobs<'r>(
     alloc: Global,
     arena: &'r Bump,
@@ -229,7 +230,7 @@ fn push_calls<'r>(
     Ok(())
 }
 
-/// Each key once, where it first stands.
+/// Returns the keys without duplicates, in the order of first occurrence.
 fn once_each(alloc: Global, keys: &[i64]) -> Result<IndexSet<i64>, AllocError>
     ensures { IfOk result (λ set. set.keys ≡ different keys.now) }
 {

@@ -1,4 +1,4 @@
-//! Requests are added to their round.
+//! Adding requests to a round.
 
 ghost use Rattle.std.specs.Prelude.{◌≡◌, ◌≢◌, ◌≤◌, ℕ, [], length, OnOk, Some, None, IfSome, IfNone, slice_get};
 ghost use Rattle.wire.specs.Requests.{with_args, Define, Invoke, InvokeAll, RoundEnd};
@@ -16,10 +16,10 @@ use std::sync::Wait;
 use verify::Verified;
 use wire::{Denial, Request};
 
-/// The most classes of a stream.
+/// The maximum number of classes of a stream.
 const MOST_CLASSES: usize = 4096;
 
-/// Accepts a class, or refuses it.
+/// Verifies a class file and defines its class. The result has the class's number and bounds, or the refusal or denial.
 fn define<T: Wait>(
     rt: &T,
     alloc: Global,
@@ -52,7 +52,7 @@ fn define<T: Wait>(
     }
 }
 
-/// The class with this number, if it was accepted.
+/// Returns the accepted class with this number, or none.
 fn class_at<'r>(registry: &'r Registry, ids: &[ClassId], class: usize) -> Option<&'r Verified>
     requires { AreOf registry.now ids.now }
     ensures some { IfSome result (λ c. slice_get (classes_of ids.now) class ≡ Some c.now) }
@@ -65,7 +65,8 @@ fn class_at<'r>(registry: &'r Registry, ids: &[ClassId], class: usize) -> Option
     }
 }
 
-/// Adds an invocation of a class by its number, on this key with these arguments, to its round.
+/// Adds an invocation of the class with this number, on this key with these arguments, to the round.
+/// It is denied with `UnknownClass` if no accepted class has the number.
 #[inline(always)]
 pub fn add_invoke<'r>(
     source: &RoundSource<'r>,
@@ -103,7 +104,7 @@ fn add_invoke_all<'r>(
     }
 }
 
-/// Adds a request with these arguments to its round.
+/// Adds a request other than `RoundEnd`, with these arguments, to the round.
 pub fn add<'r, T: Wait>(
     rt: &T,
     source: &RoundSource<'r>,

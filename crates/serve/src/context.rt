@@ -1,4 +1,4 @@
-//! What the rounds of a stream share.
+//! The state that the rounds of a stream share.
 
 use crate::batch::Room;
 use crate::settings::Settings;
@@ -7,7 +7,7 @@ use registry::{ClassId, Registry};
 use std::alloc::Global;
 use workers::WorkspacePool;
 
-/// What runs the rounds of a stream: the threads, the memory, the classes, the settings, the gate and the loader.
+/// The context of the rounds of a stream: threads, memory, classes, settings, gate and loader.
 #[derive(Drop)]
 pub struct Server<'h, T, G, L> {
     pub rt: &'h T,
@@ -18,8 +18,8 @@ pub struct Server<'h, T, G, L> {
     pub loader: &'h L,
 }
 
-/// What one round hands on to the next: the classes that the stream defined, by their numbers, the size of the round before, and the
-/// workspaces of the workers.
+/// The state that a round passes to the next one: the classes that the stream defined, by number,
+/// the size of the previous round, and the workspaces of the workers.
 #[derive(Drop)]
 pub struct StreamState {
     pub ids: Vec<ClassId>,
@@ -27,7 +27,7 @@ pub struct StreamState {
     pub workspaces: WorkspacePool,
 }
 
-/// Where the requests of a round are put: its arena, and the classes that they name.
+/// The memory and the classes for the requests of a round. The arena holds their keys and arguments.
 #[derive(Drop)]
 pub struct RoundSource<'r> {
     pub alloc: Global,

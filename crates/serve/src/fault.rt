@@ -6,26 +6,26 @@ ghost use Rattle.serve.specs.Settings.{fault_number, fault_name};
 use std::alloc::AllocError;
 use wire::{WireFault, WriteFailed};
 
-/// Why a stream ends early. It is no Java exception: those are answers.
+/// Why a stream ends early. A Java exception is no fault: it is a reply.
 #[derive(Clone, Copy, Debug, PartialEq, Eq)]
 pub enum ServeFault {
-    /// A frame is longer than a frame may be.
+    /// The length field of a frame exceeds the maximum.
     TooLong,
     /// The input ends inside a frame, or inside a round.
     Truncated,
-    /// A frame is whole, and no request has it.
+    /// A frame is complete, but encodes no request.
     Malformed,
-    /// The reader answered an error.
+    /// The reader returned an error.
     Read,
     NoMemory,
-    /// The writer answered an error, or took no byte.
+    /// The writer returned an error, or accepted no byte.
     Write,
-    /// There are too many workers, or there can't be so many stripes.
+    /// There are more than 16 workers, or the number of stripes isn't in 1 to 64.
     BadCount,
 }
 
 impl ServeFault {
-    /// The fault's number, from 1 to 7.
+    /// Returns the number of the fault, from 1 to 7.
     pub fn number(self) -> u8
         ensures { result ≡ fault_number self }
     {
@@ -40,7 +40,7 @@ impl ServeFault {
         }
     }
 
-    /// The fault's name.
+    /// Returns the name of the fault.
     pub fn name(self) -> &'static str
         ensures { result.now ≡ fault_name self }
     {
@@ -78,7 +78,7 @@ impl From<WriteFailed> for ServeFault {
     }
 }
 
-/// The fault of a frame is one of its stream.
+/// Maps the fault of a frame to the stream's fault of the same name.
 impl From<WireFault> for ServeFault {
     ghost use Rattle.std.specs.Prelude.{◌≡◌};
     ghost use Rattle.serve.specs.Kept.{fault_of_wire};

@@ -1,4 +1,4 @@
-//! The jobs of a round are run.
+//! Execution of the jobs of a round.
 
 ghost use Rattle.std.specs.Prelude.{◌≡◌, ◌≤◌, length, map, IfOk, IfErr};
 ghost use Rattle.std.specs.List.{All};
@@ -20,14 +20,14 @@ use std::thread::Threads;
 use stripe::{Call, Reply, Tables};
 use workers::{PoolRound, WorkspacePool, run_by_workers, workers_for};
 
-/// What a round leaves: the tables of entries, and the answer to each job. A job that was refused found no memory.
+/// The result of a round: the tables of entries, and the answer to each job. A refused job is out of memory.
 #[derive(Drop)]
 pub struct RoundLeft {
     pub tables: Tables,
     pub answers: Vec<JobReply>,
 }
 
-/// The answer with this reply. A job without one found no memory.
+/// Returns the answer with this reply, or the refusal `NoMemory` without one.
 fn answer_with(reply: &Option<Reply>) -> JobReply
     ensures reply { reply_of result ≡ reply.now }
     ensures placed { HasPlace result }
@@ -38,7 +38,7 @@ fn answer_with(reply: &Option<Reply>) -> JobReply
     }
 }
 
-/// The answers with these replies.
+/// Pushes the answers with these replies. The list is empty before, and its capacity is preallocated.
 fn answer_all(replies: &[Option<Reply>], answers: &mut Vec<JobReply>)
     requires { HasRoom (length replies.now) answers.old }
     ensures replies { map reply_of answers.new.items ≡ replies.now }
@@ -49,7 +49,7 @@ fn answer_all(replies: &[Option<Reply>], answers: &mut Vec<JobReply>)
     }
 }
 
-/// Runs the jobs in turn, on this thread.
+/// Runs the jobs one after another on this thread.
 fn run_alone<L: Loader>(
     alloc: Global,
     tables: Tables,
@@ -74,8 +74,8 @@ fn run_alone<L: Loader>(
     }
 }
 
-/// Makes the calls on these tables: in turn where the settings have no workers, else by as many workers as calls of `steps`
-/// instructions are worth. Where there is no memory for it, the tables come back as they were.
+/// Runs the calls on these tables: one after another if the settings have no workers, else on as many workers as `steps` justify.
+/// If there is no memory for it, returns the tables unchanged.
 pub fn run_jobs<'a, T: Threads + Wait + Sync, G: Gate + Sync, L: Loader + Sync>(
     server: &Server<'a, T, G, L>,
     tables: Tables,

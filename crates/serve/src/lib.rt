@@ -1,4 +1,4 @@
-//! The server engine: requests are read round by round, each round is run at its end, and its replies are written.
+//! The server engine: reads requests round by round, runs each round at its end, and writes its replies.
 #![tactic(auto)]
 
 mod batch;

@@ -1,4 +1,4 @@
-//! Rounds are read.
+//! Reading of rounds.
 
 ghost use Rattle.std.specs.Prelude.{◌≡◌, ◌≢◌, List, IfOk, IfErr, true, false, Err};
 ghost use Rattle.std.specs.Io.KnownBytes.{IsAtEnd};
@@ -22,7 +22,8 @@ fn is_end(request: &Request) -> bool
     matches!(request, Request::RoundEnd)
 }
 
-/// Reads the requests of a round, up to its end; at the end of the input there is none. Classes are defined as they are read.
+/// Reads the requests of a round up to its `RoundEnd`, or returns none at the end of the input.
+/// Classes are defined as they are read.
 pub fn read_round<'r, T: Wait, R: Ahead, G, L>(
     server: &Server<'r, T, G, L>,
     arena: &'r Bump,

@@ -1,4 +1,4 @@
-//! Replies are made of answers.
+//! Replies from the answers to jobs.
 
 ghost use Rattle.std.specs.Prelude.{◌≡◌, ◌≤◌, ◌++◌, None, length, map, drop, slice_index_or, IfOk, OnOk};
 ghost use Rattle.std.specs.List.{All};
@@ -18,10 +18,10 @@ use std::mem;
 use stripe::Reply as Answer;
 use wire::{Counted, Denial, JobOutcome, Reply, add_result, write_reply};
 
-/// The bytes that are kept free for each reply, and for the round's end. Most frames have one byte less.
+/// The bytes to preallocate for each reply and for the round's end. The frame of a returned `Long` has 15 bytes.
 const REPLY: usize = 16;
 
-/// The frames of the replies to a round's requests, and of its end.
+/// Returns the frames of the replies to a round's requests, and of its `RoundEnd`.
 pub fn text_of(
     alloc: Global,
     works: &[Work<'_>],
@@ -39,7 +39,7 @@ pub fn text_of(
     Ok(text)
 }
 
-/// Puts the frame of the reply to a request behind the text.
+/// Appends the frame of the reply to a request.
 fn tell(
     alloc: Global,
     text: &mut Vec<u8>,
@@ -55,7 +55,7 @@ fn tell(
     }
 }
 
-/// Puts the frame of the reply to a request of one job behind the text.
+/// Appends the frame of the reply to a request with one job.
 fn reply_to_job(
     alloc: Global,
     text: &mut Vec<u8>,
@@ -111,7 +111,7 @@ fn reply_to(alloc: Global, work: &Work<'_>, answers: &[JobReply]) -> Result<Repl
     }
 }
 
-/// The reply of an answer; none of a refusal for want of memory.
+/// Returns the reply of an answer, or none if the job is out of memory.
 fn reply_in(answer: &JobReply) -> Option<Answer>
     requires { HasPlace answer.now }
     ensures { result ≡ reply_of answer.now }
@@ -134,7 +134,7 @@ fn answer_at(answers: &[JobReply], at: usize) -> Option<Answer>
     }
 }
 
-/// The answers to the jobs from this number on.
+/// Returns the answers to the jobs from this index on.
 fn answers_from(answers: &[JobReply], at: usize) -> &[JobReply]
     requires { All HasPlace answers.now }
     ensures answers { map reply_of result.now ≡ drop at (map reply_of answers.now) }
@@ -160,7 +160,7 @@ fn job_reply(answer: Option<Answer>) -> Reply
     }
 }
 
-/// What is listed of the keys, of which these are the answers.
+/// Returns the outcomes listed for the keys. `answers` begins with the answers to their jobs.
 fn results(
     alloc: Global,
     answers: &[JobReply],

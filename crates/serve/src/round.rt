@@ -37,7 +37,7 @@ fn write_all<W: Write>(writer: &mut Counted<W>, bytes: &[u8]) -> Result<(), Writ
     }
 }
 
-/// Runs a round, and gives the tables that it leaves with the text of its replies: their frames.
+/// Runs a round. Returns the tables that it leaves, and the frames of its replies.
 fn run_round<T: Threads + Wait + Sync, G: Gate + Sync, L: Loader + Sync>(
     server: &Server<'_, T, G, L>,
     tables: Tables,
@@ -61,8 +61,8 @@ fn run_round<T: Threads + Wait + Sync, G: Gate + Sync, L: Loader + Sync>(
     Ok((tables, text))
 }
 
-/// Reads a round, runs it and writes its replies. It gives the tables that the round left; at the end of the input there are none.
-/// `arena` is empty.
+/// Reads a round, runs it and writes its replies. Returns the tables that it leaves, or none at the end of the input.
+/// The keys and arguments of the round are allocated in `arena`.
 pub fn one_round<T: Threads + Wait + Sync, R: Ahead, W: Write, G: Gate + Sync, L: Loader + Sync>(
     server: &Server<'_, T, G, L>,
     arena: &Bump,

@@ -1,14 +1,14 @@
 //! The settings of a server.
 
-/// By how many workers rounds are run, and in how many stripes the entries are kept. With no workers the calls of a round run in turn.
+/// The number of workers of a round, and the number of stripes of entries. Without workers the calls of a round run one after another.
 ///
-/// A round has no more workers than it is worth, one for each `share` instructions that its jobs take at most.
+/// A round has one worker for each `share` instructions of its estimated cost, at least one and at most `workers`.
 #[derive(Clone, Copy, PartialEq, Eq)]
 pub struct Settings {
     /// 0 to 16.
     pub workers: usize,
     /// 1 to 64.
     pub stripes: usize,
-    /// 0: each round is worth all workers.
+    /// With 0 each round has all workers.
     pub share: u32,
 }

@@ -24,11 +24,11 @@ use stripe::{OpenRefusal, Tables};
 use wire::{Ahead, Counted};
 use workers::WorkspacePool;
 
-/// The most workers.
+/// The maximum number of workers.
 const MOST_WORKERS: usize = 16;
 
-/// Serves the requests of the reader, round by round, to its end. The writer is flushed behind each round. Where a fault ends the
-/// stream early, the replies to the rounds before stand.
+/// Serves the requests of the reader, round by round, up to its end. The writer is flushed after each round.
+/// If a fault ends the stream early, the replies to the rounds before are written already.
 pub fn serve<T: Threads + Wait + Sync, R: Ahead, W: Write, G: Gate + Sync, L: Loader + Sync>(
     rt: &T,
     alloc: Global,
@@ -68,7 +68,7 @@ pub fn serve<T: Threads + Wait + Sync, R: Ahead, W: Write, G: Gate + Sync, L: Lo
     stream(&server, tables, reader, writer)
 }
 
-/// Serves the requests, from tables that have no entries. Each round starts from those that the one before left.
+/// Serves the requests, starting with empty tables. Each round starts with the tables that the previous one left.
 fn stream<T: Threads + Wait + Sync, R: Ahead, W: Write, G: Gate + Sync, L: Loader + Sync>(
     server: &Server<'_, T, G, L>,
     tables: Tables,
@@ -97,7 +97,7 @@ fn stream<T: Threads + Wait + Sync, R: Ahead, W: Write, G: Gate + Sync, L: Loade
             Some(left) => tables = left,
             None => return Ok(()),
         }
-        // Where that fails the next round is put behind this one.
+        // If the reset fails, the arena keeps this round, and the next one is allocated after it.
         let _ = arena.reset();
     }
     unreachable!()

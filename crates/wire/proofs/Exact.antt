@@ -1,4 +1,4 @@
--- Of known bytes an answer tells what stands at their front.
+-- If the input is known, the result of a read agrees with the front of the input.
 use Rattle.std.proofs.Common.{◌≡◌, ℕ, List, ◌++◌, Option, Some, None, Result, Ok, Err, IfSome, refl, sym, ap, ◌∙◌, subst, append_assoc, append-nil}
 use Rattle.std.specs.Io.KnownBytes.{Consumes}
 use Rattle.byteorder.specs.Endian.{big_bytes}
@@ -9,7 +9,7 @@ use Rattle.wire.specs.Frames.{frame, request_frame, IsFaulty, too_long, empty, n
 use Rattle.wire.specs.Reading.{ReadGives, Tells}
 use Rattle.wire.proofs.Once.{one_front}
 
--- more bytes behind
+-- Bytes appended to the whole are appended to the rest.
 more : (bytes front rest left : List ℕ) → bytes ≡ front ++ rest → bytes ++ left ≡ front ++ (rest ++ left)
 more bytes front rest left e = ap (λ t. t ++ left) e ∙ append_assoc front rest left
 
@@ -20,7 +20,7 @@ still_malformed : (bytes left : List ℕ) → IsFaulty bytes Malformed → IsFau
 still_malformed bytes left (empty rest e) = empty (rest ++ left) (more bytes (big_bytes 4 0) rest left e)
 still_malformed bytes left (no_request text rest e some short none) = no_request text (rest ++ left) (more bytes (frame text) rest left e) some short none
 
--- what is known to stand there is what stands there
+-- A result that agrees with one front of the input agrees with every front of it.
 known_front : (input : List ℕ) (f g : Front) (r : Result (Option Request) WireFault) → IsFront input f → Tells f r → IsFront input g → Tells g r
 known_front input f g r h tells k = subst (λ x. Tells x r) (one_front input f g h k) tells
 

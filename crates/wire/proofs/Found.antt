@@ -1,4 +1,4 @@
--- What is laid out as a request's body is the text of a request.
+-- Bytes laid out as the body of a request are the text of that request.
 use Rattle.std.proofs.Common.{◌≡◌, ◌⊎◌, ℕ, zero, suc, ◌%◌, ◌^◌, ◌<◌, ℤ, FitsSigned, Bool, true, false, nat_lt, ◌==◌, List, [], ◌∷◌, ◌++◌, length, refl, sym, ap, ◌∙◌, arith, append-nil, subst, inl, inr}
 use Rattle.std.proofs.lemmas.Bool.{eqb-true, ltb-true}
 use Rattle.std.proofs.Math.Facts.{sfits_to_z, of_z-to_z}
@@ -14,7 +14,7 @@ use Rattle.wire.specs.Frames.{AreBytes, long_text, int_text, arg_text, texts, ar
 use Rattle.wire.specs.Bodies.{long, int, arg_of, argument, arguments, put, invoke, small, keys_and_arguments, alone}
 use Rattle.wire.proofs.Numbers.{bytes_front, bytes_back, bytes_of_number, number_small}
 
--- a value laid out in bytes has this text, and this is known of it
+-- `Finds` holds if bytes laid out as a value are the text of the value, and `P` holds of it.
 abbrev pub Finds : {A : Type 0} → Layout A → (A → List ℕ) → (A → Type 0) → Type 0
 Finds {A = A} l f P = (text : List ℕ) (x : A) → AreBytes text → IsLaidOut l text x → (text ≡ f x) × P x
 
@@ -22,7 +22,7 @@ chosen_cases : {A : Type 0} (b : Bool) (l m : Layout A) (text : List ℕ) (v : A
 chosen_cases true l m text v h = inl (refl, h)
 chosen_cases false l m text v h = inr (refl, h)
 
--- a layout, and nothing but a function of its value
+-- A layout that applies `g` to the value of `l` reads the bytes of `l` and no more.
 one_found : {A B : Type 0} (l : Layout A) (g : A → B) (text : List ℕ) (v : B) → IsLaidOut (l >>= λ x. known (g x)) text v → (x : A) × IsLaidOut l text x × (v ≡ g x)
 one_found l g text v (x, front, back, parts, laid, (none, is)) =
     (x, subst (λ t. IsLaidOut l t x) (sym (parts ∙ ap (λ t. front ++ t) none ∙ append-nil front)) laid, is)
@@ -78,7 +78,7 @@ found_arg_of kind text a h laid =
     same : (a b : ℕ) (xs ys : List ℕ) → a ≡ b → xs ≡ ys → a ∷ xs ≡ b ∷ ys
     same a b xs ys p q = cc
 
--- a number of one byte is the byte
+-- A number of one byte is that byte.
 found_byte : (text : List ℕ) (k : ℕ) → AreBytes text → IsLaidOut (number 1) text k → (text ≡ k ∷ []) × (k < 256)
 found_byte text k h laid =
     let n = found_number 1 text k h laid in
@@ -86,7 +86,7 @@ found_byte text k h laid =
     let low : k % 256 ≡ k = omega arith in
     (n.0 ∙ ap (λ m. m ∷ []) low, small)
 
--- two parts are the text of the first and what follows it
+-- A text of two parts, where the first part equals `all`.
 behind : (text front back all : List ℕ) → text ≡ front ++ back → front ≡ all → text ≡ all ++ back
 behind text front back all p q = p ∙ ap (λ t. t ++ back) q
 
@@ -121,7 +121,7 @@ found_arguments text args h (count, front, back, parts, laid_count, (u, none, re
     let less = ltb-true count 9 is_few in
     (behind text front back (count ∷ []) parts c.0 ∙ ap (λ t. count ∷ t) (back_is ∙ m.0) ∙ ap (λ n. n ∷ texts arg_text args) (sym m.1), record { few = omega (arith, m.1); each = m.2 })
 
--- a body whose kind is this has a request's text
+-- `IsTold` holds if the kind and `text` are the text of the request, which is in range.
 abbrev IsTold : ℕ → List ℕ → Request → Type 0
 IsTold kind text r = (kind ∷ text ≡ request_text r) × IsInRange r
 
@@ -158,7 +158,7 @@ found_keys class count text r small few h (keys, front, back, parts, laid_keys, 
     let whole : 7 ∷ big_bytes 4 class ++ big_bytes 2 count ++ text ≡ request_text (InvokeAll class keys args) = ap (λ n. 7 ∷ big_bytes 4 class ++ big_bytes 2 n ++ text) (sym k.1) ∙ ap (λ t. 7 ∷ big_bytes 4 class ++ big_bytes 2 (length keys) ++ t) rest in
     subst (λ (q : Request). (7 ∷ big_bytes 4 class ++ big_bytes 2 count ++ text ≡ request_text q) × IsInRange q) (sym is) (whole, (small, omega (arith, k.1), k.2, f.1))
 
--- a body that is one key
+-- A body that consists of one key is the body of the request `g` of that key.
 found_key : (kind : ℕ) (g : ℤ → Request) (text : List ℕ) (r : Request) → ((z : ℤ) → FitsSigned w64 z → IsTold kind (long_text z) (g z)) → AreBytes text → IsLaidOut (long >>= λ z. known (g z)) text r → IsTold kind text r
 found_key kind g text r told h laid =
     let (z, inside, is) = one_found long g text r laid in

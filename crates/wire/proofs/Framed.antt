@@ -1,4 +1,4 @@
--- What a length and the text behind it give.
+-- Results for a length field and the text after it.
 use Rattle.std.proofs.Common.{◌≡◌, ℕ, ◌+◌, ◌≤◌, List, [], ◌∷◌, ◌++◌, length, take, drop, get_or, Option, Result, Ok, Err, refl, sym, ap, ◌∙◌, subst, arith, append-nil}
 use Rattle.std.proofs.lemmas.List.{take-append-drop, length-take-le, length-drop, take_all}
 use lib.Seq.{take-add}
@@ -11,7 +11,7 @@ use Rattle.wire.specs.Frames.{AreBytes, longest, frame, request_frame, IsText, I
 use Rattle.wire.specs.Reading.{Completes, ReadGives, found}
 use Rattle.wire.proofs.Numbers.{bytes_front, bytes_back, bytes_of_number}
 
--- six bytes are a class and a count
+-- Six bytes are a class in four bytes and a count in two bytes.
 pub class_and_count : (head : List ℕ) → length head ≡ 6 → AreBytes head → head ≡ big_bytes 4 (big_number 4 head) ++ big_bytes 2 (big_number 2 (take 2 (drop 4 head)))
 class_and_count head long bytes =
     let split : head ≡ take 4 head ++ drop 4 head = sym (take-append-drop 4 head) in
@@ -27,14 +27,14 @@ one_byte [] long = absurd (omega (arith, long))
 one_byte (x ∷ []) long = refl
 one_byte (x ∷ y ∷ xs) long = absurd (omega (arith, long))
 
--- a length, and the text of a request
+-- A length field and the text of a request of that length are its frame.
 pub frame_ok : (n : ℕ) (text : List ℕ) (r : Request) → n ≤ longest → IsText text r → length text ≡ n → IsRead (big_bytes 4 n ++ text) r []
 frame_ok n text r short t long = record {
   parts = ap (λ m. big_bytes 4 m ++ text) (sym long) ∙ ap frame t.is ∙ sym (append-nil (request_frame r));
   request = record { in_range = t.in_range; short = omega (arith, short, long, ap length t.is) };
 }
 
--- the same at the front of more bytes
+-- `frame_ok` for the first bytes of a longer list.
 pub frame_at_front : (n : ℕ) (hand : List ℕ) (r : Request) → take 4 hand ≡ big_bytes 4 n → 4 + n ≤ length hand → n ≤ longest → IsText (take n (drop 4 hand)) r → IsRead (take (4 + n) hand) r []
 frame_at_front n hand r head within short t =
     let text : List ℕ = take n (drop 4 hand) in
@@ -42,7 +42,7 @@ frame_at_front n hand r head within short t =
     let long : length text ≡ n = length-take-le n (drop 4 hand) (omega (arith, within, length-drop 4 hand)) in
     subst (λ l. IsRead l r []) (sym parts) (frame_ok n text r short t long)
 
--- a length, and why there is no request behind it
+-- A length field and a text that can't be read give the same fault for the frame.
 frame_err : (n : ℕ) (bytes : List ℕ) (left : Option (List ℕ)) (e : WireFault) → 1 ≤ n → n ≤ longest → Completes [] n left bytes (Err e) → ReadGives left (big_bytes 4 n ++ bytes) (Err e)
 frame_err n bytes left fault.TooLong some short h = absurd h
 frame_err n bytes left fault.Truncated some short h = (cut_body n bytes refl some short h.1, h.0)

@@ -1,4 +1,4 @@
--- Bytes at hand are given as a read gives them.
+-- Consuming buffered bytes is the same as reading them.
 use Rattle.std.proofs.Common.{◌≡◌, ℕ, ◌≤◌, ◌==◌, Bool, true, false, if◌then◌else◌, List, ◌++◌, length, take, drop, Option, Some, None, IfSome, sym, ap, ◌∙◌}
 use Rattle.std.proofs.lemmas.List.{take-append-drop, take-append-le}
 use Rattle.std.specs.Io.{StartsWith}
@@ -8,7 +8,7 @@ use Rattle.std.specs.Io.Buffered.{reader_buffer, reader_capacity, reader_remaini
 use Rattle.std.specs.declared.io.buffered.BufReader.{BufReader}
 use Rattle.std.proofs.KnownBytes.{prepend_known-front, Keeps-refl}
 
--- what begins a list begins it with each of its own beginnings
+-- The first `n` elements of a list are those of any prefix that is long enough.
 same_front : (n : ℕ) (xs hand : List ℕ) → StartsWith xs hand → n ≤ length hand → take n xs ≡ take n hand
 same_front n xs hand front within =
     let whole : xs ≡ hand ++ drop (length hand) xs = sym (take-append-drop (length hand) xs) ∙ ap (λ l. l ++ drop (length hand) xs) front in

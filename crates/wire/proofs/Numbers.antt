@@ -1,4 +1,4 @@
--- Numbers of so many bytes, and what is read of their bytes.
+-- Numbers of `n` bytes, and the bytes that encode them.
 use Rattle.std.proofs.Common.{◌≡◌, ℕ, zero, suc, ◌+◌, ◌*◌, ◌/◌, ◌^◌, ◌<◌, List, [], ◌∷◌, ◌++◌, length, slice_index, refl, sym, ap, ◌∙◌, arith, append-nil}
 use Rattle.std.proofs.Math.Nat.{mod-lt}
 use Rattle.std.proofs.lemmas.Nat.{div-mul-add}
@@ -37,7 +37,7 @@ big_bytes_are_bytes zero x = tt
 big_bytes_are_bytes (suc n) x =
     (byte_small n x, big_bytes_are_bytes n x)
 
--- two rows of so many bytes that are one number are one
+-- Two lists of `n` bytes that encode equal numbers are equal.
 same_number : (n : ℕ) (xs ys : List ℕ) → length xs ≡ n → length ys ≡ n → AreBytes xs → AreBytes ys → big_number n xs ≡ big_number n ys → xs ≡ ys
 same_number zero [] [] a b h k e = refl
 same_number zero (x ∷ xs) ys a b h k e = absurd (omega (arith, a))
@@ -56,7 +56,7 @@ same_number (suc n) (x ∷ xs) (y ∷ ys) a b h k e =
     let tail : xs ≡ ys = same_number n xs ys (omega (arith, a)) (omega (arith, b)) h.1 k.1 rest in
     cc
 
--- so many bytes are those of their number
+-- A list of `n` bytes is the encoding of its number.
 pub bytes_of_number : (n : ℕ) (xs : List ℕ) → length xs ≡ n → AreBytes xs → xs ≡ big_bytes n (big_number n xs)
 bytes_of_number n xs a h =
     let small = big_from-lt 0 n xs (bytes_at xs h) in

@@ -1,4 +1,4 @@
--- One thing at most stands at the front of bytes.
+-- A byte sequence has at most one front.
 use Rattle.std.proofs.Common.{◌≡◌, ◌≢◌, ◌⊎◌, ℕ, ◌+◌, ◌^◌, ◌<◌, ◌≤◌, nat_lt, ◌==◌, if◌then◌else◌, List, [], ◌∷◌, ◌++◌, length, Result, Ok, refl, sym, ap, ◌∙◌, subst, arith, append_assoc, inl, inr}
 use Rattle.std.proofs.lemmas.List.{length-append}
 use Rattle.byteorder.specs.Endian.{big_bytes, big_number}
@@ -11,7 +11,7 @@ use Rattle.wire.specs.Bodies.{small, keys_and_arguments, alone}
 use Rattle.wire.proofs.Read.{read_small, read_keys, read_alone, read_number}
 use Rattle.wire.proofs.Parsed.{same_numbers}
 
--- the request of a text, as a program reads it
+-- The request that the layouts read from a text.
 many_told : List ℕ → Result (Request × List ℕ) Refusal
 many_told body = and_then (first (number 4) body) (λ c. and_then (first (number 2) c.1) (λ n. first (alone (keys_and_arguments c.0 n.0)) n.1))
 
@@ -47,12 +47,12 @@ text_once text r s t u = same r s (sym (text_told text r t) ∙ text_told text s
     same : (r s : Request) → (let x : Result (Request × List ℕ) Refusal = Ok (r, []) in x ≡ Ok (s, [])) → r ≡ s
     same r s e = let p : (let q : Request × List ℕ = (r, []) in q ≡ (s, [])) = cc in ap (λ (q : Request × List ℕ). q.0) p
 
--- what no whole frame begins is told by the count of the bytes and by the length before them
+-- The front of bytes that don't begin with a whole frame, by their count and their length field; `inside` for other bytes.
 by_length : ℕ → ℕ → Front → Front
 by_length count n inside =
     if count == 0 then AtEnd else if nat_lt count 4 then Faulty Truncated else if n == 0 then Faulty Malformed else if nat_lt longest n then Faulty TooLong else if nat_lt count (4 + n) then Faulty Truncated else inside
 
--- the bytes begin with a whole frame
+-- `IsInside` holds if the bytes begin with a whole frame, whose front is `f`.
 record IsInside (bytes : List ℕ) (f : Front) : Type 0 where
   text : List ℕ
   rest : List ℕ
@@ -102,7 +102,7 @@ seen bytes (Faulty Malformed) (no_request text rest e some short none) = inr (re
   either = inr (none, refl);
 })
 
--- within a whole frame the count and the length tell nothing
+-- If the bytes begin with a whole frame, `by_length` is its third argument.
 inside_tells : (bytes : List ℕ) (f x : Front) → IsInside bytes f → by_length (length bytes) (big_number 4 bytes) x ≡ x
 unfolding by_length
 inside_tells bytes f x i =

@@ -1,4 +1,4 @@
--- What the parsing of a body says of its text.
+-- What the result of parsing a body says about the text.
 use Rattle.std.proofs.Common.{◌≡◌, ◌≢◌, ◌⊎◌, ℕ, suc, ◌+◌, ◌*◌, ◌^◌, ◌<◌, ◌≤◌, ℤ, List, [], ◌∷◌, ◌++◌, length, take, drop, append_assoc, Result, Ok, Err, refl, sym, ap, ◌∙◌, subst, arith, inl, inr}
 use Rattle.std.proofs.lemmas.List.{length-append, take-append-drop}
 use lib.Seq.{take-append_seam}
@@ -17,12 +17,12 @@ use Rattle.wire.specs.Reading.{Parses, IsFaultOf, BeginsNoInvocation}
 use Rattle.wire.proofs.Found.{found_small, found_keys, alone_found}
 use Rattle.wire.proofs.Read.{read_small, read_keys, read_alone, read_number}
 
--- a fault of a reading that a text has tells that there is no such text
+-- The fault of a refused parse is correct, if the text encodes no request whenever the refusal isn't `NoMemory`.
 parse_fails : (text : List ℕ) (e : Refusal) (f : WireFault) → IsFaultOf e f → (e ≢ refusal.NoMemory → IsNoRequest text) → Parses text (Err f)
 parse_fails text e f (inl (_, lacks)) none = subst (λ (x : WireFault). Parses text (Err x)) (sym lacks) tt
 parse_fails text e f (inr (is, malformed)) none = subst (λ (x : WireFault). Parses text (Err x)) (sym malformed) (none is)
 
--- a refused reading of all of the bytes finds nothing there
+-- If parsing all the bytes is refused, and not for memory, the layout reads no request from them.
 refused : (l : Layout Request) (bytes : List ℕ) (e : Refusal) (r : Request) → Gives {X = Request} (λ r. (r, [])) (Err e) (first l bytes) → e ≢ refusal.NoMemory → first l bytes ≡ Ok (r, []) → ⊥
 refused l bytes e r h n found = first_stands l bytes r [] e found (stands_from_fails l bytes e n h)
 
@@ -36,7 +36,7 @@ pub small_fails : (kind : ℕ) (body : List ℕ) (e : Refusal) (f : WireFault) �
 small_fails kind body e f one seven why given =
     parse_fails (kind ∷ body) e f why (λ n r t. refused (alone (small kind)) body e r given n (read_alone (small kind) body r (read_small r kind body t.in_range t.is one seven)))
 
--- numbers of as many bytes, and what follows them
+-- Two equal byte lists that begin with numbers of equal width have equal numbers and equal rests.
 pub same_numbers : (n a b : ℕ) (xs ys : List ℕ) → a < 256 ^ n → b < 256 ^ n → big_bytes n a ++ xs ≡ big_bytes n b ++ ys → (a ≡ b) × (xs ≡ ys)
 same_numbers n a b xs ys h k e =
     ok_pair a b xs ys (sym (read_number n a xs h) ∙ ap (λ t. first (number n) t) e ∙ read_number n b ys k)
@@ -44,11 +44,11 @@ same_numbers n a b xs ys h k e =
     ok_pair : (a b : ℕ) (xs ys : List ℕ) → (let r : Result (ℕ × List ℕ) Refusal = Ok (a, xs) in r ≡ Ok (b, ys)) → (a ≡ b) × (xs ≡ ys)
     ok_pair a b xs ys e = let p : (let q : ℕ × List ℕ = (a, xs) in q ≡ (b, ys)) = cc in (ap (λ (q : ℕ × List ℕ). q.0) p, ap (λ (q : ℕ × List ℕ). q.1) p)
 
--- the text of an invocation on many keys
+-- The text of an `InvokeAll`: kind, class, key count and rest.
 abbrev pub keys_text : (class count : ℕ) → List ℕ → List ℕ
 keys_text class count rest = 7 ∷ big_bytes 4 class ++ big_bytes 2 count ++ rest
 
--- a request with such a text
+-- `IsInvokeAll` holds if `r` is an `InvokeAll` with `count` keys, and `rest` is the text of its keys and arguments.
 pub record IsInvokeAll (class count : ℕ) (rest : List ℕ) (r : Request) : Type 0 where
   pub keys : List ℤ
   pub args : List Arg
@@ -111,7 +111,7 @@ keys_length : (keys : List ℤ) → length (texts long_text keys) ≡ 8 * length
 keys_length [] = refl
 keys_length (k ∷ keys) = let rest = keys_length keys in omega (arith, rest, length-append (long_text k) (texts long_text keys))
 
--- the bodies of most requests are short
+-- Only a `Define` or an `InvokeAll` has a body longer than 85 bytes.
 pub long_body : (kind : ℕ) (body : List ℕ) → kind ≢ 1 → kind ≢ 7 → 85 < length body → IsNoRequest (kind ∷ body)
 long_body kind body one seven h r t = go r t.is t
   where
@@ -125,7 +125,7 @@ long_body kind body one seven h r t = go r t.is t
     go (InvokeAll class keys args) e t = seven (same_tail kind 7 body _ e).0
     go RoundEnd e t = let n = ap length (same_tail kind 8 body _ e).1 in omega (arith, n, h)
 
--- what follows the count holds so many keys, and arguments
+-- The rest of an `InvokeAll` on `count` keys has 8 * `count` + 1 to 8 * `count` + 73 bytes.
 pub other_length : (class count : ℕ) (rest : List ℕ) → class < 2 ^ 32 → count < 2 ^ 16 → (length rest < 8 * count + 1) ⊎ (8 * count + 73 < length rest) → IsNoRequest (keys_text class count rest)
 other_length class count rest h k other r t =
     let i = is_invoke_all class count rest r h k t in
@@ -137,7 +137,7 @@ other_length class count rest h k other r t =
     suc_is : (n : ℕ) → suc n ≡ 1 + n
     suc_is n = omega arith
 
--- a class and a count stand before them
+-- The body of an `InvokeAll` has at least 7 bytes.
 pub short_body : (body : List ℕ) → length body < 7 → IsNoRequest (7 ∷ body)
 short_body body h r t = go r t.is
   where
@@ -153,7 +153,7 @@ short_body body h r t = go r t.is
 
 -- ---- no invocation
 
--- an invocation's frame tells a short length, and is as long
+-- Bytes begin with no `Invoke` if their length field is 0 or above 86, or if they end before the text does.
 pub other_frame : (bytes : List ℕ) (n : ℕ) → take 4 bytes ≡ big_bytes 4 n → n < 2 ^ 32 → (n ≡ 0) ⊎ ((86 < n) ⊎ (length bytes < 4 + n)) → BeginsNoInvocation bytes
 other_frame bytes n head fits other class key args rest h =
     let r : Request = Invoke class key args in
@@ -173,7 +173,7 @@ other_frame bytes n head fits other class key args rest h =
       ]
     ]
 
--- what an invocation's frame tells stands behind its length
+-- The text of a whole frame of length `n` is the `n` bytes after the length field.
 pub text_of_frame : (bytes : List ℕ) (n : ℕ) (r : Request) (rest : List ℕ) → take 4 bytes ≡ big_bytes 4 n → n < 2 ^ 32 → IsRead bytes r rest → IsText (take n (drop 4 bytes)) r
 text_of_frame bytes n r rest head fits h =
     let text : List ℕ = request_text r in

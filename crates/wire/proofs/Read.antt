@@ -1,4 +1,4 @@
--- The text of a request is read as that request.
+-- The text of a request parses as that request.
 use Rattle.std.proofs.Common.{◌≡◌, ◌≢◌, ℕ, ◌%◌, ◌^◌, ◌<◌, ℤ, FitsSigned, true, false, nat_lt, List, [], ◌∷◌, ◌++◌, length, take, drop, Ok, refl, sym, ap, ◌∙◌, arith, append-nil, append_assoc}
 use Rattle.std.proofs.lemmas.List.{length-append, drop_at}
 use Rattle.std.proofs.Math.Seq.{take-append_seam}
@@ -15,7 +15,7 @@ use Rattle.wire.specs.Requests.{Request, Define, Put, Get, Remove, Contains, Inv
 use Rattle.wire.specs.Frames.{long_text, int_text, arg_text, texts, args_text, request_text, IsArg, AreArgs, IsInRange}
 use Rattle.wire.specs.Bodies.{long, int, arg_of, argument, arguments, put, invoke, small, keys_and_arguments, alone}
 
--- the text of each value, whatever follows it, is read as the value
+-- `Reads` holds if the layout reads each value with `P` from its text, whatever bytes follow.
 abbrev pub Reads : {A : Type 0} → Layout A → (A → List ℕ) → (A → Type 0) → Type 0
 Reads {A = A} l f P = (x : A) (rest : List ℕ) → P x → first l (f x ++ rest) ≡ Ok (x, rest)
 
@@ -103,7 +103,7 @@ read_key g key h =
 parts : (a b : ℕ) (xs ys : List ℕ) → a ∷ xs ≡ b ∷ ys → (a ≡ b) × (xs ≡ ys)
 parts a b xs ys e = (cc, cc)
 
--- the body of each request but two is read as the request
+-- The body of a request other than `Define` and `InvokeAll` parses as that request.
 pub read_small : (r : Request) (kind : ℕ) (text : List ℕ) → IsInRange r → kind ∷ text ≡ request_text r → kind ≢ 1 → kind ≢ 7 → first (small kind) text ≡ Ok (r, [])
 unfolding small
 read_small (Define bytes) kind text h e one seven = absurd (one cc)

@@ -1,11 +1,11 @@
--- Bytes are written one after the other.
+-- Consecutive writes.
 use Rattle.std.proofs.Common.{◌≡◌, ℕ, List, ◌++◌, Option, sym, ap, ◌∙◌, append_assoc, inl, inr, subst}
 use Rattle.std.specs.Prelude.{Result, Ok, Err, OnOk, OnErr}
 use Rattle.std.proofs.KnownBytes.{Appends-trans}
 use Rattle.wire.specs.Counting.{Counting, HasRisen, StaysCounted, HasFailed}
 use Rattle.wire.specs.Streams.{Wrote, WrotePart}
 
--- a count that stayed and then rose has risen
+-- A count that is unchanged by one step and rises in the next has risen over both.
 pub risen_later : (a b c : ℕ) → b ≡ a → HasRisen b c → HasRisen a c
 risen_later a b c e h = subst (λ n. HasRisen n c) e h
 

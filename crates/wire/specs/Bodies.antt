@@ -1,4 +1,4 @@
--- How the bodies of requests are read, part by part.
+-- The layouts of the bodies of requests.
 use Rattle.std.specs.Prelude.{ℕ, ℤ, ◌==◌, List, nat_lt}
 use Rattle.std.specs.Int.{w32, w64, cast_signed}
 use Rattle.jtypes.specs.declared.types.Arg.{Arg}
@@ -29,7 +29,7 @@ argument = do
   kind ← number 1
   arg_of kind
 
--- at most eight of them
+-- The arguments of an invocation: a count byte, then at most eight arguments.
 unfoldable pub arguments : Layout (List Arg)
 arguments = do
   count ← number 1
@@ -49,7 +49,7 @@ invoke = do
   args ← arguments
   known (Invoke class key args)
 
--- the body of a request that has a key at most
+-- The body of a request other than `Define` and `InvokeAll`, by its kind.
 unfoldable pub small : ℕ → Layout Request
 small kind =
     chosen (kind == 2) put
@@ -60,14 +60,14 @@ small kind =
     (chosen (kind == 8) (known RoundEnd)
     (stopped BadOperand))))))
 
--- what follows the class and the count of an invocation on many keys
+-- The rest of an `InvokeAll` after the class and the key count: the keys, then the arguments.
 unfoldable pub keys_and_arguments : (class count : ℕ) → Layout Request
 keys_and_arguments class count = do
   keys ← many count long
   args ← arguments
   known (InvokeAll class keys args)
 
--- this, and nothing after it
+-- The layout `l`, followed by the end of the bytes.
 unfoldable pub alone : Layout Request → Layout Request
 alone l = do
   r ← l

@@ -1,4 +1,4 @@
--- The frames of the protocol: a frame is the text of a request or of a reply behind its length, all numbers with the highest byte first.
+-- The frames of the protocol: a frame is a length field and the text of a request or a reply. All numbers are big-endian.
 use Rattle.std.specs.Prelude.{◌≡◌, ℕ, ◌<◌, ◌≤◌, ◌^◌, ℤ, FitsSigned, Bool, true, false, List, [], ◌∷◌, ◌++◌, length, Option, Some, None}
 use Rattle.std.specs.List.{AllByRecursion}
 use Rattle.std.specs.Int.{w32, w64, cast_unsigned}
@@ -32,7 +32,7 @@ arg_text arg.Null = 0 ∷ []
 arg_text (arg.Long n) = 1 ∷ long_text n
 arg_text (arg.Integer n) = 2 ∷ int_text n
 
--- the texts of several things, one behind the other
+-- The concatenated texts of the elements of a list.
 abbrev pub texts : {A : Type 0} → (A → List ℕ) → List A → List ℕ
 texts f [] = []
 texts f (x ∷ xs) = f x ++ texts f xs
@@ -40,7 +40,7 @@ texts f (x ∷ xs) = f x ++ texts f xs
 abbrev pub args_text : List Arg → List ℕ
 args_text args = length args ∷ texts arg_text args
 
--- a request's kind and body
+-- The text of a request: its kind and its body.
 abbrev pub request_text : Request → List ℕ
 request_text (Define bytes) = 1 ∷ bytes
 request_text (Put key value) = 2 ∷ long_text key ++ long_text value
@@ -66,7 +66,7 @@ abbrev pub job_outcome_text : JobOutcome → List ℕ
 job_outcome_text (Ended o) = outcome_text o
 job_outcome_text (job.Denied d) = 2 ∷ denial_number d ∷ []
 
--- a key and what its invocation came to
+-- The text of a key and its outcome.
 abbrev pub job_text : ℤ × JobOutcome → List ℕ
 job_text j = long_text j.0 ++ job_outcome_text j.1
 
@@ -78,11 +78,11 @@ abbrev pub flag_text : Bool → List ℕ
 flag_text false = 0 ∷ []
 flag_text true = 1 ∷ []
 
--- how many outcomes there are, and they
+-- The text of `Results`: the kind, the number of outcomes, and the outcomes.
 abbrev pub results_text : List (ℤ × JobOutcome) → List ℕ
 results_text jobs = 7 ∷ big_bytes 2 (length jobs) ++ texts job_text jobs
 
--- a reply's kind and body
+-- The text of a reply: its kind and its body.
 abbrev pub reply_text : Reply → List ℕ
 reply_text (Defined class steps words) = 1 ∷ big_bytes 4 class ++ big_bytes 4 steps ++ big_bytes 4 words
 reply_text (Refused refusal) = 2 ∷ number refusal ∷ big_bytes 4 (detail refusal)
@@ -96,11 +96,11 @@ reply_text reply.RoundEnd = 9 ∷ []
 
 -- ---- frames
 
--- the longest text of a request
+-- The length of the longest text of a request, in bytes.
 abbrev pub longest : ℕ
 longest = 131_072
 
--- the length of what follows, and that
+-- The frame of a text: its length in four bytes, then the text.
 abbrev pub frame : List ℕ → List ℕ
 frame text = big_bytes 4 (length text) ++ text
 
@@ -110,11 +110,11 @@ request_frame r = frame (request_text r)
 abbrev pub reply_frame : Reply → List ℕ
 reply_frame r = frame (reply_text r)
 
--- each number is a byte's
+-- `AreBytes` holds if each element is below 256.
 abbrev pub AreBytes : List ℕ → Type 0
 AreBytes xs = AllByRecursion (λ b. b < 256) xs
 
--- the numbers of an argument lie in its type's range
+-- `IsArg` holds if the number of an argument is in the range of its type.
 abbrev pub IsArg : Arg → Type 0
 IsArg arg.Null = Unit {0}
 IsArg (arg.Long n) = FitsSigned w64 n
@@ -124,7 +124,7 @@ pub record AreArgs (args : List Arg) : Type 0 where
   pub few : length args ≤ 8
   pub each : AllByRecursion IsArg args
 
--- the numbers of a request lie in their types' ranges
+-- `IsInRange` holds if each number of a request is in the range of its type, and the lists are no longer than their counts allow.
 abbrev pub IsInRange : Request → Type 0
 IsInRange (Define bytes) = AreBytes bytes
 IsInRange (Put key value) = FitsSigned w64 key × FitsSigned w64 value
@@ -135,7 +135,7 @@ IsInRange (Invoke class key args) = (class < 2 ^ 32) × FitsSigned w64 key × Ar
 IsInRange (InvokeAll class keys args) = (class < 2 ^ 32) × (length keys < 2 ^ 16) × AllByRecursion (FitsSigned w64) keys × AreArgs args
 IsInRange request.RoundEnd = Unit {0}
 
--- a request has this text
+-- `IsText` holds if `text` is the text of `r`, and `r` is in range.
 pub record IsText (text : List ℕ) (r : Request) : Type 0 where
   pub is : text ≡ request_text r
   pub in_range : IsInRange r
@@ -143,39 +143,39 @@ pub record IsText (text : List ℕ) (r : Request) : Type 0 where
 abbrev pub IsNoRequest : List ℕ → Type 0
 IsNoRequest text = (r : Request) → IsText text r → ⊥
 
--- a request that has a frame
+-- `IsRequest` holds if `r` has a frame: it is in range, and its text is not too long.
 pub record IsRequest (r : Request) : Type 0 where
   pub in_range : IsInRange r
   pub short : length (request_text r) ≤ longest
 
--- the most outcomes of a reply
+-- The maximum number of outcomes in a reply.
 abbrev pub most_outcomes : ℕ
 most_outcomes = 4096
 
--- a reply that has a frame
+-- `IsReply` holds if the reply has a frame.
 abbrev pub IsReply : Reply → Type 0
 IsReply (Results jobs) = length jobs ≤ most_outcomes
 IsReply _ = Unit {0}
 
--- ---- what stands at the front of bytes
+-- ---- the front of a byte sequence
 
 pub data ReadFault : Type 0 where
   TooLong : ReadFault
   Truncated : ReadFault
   Malformed : ReadFault
 
--- the end, a whole frame and what follows it, or no frame
+-- The front of a byte sequence: the end, a whole frame and the bytes after it, or a fault.
 pub data Front : Type 0 where
   AtEnd : Front
   Whole : Request → (rest : List ℕ) → Front
   Faulty : ReadFault → Front
 
--- the bytes begin with the frame of this request
+-- `IsRead` holds if the bytes are the frame of `r` followed by `rest`.
 pub record IsRead (bytes : List ℕ) (r : Request) (rest : List ℕ) : Type 0 where
   pub parts : bytes ≡ request_frame r ++ rest
   pub request : IsRequest r
 
--- no request is read, and why; a frame that is cut is Truncated, whatever its body
+-- `IsFaulty` holds if the bytes begin with no frame, for this reason. A frame that is cut is `Truncated`, whatever its body.
 pub data IsFaulty (bytes : List ℕ) : ReadFault → Type 0 where
   cut_length : 0 < length bytes → length bytes < 4 → IsFaulty bytes Truncated
   too_long : (n : ℕ) (rest : List ℕ) → bytes ≡ big_bytes 4 n ++ rest → n < 2 ^ 32 → longest < n → IsFaulty bytes TooLong
@@ -183,12 +183,12 @@ pub data IsFaulty (bytes : List ℕ) : ReadFault → Type 0 where
   cut_body : (n : ℕ) (rest : List ℕ) → bytes ≡ big_bytes 4 n ++ rest → 1 ≤ n → n ≤ longest → length rest < n → IsFaulty bytes Truncated
   no_request : (text rest : List ℕ) → bytes ≡ frame text ++ rest → 1 ≤ length text → length text ≤ longest → IsNoRequest text → IsFaulty bytes Malformed
 
--- a beginning of a frame, which is not whole: it ends in the length or in the text
+-- `IsPart` holds if the bytes end inside the length field or inside the text of a frame.
 pub data IsPart (bytes : List ℕ) : Type 0 where
   of_length : length bytes < 4 → IsPart bytes
   of_text : (n : ℕ) (rest : List ℕ) → bytes ≡ big_bytes 4 n ++ rest → n ≤ longest → length rest < n → IsPart bytes
 
--- a frame, or a beginning of one
+-- `IsBegun` holds if the bytes are a length field and at most as many bytes of text.
 pub record IsBegun (bytes : List ℕ) : Type 0 where
   pub length_is : ℕ
   pub rest : List ℕ

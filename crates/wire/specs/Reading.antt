@@ -1,4 +1,4 @@
--- What a reading answers, by the bytes that it took and by those that are left.
+-- The results of reads, by the bytes consumed and the bytes left in the input.
 use Rattle.std.specs.Prelude.{◌≡◌, ◌≢◌, ◌⊎◌, ℕ, ℤ, ◌<◌, ◌≤◌, ◌^◌, List, [], ◌++◌, length, Option, Some, None, Result, Ok, Err}
 use Rattle.std.specs.Io.KnownBytes.{IsAtEnd, Consumes}
 use Rattle.byteorder.specs.Endian.{big_bytes}
@@ -19,15 +19,15 @@ wire_fault_number fault.Malformed = 3
 wire_fault_number fault.Read = 4
 wire_fault_number fault.NoMemory = 5
 
--- the reader gave these bytes
+-- `Took` holds if the reader consumed these bytes.
 abbrev pub Took : {R : Type 0} → (R → Option (List ℕ)) → Counting R → Counting R → List ℕ → Type 0
 Took remaining old new bytes = Consumes (remaining old.inner) (remaining new.inner) bytes
 
--- the reader gave some bytes, and this holds of what is left and of them
+-- `TookSome` holds if the reader consumed some bytes, and `P` holds of the input left and of these bytes.
 abbrev pub TookSome : {R : Type 0} → (R → Option (List ℕ)) → Counting R → Counting R → (Option (List ℕ) → List ℕ → Type 0) → Type 0
 TookSome remaining old new P = (bytes : List ℕ) × Took remaining old new bytes × P (remaining new.inner) bytes
 
--- where a fault of the reader is told, a read is counted as failed, or the count is at its greatest; elsewhere the counts stay
+-- `FaultCounts` holds if a `Read` fault raised the failure count, or it is saturated, and any other fault left both counts unchanged.
 abbrev pub FaultCounts : {R : Type 0} → WireFault → Counting R → Counting R → Type 0
 FaultCounts fault.Read old new = HasRisen old.failures new.failures
 FaultCounts _ old new = StaysCounted old new
@@ -36,54 +36,54 @@ abbrev pub ReadCounts : {R A : Type 0} → Result A WireFault → Counting R →
 ReadCounts (Ok x) old new = StaysCounted old new
 ReadCounts (Err e) old new = FaultCounts e old new
 
--- why no part of so many bytes was read
+-- `IsCut` holds if a read of `n` bytes can fail with this fault after it consumed `bytes`.
 abbrev pub IsCut : ℕ → Option (List ℕ) → List ℕ → WireFault → Type 0
 IsCut n left bytes fault.Truncated = IsAtEnd left × (length bytes < n)
 IsCut n left bytes fault.Read = length bytes < n
 IsCut n left bytes _ = ⊥
 
--- the same where memory may be wanting
+-- `IsCutOrLacks` is `IsCut`, with `NoMemory` as one more fault.
 abbrev pub IsCutOrLacks : ℕ → Option (List ℕ) → List ℕ → WireFault → Type 0
 IsCutOrLacks n left bytes fault.NoMemory = length bytes ≤ n
 IsCutOrLacks n left bytes e = IsCut n left bytes e
 
--- the fault of a frame of which so many bytes were passed over
+-- `IsPassed` holds if skipping the `n` bytes of a malformed text can end with this fault after it consumed `bytes`.
 abbrev pub IsPassed : ℕ → Option (List ℕ) → List ℕ → WireFault → Type 0
 IsPassed n left bytes fault.Malformed = length bytes ≡ n
 IsPassed n left bytes e = IsCut n left bytes e
 
--- the bytes begin with no invocation's frame
+-- `BeginsNoInvocation` holds if the bytes begin with no frame of an `Invoke`.
 abbrev pub BeginsNoInvocation : List ℕ → Type 0
 BeginsNoInvocation bytes = (class : ℕ) (key : ℤ) (args : List Arg) (rest : List ℕ) → IsRead bytes (Invoke class key args) rest → ⊥
 
--- the invocation of a text, with these arguments, if it has one
+-- `InvocationIs` holds if the result is the `Invoke` of the text, with these arguments, or none if the text has none.
 abbrev pub InvocationIs : List ℕ → List Arg → Option Invocation → Type 0
 InvocationIs text args (Some i) = IsText text (Invoke i.class i.key args)
 InvocationIs text args None = (class : ℕ) (key : ℤ) (others : List Arg) → IsText text (Invoke class key others) → ⊥
 
--- what a refusal of a body's reading says of the frame
+-- `IsFaultOf` holds if the fault is `NoMemory` for the refusal `NoMemory`, and `Malformed` for any other.
 abbrev pub IsFaultOf : Refusal → WireFault → Type 0
 IsFaultOf e f = ((e ≡ refusal.NoMemory) × (f ≡ fault.NoMemory)) ⊎ ((e ≢ refusal.NoMemory) × (f ≡ fault.Malformed))
 
--- the request of a text, or why there is none
+-- `Parses` holds if the result is the request of the text, `Malformed` if no request has this text, or `NoMemory`.
 abbrev pub Parses : List ℕ → Result Request WireFault → Type 0
 Parses text (Ok r) = IsText text r
 Parses text (Err fault.Malformed) = IsNoRequest text
 Parses text (Err fault.NoMemory) = Unit {0}
 Parses text (Err _) = ⊥
 
--- the request of which some bytes stand before, or why there is none; so many bytes are to follow
+-- `Completes` holds if the result is that of a read of `n` more bytes of a text, of which `before` is already read.
 abbrev pub Completes : List ℕ → ℕ → Option (List ℕ) → List ℕ → Result Request WireFault → Type 0
 Completes before n left bytes (Ok r) = IsText (before ++ bytes) r × (length bytes ≡ n)
 Completes before n left bytes (Err fault.Malformed) = IsNoRequest (before ++ bytes) × (length bytes ≡ n)
 Completes before n left bytes (Err e) = IsCutOrLacks n left bytes e
 
--- the length that a frame begins with, or the end
+-- `HeadGives` holds if the result is the length field of a frame, or none at the end of the input.
 abbrev pub HeadGives : Option (List ℕ) → (List ℕ → Type 0) → Option ℕ → Type 0
 HeadGives left Gave (Some n) = Gave (big_bytes 4 n) × (n < 2 ^ 32)
 HeadGives left Gave None = Gave [] × IsAtEnd left
 
--- what the reading of a frame gives
+-- `ReadGives` holds if the result is that of a read of one frame that consumed `bytes`.
 abbrev pub ReadGives : Option (List ℕ) → List ℕ → Result (Option Request) WireFault → Type 0
 ReadGives left bytes (Ok (Some r)) = IsRead bytes r []
 ReadGives left bytes (Ok None) = (bytes ≡ []) × IsAtEnd left
@@ -97,7 +97,7 @@ abbrev pub found : Result Request WireFault → Result (Option Request) WireFaul
 found (Ok r) = Ok (Some r)
 found (Err e) = Err e
 
--- the answer tells what stands at the front, unless memory was wanting or a read failed
+-- `Tells` holds if the result agrees with the front `f`. After `Read` and `NoMemory` it says nothing.
 abbrev pub Tells : Front → Result (Option Request) WireFault → Type 0
 Tells f (Ok None) = f ≡ AtEnd
 Tells f (Ok (Some r)) = (rest : List ℕ) × (f ≡ Whole r rest)

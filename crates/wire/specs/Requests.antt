@@ -1,11 +1,11 @@
--- What a client asks.
+-- The requests of a client.
 use Rattle.std.specs.Prelude.{ℕ, ℤ, List, Option, Some, None, Result, Ok, Err}
 use Rattle.jtypes.specs.declared.types.Arg.{Arg}
 use Rattle.wire.specs.declared.request.Request.{Request as Head}
 use Rattle.wire.specs.declared.request.Request.TheVariants as head
 use Rattle.wire.specs.declared.fault.WireFault.{WireFault}
 
--- an invocation names its class by a number, and has its arguments
+-- A request with the arguments of an invocation. It refers to a class by its number.
 pub data Request : Type 0 where
   Define : (bytes : List ℕ) → Request
   Put : (key value : ℤ) → Request
@@ -16,7 +16,7 @@ pub data Request : Type 0 where
   InvokeAll : (class : ℕ) → (keys : List ℤ) → (args : List Arg) → Request
   RoundEnd : Request
 
--- the same where the arguments stand beside it
+-- The request that the code returns, with the arguments from the separate buffer.
 abbrev pub with_args : List Arg → Head → Request
 with_args args (head.Define bytes) = Define bytes
 with_args args (head.Put key value) = Put key value
@@ -27,7 +27,7 @@ with_args args (head.Invoke class key) = Invoke class key args
 with_args args (head.InvokeAll class keys) = InvokeAll class keys args
 with_args args head.RoundEnd = RoundEnd
 
--- what a reading answered, with the arguments that it left
+-- The result of a parse, with the arguments that it stored in the separate buffer.
 abbrev pub asked : List Arg → Result Head WireFault → Result Request WireFault
 asked args (Ok r) = Ok (with_args args r)
 asked args (Err e) = Err e

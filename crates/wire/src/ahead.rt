@@ -1,4 +1,4 @@
-//! Readers that have bytes at hand.
+//! Readers that expose their buffered bytes.
 
 ghost use Rattle.std.specs.Prelude.{◌≡◌, ◌≤◌, ℕ, List, length, take};
 ghost use Rattle.std.specs.Io.KnownBytes.{Consumes};
@@ -8,15 +8,16 @@ use std::alloc::Allocator;
 use std::io;
 use std::io::{BufRead, BufReader, Read};
 
-/// A reader that may have read bytes which it hasn't given yet. They are read where they stand, and needn't be copied first.
+/// A reader that may hold buffered bytes. A caller can parse them in the buffer, without a copy.
 pub trait Ahead: Read {
     ghost ahead: { Self → List ℕ };
 
-    /// The bytes at hand, which the next reads give.
+    /// Returns the buffered bytes. They are the next bytes of the input.
     fn at_hand(&self) -> &[u8]
         ensures { result.now ≡ ahead self.now };
 
-    /// Gives so many of the bytes at hand, as if they had been read.
+    /// Consumes the first `count` buffered bytes, as a read does.
+    /// At least `count` bytes must be buffered.
     fn pass(&mut self, count: usize)
         requires { count ≤ length (ahead self.old) }
         ensures { Consumes (Self.remaining self.old) (Self.remaining self.new) (take count (ahead self.old)) };
@@ -46,7 +47,7 @@ impl<'a> Ahead for &'a [u8] {
     }
 }
 
-/// Any reader, of which nothing is at hand.
+/// Wraps any reader and reports no buffered bytes.
 #[derive(Drop)]
 pub struct Plain<R> {
     pub inner: R,

@@ -1,11 +1,11 @@
-//! A reader or a writer whose failures are counted.
+//! A reader or writer that counts its failed calls.
 
 use crate::ahead::Ahead;
 use std::io;
 use std::io::{Read, Write};
 use std::marker::Model;
 
-/// Passes calls on to a reader or a writer, and counts those that fail. An error of any kind counts.
+/// Wraps a reader or writer and counts the calls that return an error of any kind, and the writes that accept no byte.
 #[derive(Drop)]
 pub struct Counted<T> {
     inner: T,
@@ -25,7 +25,7 @@ impl<T> Counted<T> {
     ghost use Rattle.std.specs.Prelude.{◌≡◌};
     ghost use Rattle.wire.specs.Counting.{CountsFailure};
 
-    /// Nothing has failed yet.
+    /// Wraps `inner`, with both counts at 0.
     pub fn new(inner: T) -> Counted<T>
         ensures inner { result.inner ≡ inner }
         ensures none { (result.failures ≡ 0) × (result.idle ≡ 0) }
@@ -37,14 +37,14 @@ impl<T> Counted<T> {
         }
     }
 
-    /// How many calls answered an error; at the greatest value it stays.
+    /// Returns the number of calls that returned an error, saturated at `u64::MAX`.
     pub fn failures(&self) -> u64
         ensures { result ≡ self.now.failures }
     {
         self.failures
     }
 
-    /// How many writes of some bytes took none of them; at the greatest value it stays.
+    /// Returns the number of writes that accepted no byte of a nonempty buffer, saturated at `u64::MAX`.
     pub fn idle(&self) -> u64
         ensures { result ≡ self.now.idle }
     {
@@ -58,7 +58,7 @@ impl<T> Counted<T> {
         self.failures = self.failures.saturating_add(1);
     }
 
-    /// The reader or the writer.
+    /// Returns the wrapped reader or writer.
     pub fn into_inner(self) -> T
         ensures { result ≡ self.inner }
     {

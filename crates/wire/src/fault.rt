@@ -1,24 +1,24 @@
-//! Why no request is read.
+//! Errors of reading a request.
 
 ghost use Rattle.std.specs.Prelude.{◌≡◌};
 ghost use Rattle.wire.specs.Reading.{wire_fault_number};
 
-/// Why no request is read.
+/// Why a request could not be read.
 #[derive(Clone, Copy, Debug, PartialEq, Eq)]
 pub enum WireFault {
-    /// The frame is longer than a frame may be.
+    /// The length field exceeds 131,072, the longest text of a request in bytes.
     TooLong,
     /// The input ends inside the frame.
     Truncated,
-    /// The frame is whole, and no request has it.
+    /// The frame is complete, but encodes no request.
     Malformed,
-    /// The reader answered an error.
+    /// The reader returned an error.
     Read,
     NoMemory,
 }
 
 impl WireFault {
-    /// The fault's number, from 1 to 5.
+    /// Returns the number of the fault, from 1 to 5.
     pub fn number(self) -> u8
         ensures { result ≡ wire_fault_number self }
     {

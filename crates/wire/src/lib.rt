@@ -1,4 +1,4 @@
-//! The frames of the protocol: requests are read, and replies are written.
+//! The wire protocol: reads request frames and writes reply frames.
 #![tactic(auto)]
 
 mod ahead;

@@ -1,4 +1,4 @@
-//! The bodies of requests.
+//! Parsing of the texts of requests.
 
 ghost use Rattle.std.specs.Prelude.{◌≡◌, ◌≢◌, ◌⊎◌, ◌+◌, ◌*◌, ◌^◌, ◌<◌, ◌≤◌, List, [], ◌∷◌, ◌++◌, length, true, false, IfOk};
 ghost use Rattle.jtypes.specs.Layout.{Takes, Gives, first, many};
@@ -59,7 +59,7 @@ fn read_put(cursor: &mut Cursor<'_>) -> Result<Request, Refusal>
     Ok(Request::Put { key, value })
 }
 
-// So many arguments, one after the other. They take the place of what the row had.
+// Reads `count` arguments into `args`, replacing its contents.
 fn read_each(count: u8, cursor: &mut Cursor<'_>, args: &mut Vec<Arg>) -> Result<(), Refusal>
     ensures { Takes (λ _. args.new.items) result (first (many count argument) cursor.old) cursor.new }
 {
@@ -185,7 +185,7 @@ fn all_keys(
     Ok(request)
 }
 
-// A refused body has another form, unless memory is wanting.
+// Out of memory stays out of memory, any other refusal of a body means a malformed frame.
 fn fault_of(refusal: Refusal) -> WireFault
     ensures { IsFaultOf refusal result }
 {
@@ -195,7 +195,7 @@ fn fault_of(refusal: Refusal) -> WireFault
     }
 }
 
-// The request with this kind and body, which has a key at most.
+// Parses a request other than `Define` and `InvokeAll` from its kind and its body.
 fn small_request(kind: u8, body: &[u8], args: &mut Vec<Arg>) -> Result<Request, WireFault>
     requires other { (kind ≢ 1) × (kind ≢ 7) }
     ensures { Parses (kind ∷ body.now) (asked args.new.items result) }
@@ -206,7 +206,8 @@ fn small_request(kind: u8, body: &[u8], args: &mut Vec<Arg>) -> Result<Request, 
     }
 }
 
-/// Whether what follows the class and the count of an invocation on so many keys may have this length.
+/// Returns whether `length` bytes can hold the keys and the arguments of an `InvokeAll` on `keys` keys:
+/// 8 bytes a key, then 1 to 73 bytes.
 pub fn may_hold(keys: u16, length: usize) -> bool
     ensures yes { result ≡ true → (8 * keys + 1 ≤ length) × (length ≤ 8 * keys + 73) }
     ensures no { result ≡ false → (length < 8 * keys + 1) ⊎ (8 * keys + 73 < length) }
@@ -215,7 +216,7 @@ pub fn may_hold(keys: u16, length: usize) -> bool
     least <= length && length <= least + 72
 }
 
-/// The invocation of this class on so many keys, which the rest holds with the arguments.
+/// Parses an `InvokeAll` of `class` from `rest`, which has `count` keys and then the arguments.
 pub fn keys_request(
     alloc: Global,
     class: u32,
@@ -231,12 +232,12 @@ pub fn keys_request(
     }
 }
 
-// For proofs alone: the numbers of a slice of bytes are bytes.
+// Proof only: the elements of a byte slice are below 256.
 pub fn are_bytes(bytes: &[u8])
     ensures { AreBytes bytes.now }
 {}
 
-/// The class and the count of keys that an invocation on many keys begins with.
+/// Returns the class and the key count of an `InvokeAll`, from the first 6 bytes of its body.
 pub fn class_and_count(head: &[u8]) -> (u32, u16)
     requires { length head.now ≡ 6 }
     ensures bytes { head.now ≡ big_bytes 4 result.0 ++ big_bytes 2 result.1 }
@@ -246,7 +247,7 @@ pub fn class_and_count(head: &[u8]) -> (u32, u16)
     (BigEndian::read_u32(head), BigEndian::read_u16(&head[4..]))
 }
 
-// The invocation on many keys with this body.
+// Parses the body of an `InvokeAll`.
 fn invoke_all_request(alloc: Global, body: &[u8], args: &mut Vec<Arg>) -> Result<Request, WireFault>
     ensures { Parses (7 ∷ body.now) (asked args.new.items result) }
 {
@@ -261,7 +262,7 @@ fn invoke_all_request(alloc: Global, body: &[u8], args: &mut Vec<Arg>) -> Result
     keys_request(alloc, class, keys, rest, args)
 }
 
-// The definition with this body.
+// Returns a `Define` with a copy of the body, the bytes of the class file.
 fn define_request(alloc: Global, body: &[u8]) -> Result<Request, WireFault>
     ensures { (args : List Arg) → Parses (1 ∷ body.now) (asked args result) }
 {
@@ -272,7 +273,8 @@ fn define_request(alloc: Global, body: &[u8]) -> Result<Request, WireFault>
     }
 }
 
-/// The invocation with this text, if it has one. The row has its arguments afterwards.
+/// Returns the invocation that `text` encodes if it is an `Invoke`, and stores its arguments in `args`.
+/// Fails if there is no memory for the arguments.
 pub fn invocation_of(text: &[u8], args: &mut Vec<Arg>) -> Result<Option<Invocation>, AllocError>
     ensures { IfOk result (InvocationIs text.now args.new.items) }
 {
@@ -291,7 +293,7 @@ pub fn invocation_of(text: &[u8], args: &mut Vec<Arg>) -> Result<Option<Invocati
     }
 }
 
-/// The request with this text. The row has its arguments afterwards.
+/// Parses the text of a frame, a kind byte and a body, and stores the arguments of an invocation in `args`.
 pub fn request_of(alloc: Global, text: &[u8], args: &mut Vec<Arg>) -> Result<Request, WireFault>
     ensures { Parses text.now (asked args.new.items result) }
 {

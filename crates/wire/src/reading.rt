@@ -1,4 +1,4 @@
-//! Requests are read.
+//! Reading of requests from a stream.
 
 ghost use Rattle.std.specs.Prelude.{◌≡◌, ◌<◌, ◌≤◌, ◌^◌, ◌+◌, ℕ, List, [], ◌∷◌, ◌++◌, length, take, IfSome, IfNone, IfOk, IfErr, OnOk, OnErr, Err};
 ghost use Rattle.std.specs.Io.KnownBytes.{IsAtEnd};
@@ -18,13 +18,13 @@ use jtypes::{Arg, Items};
 use std::alloc::{AllocError, Global};
 use std::io::Read;
 
-/// The longest text of a request.
+/// The longest text of a request, in bytes.
 const LONGEST: u32 = 131_072;
 
-/// The longest text of a request that has a key at most: a kind, a class, a key and eight longs.
+/// The longest text of a request other than `Define` and `InvokeAll`, in bytes: an `Invoke` with eight longs.
 const SHORT: usize = 86;
 
-// Reads until the buffer is full or the input ends, and answers how many bytes came.
+// Reads until the buffer is full or the input ends. Returns the number of bytes read.
 fn fill<R: Read>(reader: &mut Counted<R>, buf: &mut [u8]) -> Result<usize, WireFault>
     ensures within { IfOk result (λ n. n ≤ length buf.new) }
     ensures bytes { IfOk result (λ n. Took R.remaining reader.old reader.new (take n buf.new)) }
@@ -45,7 +45,7 @@ fn fill<R: Read>(reader: &mut Counted<R>, buf: &mut [u8]) -> Result<usize, WireF
     Ok(at)
 }
 
-// Fills the buffer.
+// Fills the buffer. Fails with `Truncated` if the input ends before.
 fn read_part<R: Read>(reader: &mut Counted<R>, buf: &mut [u8]) -> Result<(), WireFault>
     ensures ok { OnOk result (Took R.remaining reader.old reader.new buf.new) }
     ensures err { IfErr result (λ e. TookSome R.remaining reader.old reader.new (λ left bytes. IsCut (length buf.old) left bytes e)) }
@@ -60,7 +60,7 @@ fn read_part<R: Read>(reader: &mut Counted<R>, buf: &mut [u8]) -> Result<(), Wir
     }
 }
 
-// So many bytes.
+// Reads exactly `count` bytes into a new buffer.
 fn read_bytes<R: Read>(
     alloc: Global,
     reader: &mut Counted<R>,
@@ -80,7 +80,7 @@ fn read_bytes<R: Read>(
     }
 }
 
-// Passes over the bytes that are left of a frame that no request has.
+// Skips `count` bytes, the rest of a frame that encodes no request. Returns `Malformed`, or the fault of the reader.
 fn pass_over<R: Read>(reader: &mut Counted<R>, count: usize) -> WireFault
     ensures bytes { TookSome R.remaining reader.old reader.new (λ left bytes. IsPassed count left bytes result) }
     ensures counted { FaultCounts result reader.old reader.new }
@@ -114,7 +114,7 @@ fn read_define<R: Read>(
     }
 }
 
-// What follows the class and the count of an invocation on many keys.
+// Reads the rest of an `InvokeAll` after the class and the key count, `count` bytes.
 fn read_keys<R: Read>(
     alloc: Global,
     reader: &mut Counted<R>,
@@ -157,7 +157,8 @@ fn read_invoke_all<R: Read>(
     }
 }
 
-// The rest of a long request of this kind. It is judged by its length before memory is taken for it.
+// Reads the body of a text longer than `SHORT`.
+// Kind and length are checked before memory is allocated for the body.
 fn read_body<R: Read>(
     alloc: Global,
     reader: &mut Counted<R>,
@@ -176,7 +177,7 @@ fn read_body<R: Read>(
     }
 }
 
-// A long text, whose kind is read first.
+// Reads a text longer than `SHORT`, the kind byte first.
 fn read_long<R: Read>(
     alloc: Global,
     reader: &mut Counted<R>,
@@ -194,7 +195,7 @@ fn read_long<R: Read>(
     }
 }
 
-// A short text: where all of it is at hand it is read there, and else at once.
+// Reads a text of at most `SHORT` bytes. It is parsed in the buffer of the reader, or copied if that doesn't hold all of it.
 fn read_short<R: Ahead>(
     alloc: Global,
     reader: &mut Counted<R>,
@@ -217,7 +218,7 @@ fn read_short<R: Ahead>(
     }
 }
 
-// The length that bytes begin with, if there are so many.
+// Returns the length field that `bytes` begins with, or none if there are fewer than 4 bytes.
 fn length_in(bytes: &[u8]) -> Option<u32>
     ensures some { IfSome result (λ n. (take 4 bytes.now ≡ big_bytes 4 n) × (n < 2 ^ 32) × (4 ≤ length bytes.now)) }
     ensures none { IfNone result (length bytes.now < 4) }
@@ -230,7 +231,7 @@ fn length_in(bytes: &[u8]) -> Option<u32>
     Some(BigEndian::read_u32(head))
 }
 
-// The length of the next frame; at the end of the input there is none.
+// Reads the length field of the next frame. Returns none at the end of the input.
 fn read_length<R: Ahead>(reader: &mut Counted<R>) -> Result<Option<u32>, WireFault>
     ensures ok { IfOk result (λ o. HeadGives (R.remaining reader.new.inner) (Took R.remaining reader.old reader.new) o) }
     ensures err { IfErr result (λ e. TookSome R.remaining reader.old reader.new (λ left bytes. ReadGives left bytes (Err e))) }
@@ -252,7 +253,8 @@ fn read_length<R: Ahead>(reader: &mut Counted<R>) -> Result<Option<u32>, WireFau
     }
 }
 
-// The length of a short text, which isn't empty, where these bytes begin with its frame. An invocation's text is short.
+// Returns the length of the text if `bytes` begins with a whole frame whose text has 1 to `SHORT` bytes.
+// The text of an `Invoke` is never longer.
 fn short_length_in(bytes: &[u8]) -> Option<usize>
     ensures some { IfSome result (λ n. (take 4 bytes.now ≡ big_bytes 4 n) × (1 ≤ n) × (n ≤ 86) × (4 + n ≤ length bytes.now)) }
     ensures none { IfNone result (BeginsNoInvocation bytes.now) }
@@ -264,8 +266,8 @@ fn short_length_in(bytes: &[u8]) -> Option<usize>
     Some(length)
 }
 
-/// Takes the invocation whose frame the bytes at hand begin with, if they begin with one. Its arguments are in the row afterwards. Where
-/// they don't, and where there is no memory for the arguments, nothing is taken, and the row may have changed.
+/// Consumes and returns the `Invoke` whose frame the buffered bytes begin with, and stores its arguments in `args`.
+/// Without such a frame, and if there is no memory for the arguments, it consumes nothing, and may change `args`.
 pub fn invocation_at_hand<R: Ahead>(
     reader: &mut Counted<R>,
     args: &mut Vec<Arg>,
@@ -286,7 +288,7 @@ pub fn invocation_at_hand<R: Ahead>(
     Ok(Some(invocation))
 }
 
-// The rest of a frame whose length is known.
+// Reads the text of a frame with this length field.
 fn read_frame<R: Ahead>(
     alloc: Global,
     reader: &mut Counted<R>,
@@ -310,8 +312,9 @@ fn read_frame<R: Ahead>(
     }
 }
 
-/// Reads one frame, and answers its request; at the end of the input there is none. The arguments of an invocation are in the row
-/// afterwards, in the place of what it had. A read that answers an error is not tried again, whatever the error.
+/// Reads one frame and returns its request, or none at the end of the input.
+/// The arguments of an invocation replace the contents of `args`.
+/// A read that returns an error is not retried, whatever the error.
 pub fn read_request<R: Ahead>(
     alloc: Global,
     reader: &mut Counted<R>,

@@ -5,21 +5,21 @@ ghost use Rattle.wire.specs.Frames.{denial_number};
 
 use jtypes::{Items, Outcome, Refusal};
 
-/// Why a request isn't done.
+/// Why the server doesn't execute a request.
 #[derive(Clone, Copy, PartialEq, Eq)]
 pub enum Denial {
-    /// No class that was accepted has the number.
+    /// No accepted class has this number.
     UnknownClass,
     JournalFull,
     NoMemory,
-    /// As many classes as a stream may have are accepted.
+    /// The stream already has the maximum number of accepted classes.
     TooManyClasses,
-    /// The round has as many jobs as it may have.
+    /// The request's jobs would exceed the maximum of a round.
     TooManyJobs,
 }
 
 impl Denial {
-    /// The denial's number, from 1 to 5.
+    /// Returns the number of the denial, from 1 to 5.
     pub fn number(self) -> u8
         ensures { result ≡ denial_number self }
     {
@@ -33,27 +33,27 @@ impl Denial {
     }
 }
 
-/// What the invocation on one of several keys came to.
+/// The outcome of an `InvokeAll` for one key.
 #[derive(Clone, Copy, PartialEq, Eq)]
 pub enum JobOutcome {
     Ended(Outcome),
     Denied(Denial),
 }
 
-/// What a client is answered.
+/// A reply to a client.
 #[derive(Drop)]
 pub enum Reply {
-    /// A class is accepted: its number among those accepted, and its bounds.
+    /// The class is accepted: its number among the accepted classes, and its bounds.
     Defined { class: u32, steps: u32, words: u32 },
-    /// A class is refused.
+    /// The class is refused.
     Refused(Refusal),
     Done,
-    /// The value of a key, where it has one.
+    /// The value of a key, or none if the key is absent.
     Value(Option<i64>),
     Flag(bool),
-    /// How an invocation ended.
+    /// The outcome of an invocation.
     Result(Outcome),
-    /// Keys of an `InvokeAll`, each with what its invocation came to.
+    /// Keys of an `InvokeAll`, each with its outcome.
     Results(Items<(i64, JobOutcome)>),
     Denied(Denial),
     RoundEnd,

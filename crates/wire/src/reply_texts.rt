@@ -1,4 +1,4 @@
-//! The texts of replies.
+//! The texts of replies: a kind byte and a body.
 
 ghost use Rattle.std.specs.Prelude.{◌≡◌, ◌+◌, ◌≤◌, [], ◌∷◌, ◌++◌, length};
 ghost use Rattle.byteorder.specs.Endian.{big_bytes};
@@ -10,7 +10,7 @@ use crate::JobOutcome;
 use crate::text::Text;
 use jtypes::{Arg, Outcome, Refusal};
 
-/// The text of a reply that is nothing but its kind.
+/// Returns the text of a reply without a body.
 pub fn kind_text(kind: u8) -> Text
     ensures { result ≡ kind ∷ [] }
 {
@@ -19,7 +19,7 @@ pub fn kind_text(kind: u8) -> Text
     text
 }
 
-/// The text of a reply that has one byte behind its kind.
+/// Returns the text of a reply with a body of one byte.
 pub fn byte_text(kind: u8, n: u8) -> Text
     ensures { result ≡ kind ∷ n ∷ [] }
 {

@@ -2,26 +2,26 @@
 
 use jtypes::Items;
 
-/// An invocation of the class with this number on one key. Its arguments stand beside it.
+/// An invocation, on one key, of the class with this number. Its arguments are in a separate buffer.
 #[derive(Clone, Copy)]
 pub struct Invocation {
     pub class: u32,
     pub key: i64,
 }
 
-/// What a client asks. The arguments of an invocation stand beside it.
+/// A request of a client. The arguments of an invocation are in a separate buffer.
 #[derive(Drop)]
 pub enum Request {
-    /// The bytes of a class file, which needn't be one.
+    /// The bytes of a class file, not yet checked.
     Define(Items<u8>),
     Put { key: i64, value: i64 },
     Get { key: i64 },
     Remove { key: i64 },
     Contains { key: i64 },
-    /// An invocation of the class with this number on one key.
+    /// Invokes the class with this number on one key.
     Invoke { class: u32, key: i64 },
-    /// An invocation on each of the keys, which may have doubles.
+    /// Invokes the class with this number on each of the keys, which may have duplicates.
     InvokeAll { class: u32, keys: Items<i64> },
-    /// The requests since the last one are a round.
+    /// Ends a round: the requests since the previous `RoundEnd`.
     RoundEnd,
 }

@@ -1,4 +1,4 @@
-//! Short texts.
+//! Buffers of fixed size for short texts.
 
 ghost use Rattle.std.specs.Prelude.{◌≡◌, ◌+◌, ◌<◌, ◌≤◌, [], ◌∷◌, ◌++◌, length};
 ghost use Rattle.byteorder.specs.Endian.{big_bytes};
@@ -7,10 +7,11 @@ ghost use Rattle.wire.specs.Frames.{long_text, int_text, frame};
 use byteorder::{BigEndian, ByteOrder};
 use std::marker::Model;
 
-/// The bytes before a text that its length takes.
+/// The size of the length field before a text, in bytes.
 const HEAD: usize = 4;
 
-/// A text of at most 18 bytes, as long as a key with its outcome is, behind room for its length. It grows at its end.
+/// A text of at most 18 bytes, the length of a key and its outcome. It grows at its end.
+/// The array reserves the first 4 bytes for the length field.
 #[derive(Drop)]
 pub struct Text {
     bytes: [u8; 22],
@@ -27,7 +28,7 @@ impl Model for Text {
     ghost invariant = { λ t. (4 ≤ t.end) × (t.end ≤ 22) };
 }
 
-/// A text with its length before it.
+/// A text with its length field in front.
 #[derive(Drop)]
 pub struct Framed {
     bytes: [u8; 22],
@@ -108,7 +109,7 @@ impl Text {
         self.u64(n.cast_unsigned());
     }
 
-    /// How many bytes there are, 18 at most.
+    /// Returns the length in bytes, at most 18.
     pub fn len(&self) -> u32
         ensures len { result ≡ length self.now }
         ensures small { result ≤ 18 }
@@ -123,7 +124,7 @@ impl Text {
         &self.bytes[HEAD..self.end]
     }
 
-    /// With its length before it.
+    /// Returns the text with its length field in front.
     pub fn framed(self) -> Framed
         ensures { result ≡ frame self }
     {

@@ -1,4 +1,4 @@
-//! Replies are written.
+//! Writing of replies.
 
 ghost use Rattle.std.specs.Prelude.{◌≡◌, ◌*◌, ◌<◌, ◌≤◌, ◌^◌, ◌++◌, length, OnOk, OnErr};
 ghost use Rattle.wire.specs.Frames.{frame, texts, job_text, reply_frame, results_text, IsReply, most_outcomes};
@@ -16,11 +16,11 @@ use jtypes::{Arg, Outcome};
 use std::alloc::AllocError;
 use std::io::Write;
 
-/// A write or a flush answered an error, or a write took no byte.
+/// A write or a flush returned an error, or a write accepted no byte.
 #[derive(Clone, Copy, Debug, PartialEq, Eq)]
 pub struct WriteFailed;
 
-/// Writes all the bytes. Where that fails, a beginning of them is written.
+/// Writes all the bytes. On failure a prefix of them is written.
 pub fn write_bytes<W: Write>(writer: &mut Counted<W>, bytes: &[u8]) -> Result<(), WriteFailed>
     ensures ok { OnOk result (Wrote W.contents writer.old writer.new bytes.now) }
     ensures err { OnErr result (WrotePart W.contents writer.old writer.new bytes.now) }
@@ -36,7 +36,7 @@ pub fn write_bytes<W: Write>(writer: &mut Counted<W>, bytes: &[u8]) -> Result<()
     Ok(())
 }
 
-/// Writes the frame of a reply, which the writer may hold back until it is flushed. Where that fails, a beginning of the frame is written.
+/// Writes the frame of a reply, which the writer may buffer until it is flushed. On failure a prefix of the frame is written.
 pub fn write_reply<W: Write>(writer: &mut Counted<W>, reply: &Reply) -> Result<(), WriteFailed>
     requires { IsReply reply.now }
     ensures ok { OnOk result (Wrote W.contents writer.old writer.new (reply_frame reply.now)) }
@@ -60,8 +60,8 @@ pub fn write_reply<W: Write>(writer: &mut Counted<W>, reply: &Reply) -> Result<(
     }
 }
 
-/// Puts the frame of what an invocation came to behind these bytes, as `write_reply` writes it. Most replies are of one kind, and
-/// their frames are put together where they are to stand.
+/// Appends the frame of an invocation's outcome to `bytes`, as `write_reply` encodes it.
+/// Fast path: the frame of a returned `Long`, the usual outcome, is encoded in `bytes` without a `Text`.
 pub fn add_result(bytes: &mut Vec<u8>, outcome: Outcome) -> Result<(), AllocError>
     ensures { OnOk result (bytes.new.items ≡ bytes.old.items ++ reply_frame (Result outcome)) }
 {
@@ -98,7 +98,7 @@ fn write_results<W: Write>(
     write_jobs(writer, jobs)
 }
 
-// What stands before the outcomes: the frame's length, the kind and the count.
+// Returns the bytes before the outcomes: the length field, the kind and the count.
 fn results_head(jobs: &[(i64, JobOutcome)]) -> Text
     requires { length jobs.now ≤ most_outcomes }
     ensures { result ++ texts job_text jobs.now ≡ frame (results_text jobs.now) }
@@ -110,7 +110,7 @@ fn results_head(jobs: &[(i64, JobOutcome)]) -> Text
     head
 }
 
-// The length of the outcomes' texts.
+// Returns the total length of the outcomes' texts, in bytes.
 fn length_of(jobs: &[(i64, JobOutcome)]) -> u32
     requires { length jobs.now ≤ most_outcomes }
     ensures value { result ≡ length (texts job_text jobs.now) }

@@ -1,4 +1,4 @@
--- The calls so far, and those for the keys that are left, are all that come.
+-- The calls so far and the invocations on the remaining keys are all the calls.
 use Rattle.std.proofs.Common.{◌≡◌, ◌++◌, drop}
 use Rattle.stripe.specs.Rows.{arguments}
 use Rattle.invokeall.specs.Collected.{invocations}

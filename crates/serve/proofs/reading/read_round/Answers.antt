@@ -22,11 +22,11 @@ frame_read left bytes args o r e h = subst (λ (x : Option Head). ReadGives left
 end_read : (left : Option (List ℕ)) (bytes : List ℕ) (args : List Arg) (o : Option Head) → o ≡ None → ReadGives left bytes (next_asked args (Ok o)) → (bytes ≡ []) × IsAtEnd left
 end_read left bytes args o e h = subst (λ (x : Option Head). ReadGives left bytes (next_asked args (Ok x))) e h
 
--- what was taken before a reader that stayed
+-- The bytes consumed before a step that leaves the reader unchanged are the bytes consumed after it.
 took_before : {R : Type 0} (remaining : R → Option (List ℕ)) (first : Option (List ℕ)) (old new : Counting R) (bytes : List ℕ) → new ≡ old → Consumes first (remaining old.inner) bytes → Consumes first (remaining new.inner) bytes
 took_before remaining first old new bytes same took = subst (λ x. Consumes first (remaining x.inner) bytes) (sym same) took
 
--- what an invocation at hand took, and what is so where there is none
+-- The bytes of a buffered `Invoke` that was consumed, and the statement that holds if there is none.
 taken_at_hand : {R : Type 0} (remaining : R → Option (List ℕ)) (old new : Counting R) (args : List Arg) (o : Option Invocation) (i : Invocation) → o ≡ Some i
     → IfSome o (λ x. TookSome remaining old new (λ _ bytes. IsRead bytes (Invoke x.class x.key args) [])) → TookSome remaining old new (λ _ bytes. IsRead bytes (Invoke i.class i.key args) [])
 taken_at_hand remaining old new args o i e h = subst (λ (y : Option Invocation). IfSome y (λ x. TookSome remaining old new (λ _ bytes. IsRead bytes (Invoke x.class x.key args) []))) e h

@@ -9,7 +9,7 @@ none_behind : (i : ℕ) → drop {A = Option Reply} i [] ≡ []
 none_behind zero = refl
 none_behind (suc i) = refl
 
--- what is listed from a key on, and from the next
+-- The outcomes listed from index `i` on are those of key `i` and those from the next index on.
 from_next : (answers : List (Option Reply)) (keys : List ℤ) (i : ℕ) (d : ℤ) → i < length keys
     → all_listed (drop i answers) (drop i keys) ≡ listed (get_or keys i d) (get_or answers i None) ++ all_listed (drop (suc i) answers) (drop (suc i) keys)
 from_next answers [] i d below = absurd (omega arith)
@@ -18,7 +18,7 @@ from_next (a ∷ answers) (k ∷ keys) zero d below = refl
 from_next [] (k ∷ keys) (suc i) d below = ap (λ l. all_listed l (drop i keys)) (sym (none_behind i)) ∙ from_next [] keys i d (omega arith)
 from_next (a ∷ answers) (k ∷ keys) (suc i) d below = from_next answers keys i d (omega arith)
 
--- one key more
+-- `from_next`, for a list to which the outcomes of key `i` are appended.
 listed_more : (answers : List (Option Reply)) (keys : List ℤ) (i : ℕ) (d : ℤ) (a : Option Reply) (old new all : List (ℤ × JobOutcome)) → i < length keys → a ≡ get_or answers i None → new ≡ old ++ listed (get_or keys i d) a
     → old ++ all_listed (drop i answers) (drop i keys) ≡ all → new ++ all_listed (drop (i + 1) answers) (drop (i + 1) keys) ≡ all
 listed_more answers keys i d a old new all below is items told =

@@ -1,4 +1,4 @@
--- What was taken so far is served by what was given, and nothing failed.
+-- The bytes written so far are the answer to the bytes read so far, and no call failed.
 use Rattle.std.proofs.Common.{ℕ, List}
 use Rattle.std.specs.Io.KnownBytes.{Consumes, Appends}
 use Rattle.stripe.specs.Stored.{entry_among}

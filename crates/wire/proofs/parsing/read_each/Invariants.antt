@@ -1,4 +1,4 @@
--- The arguments so far, and those that are still read, are the whole.
+-- The arguments read so far and those still to read are the result of the whole layout.
 use Rattle.std.proofs.Common.{◌≡◌, ◌-◌}
 use Rattle.jtypes.specs.Layout.{first, many}
 use Rattle.jtypes.proofs.Many.{with_front}

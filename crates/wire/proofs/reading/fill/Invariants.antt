@@ -1,4 +1,4 @@
--- What is filled was taken, and no read failed.
+-- The bytes stored so far were consumed, and no read failed.
 use Rattle.std.proofs.Common.{◌≡◌, ◌≤◌, ◌-◌, length, take}
 use Rattle.wire.specs.Counting.{StaysCounted}
 use Rattle.wire.specs.Reading.{Took}

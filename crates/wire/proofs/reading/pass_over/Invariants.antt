@@ -1,4 +1,4 @@
--- What is passed over was taken, and no read failed.
+-- The bytes skipped so far were consumed, and no read failed.
 use Rattle.std.proofs.Common.{◌≡◌, ◌+◌, ℕ, List, length}
 use Rattle.wire.specs.Counting.{StaysCounted}
 use Rattle.wire.specs.Reading.{Took}

@@ -1,4 +1,4 @@
--- What is counted, with the texts of the jobs that are left, is the whole.
+-- The total so far and the length of the remaining jobs' texts add up to the whole length.
 use Rattle.std.proofs.Common.{◌≡◌, ◌+◌, ◌*◌, ◌≤◌, length, drop}
 use Rattle.wire.specs.Frames.{texts, job_text}
 use Rattle.wire.proofs.writing.length_of.Given as goal

@@ -1,4 +1,4 @@
--- What is gone from `rest` was appended, and nothing failed.
+-- The bytes removed from `rest` were appended, and no call failed.
 use Rattle.std.proofs.Common.{◌≡◌, ℕ, List, ◌++◌, length}
 use Rattle.std.specs.Io.KnownBytes.{Appends}
 use Rattle.wire.specs.Counting.{StaysCounted}
