@@ -1,8 +1,8 @@
--- What the walks of a handle share. Assumes `Logic`.
---     passed, no_drop      a type as it is passed to a generic function, and the glue of one without a drop
---     boxed                the engine's box, as the steps for boxes take it
---     Row                  the box as a row
---     two, handle_in       a machine value of two fields, and a handle from what it owns
+-- Definitions for the proofs of the methods of a handle. Assumes `Logic`.
+--     passed, no_drop      a type as it is passed to a generic function, and the drop glue of a type without a drop
+--     boxed                the box of the engine, in the form of the proof steps for boxes
+--     Row                  the type of the box of the engine
+--     two, handle_in       a machine value of two fields, and the step that makes a handle from the resources it owns
 use Rattle.std.proofs.Common.{ℕ, List, [], ◌∷◌, refl, Bool}
 use seplogic.Ra.Ura.{Ura}
 use mir.Raw.{raw as bare}
@@ -30,7 +30,7 @@ use Rattle.embedded.specs.Classes.{Classes}
 use Rattle.embed.specs.Held.{held}
 use Rattle.embed.specs.contracts.handle.Handle as handle
 
--- a type as it is passed to a generic function
+-- A type as it is passed to a generic function.
 abbrev passed : RattleType → RattleType
 passed R = arg (bare (layout R)) no R
 

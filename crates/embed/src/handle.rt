@@ -1,4 +1,4 @@
-//! An engine behind a pointer that C keeps.
+//! A handle by which C keeps an engine.
 
 ghost use Rattle.embedded.specs.Classes.{Classes};
 
@@ -6,7 +6,7 @@ use embedded::Engine;
 use std::alloc::Global;
 use std::marker::Model;
 
-/// What C keeps of an engine: the pointer to it, where the handle is open. Zeroes are a handle that isn't.
+/// The handle of an engine in C: the pointer to the engine, valid if the handle is open. All zeros are a handle that isn't open.
 #[repr(C)]
 #[derive(Drop)]
 pub struct Handle {
@@ -25,7 +25,7 @@ impl Handle {
     ghost use Rattle.std.specs.Prelude.{◌≡◌, true, false, Some, None, IfSome, IfNone};
     ghost use Rattle.embed.specs.Exports.{engine_of};
 
-    /// Whether the handle is open.
+    /// Returns whether the handle is open.
     pub(crate) fn is_open(&mut self) -> bool
         ensures told { result ≡ self.old.is_open }
         ensures same { self.new ≡ self.old }
@@ -33,7 +33,7 @@ impl Handle {
         self.is_open
     }
 
-    /// Keeps an engine in a handle that has none.
+    /// Stores an engine in a handle that has none.
     pub(crate) fn put(&mut self, engine: Box<Engine>)
         requires { engine_of self.old ≡ None }
         ensures { engine_of self.new ≡ Some engine.value }
@@ -43,7 +43,7 @@ impl Handle {
         self.is_open = true;
     }
 
-    /// Gives the engine out, which closes the handle.
+    /// Returns the engine of an open handle, and closes the handle.
     pub(crate) fn take(&mut self, alloc: Global) -> Box<Engine>
         requires { self.old.is_open ≡ true }
         ensures engine { engine_of self.old ≡ Some result.value }
@@ -54,7 +54,7 @@ impl Handle {
         unsafe { Box::from_raw(alloc, at) }
     }
 
-    /// Gives the engine out, where there is one. The handle is closed then.
+    /// Returns the engine if there is one. The handle is closed afterwards.
     pub(crate) fn out(&mut self, alloc: Global) -> Option<Box<Engine>>
         ensures some { IfSome result (λ b. engine_of self.old ≡ Some b.value) }
         ensures none { IfNone result (engine_of self.old ≡ None) }

@@ -1,4 +1,4 @@
-//! The core for programs in C: an engine behind a handle, with the exports of clients/c/jentry.h.
+//! The C interface: an engine behind a handle, with the exports of clients/c/jentry.h.
 #![tactic(auto)]
 
 ghost use Rattle.std.specs.Prelude.{◌≡◌, [], None, IfOk};
@@ -17,14 +17,14 @@ pub use handle::Handle;
 use jtypes::Refusal;
 use std::alloc::{AllocError, Global};
 
-/// The handle has an engine now.
+/// The handle has a new engine.
 const OPENED: u32 = 0;
-/// Memory lacks for an engine.
+/// There is no memory for an engine.
 const NO_MEMORY: u32 = 1;
-/// The handle had an engine already.
+/// The handle already had an engine.
 const IS_OPEN: u32 = 2;
 
-/// An engine on the heap.
+/// Returns an engine without classes, on the heap.
 fn empty_engine(alloc: Global) -> Result<Box<Engine>, AllocError>
     ensures { IfOk result (λ b. b.value ≡ []) }
 {
@@ -34,7 +34,7 @@ fn empty_engine(alloc: Global) -> Result<Box<Engine>, AllocError>
     }
 }
 
-/// Makes an engine: 0, or 1 where memory lacks, or 2 where the handle is open already, which changes nothing.
+/// Opens a handle with a new engine. Returns 0, 1 if out of memory, or 2 if the handle is already open. With 1 or 2 nothing changes.
 #[unsafe(no_mangle)]
 pub extern "C" fn jentry_open(alloc: Global, handle: &mut Handle) -> u32
     ensures { IsOpened (engine_of handle.old) result (engine_of handle.new) }
@@ -51,7 +51,7 @@ pub extern "C" fn jentry_open(alloc: Global, handle: &mut Handle) -> u32
     }
 }
 
-/// Ends an engine, if there is one.
+/// Closes a handle and frees its engine, if there is one.
 #[unsafe(no_mangle)]
 pub extern "C" fn jentry_close(alloc: Global, handle: &mut Handle)
     ensures { engine_of handle.new ≡ None }
@@ -59,7 +59,7 @@ pub extern "C" fn jentry_close(alloc: Global, handle: &mut Handle)
     let _engine = handle.out(alloc);
 }
 
-/// Judges the bytes of a class file, and keeps the class where it is accepted. A handle that isn't open refuses it for want of memory.
+/// Verifies a class file, and keeps the class if it is accepted. A handle that isn't open refuses it with `NoMemory`.
 #[unsafe(no_mangle)]
 pub extern "C" fn jentry_define(
     alloc: Global,
@@ -79,7 +79,7 @@ pub extern "C" fn jentry_define(
     }
 }
 
-/// Forgets the class with a number: 1, or 0 where there is none.
+/// Forgets the class with this number. Returns 1, or 0 if there is none.
 #[unsafe(no_mangle)]
 pub extern "C" fn jentry_forget(alloc: Global, handle: &mut Handle, number: u32) -> u32
     ensures { IsForgotten (engine_of handle.old) number result (engine_of handle.new) }
@@ -94,7 +94,7 @@ pub extern "C" fn jentry_forget(alloc: Global, handle: &mut Handle, number: u32)
     }
 }
 
-/// Runs a class on an entry.
+/// Runs a class on an entry. A handle that isn't open answers `NO_CLASS`.
 #[unsafe(no_mangle)]
 pub extern "C" fn jentry_invoke(
     alloc: Global,
@@ -114,8 +114,8 @@ pub extern "C" fn jentry_invoke(
     }
 }
 
-/// Writes what `jentry explain` prints of a class file, as much of it as there is room for, and answers the length of the whole; 0 where
-/// memory lacks.
+/// Writes the output of `jentry explain` for a class file to `text`, cut to its length.
+/// Returns the length of the whole output in bytes, or 0 if out of memory.
 #[unsafe(no_mangle)]
 pub extern "C" fn jentry_explain(alloc: Global, bytes: &[u8], text: &mut [u8]) -> usize
     ensures { IsWritten bytes.now text.old result text.new }

@@ -1,4 +1,4 @@
--- What is answered of a call that is run.
+-- The result of a call that is run.
 use Rattle.std.proofs.Common.{◌≡◌, Bool, true, false, List, Option, Some, None, sym, subst}
 use Rattle.std.proofs.lemmas.Option.{same_Some}
 use Rattle.jtypes.specs.Lists.{only_if}
@@ -11,7 +11,7 @@ use Rattle.embedded.specs.declared.numbers.DoneNumbers.{DoneNumbers}
 use Rattle.embedded.specs.Numbers.{before_in, invocation_in, done_in}
 use Rattle.embedded.specs.Answers.{IsEnd}
 
--- there is a class, there are few arguments, and each is one
+-- If there is a class, and there are at most eight arguments and all are valid, the result is the end of the run.
 pub is_run : (class : Option Class) (few : Bool) (args : Option (List Arg)) (c : Class) (list : List Arg) (call : CallNumbers) (done : Done) (d : DoneNumbers)
     → class ≡ Some c → Some list ≡ only_if few args → IsMeant c (invocation_in call list) done → d ≡ done_in (before_in call) done → IsEnd class few args call d
 is_run None few args c list call done d there read meant is = absurd (cc)

@@ -5,6 +5,6 @@ use Rattle.jtypes.specs.Lists.{◌>>=◌}
 use Rattle.typecheck.specs.Typing.{Class}
 use Rattle.embedded.specs.Classes.{Classes, class_at}
 
--- it is what the list has at the number
+-- The class with a number is the list's element at that index.
 pub class_there : (classes : Classes) (n : ℕ) (x : Option Class) → n < length classes → x ≡ get_or classes n x → class_at classes n ≡ x
 class_there classes n x inside is = ap (λ (o : Option (Option Class)). o >>= (λ c. c)) (slice_get_read classes (length classes) n x refl inside is)

@@ -11,21 +11,21 @@ use Rattle.verdict.specs.Sound.{IsSafe}
 use Rattle.verdict.specs.Verdict.{IsAccepted, IsClassOf}
 use Rattle.embedded.specs.declared.engine.Defined.{Defined}
 
--- a class that was forgotten leaves its number empty
+-- The classes by number. A class that is forgotten leaves its number empty.
 abbrev pub Classes : Type 0
 Classes = List (Option Class)
 
--- the class with a number
+-- The class with a number, if there is one.
 abbrev pub class_at : Classes → ℕ → Option Class
 class_at classes number = slice_get classes number >>= (λ class. class)
 
--- each run of the class ends within these bounds, which are within the limits
+-- Each run of the class stays within these bounds, which are within the limits.
 pub record HasBounds (c : Class) (b : Bounds) : Type 0 where
   pub limits : IsWithinLimits Second b
   pub bounds : (j : ℕ) → IsProcessOf c j → AreBounds c j (bounds_in b)
   pub safe : IsSafe c (bounds_in b)
 
--- the bytes are accepted, and their class, with its bounds, got the next number
+-- The bytes are accepted, and their class has these bounds and is stored under the next number.
 pub record IsDefined (bytes : List ℕ) (before : Classes) (d : Defined) (after : Classes) : Type 0 where
   pub accepted : IsAccepted Second bytes
   pub class : Class

@@ -1,4 +1,4 @@
--- What crosses to C, in numbers.
+-- The numbers of the C interface.
 use Rattle.std.specs.Prelude.{◌==◌, ℕ, ◌^◌, nat_lt, ℤ, pos, negsuc, Bool, true, false, List, [], ◌∷◌, Option, Some, None, option_map, if◌then◌else◌}
 use Rattle.jtypes.specs.Entry.{Entry, after_effect}
 use Rattle.jtypes.specs.Lists.{only_if, ◌>>=◌}
@@ -28,27 +28,27 @@ refused_in r id = record { refusal = number r; detail = detail r; number = 0; st
 
 -- ---- arguments
 
--- whether a number has 32 bits
+-- Whether a number fits 32 signed bits.
 abbrev pub is_int : ℤ → Bool
 is_int (pos n) = nat_lt n (2 ^ 31)
 is_int (negsuc n) = nat_lt n (2 ^ 31)
 
--- an argument: null, a Long, or an Integer
+-- The argument, or `None` if the kind is unknown or an Integer does not fit 32 bits.
 abbrev pub arg_in : ArgNumbers → Option Arg
 arg_in a = if a.kind == 0 then Some Null else if a.kind == 1 then Some (Long a.value) else if a.kind == 2 then only_if (is_int a.value) (Some (Integer a.value)) else None
 
--- the arguments in their order, where each is one
+-- The arguments in order, if each is valid.
 abbrev pub args_in : List ArgNumbers → Option (List Arg)
 args_in [] = Some []
 args_in (a ∷ rest) = arg_in a >>= (λ x. option_map (λ xs. x ∷ xs) (args_in rest))
 
 -- ---- a call
 
--- the entry before it
+-- The entry before the call.
 abbrev pub before_in : CallNumbers → Entry
 before_in c = if c.present == 1 then Some c.before else None
 
--- a call without a loader
+-- The invocation of a call, without a loader.
 abbrev pub invocation_in : CallNumbers → List Arg → Invocation
 invocation_in c args = record { key = c.key; args = args; before = before_in c; loads = false }
 
@@ -65,16 +65,16 @@ effect_in Keep = (0, pos 0)
 effect_in (Put x) = (1, x)
 effect_in Delete = (2, pos 0)
 
--- how an entry was left, by whether it is untouched and the entry afterwards: untouched, set, or removed
+-- How an entry is left, by whether it is untouched and the entry afterwards: untouched (0), set (1) or removed (2).
 abbrev pub left_in : Bool → Entry → ℕ
 left_in true after = 0
 left_in false (Some value) = 1
 left_in false None = 2
 
--- the end of a run on this entry
+-- The end of a run on this entry.
 abbrev pub done_in : Entry → Done → DoneNumbers
 done_in before d = record { outcome = (outcome_in d.outcome).0; effect = (effect_in d.effect).0; value = (outcome_in d.outcome).1; put = (effect_in d.effect).1; steps = d.steps; words = d.words; left = left_in d.untouched (after_effect d.effect before); unused = 0 }
 
--- that of a call that was not run, by the reason
+-- The end of a call that was not run, with the reason as its outcome.
 abbrev pub not_run : ℕ → DoneNumbers
 not_run reason = record { outcome = reason; effect = 0; value = pos 0; put = pos 0; steps = 0; words = 0; left = 0; unused = 0 }

@@ -1,4 +1,4 @@
-//! What an engine answers to C.
+//! The functions of the C interface.
 
 ghost use Rattle.std.specs.Prelude.{◌≡◌, nat_le};
 ghost use Rattle.sha1.specs.Sha1.{sha1};
@@ -14,7 +14,7 @@ use crate::numbers::{
 use jtypes::Args;
 use std::alloc::Global;
 
-/// Judges the bytes of a class, and keeps it under the next number where it is accepted.
+/// Verifies the bytes of a class, and stores it under the next number if it is accepted.
 pub fn define(alloc: Global, engine: &mut Engine, bytes: &[u8]) -> VerdictNumbers
     ensures verdict { IsVerdict bytes.now engine.old result engine.new }
     ensures id { result.id ≡ sha1 bytes.now }
@@ -25,7 +25,7 @@ pub fn define(alloc: Global, engine: &mut Engine, bytes: &[u8]) -> VerdictNumber
     }
 }
 
-/// Why a call with this number of arguments isn't run, where its arguments aren't arguments.
+/// Returns why a call with this number of arguments is not run, given that there is no class or the arguments are invalid.
 fn reason(engine: &Engine, number: u32, count: usize) -> u32
     ensures { result ≡ reason_of (class_at engine.now number) (nat_le count 8) }
 {
@@ -38,7 +38,7 @@ fn reason(engine: &Engine, number: u32, count: usize) -> u32
     }
 }
 
-/// Runs the class with the call's number on its entry, with these arguments.
+/// Runs the class with the call's number on the call's entry, with these arguments and without a loader.
 pub fn invoke(engine: &mut Engine, call: &CallNumbers, args: &[ArgNumbers]) -> DoneNumbers
     ensures answer { IsAnswer engine.old call.now args.now result }
     ensures kept { engine.new ≡ engine.old }

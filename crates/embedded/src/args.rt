@@ -1,4 +1,4 @@
-//! Arguments from numbers.
+//! Arguments from the numbers of the C interface.
 
 ghost use Rattle.std.specs.Prelude.{◌≡◌, length, nat_le};
 ghost use Rattle.jtypes.specs.Lists.{only_if};
@@ -14,7 +14,7 @@ const LONG: u32 = 1;
 
 const INTEGER: u32 = 2;
 
-/// An argument, where the numbers are one.
+/// Returns the argument, or `None` if the kind is unknown or an Integer does not fit 32 bits.
 fn arg_of(numbers: ArgNumbers) -> Option<Arg>
     ensures { result ≡ arg_in numbers }
 {
@@ -29,7 +29,7 @@ fn arg_of(numbers: ArgNumbers) -> Option<Arg>
     }
 }
 
-/// The arguments in their order, where there are eight at most and each is one.
+/// Returns the arguments in order, or `None` if there are more than eight or one of them is invalid.
 pub fn args_of(numbers: &[ArgNumbers]) -> Option<Args>
     ensures { result ≡ only_if (nat_le (length numbers.now) 8) (args_in numbers.now) }
 {

@@ -1,4 +1,4 @@
-//! The engine.
+//! The engine, which defines classes and runs them.
 
 use bounds::Bounds;
 use jtypes::{Args, NoLoader, Refusal};
@@ -7,15 +7,15 @@ use std::alloc::{AllocError, Global};
 use std::marker::Model;
 use verify::{Verified, verify};
 
-/// A class that was accepted: its number, and the bounds of its runs.
+/// An accepted class: its number, and the bounds of its runs.
 #[derive(Clone, Copy, Debug, PartialEq, Eq)]
 pub struct Defined {
     pub number: u32,
     pub bounds: Bounds,
 }
 
-/// Classes that were accepted, and the room that they run in. It is seen as the classes by their numbers: a class that was forgotten
-/// leaves its number empty, so no number is given twice.
+/// The accepted classes, and the workspace that they run in. The view is the classes by their numbers.
+/// A class that is forgotten leaves its number empty, so no number is used twice.
 #[derive(Drop)]
 pub struct Engine {
     classes: Vec<Option<Verified>>,
@@ -40,7 +40,7 @@ impl Engine {
     ghost use Rattle.ended.specs.Ended.{IsMeant};
     ghost use Rattle.embedded.specs.Classes.{class_at, IsDefined};
 
-    /// No classes yet.
+    /// Returns an engine without classes, or an error if memory is exhausted.
     pub fn new(alloc: Global) -> Result<Engine, AllocError>
         ensures { IfOk result (λ engine. engine ≡ []) }
     {
@@ -51,7 +51,7 @@ impl Engine {
         })
     }
 
-    /// Judges the bytes of a class (JVMS §4, §4.10.1), and keeps it under the next number, of which there are 2^32.
+    /// Verifies the bytes of a class (JVMS §4, §4.10.1), and stores it under the next number, of which there are 2^32.
     pub fn define(&mut self, alloc: Global, bytes: &[u8]) -> Result<Defined, Refusal>
         ensures defined { IfOk result (λ d. IsDefined bytes.now self.old d self.new) }
         ensures refused { IfErr result (λ r. (r ≡ Refusal.NoMemory) ⊎ IsRefused Second bytes.now r) }
@@ -68,7 +68,7 @@ impl Engine {
         }
     }
 
-    /// Forgets the class with a number, and says whether there was one.
+    /// Removes the class with a number, and returns whether there was one.
     pub fn forget(&mut self, number: u32) -> bool
         ensures found { result ≡ is_some (class_at self.old number) }
         ensures forgotten { class_at self.new number ≡ None }
@@ -82,7 +82,7 @@ impl Engine {
         true
     }
 
-    /// Whether there is a class with a number.
+    /// Returns whether there is a class with a number.
     pub fn has(&self, number: u32) -> bool
         ensures { result ≡ is_some (class_at self.now number) }
     {
@@ -92,7 +92,8 @@ impl Engine {
         }
     }
 
-    /// Runs the class with a number on an entry: what is answered is what the call means. None where there is no such class.
+    /// Runs the class with a number on an entry, without a loader.
+    /// The result is the meaning of the call, or `None` if there is no such class.
     pub fn invoke(
         &mut self,
         number: u32,

@@ -1,4 +1,4 @@
-//! The core for programs that hold it: classes that were accepted, the room that they run in, and what crosses to C.
+//! The embedded engine: accepted classes, the workspace that they run in, and the C interface.
 #![tactic(auto)]
 
 mod answers;

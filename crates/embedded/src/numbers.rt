@@ -1,4 +1,4 @@
-//! What crosses to C, in numbers: the structs of clients/c/jentry.h.
+//! The numbers of the C interface: the structs of clients/c/jentry.h.
 
 ghost use Rattle.std.specs.Prelude.{◌≡◌};
 ghost use Rattle.sha1.specs.Sha1.{sha1};
@@ -10,15 +10,16 @@ use jtypes::{Arg, Effect, Outcome, Refusal};
 use machine::Done;
 use sha1::Sha1;
 
-/// No class has the number.
+/// The outcome of a call for whose number there is no class.
 pub const NO_CLASS: u32 = 4;
-/// There are more than eight arguments.
+/// The outcome of a call with more than eight arguments.
 pub const MANY_ARGUMENTS: u32 = 5;
-/// One of the arguments is none.
+/// The outcome of a call with an invalid argument.
 pub const NO_ARGUMENT: u32 = 6;
 
-/// A verdict. Where `refusal` is 0 the class is accepted: `number` is its number, and the bounds of its runs follow. Else `refusal` is
-/// the refusal's number, and `detail` its detail. `id` is the SHA-1 of the bytes.
+/// A verdict. If `refusal` is 0 the class is accepted: `number` is its number,
+/// and `steps`, `words`, `slots` and `depth` are the bounds of its runs.
+/// Otherwise `refusal` is the number of the refusal, and `detail` its detail. `id` is the SHA-1 of the bytes.
 #[repr(C)]
 #[derive(Clone, Copy, Debug, PartialEq, Eq)]
 pub struct VerdictNumbers {
@@ -32,7 +33,7 @@ pub struct VerdictNumbers {
     pub id: [u8; 20],
 }
 
-/// An argument: null (0), a Long (1) or an Integer (2), which has 32 bits.
+/// An argument. The kind is null (0), a Long (1) or an Integer (2), whose value must fit 32 bits.
 #[repr(C)]
 #[derive(Clone, Copy, Debug, PartialEq, Eq)]
 pub struct ArgNumbers {
@@ -41,7 +42,7 @@ pub struct ArgNumbers {
     pub value: i64,
 }
 
-/// A call of the class with a number. There is an entry, with the value `before`, where `present` is 1.
+/// A call of the class with this number. If `present` is 1 there is an entry with the value `before`, otherwise there is none.
 #[repr(C)]
 #[derive(Clone, Copy, Debug, PartialEq, Eq)]
 pub struct CallNumbers {
@@ -51,9 +52,10 @@ pub struct CallNumbers {
     pub before: i64,
 }
 
-/// The end of a call. Its outcome is null (0), a Long (1), an Integer (2), an exception (3, with its number as the value), or why
-/// nothing was run (4 to 6). Its effect is to keep (0), to put (1) or to delete (2). The entry is left untouched (0), set (1) or removed
-/// (2); a set of the value that was there has the effect to keep.
+/// The end of a call.
+/// The outcome is null (0), a Long (1), an Integer (2), an exception (3, with its number as `value`), or why nothing was run (4 to 6).
+/// The effect is to keep (0), put (1) or delete (2) the entry; `put` is the value that is put.
+/// `left` is how the entry is left: untouched (0), set (1) or removed (2). A set of the value that was there has the effect to keep.
 #[repr(C)]
 #[derive(Clone, Copy, Debug, PartialEq, Eq)]
 pub struct DoneNumbers {
@@ -67,7 +69,7 @@ pub struct DoneNumbers {
     pub unused: u32,
 }
 
-/// The verdict on a class that is accepted.
+/// Returns the verdict on an accepted class.
 pub(crate) fn accepted(bytes: &[u8], defined: Defined) -> VerdictNumbers
     ensures { result ≡ accepted_in defined (sha1 bytes.now) }
 {
@@ -84,7 +86,7 @@ pub(crate) fn accepted(bytes: &[u8], defined: Defined) -> VerdictNumbers
     }
 }
 
-/// The verdict on a class that is refused.
+/// Returns the verdict on a refused class.
 pub fn refused(bytes: &[u8], refusal: Refusal) -> VerdictNumbers
     ensures { result ≡ refused_in refusal (sha1 bytes.now) }
 {
@@ -100,7 +102,7 @@ pub fn refused(bytes: &[u8], refusal: Refusal) -> VerdictNumbers
     }
 }
 
-/// The entry before a call.
+/// Returns the entry before a call.
 pub(crate) fn before_of(call: &CallNumbers) -> Option<i64>
     ensures { result ≡ before_in call.now }
 {
@@ -111,7 +113,7 @@ pub(crate) fn before_of(call: &CallNumbers) -> Option<i64>
     }
 }
 
-/// An outcome, and its value.
+/// Returns the number of an outcome, and its value.
 fn outcome_numbers(outcome: Outcome) -> (u32, i64)
     ensures { result ≡ outcome_in outcome }
 {
@@ -123,7 +125,7 @@ fn outcome_numbers(outcome: Outcome) -> (u32, i64)
     }
 }
 
-/// An effect, and what is put.
+/// Returns the number of an effect, and the value that it puts, or 0.
 fn effect_numbers(effect: Effect) -> (u32, i64)
     ensures { result ≡ effect_in effect }
 {
@@ -134,7 +136,7 @@ fn effect_numbers(effect: Effect) -> (u32, i64)
     }
 }
 
-/// How the entry is left that was this one before.
+/// Returns how the entry is left: untouched (0), set (1) or removed (2).
 fn left_numbers(done: &Done, before: Option<i64>) -> u32
     ensures { result ≡ left_in done.now.untouched (after_effect done.now.effect before) }
 {
@@ -147,7 +149,7 @@ fn left_numbers(done: &Done, before: Option<i64>) -> u32
     }
 }
 
-/// The end of a run on this entry.
+/// Returns the end of a run on this entry.
 pub(crate) fn done_numbers(done: Done, before: Option<i64>) -> DoneNumbers
     ensures { result ≡ done_in before done }
 {
@@ -165,7 +167,7 @@ pub(crate) fn done_numbers(done: Done, before: Option<i64>) -> DoneNumbers
     }
 }
 
-/// The end of a call that was not run, by the reason.
+/// Returns the end of a call that was not run, with the reason as its outcome.
 pub fn not_run(reason: u32) -> DoneNumbers
     ensures { result ≡ not_run reason }
 {

@@ -1,4 +1,4 @@
--- The value of the last row with a key.
+-- The value of the last pair with a key.
 use Rattle.std.proofs.Common.{◌≡◌, ◌<◌, ◌≤◌, ◌+◌, ◌-◌, ◌++◌, ◌∷◌, Bool, true, false, Some, None, Option, refl, sym, ap, ◌∙◌, List, [], length, ℕ, suc, arith, get_or, take, drop, ℤ, int_le}
 use Rattle.std.specs.Prelude.{if◌then◌else◌}
 use Rattle.std.specs.Ordering.{int_eq, int_cmp}
@@ -9,11 +9,11 @@ use Rattle.table_loader.proofs.Ordered.{above_is_other, below_is_other, rising}
 use Rattle.table_loader.specs.declared.table.Pair.{Pair}
 use Rattle.table_loader.specs.Rows.{found_in, value_in, value_of}
 
--- a list is what stands before an item, the item, and what stands behind it
+-- A list is the part before an element, the element, and the part after it.
 rest_after : {X : Type 0} (xs : List X) (i : ℕ) (d : X) → i < length xs → xs ≡ take i xs ++ get_or xs i d ∷ drop (i + 1) xs
 rest_after xs i d h = sym (sym (append_assoc (take i xs) (get_or xs i d ∷ []) (drop (i + 1) xs)) ∙ ap (λ ys. ys ++ drop (i + 1) xs) (sym (take_more xs i d h)) ∙ take-append-drop (i + 1) xs)
 
--- rows of other keys change nothing
+-- Pairs with other keys do not change the value that is found.
 pub found_over : (found : Option ℤ) (rows : List Pair) (key : ℤ) → ((i : ℕ) (d : Pair) → i < length rows → int_eq (get_or rows i d).key key ≡ false) → found_in found rows key ≡ found
 found_over found [] key none = refl
 found_over found (row ∷ rows) key none =
@@ -24,7 +24,7 @@ pub found_append : (xs : List Pair) (found : Option ℤ) (ys : List Pair) (key :
 found_append [] found ys key = refl
 found_append (x ∷ xs) found ys key = found_append xs (if int_eq x.key key then Some x.value else found) ys key
 
--- what is found behind rows of which none has the key is the row's
+-- If a value was found before only if the pair has the key, the value that is found is the pair's.
 last_found : (row : Pair) (key : ℤ) (before : Option ℤ) → (int_eq row.key key ≡ false → before ≡ None) → (if int_eq row.key key then Some row.value else before) ≡ value_of row key
 last_found row key before none = go (int_eq row.key key) none
   where
@@ -45,7 +45,7 @@ above_none : (rows : List Pair) (n : ℕ) (found : Option ℤ) (key : ℤ) → A
 above_none rows n found key above =
     found_over found (drop n rows) key (λ i d k. rw (get_or-drop n rows i d) (above_is_other (get_or rows (n + i) d).key key (above (n + i) d (omega arith) (omega (arith, length-drop n rows, k)))))
 
--- where all rows up to a number are not above the key, and those behind it are: the last of the first ones tells
+-- If the keys up to index `n` are at most `key` and the later ones are greater, the value is that of pair `n`.
 pub found_at : (rows : List Pair) (n : ℕ) (d : Pair) (key : ℤ) → n < length rows → IsSortedByKey (λ (p : Pair). p.key) int_cmp rows
     → int_le (get_or rows n d).key key ≡ true → AllWithin (λ (p : Pair). int_le p.key key ≡ false) rows (n + 1) (length rows)
     → value_in rows key ≡ value_of (get_or rows n d) key
@@ -55,11 +55,11 @@ found_at rows n d key h up at above =
     ∙ above_none rows (n + 1) _ key above
     ∙ last_found (get_or rows n d) key (found_in None (take n rows) key) (below_none rows n d key h up at)
 
--- where all are above it, there is none
+-- If all keys are greater, there is no value.
 pub found_none : (rows : List Pair) (key : ℤ) → AllWithin (λ (p : Pair). int_le p.key key ≡ false) rows 0 (length rows) → value_in rows key ≡ None
 found_none rows key above = found_over None rows key (λ i d h. above_is_other (get_or rows i d).key key (above i d (omega arith) h))
 
--- where so many rows are not above the key, and no other: the last of them tells
+-- If exactly the first `n` keys are at most `key`, the value is that of pair `n - 1`.
 pub found_upto : (rows : List Pair) (n : ℕ) (d : Pair) (key : ℤ) → n ≤ length rows → 0 < n → IsSortedByKey (λ (p : Pair). p.key) int_cmp rows
     → IsPartitionPoint (λ (p : Pair). int_le p.key key ≡ true) (λ (p : Pair). int_le p.key key ≡ false) rows n → value_in rows key ≡ value_of (get_or rows (n - 1) d) key
 found_upto rows n d key h some up point =

@@ -1,4 +1,4 @@
--- A stable sort keeps the last row of each key.
+-- A stable sort keeps the last pair of each key.
 use Rattle.std.proofs.Common.{◌≡◌, true, false, Bool, Option, refl, sym, ap, ◌∙◌, List, [], ◌∷◌, ℤ, pos, arith, ◌<ℤ◌, Some, cond}
 use Rattle.std.specs.Prelude.{if◌then◌else◌}
 use Rattle.std.proofs.lemmas.Bool.{false≢true}
@@ -12,7 +12,7 @@ use Rattle.std.specs.declared.cmp.Ordering.TheVariants.{Less, Equal, Greater}
 use Rattle.table_loader.specs.declared.table.Pair.{Pair}
 use Rattle.table_loader.specs.Rows.{found_in, value_in}
 
--- what a filter leaves out, if it is of other keys, changes nothing
+-- Removing pairs with other keys does not change the value that is found.
 found_filter : (p : Pair → Bool) (key : ℤ) → ((row : Pair) → int_eq row.key key ≡ true → p row ≡ true) → (rows : List Pair) (found : Option ℤ) → found_in found (filter p rows) key ≡ found_in found rows key
 found_filter p key keeps [] found = refl
 found_filter p key keeps (row ∷ rows) found = go (p row) (int_eq row.key key) refl refl (λ f. found_filter p key keeps rows f)
@@ -35,7 +35,7 @@ not_lower x y Less Less h k e = absurd (false≢true e)
 not_lower x y Greater Less h k e = absurd (false≢true e)
 not_lower x y Equal Less h k e = grind (arith, ints, h, k)
 
--- a row with the key ties with any other one of the key
+-- Pairs with the same key tie.
 same_ties : (key : ℤ) (row : Pair) → int_eq row.key key ≡ true → ties (λ (a b : Pair). is_lt (int_cmp a.key b.key)) (record { key = key; value = pos 0 }) row ≡ true
 same_ties key row e =
     let one : is_lt (int_cmp key row.key) ≡ false = not_lower row.key key (int_cmp row.key key) (int_cmp key row.key) (int_ranked row.key key _ refl) (int_ranked key row.key _ refl) e in

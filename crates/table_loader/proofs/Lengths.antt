@@ -1,4 +1,4 @@
--- How long the bytes of rows are.
+-- The length of pairs in bytes.
 use Rattle.std.proofs.Common.{◌≡◌, ℕ, zero, suc, ◌*◌, ◌/◌, List, [], ◌∷◌, ◌++◌, length, ℤ, Ok, refl, sym, ap, ◌∙◌, subst, arith}
 use Rattle.std.proofs.lemmas.List.{length-append, append-nil}
 use Rattle.std.proofs.Math.Nat.{mul-div_cancel}
@@ -30,14 +30,14 @@ rows_length (suc n) bytes rows h =
     let low = rows_length n f later others in
     (omega (arith, ap length e, length-append front back, pair_length front row one, ap length e2, length-append f b, low.0, ap length rest.0), omega (arith, ap length rest.1, low.1))
 
--- bytes that are no whole number of rows are no rows
+-- Bytes whose length is not a multiple of 16 are not pairs.
 pub not_whole : (bytes : List ℕ) (rows : List Pair) → (length bytes / 16 * 16 ≡ length bytes → ⊥) → AreRowsOf bytes rows → ⊥
 not_whole bytes rows other are =
     let long = (rows_length (length rows) bytes rows are).0 in
     let count : length bytes / 16 ≡ length rows = ap (λ n. n / 16) long ∙ mul-div_cancel (length rows) (omega arith) in
     other (ap (λ n. n * 16) count ∙ sym long)
 
--- what is read of a whole number of rows are the rows of the bytes
+-- The pairs read from `n * 16` bytes are the pairs of the bytes.
 pub whole_rows : (n : ℕ) (bytes : List ℕ) (rows : List Pair) (rest : List ℕ) → n * 16 ≡ length bytes → first (many n pair) bytes ≡ Ok (rows, rest) → AreRowsOf bytes rows
 whole_rows n bytes rows rest is e =
     let (text, are, laid) = first_found (many n pair) bytes rows rest e in

@@ -1,4 +1,4 @@
-//! The bytes of rows.
+//! The file format of a table.
 
 ghost use Rattle.std.specs.Prelude.{◌≡◌, List, None, IfOk, IfSome};
 ghost use Rattle.jtypes.specs.Layout.{Takes, first, many};
@@ -9,7 +9,7 @@ use crate::Pair;
 use jtypes::{Cursor, Refusal};
 use std::alloc::{AllocError, Global};
 
-/// How many bytes a row has.
+/// The length of a pair in bytes.
 const ROW: usize = 16;
 
 #[tactic(auto, unfolding(crate::specs::Rows::long))]
@@ -29,7 +29,7 @@ fn read_pair(cursor: &mut Cursor<'_>) -> Result<Pair, Refusal>
     Ok(Pair { key, value })
 }
 
-/// So many rows, one after the other.
+/// Reads `count` pairs.
 fn read_rows(alloc: Global, count: usize, cursor: &mut Cursor<'_>) -> Result<Vec<Pair>, Refusal>
     ensures { Takes (λ rows. rows.items) result (first (many count pair) cursor.old) cursor.new }
 {
@@ -41,7 +41,7 @@ fn read_rows(alloc: Global, count: usize, cursor: &mut Cursor<'_>) -> Result<Vec
     Ok(rows)
 }
 
-/// The rows of a file, none where its bytes are no rows.
+/// Returns the pairs of a file, or `None` if its length is not a multiple of 16 bytes.
 pub fn rows_of(alloc: Global, bytes: &[u8]) -> Result<Option<Vec<Pair>>, AllocError>
     ensures some { IfOk result (λ o. IfSome o (λ rows. AreRowsOf bytes.now rows.items)) }
     ensures none { IfOk result (λ o. o ≡ None → (rows : List Pair) → ¬ AreRowsOf bytes.now rows) }

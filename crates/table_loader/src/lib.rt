@@ -1,4 +1,4 @@
-//! A loader over rows of keys and values, and the file that has them.
+//! A loader that returns values from a table of keys and values, and the file format of the table.
 #![tactic(auto)]
 
 mod file;

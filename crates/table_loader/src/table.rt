@@ -1,4 +1,4 @@
-//! A loader over rows of keys and values.
+//! A loader that returns values from a table.
 
 ghost use Rattle.std.specs.Prelude.{◌≡◌, ◌≤◌, length, true, false, int_le};
 ghost use Rattle.std.specs.Ordering.{int_cmp};
@@ -11,18 +11,18 @@ use jtypes::{LoadFailed, Loader};
 use std::alloc::{AllocError, Global};
 use std::marker::Model;
 
-/// A value under a key.
+/// A key and its value.
 #[derive(Clone, Copy, PartialEq, Eq)]
 pub struct Pair {
     pub key: i64,
     pub value: i64,
 }
 
-/// Rows of keys and values, of which the last of equal keys counts. As a loader it answers the value of a key that has one, and none
-/// for others; it never fails.
+/// A table of pairs, in which the last of several pairs with the same key counts.
+/// As a loader it returns the value of a key, or none if no pair has the key. It never fails.
 #[derive(Drop)]
 pub struct Table {
-    /// In the order of their keys, and equal keys in the order in which they were given.
+    /// Sorted by key. Pairs with equal keys keep the order in which they were given.
     rows: Vec<Pair>,
 }
 
@@ -43,7 +43,7 @@ impl Table {
     ghost use Rattle.std.specs.Prelude.{◌≡◌, IfOk};
     ghost use Rattle.table_loader.specs.Rows.{value_in, HasValuesOf, IsRead};
 
-    /// A table of these rows. Sorting them takes room for half as many more.
+    /// Returns a table of these pairs, or an error if there is no memory to sort them.
     pub fn of(rows: Vec<Pair>) -> Result<Table, AllocError>
         ensures { IfOk result (λ t. HasValuesOf rows.items t) }
     {
@@ -52,8 +52,8 @@ impl Table {
         Ok(Table { rows })
     }
 
-    /// The table of a file: rows of sixteen bytes, a key and a value in eight bytes each, two's complements with the highest byte first.
-    /// There is none where the bytes are no such rows.
+    /// Reads a table from a file of 16-byte pairs: the key and then the value, each as 64-bit big-endian two's complement.
+    /// Returns `None` if the bytes are not such pairs, or an error if memory is exhausted.
     pub fn read(alloc: Global, bytes: &[u8]) -> Result<Option<Table>, AllocError>
         ensures { IfOk result (IsRead bytes.now) }
     {
@@ -63,7 +63,7 @@ impl Table {
         }
     }
 
-    /// The value of a key.
+    /// Returns the value of a key, or `None` if no pair has the key.
     pub fn find(&self, key: i64) -> Option<i64>
         ensures { result ≡ value_in self.now key }
     {
@@ -71,7 +71,7 @@ impl Table {
     }
 }
 
-/// How many rows have a key that isn't above this one.
+/// Returns the number of pairs whose key is at most `key`.
 fn count_to(rows: &[Pair], key: i64) -> usize
     requires { IsSortedByKey (λ (p : Pair). p.key) int_cmp rows.now }
     ensures bound { result ≤ length rows.now }
@@ -88,7 +88,7 @@ impl Pair {
     ghost use Rattle.std.specs.Prelude.{◌≡◌};
     ghost use Rattle.table_loader.specs.Rows.{value_of};
 
-    /// Its value, if this is its key.
+    /// Returns the value, if the pair has this key.
     fn value_of(&self, key: i64) -> Option<i64>
         ensures { result ≡ value_of self.now key }
     {
@@ -100,7 +100,7 @@ impl Pair {
     }
 }
 
-/// The value of a key among rows in order, by halving them.
+/// Returns the value of a key in sorted pairs, by binary search.
 fn find_in(rows: &[Pair], key: i64) -> Option<i64>
     requires { IsSortedByKey (λ (p : Pair). p.key) int_cmp rows.now }
     ensures { result ≡ value_in rows.now key }

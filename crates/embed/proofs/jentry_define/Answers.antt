@@ -5,7 +5,7 @@ use Rattle.embedded.specs.Classes.{Classes}
 use Rattle.embed.specs.Exports.{engine_of, IsJudged}
 use Rattle.embed.proofs.jentry_define.Goals as goal
 
--- the verdict of an engine that the handle had, and has again
+-- The verdict of the engine that the handle has before and after the call.
 judged : (old new : Option Classes) (before after : Classes) (bytes : List ℕ) (verdict : VerdictNumbers) → old ≡ Some before → new ≡ Some after → IsVerdict bytes before verdict after → IsJudged old bytes verdict new
 judged old new before after bytes verdict had has is = subst (λ (o : Option Classes). IsJudged o bytes verdict new) (sym had) (after, has, is)
 

@@ -1,4 +1,4 @@
--- `is_open` reads the field, and leaves the handle as it was.
+-- `is_open` reads the field, and leaves the handle unchanged.
 use Rattle.std.proofs.Common.{List, [], ◌∷◌, ◌++◌, refl, sym, subst}
 use base.Fml.{ftrue, flft}
 use base.Fraction.{full_share}

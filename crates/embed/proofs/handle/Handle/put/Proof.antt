@@ -1,4 +1,4 @@
--- `put` takes the block out of the box, and the handle owns it.
+-- `put` moves the block from the box to the handle.
 use Rattle.std.proofs.Common.{List, [], ◌∷◌, ◌++◌, refl, sym, ap, ◌∙◌, subst, true}
 use base.Fml.{ftrue, fsep, flft}
 use base.Fraction.{full_share}

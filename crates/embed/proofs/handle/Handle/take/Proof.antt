@@ -1,4 +1,4 @@
--- `take` closes the handle, and makes the box again of what it owned.
+-- `take` closes the handle, and makes a box of the block that it owned.
 use Rattle.std.proofs.Common.{List, [], ◌∷◌, ◌++◌, refl, sym, ap, ◌∙◌, subst, Bool, true, false, ◌≡◌, Some}
 use lib.Dec.{T}
 use base.Fml.{ftrue, flft}
@@ -91,7 +91,7 @@ take_spec {M} 𝓤 𝓛 𝓜 𝓡 wired =
     let inE = (α ∷ []) ⊑ E.lives in let inZ = (β ∷ []) ⊑ Z.lives in
     let y : Makes.Ghost = (((α ∷ [], (β ∷ [], tt)), (full_share, (full_share, tt)), tt, (a, (block_ptr p n, tt)), (hv ∷ [], (vptr p n ∷ [], tt))), h.engine) in
     move ! (5 ∷ []) $ use0 𝓛 (raw (fact 𝓤 inZ)) (fact_i 𝓤 inZ (emp 𝓤) (⊑_static (β ∷ []))) $ join ! $ use0 𝓛 (raw (fact 𝓤 inE)) (fact_i 𝓤 inE (emp 𝓤) (⊑_static (α ∷ []))) $ join ! $
-    -- [what is asked; the tokens of β and α; two parts of self; the token; the allocator]
+    -- [the precondition of the call; the tokens of β and α; two parts of self; the token; the allocator]
     nothing ! $ feq_i ! (List Val) (vptr p n ∷ []) (vptr p n ∷ []) refl $ move ! (8 ∷ 0 ∷ 1 ∷ []) $ fjoin3 ! $
     nothing ! $ move ! (3 ∷ 0 ∷ []) $ join ! $ move ! (3 ∷ 0 ∷ []) $ join ! $ join ! $ join ! $ use1 𝓛 (raw (Makes.pre y)) (id⊢ 𝓤 _) $
     calls_at_last ! (framed 𝓤 H 𝓜 𝓣) Makes known y (and_then ! (get ! refl) (and_then ! (get ! refl) (no_more !))) (λ u.
