@@ -1,15 +1,15 @@
-//! The classes.
+//! Entry processors whose only method is `process`.
 
 use crate::{Frames, Method, class_of, process};
 use std::alloc::{AllocError, Global};
 
-/// The code of Plus.
+/// The code of `process` in Plus.
 pub static PLUS: [u8; 30] = [
     0x2B, 0xB9, 0x00, 0x1A, 0x01, 0x00, 0xC0, 0x00, 0x12, 0xB6, 0x00, 0x25, 0x0A, 0x61, 0x42, 0x2B,
     0x21, 0xB8, 0x00, 0x29, 0xB9, 0x00, 0x1E, 0x02, 0x00, 0x21, 0xB8, 0x00, 0x29, 0xB0,
 ];
 
-/// A processor that adds one to the entry's value, and returns it.
+/// Returns the class file of Plus, an entry processor that adds 1 to the value of the entry and returns the sum.
 pub fn plus(alloc: Global) -> Result<Vec<u8>, AllocError> {
     class_of(alloc, &[process(4, 5, &PLUS)])
 }
@@ -23,7 +23,8 @@ static COUNTER: [u8; 56] = [
 
 static COUNTER_FRAMES: [u8; 3] = [0x18, 0x40, 0x04];
 
-/// A processor that adds the first argument to the entry's value, which is 0 where there is none, and returns it.
+/// Returns the class file of Counter, an entry processor that adds its first argument to the value of the entry and returns the sum.
+/// The value of an absent entry counts as 0.
 pub fn counter(alloc: Global) -> Result<Vec<u8>, AllocError> {
     let method = Method {
         frames: Some(Frames {
@@ -39,40 +40,40 @@ static UNBOX: [u8; 16] = [
     0x2B, 0xB9, 0x00, 0x1A, 0x01, 0x00, 0xC0, 0x00, 0x12, 0xB6, 0x00, 0x25, 0xB8, 0x00, 0x29, 0xB0,
 ];
 
-/// A processor that returns the entry's value, unboxed and boxed again.
+/// Returns the class file of Unbox, an entry processor that returns the value of the entry, unboxed and boxed again.
 pub fn unbox(alloc: Global) -> Result<Vec<u8>, AllocError> {
     class_of(alloc, &[process(2, 3, &UNBOX)])
 }
 
 static SHIFT64: [u8; 8] = [0x0A, 0x10, 0x40, 0x79, 0xB8, 0x00, 0x29, 0xB0];
 
-/// A processor that returns 1 shifted left by 64.
+/// Returns the class file of an entry processor that returns the `long` 1 shifted left by 64.
 pub fn shift64(alloc: Global) -> Result<Vec<u8>, AllocError> {
     class_of(alloc, &[process(3, 3, &SHIFT64)])
 }
 
 static MIXED: [u8; 2] = [0x09, 0xB0];
 
-/// A processor that returns a long as a reference.
+/// Returns a class file that is refused: `process` returns a `long` as a reference.
 pub fn mixed(alloc: Global) -> Result<Vec<u8>, AllocError> {
     class_of(alloc, &[process(2, 3, &MIXED)])
 }
 
 static FALLS: [u8; 1] = [0x00];
 
-/// A processor that ends without a return.
+/// Returns a class file that is refused: the code of `process` ends without a return.
 pub fn falls(alloc: Global) -> Result<Vec<u8>, AllocError> {
     class_of(alloc, &[process(0, 3, &FALLS)])
 }
 
 static GIVE_ENTRY: [u8; 2] = [0x2B, 0xB0];
 
-/// A processor that returns the entry itself.
+/// Returns the class file of an entry processor that returns the entry itself.
 pub fn give_entry(alloc: Global) -> Result<Vec<u8>, AllocError> {
     give_entry_with_stack(alloc, 1)
 }
 
-/// The same with so much stack.
+/// Returns the same class file with this `max_stack`.
 pub fn give_entry_with_stack(alloc: Global, max_stack: u16) -> Result<Vec<u8>, AllocError> {
     class_of(alloc, &[process(max_stack, 3, &GIVE_ENTRY)])
 }

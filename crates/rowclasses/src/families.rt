@@ -1,14 +1,14 @@
-//! Classes of as many methods or branches as a test wants.
+//! Classes with a given number of methods or branches.
 
 use crate::{CONSTRUCTOR, Constant, Frames, Method, bytes_of, class_of, process};
 use std::alloc::{AllocError, Global};
 
-/// The index of the reference to the method with this number: a method takes three constants behind the 54 of all classes.
+/// Returns the index of the `Methodref` of a method, numbered from 0: each method adds three entries after the 54 common indexes.
 fn reference_of(number: u16) -> u16 {
     number.saturating_mul(3).saturating_add(57)
 }
 
-/// The code of a method that calls the next one so many times, and of the last one.
+/// Returns the code of a method: `calls` invocations of the next method, none in the last method, and a `return`.
 fn code_of(alloc: Global, number: u16, count: u16, calls: u16) -> Result<Vec<u8>, AllocError> {
     let mut code = Vec::new(alloc);
     let next = number.saturating_add(1);
@@ -22,7 +22,7 @@ fn code_of(alloc: Global, number: u16, count: u16, calls: u16) -> Result<Vec<u8>
     Ok(code)
 }
 
-/// The constants of so many methods: a name, the name with its descriptor, and the method.
+/// Returns the entries of `count` methods: for each its name, its `NameAndType` and its `Methodref`.
 fn constants_of(alloc: Global, count: u16) -> Result<Vec<Constant>, AllocError> {
     let mut constants = Vec::new(alloc);
     for number in 0..count {
@@ -34,7 +34,7 @@ fn constants_of(alloc: Global, count: u16) -> Result<Vec<Constant>, AllocError> 
     Ok(constants)
 }
 
-/// So many static methods, of which each calls the next one so many times, behind a `process` that calls the first one.
+/// Returns a class whose `process` calls the first of `count` static methods, each of which calls the next one `calls` times.
 pub fn line_of(alloc: Global, count: u16, calls: u16) -> Result<Vec<u8>, AllocError> {
     let mut codes = Vec::new(alloc);
     for number in 0..count {
@@ -58,7 +58,7 @@ pub fn line_of(alloc: Global, count: u16, calls: u16) -> Result<Vec<u8>, AllocEr
     bytes_of(alloc, &constants, &CONSTRUCTOR, &methods)
 }
 
-/// A `process` of so many branches, of which each may leave out a nop.
+/// Returns a class whose `process` has `count` branches, each over one `nop`.
 pub fn diamond(alloc: Global, count: u16) -> Result<Vec<u8>, AllocError> {
     let mut code = Vec::new(alloc);
     let mut entries = Vec::new(alloc);

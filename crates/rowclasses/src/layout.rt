@@ -1,16 +1,16 @@
-//! The layout of the classes (JVMS §4.1).
+//! Writing of class files (JVMS §4.1).
 
 use crate::pool::{Constant, POOL};
 use std::alloc::{AllocError, Global};
 
-/// The entries of a StackMapTable, and their count (JVMS §4.7.4).
+/// A `StackMapTable` attribute: its entries as bytes, and their count (JVMS §4.7.4).
 #[derive(Clone, Copy)]
 pub struct Frames<'a> {
     pub count: u16,
     pub entries: &'a [u8],
 }
 
-/// A method with the one attribute Code, by the pool's indexes.
+/// A method whose only attribute is `Code`. `name` and `descriptor` are constant pool indexes.
 #[derive(Clone, Copy)]
 pub struct Method<'a> {
     pub flags: u16,
@@ -19,15 +19,15 @@ pub struct Method<'a> {
     pub max_stack: u16,
     pub max_locals: u16,
     pub code: &'a [u8],
-    /// The entries of the exception table, of 8 bytes each.
+    /// The exception table, 8 bytes an entry.
     pub exceptions: &'a [u8],
     pub frames: Option<Frames<'a>>,
 }
 
-/// The flags of `process`: ACC_PUBLIC and ACC_VARARGS.
+/// The access flags of `process`: ACC_PUBLIC and ACC_VARARGS.
 const PROCESS: u16 = 0x0081;
 
-/// `process` with the erased descriptor.
+/// Returns `process` with the erased descriptor, without exception handlers and stack map frames.
 pub fn process<'a>(max_stack: u16, max_locals: u16, code: &'a [u8]) -> Method<'a> {
     Method {
         flags: PROCESS,
@@ -41,7 +41,7 @@ pub fn process<'a>(max_stack: u16, max_locals: u16, code: &'a [u8]) -> Method<'a
     }
 }
 
-/// aload_0, invokespecial java/lang/Object.<init>()V, return
+/// The constructor: `aload_0`, `invokespecial` java/lang/Object.<init>()V, `return`.
 pub const CONSTRUCTOR: Method<'static> = Method {
     flags: 0x0001,
     name: 7,
@@ -53,7 +53,7 @@ pub const CONSTRUCTOR: Method<'static> = Method {
     frames: None,
 };
 
-/// Bytes that are put together.
+/// A class file that is being written.
 #[derive(Drop)]
 struct Bytes {
     bytes: Vec<u8>,
@@ -72,7 +72,7 @@ impl Bytes {
         self.put(&n.to_be_bytes())
     }
 
-    /// A length before its bytes.
+    /// Writes a length in bytes as four bytes.
     fn length(&mut self, n: usize) -> Result<(), AllocError> {
         self.u32(u32::try_from(n).unwrap_or(u32::MAX))
     }
@@ -115,7 +115,7 @@ impl Bytes {
         self.put(text)
     }
 
-    /// A constant that is one index, or two.
+    /// Writes an entry that consists of one or two indexes; writes nothing for any other entry.
     fn reference(&mut self, constant: Constant) -> Result<(), AllocError> {
         match constant {
             Constant::Class(name) => self.indexes(7, &[name]),
@@ -172,12 +172,12 @@ impl Bytes {
     }
 }
 
-/// The class with the constructor and these methods.
+/// Returns the class file with the default constructor and these methods.
 pub fn class_of(alloc: Global, methods: &[Method<'_>]) -> Result<Vec<u8>, AllocError> {
     bytes_of(alloc, &[], &CONSTRUCTOR, methods)
 }
 
-/// The bytes of a class: its pool has these further constants behind those of all classes.
+/// Returns the class file with this constructor and these methods; the entries of `further` follow those of `POOL`.
 pub fn bytes_of(
     alloc: Global,
     further: &[Constant],

@@ -1,4 +1,4 @@
-//! Class files for tests: one constructor, one pool, and the methods that a test wants.
+//! Class files for tests: a common constant pool, a constructor, and the methods that each test needs.
 #![tactic(auto)]
 
 mod classes;

@@ -1,10 +1,11 @@
 //! The constant pool of the classes.
 
-/// A constant (JVMS §4.4). Numbers of two bytes are indexes.
+/// A constant pool entry (JVMS §4.4).
+/// A `u16` is a constant pool index, but for `Numbered` and the first of `InvokeDynamic`, an index of a bootstrap method.
 #[derive(Clone, Copy)]
 pub enum Constant {
     Utf8(&'static [u8]),
-    /// The text of `m` and a number in decimal.
+    /// A `Utf8` entry: the letter `m` and this number in decimal.
     Numbered(u16),
     Integer(u32),
     Float(u32),
@@ -22,7 +23,7 @@ pub enum Constant {
 }
 
 impl Constant {
-    /// The indexes that it takes (JVMS §4.4.5).
+    /// Returns how many constant pool indexes the entry occupies: 2 for `Long` and `Double`, else 1 (JVMS §4.4.5).
     pub fn indexes(self) -> u16 {
         match self {
             Constant::Long(_) | Constant::Double(_) => 2,
@@ -31,7 +32,7 @@ impl Constant {
     }
 }
 
-/// The constants of the indexes from 1 on; the long takes two.
+/// The entries at the indexes 1 to 54, in order; the `Long` at index 49 occupies two.
 pub static POOL: [Constant; 53] = [
     Constant::Utf8(b"Row"),
     Constant::Class(1),

@@ -1,15 +1,15 @@
-//! Classes by their names: branches, own calls, arrays, arguments and the rest of the library.
+//! Classes found by name: arithmetic, branches, switches, calls of own methods, arrays and `wide` instructions.
 
 use crate::{CONSTRUCTOR, Constant, Frames, Method, bytes_of, class_of};
 use std::alloc::{AllocError, Global};
 
-/// A class: `process`, and what stands behind it.
+/// A class: its name, and its methods after the constructor.
 struct RowClass {
     name: &'static str,
     methods: &'static [Method<'static>],
 }
 
-/// `process` with the erased descriptor.
+/// `process` with the erased descriptor, and no code.
 const PROCESS: Method<'static> = Method {
     flags: 0x0081,
     name: 12,
@@ -21,7 +21,7 @@ const PROCESS: Method<'static> = Method {
     frames: None,
 };
 
-/// static long help(long)
+/// static long help(long), without code
 const HELP: Method<'static> = Method {
     flags: 0x0008,
     name: 42,
@@ -33,7 +33,7 @@ const HELP: Method<'static> = Method {
     frames: None,
 };
 
-/// static long other(long)
+/// static long other(long), without code
 const OTHER: Method<'static> = Method { name: 46, ..HELP };
 
 static ROWS: [RowClass; 27] = [
@@ -406,7 +406,7 @@ static ROWS: [RowClass; 27] = [
     },
 ];
 
-/// The class with this name, if there is one.
+/// Returns the class file of the class with this name, `None` if there is no such class.
 pub fn class_named(alloc: Global, name: &str) -> Result<Option<Vec<u8>>, AllocError> {
     for row in &ROWS {
         if row.name == name {

@@ -1,4 +1,4 @@
--- The first seat of a list.
+-- A non-empty list of seats is its first seat, followed by the rest.
 use Rattle.std.proofs.Common.{◌≡◌, ◌<◌, List, [], ◌∷◌, length, drop, get_or, sym, arith}
 use Rattle.cache.specs.Opened.{Sitting}
 

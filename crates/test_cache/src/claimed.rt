@@ -1,4 +1,4 @@
-//! A counter and its claimers, on one thread.
+//! A job counter and its claimers, on one thread.
 
 ghost use Rattle.claims.specs.Counters.{IsJobCount, IsWorkerCount, AreAll};
 
@@ -6,13 +6,13 @@ use claims::{Claimer, Counter, open};
 use std::alloc::{AllocError, Global};
 use std::test::Fail;
 
-/// What several threads may use.
+/// Accepts only what threads may share.
 fn is_sync<T: Sync>(_: &T) {}
 
-/// What may be moved to another thread.
+/// Accepts only what may be moved to another thread.
 fn is_send<T: Send>(_: &T) {}
 
-/// One claimer claims.
+/// Claims a job number with the claimer at `index`.
 fn claim(counter: &Counter, claimers: &mut Vec<Claimer>, index: usize) -> Option<usize>
     requires { AreAll counter.now claimers.old.items }
     ensures { AreAll counter.now claimers.new.items }
@@ -21,7 +21,7 @@ fn claim(counter: &Counter, claimers: &mut Vec<Claimer>, index: usize) -> Option
     claimer.claim(counter)
 }
 
-/// What two claimers of a counter for so many jobs are told, by turns.
+/// Returns what two claimers of a counter of `jobs` jobs claim in six alternate calls.
 fn told(alloc: Global, jobs: usize) -> Result<[Option<usize>; 6], AllocError>
     requires { IsJobCount jobs }
 {
@@ -38,7 +38,7 @@ fn told(alloc: Global, jobs: usize) -> Result<[Option<usize>; 6], AllocError>
     Ok(told)
 }
 
-/// How many claimers there are for so many workers, and whether threads may share the counter and take them.
+/// Returns the number of claimers for `workers` workers. It compiles only if the counter is `Sync` and a claimer is `Send`.
 fn opened(alloc: Global, workers: usize) -> Result<usize, AllocError>
     requires { IsWorkerCount workers }
 {

@@ -1,4 +1,4 @@
-//! Classes that threads define.
+//! Classes defined by threads.
 
 ghost use Rattle.std.specs.Prelude.{All, IfOk};
 ghost use Rattle.registry.specs.Ids.{IsOf};
@@ -11,7 +11,7 @@ use std::sync::Wait;
 use std::test::Fail;
 use std::thread::join;
 
-/// Defines a class 50 times.
+/// Defines a class 50 times, and returns its ids.
 fn defined<R: Wait>(
     rt: &R,
     alloc: Global,
@@ -30,7 +30,7 @@ fn defined<R: Wait>(
     Ok(ids)
 }
 
-/// How many of these ids have a class of so many steps.
+/// Returns how many of these ids have a class with this bound on steps.
 fn of_steps(registry: &Registry, ids: &[ClassId], steps: u32) -> usize
     requires { All (λ id. IsOf registry.now id) ids.now }
 {

@@ -1,4 +1,4 @@
-//! Tests: events in worlds, classes that threads define, calls of caches, and the numbers of a round's jobs.
+//! Tests: events in worlds, classes defined by threads, calls on caches, and job numbers that workers claim.
 #![tactic(auto)]
 
 #[cfg(test)]

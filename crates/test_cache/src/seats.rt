@@ -1,4 +1,4 @@
-//! Calls of caches, on one thread.
+//! Calls on caches, on one thread.
 
 ghost use Rattle.std.specs.Prelude.{◌≡◌, IfOk};
 ghost use Rattle.cache.specs.Opened.{IsSeat};
@@ -15,7 +15,7 @@ use std::test::Fail;
 use std::time::Duration;
 use stripe::{ArgSlice, Call, OpenRefusal, Record, Reply, Tables};
 
-/// What a call was told.
+/// The result of a call.
 type Told = Result<Reply, InvokeRefusal>;
 
 /// A call that isn't an invocation.
@@ -27,12 +27,12 @@ enum Plain {
     Contains,
 }
 
-/// An invocation returned this Long.
+/// Returns the reply to an invocation that returned this `Long`.
 fn returned(n: i64) -> Reply {
     Reply::Result(Outcome::Returned(Arg::Long(n)))
 }
 
-/// Why a cache is not opened; none where it is.
+/// Returns why a cache is not opened, `None` if it is.
 fn refused(
     alloc: Global,
     registry: &Registry,
@@ -50,7 +50,7 @@ fn refused(
     }
 }
 
-/// A cache with one seat.
+/// Opens a cache with one seat.
 fn opened<'a>(
     alloc: Global,
     registry: &'a Registry,
@@ -124,7 +124,7 @@ fn closed<'a>(
     Ok(cache.close(seats))
 }
 
-/// Makes each kind of call on a key, one after the other.
+/// Makes each kind of call on a key, in the order put, invoke, get, contains, remove.
 fn asked_all<'a, R: Wait>(
     rt: &R,
     cache: &Cache<'a, 'static, NoLoader>,
@@ -147,7 +147,7 @@ fn asked_all<'a, R: Wait>(
     [put, result, got, there, removed]
 }
 
-/// Whether these calls were told what they mean, one after the other.
+/// Checks the results of `asked_all` with Plus.
 fn are_answers(told: &[Told; 5]) -> bool {
     told.as_slice()
         == [
@@ -160,7 +160,7 @@ fn are_answers(told: &[Told; 5]) -> bool {
         .as_slice()
 }
 
-/// The same in a workspace of its own; none where there is no memory for it.
+/// Does the same on key 1 in a new workspace; returns `None` when out of memory.
 fn asked_in_new<'a, R: Wait>(
     rt: &R,
     alloc: Global,
@@ -180,7 +180,7 @@ fn asked_in_new<'a, R: Wait>(
     }
 }
 
-/// What a cache of two stripes hands out after these calls on key 1; none where one was told something else.
+/// Makes these calls on a cache of two stripes and closes it. Returns `None` if a call has a wrong result.
 fn called<'a, R: Wait>(
     rt: &R,
     alloc: Global,
@@ -202,7 +202,7 @@ fn called<'a, R: Wait>(
     }
 }
 
-/// How many records a stripe has, and how many receipts the first seat.
+/// Returns the number of records of a stripe, and the number of receipts of the first seat.
 fn counts(closed: &Closed<'_>, stripe: usize) -> Option<(usize, usize)> {
     let Some(history) = closed.histories.get(stripe) else {
         return None;
@@ -213,13 +213,13 @@ fn counts(closed: &Closed<'_>, stripe: usize) -> Option<(usize, usize)> {
     Some((history.len(), receipts.len()))
 }
 
-/// Whether a receipt names the record at a place of a stripe.
+/// Checks that a receipt names the record at index `place` of a stripe, and has its reply.
 fn is_named(record: &Record<'_>, receipt: &Receipt<'_>, stripe: usize, place: usize) -> bool {
     let names = receipt.stripe == stripe && receipt.place == place;
     names && record.number as usize == place && record.reply == receipt.reply
 }
 
-/// What the first seat's receipt was told, where it names the record at its own place of this stripe.
+/// Returns the reply in the first seat's receipt at index `place`, if it names the record at the same index of this stripe.
 fn named(closed: &Closed<'_>, stripe: usize, place: usize) -> Option<Reply> {
     let history = closed.histories.get(stripe)?;
     let receipts = closed.receipts.first()?;
@@ -232,7 +232,7 @@ fn named(closed: &Closed<'_>, stripe: usize, place: usize) -> Option<Reply> {
     }
 }
 
-/// The same, at five places.
+/// Does the same for the indexes 0 to 4.
 fn named_all(closed: &Closed<'_>, stripe: usize) -> [Option<Reply>; 5] {
     let mut told = [None; 5];
     for place in 0..5 {
@@ -241,7 +241,7 @@ fn named_all(closed: &Closed<'_>, stripe: usize) -> [Option<Reply>; 5] {
     told
 }
 
-/// Whether the receipts of these calls name the five records of stripe 1.
+/// Checks that the receipts of these calls name the five records of stripe 1.
 fn are_receipts(closed: &Closed<'_>) -> bool {
     let are_five = counts(closed, 0) == Some((0, 5)) && counts(closed, 1) == Some((5, 5));
     let are_named = named_all(closed, 1).as_slice()
@@ -279,7 +279,7 @@ fn counts_outside_are_refused(rt: HostRuntime) -> Result<(), Fail> {
     Ok(())
 }
 
-/// Whether the calls are told what they mean, and their receipts name the records, and no entry is left.
+/// Checks the results and the receipts of these calls, and that key 1 has no entry after them.
 fn one_key<R: Wait>(rt: &R, alloc: Global, registry: &Registry, plus: &ClassId) -> bool
     requires { IsOf registry.now plus.now }
 {
@@ -289,7 +289,7 @@ fn one_key<R: Wait>(rt: &R, alloc: Global, registry: &Registry, plus: &ClassId) 
     }
 }
 
-/// The same on a registry of its own.
+/// Does the same in a new registry, which defines the class.
 fn one_key_is_right<R: Wait>(rt: &R, alloc: Global, bytes: &[u8]) -> bool {
     match Registry::new(alloc) {
         Ok(registry) => match registry.define(rt, alloc, bytes) {
@@ -307,7 +307,8 @@ fn calls_on_one_key(rt: HostRuntime) -> Result<(), Fail> {
     Ok(())
 }
 
-/// What a put of 5 and a get on key 1 were told where a stripe may have one record, and what is left: the entry, and how many records and receipts there are.
+/// The results of a put of 5 and a get on key 1, where a stripe holds one record, and the state after them: the entry, and the numbers of
+/// records and receipts.
 type Full = (Told, Told, Option<(Option<i64>, Option<(usize, usize)>)>);
 
 fn full<R: Wait>(rt: &R, alloc: Global, registry: &Registry) -> Option<Full> {
@@ -335,7 +336,7 @@ fn a_full_stripe_refuses(rt: HostRuntime) -> Result<(), Fail> {
     Ok(())
 }
 
-/// A cache of two stripes with two seats.
+/// Opens a cache of two stripes with two seats.
 fn opened_for_two<'a>(
     alloc: Global,
     registry: &'a Registry,
@@ -354,8 +355,8 @@ fn opened_for_two<'a>(
     }
 }
 
-/// What two seats are told. One puts and gets on key 1 and puts on key 2 by `call_at`; then the other one gets on key 1, whose stripe
-/// was given back for that of key 2, and behind `leave` on key 2.
+/// Returns the results of calls at two seats. By `call_at` the first seat puts and gets on key 1 and puts on key 2.
+/// Then the second seat gets key 1, whose stripe the first seat unlocked before it locked that of key 2; after `leave` it gets key 2.
 fn held_and_left<R: Wait>(rt: &R, alloc: Global, registry: &Registry) -> Option<[Told; 5]> {
     let mut workspace = Workspace::new(alloc).ok()?;
     let Ok((cache, mut first, mut second)) = opened_for_two(alloc, registry) else {
@@ -383,9 +384,9 @@ fn a_stripe_is_held_on_until_it_is_left(rt: HostRuntime) -> Result<(), Fail> {
     Ok(())
 }
 
-/// Whether seats could hold stripes of two, at once or within a millisecond. The first seat holds that of key 1. So the second one can't
-/// hold it, which has that of key 3 too, at once or soon, but that of key 2; behind `leave` of the first it holds the other one, and the
-/// first that of key 2.
+/// Returns which of six calls of `hold_within` on two stripes succeed, with no time to wait or with a millisecond.
+/// The first seat locks the stripe of key 1. The second seat can't lock it for key 3 at once, or for key 1 in time, but that of key 2.
+/// After `leave` of the first seat, the second seat locks the stripe of key 1, and the first seat that of key 2.
 fn held_within<R: Wait>(rt: &R, alloc: Global, registry: &Registry) -> Option<[bool; 6]> {
     let Ok((cache, mut first, mut second)) = opened_for_two(alloc, registry) else {
         return None;

@@ -1,4 +1,4 @@
-//! Calls of caches, in several threads.
+//! Calls on caches, by several threads.
 
 mod following;
 mod racing;
@@ -23,7 +23,7 @@ use std::thread::Threads;
 use std::time::Clock;
 use stripe::{ArgSlice, OpenRefusal, Reply, Tables};
 
-/// What a worker does, at its place among all.
+/// The work of a worker, by its index.
 trait Shift<W> {
     ghost accepts: { Self → W → Type 0 };
 
@@ -34,7 +34,7 @@ trait Shift<W> {
         ensures { leaves self.now worker.old worker.new };
 }
 
-/// Has each worker serve in a thread of its own.
+/// Calls `serve` for each worker, on at most 16 threads.
 fn serve_all<R: Threads + Sync, W: Send, S: Shift<W> + Sync>(rt: &R, crew: &mut Vec<W>, shift: &S)
     requires ready { All (S.accepts shift.now) crew.old.items }
     ensures count { length crew.new.items ≡ length crew.old.items }
@@ -44,7 +44,7 @@ fn serve_all<R: Threads + Sync, W: Send, S: Shift<W> + Sync>(rt: &R, crew: &mut 
     thread::for_each_mut(rt, workers, 16, &|place, worker| shift.serve(place, worker));
 }
 
-/// A gate where a call that has started waits until others have.
+/// A gate where a call that has started waits at a barrier for another one.
 #[derive(Drop)]
 struct Meeting<'s, R> {
     rt: &'s R,
@@ -59,22 +59,22 @@ impl<'s, R: Wait> Gate for Meeting<'s, R> {
     fn answered(&self, _job: usize) {}
 }
 
-/// What each caller does.
+/// The calls of each caller.
 #[derive(Clone, Copy)]
 enum Work {
-    /// It puts and gets on key 1, 500 times.
+    /// Puts and gets on key 1, 500 times.
     PutAndGet,
-    /// It counts the entry of key 0 up, 100 times.
+    /// Increments the entry of key 0, 100 times.
     Count,
-    /// The first caller puts on key 0 and the others on key 1. No call ends before two have started.
+    /// The first caller puts on key 0, any other on key 1. No call ends before two have started.
     Meet,
-    /// The first caller puts on key 0, and its observer waits for the answer to the second one's put on it.
+    /// Both callers put on key 0. After the answer to the first, its gate waits for the answer to the second.
     Follow,
-    /// After so many microseconds each, the first caller puts on key 5 and the others count its entry up.
+    /// After its delay in microseconds, the first caller puts on key 5, and any other increments the entry.
     Race([u64; 3]),
 }
 
-/// Callers of a cache.
+/// The work of the callers of a cache, and what they share.
 #[derive(Drop)]
 struct Callers<'s, 'a, R> {
     rt: &'s R,
@@ -129,7 +129,7 @@ fn put_and_get<'a, R: Wait>(rt: &R, cache: &Cache<'a, 'static, NoLoader>, seat: 
     }
 }
 
-/// Counts the entry of key 0 up, 100 times.
+/// Increments the entry of key 0, 100 times.
 fn count<'a, R: Wait>(
     rt: &R,
     alloc: Global,
@@ -151,10 +151,10 @@ fn count<'a, R: Wait>(
     }
 }
 
-/// The argument of each count.
+/// The argument of each increment.
 static ONE: [Arg; 1] = [Arg::Long(1)];
 
-/// Counts the entry of key 0 up.
+/// Increments the entry of key 0 by an invocation of Counter.
 fn count_one<'a, R: Wait>(
     rt: &R,
     cache: &Cache<'a, 'static, NoLoader>,
@@ -172,7 +172,7 @@ fn count_one<'a, R: Wait>(
     let _counted = cache.invoke(rt, seat, workspace, counter, 0, one);
 }
 
-/// Puts on key 0 or key 1, when others have started too.
+/// Puts 7 on key 0 if the caller is the first, else on key 1; the call waits until another one has started.
 fn meet<'a, R: Wait>(
     rt: &R,
     cache: &Cache<'a, 'static, NoLoader>,
@@ -189,7 +189,7 @@ fn meet<'a, R: Wait>(
     let _put = cache.put_at(rt, seat, key, 7, place, &Meeting { rt, barrier });
 }
 
-/// A cache with so many stripes and seats.
+/// Opens a cache with `stripes` stripes and `seats` seats.
 fn opened<'a>(
     alloc: Global,
     registry: &'a Registry,
@@ -206,7 +206,7 @@ fn opened<'a>(
     }
 }
 
-/// What a cache hands out after the work of as many callers as it has seats, each in a thread of its own.
+/// Does the work with one caller for each seat, on at most 16 threads, and closes the cache.
 fn worked<'a, R: Threads + Wait + Clock + Sync>(
     rt: &R,
     alloc: Global,
@@ -233,7 +233,7 @@ fn worked<'a, R: Threads + Wait + Clock + Sync>(
     Ok(cache.close(seats))
 }
 
-/// How many seats have so many receipts.
+/// Returns how many seats have exactly `receipts` receipts.
 fn seats_of(closed: &Closed<'_>, receipts: usize) -> usize {
     closed
         .receipts
@@ -242,7 +242,7 @@ fn seats_of(closed: &Closed<'_>, receipts: usize) -> usize {
         .count()
 }
 
-/// How many records a stripe has.
+/// Returns how many records a stripe has, `None` if there is no such stripe.
 fn records(closed: &Closed<'_>, stripe: usize) -> Option<usize> {
     match closed.histories.get(stripe) {
         Some(history) => Some(history.len()),
@@ -250,7 +250,7 @@ fn records(closed: &Closed<'_>, stripe: usize) -> Option<usize> {
     }
 }
 
-/// The number that an invocation answered.
+/// Returns the `Long` that an invocation returned, `None` for any other reply.
 fn count_in(receipt: &Receipt<'_>) -> Option<i64> {
     match receipt.reply {
         Reply::Result(Outcome::Returned(Arg::Long(count))) => Some(count),
@@ -258,7 +258,7 @@ fn count_in(receipt: &Receipt<'_>) -> Option<i64> {
     }
 }
 
-/// Whether each invocation of a seat answered a greater number than the one before it.
+/// Checks that each invocation at a seat returned a greater number than the one before it.
 fn counts_rise(seat: &[Receipt<'_>]) -> bool {
     let mut last = 0i64;
     for receipt in seat {
@@ -270,7 +270,7 @@ fn counts_rise(seat: &[Receipt<'_>]) -> bool {
     true
 }
 
-/// The numbers that the invocations of all seats answered.
+/// Returns the numbers that the invocations at all seats returned.
 fn counts(alloc: Global, closed: &Closed<'_>) -> Result<Vec<i64>, AllocError> {
     let mut counts = Vec::new(alloc);
     for seat in &closed.receipts {
@@ -283,20 +283,20 @@ fn counts(alloc: Global, closed: &Closed<'_>) -> Result<Vec<i64>, AllocError> {
     Ok(counts)
 }
 
-/// What is left of the work of so many callers.
+/// The state after the work of all callers.
 #[derive(Clone, Copy, Debug, PartialEq, Eq)]
 struct Sums {
-    /// How many seats have as many receipts as were asked for.
+    /// The number of seats with the expected number of receipts.
     seats: usize,
-    /// How many records the stripes 0 and 1 have.
+    /// The numbers of records of the stripes 0 and 1.
     records: (Option<usize>, Option<usize>),
     /// The entries of the keys 0 and 1.
     entries: (Option<i64>, Option<i64>),
-    /// Whether the invocations answered the numbers 1 to 1,600, each once and rising in each seat.
+    /// Whether the invocations returned the numbers 1 to 1,600, each once, and in ascending order at each seat.
     are_numbered: bool,
 }
 
-/// Whether the invocations answered the numbers 1 to 1,600, each once and rising in each seat.
+/// Checks that the invocations returned the numbers 1 to 1,600, each once, and in ascending order at each seat.
 fn are_numbered(alloc: Global, closed: &Closed<'_>) -> bool {
     match counts(alloc, closed) {
         Ok(counts) => {
@@ -317,7 +317,7 @@ fn sums_of(alloc: Global, closed: &Closed<'_>, receipts: usize) -> Sums {
     }
 }
 
-/// What is left of the work of callers, where each seat is to have so many receipts.
+/// Does the work in a new registry, which defines the class of these bytes. Each seat is expected to have `receipts` receipts.
 fn summed<R: Threads + Wait + Clock + Sync>(
     rt: &R,
     alloc: Global,
@@ -346,7 +346,7 @@ fn is_sync<T: Sync>(_: &T) {}
 
 fn is_send<T: Send>(_: &T) {}
 
-/// How many seats a cache hands to threads, which share it.
+/// Returns how many seats a cache has. It compiles only if the cache is `Sync` and a seat is `Send`.
 fn seats_handed(alloc: Global, registry: &Registry) -> Option<usize> {
     match opened(alloc, registry, 2, 2) {
         Ok((cache, seats)) => {

@@ -7,7 +7,7 @@ use stripe::{ArgSlice, BeginRefusal, Call, OpenRefusal, Record, Reply, Tables, s
 use verify::{Verified, verify};
 use world::{Applied, Event, World};
 
-/// The class with this name; none where there is no such class, or it is refused.
+/// Returns the verified class with this name, `None` if there is no such class or it is refused.
 fn class_named(alloc: Global, name: &str) -> Option<Verified> {
     match rows::class_named(alloc, name) {
         Ok(Some(bytes)) => verify(alloc, &bytes).ok(),
@@ -15,7 +15,7 @@ fn class_named(alloc: Global, name: &str) -> Option<Verified> {
     }
 }
 
-/// The class that adds one.
+/// Returns the verified class Plus, `None` if it is refused.
 fn plus(alloc: Global) -> Option<Verified> {
     match rows::plus(alloc) {
         Ok(bytes) => verify(alloc, &bytes).ok(),
@@ -23,7 +23,7 @@ fn plus(alloc: Global) -> Option<Verified> {
     }
 }
 
-/// A world of so many empty stripes; none where it is refused.
+/// Opens a world of `stripes` empty stripes with `journal` records each; returns `None` if it is refused.
 fn opened<'a>(alloc: Global, stripes: usize, journal: usize) -> Option<World<'a, NoLoader>> {
     match Tables::new(alloc, stripes) {
         Ok(tables) => World::new(alloc, tables, journal, &NoLoader).ok(),
@@ -31,7 +31,7 @@ fn opened<'a>(alloc: Global, stripes: usize, journal: usize) -> Option<World<'a,
     }
 }
 
-/// An invocation of a class on a key, without arguments.
+/// Returns an invocation of a class on a key, without arguments.
 fn invoke<'a>(class: &'a Verified, key: i64) -> Call<'a> {
     Call::Invoke {
         class,
@@ -40,12 +40,12 @@ fn invoke<'a>(class: &'a Verified, key: i64) -> Call<'a> {
     }
 }
 
-/// A start by caller 0.
+/// Returns the start of a call by caller 0.
 fn start(call: Call<'_>) -> Event<'_> {
     Event::Start { caller: 0, call }
 }
 
-/// What became of these events, one after the other.
+/// Applies the events in order, and returns their results.
 fn applied_all<'a>(world: &mut World<'a, NoLoader>, events: &[Event<'a>; 24]) -> [Applied; 24] {
     let mut told = [Applied::Ignored; 24];
     for place in 0..24 {
@@ -54,7 +54,7 @@ fn applied_all<'a>(world: &mut World<'a, NoLoader>, events: &[Event<'a>; 24]) ->
     told
 }
 
-/// Events on two stripes, of which the one at place 22 finds a full history where a stripe may have two records.
+/// Returns events on two stripes. With two records a stripe, the event at index 22 finds a full history.
 fn table<'a>(plus: &'a Verified) -> [Event<'a>; 24] {
     let mut events = [Event::Step { stripe: 1 }; 24];
     let finish = Event::Finish { stripe: 1 };
@@ -75,7 +75,7 @@ fn table<'a>(plus: &'a Verified) -> [Event<'a>; 24] {
     events
 }
 
-/// What becomes of them.
+/// Returns the expected results of the events of `table`.
 fn told_of_table() -> [Applied; 24] {
     let mut told = [Applied::Done; 24];
     told[1] = Applied::Ignored;
@@ -86,12 +86,13 @@ fn told_of_table() -> [Applied; 24] {
     told
 }
 
-/// The entries of the keys 1 and 2.
+/// Returns the entries of the keys 1 and 2.
 fn entries_of(world: &World<'_, NoLoader>) -> (Option<i64>, Option<i64>) {
     (world.entry(1), world.entry(2))
 }
 
-/// How many records a stripe has, and the number and the key of the last one; none for another stripe, or without a record.
+/// Returns the number of records of a stripe, and the number and the key of its last record.
+/// Returns `None` if there is no such stripe, or it has no record.
 fn last_of(world: &World<'_, NoLoader>, stripe: usize) -> Option<(usize, u32, i64)> {
     if stripe >= world.stripes() {
         return None;
@@ -103,7 +104,7 @@ fn last_of(world: &World<'_, NoLoader>, stripe: usize) -> Option<(usize, u32, i6
     }
 }
 
-/// What becomes of the events of the table, one by one; the entries that they leave, and the last record.
+/// Applies the events of `table` one by one. Returns their results, the entries of the keys 1 and 2, and the last record of stripe 1.
 fn one_by_one(
     alloc: Global,
     plus: &Verified,
@@ -132,13 +133,13 @@ fn events_are_done_in_any_order(rt: HostRuntime) {
     assert!(rt; one_by_one(rt.alloc(), &plus) == Some(wanted));
 }
 
-/// What a run tells, and the entries of the keys 1 and 2 behind it.
+/// The result of `World::run`, and the entries of the keys 1 and 2 after it.
 type Ran = (
     Result<(), (usize, BeginRefusal)>,
     (Option<i64>, Option<i64>),
 );
 
-/// The events of the table by one run, and then others.
+/// Runs the events of `table`, and then further events.
 fn stopped_run(alloc: Global, plus: &Verified) -> Option<[Ran; 2]> {
     let rest = [
         start(Call::Put { key: 2, value: 7 }),
@@ -165,10 +166,10 @@ fn a_run_stops_at_a_refusal(rt: HostRuntime) {
     assert!(rt; stopped_run(rt.alloc(), &plus) == Some(wanted));
 }
 
-/// The caller, the number, the reply and the entry of a record.
+/// The caller, the number and the reply of a record, and the entry after it.
 type Row = (u8, u32, Reply, Option<i64>);
 
-/// Whether these are the records.
+/// Checks that the records are these, in order.
 fn are_rows(records: &[Record<'_>], rows: &[Row]) -> bool {
     if records.len() != rows.len() {
         return false;
@@ -183,7 +184,7 @@ fn are_rows(records: &[Record<'_>], rows: &[Row]) -> bool {
     true
 }
 
-/// Whether no call runs in a world, and it has these records and, of these two keys, no entries when it is closed.
+/// Checks that the world has no open call, and closes it: it must have these records, and no entry for either of the keys.
 fn closes_with(world: World<'_, NoLoader>, rows: &[Row], keys: (i64, i64)) -> bool {
     if !world.is_idle() {
         return false;
@@ -193,7 +194,7 @@ fn closes_with(world: World<'_, NoLoader>, rows: &[Row], keys: (i64, i64)) -> bo
     are_rows(&records, rows) && entries == (None, None)
 }
 
-/// Whether each of these calls, which aren't invocations, starts and finishes at once.
+/// Starts and finishes each of these calls, none of them an invocation; returns false if one of them isn't done.
 fn are_made<'a>(world: &mut World<'a, NoLoader>, stripes: usize, calls: &[Call<'a>]) -> bool {
     if stripes == 0 || stripes > 64 {
         return false;
@@ -209,7 +210,7 @@ fn are_made<'a>(world: &mut World<'a, NoLoader>, stripes: usize, calls: &[Call<'
     true
 }
 
-/// Whether calls on a negative key of so many stripes do what they have to.
+/// Checks the replies and the records of calls on a negative key in a world of `stripes` stripes.
 fn one_key(alloc: Global, stripes: usize) -> bool {
     let key = -7;
     let calls = [
@@ -244,7 +245,7 @@ fn calls_on_one_key(rt: HostRuntime) {
     assert!(rt; one_key(rt.alloc(), 64));
 }
 
-/// Steps on stripes 0, 1 and 2 till nothing is left to do, and what became of the finish of each.
+/// Applies 40 steps and a finish to each of the stripes 0, 1 and 2; returns the results of the finishes.
 fn finish_all(world: &mut World<'_, NoLoader>) -> [Applied; 3] {
     let mut told = [Applied::Ignored; 3];
     for stripe in 0..3 {
@@ -256,8 +257,8 @@ fn finish_all(world: &mut World<'_, NoLoader>) -> [Applied; 3] {
     told
 }
 
-/// What became of a processor that throws on an absent key, and of one that sets and removes on another, by two callers on two stripes: of
-/// their starts and of the finishes, and whether the records are theirs, the latter first.
+/// Starts two invocations on two stripes, and then runs both: Plus, which throws on an absent key, and SetRemove by another caller.
+/// Returns the results of the starts and of the finishes, and whether the records are those of SetRemove and Plus, in this order.
 fn turns(
     alloc: Global,
     plus: &Verified,
@@ -294,7 +295,7 @@ fn calls_on_two_stripes_take_turns(rt: HostRuntime) {
     assert!(rt; turns(rt.alloc(), &plus, &set_remove) == Some(wanted));
 }
 
-/// A world of two stripes behind three calls: how many stripes there are, how many calls are finished, and the last records of both.
+/// The number of stripes, the number of finished calls, and the last record of each of two stripes.
 type Histories = (
     usize,
     usize,
@@ -302,7 +303,7 @@ type Histories = (
     Option<(usize, u32, i64)>,
 );
 
-/// What is told of a world in which each call has ended.
+/// Returns the histories of a world.
 fn histories_of(world: &World<'_, NoLoader>) -> Histories {
     (
         world.stripes(),
@@ -312,7 +313,7 @@ fn histories_of(world: &World<'_, NoLoader>) -> Histories {
     )
 }
 
-/// The same behind three calls.
+/// Makes three calls and returns the histories, `None` if a call isn't done.
 fn behind_three(world: &mut World<'_, NoLoader>) -> Option<Histories> {
     let calls = [
         Call::Put { key: 1, value: 5 },
@@ -339,7 +340,7 @@ fn histories_are_by_stripe(rt: HostRuntime) {
     assert!(rt; three_calls(rt.alloc()) == Some(wanted));
 }
 
-/// Why a world of three stripes is not opened, and how many tables come back.
+/// Returns why a world of three stripes isn't opened, and the number of stripes of the tables that are returned; `None` if it is opened.
 fn refused(alloc: Global, journal: usize) -> Option<(OpenRefusal, usize)> {
     match Tables::new(alloc, 3) {
         Ok(tables) => match World::new(alloc, tables, journal, &NoLoader) {
@@ -350,7 +351,7 @@ fn refused(alloc: Global, journal: usize) -> Option<(OpenRefusal, usize)> {
     }
 }
 
-/// What becomes of a step on stripe 64 of a world of so many stripes.
+/// Returns the result of a step on stripe 64 of a world of `stripes` stripes.
 fn stepped_outside(alloc: Global, stripes: usize, journal: usize) -> Option<Applied> {
     match opened(alloc, stripes, journal) {
         Some(mut world) => Some(world.apply(Event::Step { stripe: 64 })),

@@ -2,7 +2,7 @@ use constpool::*;
 use jtypes::Refusal;
 use std::alloc::Global;
 
-/// A pool with a constant of each tag.
+/// A constant pool with an entry of each tag.
 static EACH_TAG: [u8; 84] = [
     0, 17, //
     1, 0, 1, b'A', // 1: "A"
@@ -12,14 +12,14 @@ static EACH_TAG: [u8; 84] = [
     5, 255, 255, 255, 255, 255, 255, 255, 254, // 5, 6: the long -2
     6, 0x3F, 0xF0, 0, 0, 0, 0, 0, 0, // 7, 8: the double 1
     8, 0, 1, // 9: the string "A"
-    12, 0, 1, 0, 1, // 10: A of type A
+    12, 0, 1, 0, 1, // 10: the name A with the descriptor A
     9, 0, 2, 0, 10, // 11: a field
     10, 0, 2, 0, 10, // 12: a method
-    11, 0, 2, 0, 10, // 13: a method of an interface
-    15, 6, 0, 12, // 14: a handle
-    16, 0, 1, // 15: a method's type
-    18, 0, 0, 0, 10, // 16: a dynamic call
-    9, 9, 9, 9, 9, 9, 9, 9, 9, 9, 9, 9, // what follows the pool
+    11, 0, 2, 0, 10, // 13: an interface method
+    15, 6, 0, 12, // 14: a method handle
+    16, 0, 1, // 15: a method type
+    18, 0, 0, 0, 10, // 16: an `invokedynamic` call site
+    9, 9, 9, 9, 9, 9, 9, 9, 9, 9, 9, 9, // bytes after the pool
 ];
 
 fn each_tag(alloc: Global) -> Option<Pool> {
@@ -123,7 +123,7 @@ fn refuses_pools(rt: HostRuntime) {
     }
 }
 
-/// How many parameters a method's descriptor has, and how many slots they take.
+/// Returns how many parameters a method descriptor has, and how many local variables they occupy; `None` if it is refused.
 fn counts(alloc: Global, text: &[u8]) -> Option<(usize, usize)> {
     let Ok(sig) = parse_method_descriptor(alloc, text) else {
         return None;
@@ -179,7 +179,7 @@ fn refuses_descriptors(rt: HostRuntime) {
     }
 }
 
-/// Whichever allocation is refused (`rt try --test --fail-alloc N`), the answer is that or the one with ample memory.
+/// When an allocation is refused (`rt try --test --fail-alloc N`), the answer is `NoMemory`, or the same as with ample memory.
 #[test]
 fn answers_or_lacks_memory(rt: HostRuntime) {
     match read_pool(rt.alloc(), &EACH_TAG) {
@@ -194,7 +194,7 @@ fn answers_or_lacks_memory(rt: HostRuntime) {
     }
 }
 
-/// The same of descriptors.
+/// The same for descriptors.
 #[test]
 fn reads_descriptors_or_lacks_memory(rt: HostRuntime) {
     match parse_method_descriptor(rt.alloc(), b"(IJ[JLO;)LA;") {

@@ -5,10 +5,10 @@ use std::alloc::Global;
 use std::process::Abort;
 use std::test::Fail;
 
-/// A class `A` with one method `A`, whose Code has one attribute.
+/// A class `A` with one field and one method `A`, whose `Code` has one attribute.
 static CLASS: [u8; 99] = [
     0xCA, 0xFE, 0xBA, 0xBE, 0, 0, 0, 52, // magic and version
-    0, 6, // the pool's count
+    0, 6, // constant pool count
     1, 0, 1, b'A', // 1
     7, 0, 1, // 2
     1, 0, 1, b'O', // 3
@@ -19,11 +19,11 @@ static CLASS: [u8; 99] = [
     0, 1, 0, 0, 0, 1, 0, 3, 0, 0, // fields
     0, 1, 0, 9, 0, 1, 0, 3, 0, 1, // methods
     0, 5, 0, 0, 0, 20, // the Code attribute
-    0, 2, 0, 1, 0, 0, 0, 1, 0xB1, // stack, locals, code
-    0, 0, // exceptions
-    0, 1, 0, 3, 0, 0, 0, 1, 7, // attributes
+    0, 2, 0, 1, 0, 0, 0, 1, 0xB1, // maximum stack, maximum locals, code
+    0, 0, // exception table
+    0, 1, 0, 3, 0, 0, 0, 1, 7, // attributes of the code
     0, 1, 0, 3, 0, 0, 0, 3, 1, 2, 3, // attributes of the class
-    0, // what follows the class
+    0, // a byte after the class file
 ];
 
 fn class_of(rt: &(impl Abort + AllocGlobal)) -> ClassFile {
@@ -56,7 +56,7 @@ fn views_a_class(rt: HostRuntime) {
     );
 }
 
-/// The parts of the only Code of the class's method.
+/// Returns the contents of the `Code` attribute of the class's first method, `None` unless it has exactly one.
 fn parts(alloc: Global, class: &ClassFile) -> Option<CodeParts> {
     let member = class.parts.methods.as_slice().first()?;
     let attributes = member.attributes.as_slice();
@@ -84,7 +84,7 @@ fn reads_no_parts_of_a_byte(rt: HostRuntime) {
     assert!(rt; matches!(parts_of_code(rt.alloc(), b"\0"), Ok(None)));
 }
 
-/// The class with one byte changed.
+/// Returns the class file with the byte at offset `at` set to `to`.
 fn changed(at: usize, to: u8) -> [u8; 98] {
     let mut bytes = [0; 98];
     bytes.copy_from_slice(&CLASS[..98]);
@@ -154,7 +154,7 @@ fn refuses_too_many_bytes(rt: HostRuntime) -> Result<(), Fail> {
     Ok(())
 }
 
-/// Whichever allocation is refused (`rt try --test --fail-alloc N`), the answer is that or the one with ample memory.
+/// When an allocation is refused (`rt try --test --fail-alloc N`), the answer is `NoMemory`, or the same as with ample memory.
 #[test]
 fn answers_or_lacks_memory(rt: HostRuntime) {
     match read_class(rt.alloc(), &CLASS[..98]) {

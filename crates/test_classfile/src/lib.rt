@@ -1,4 +1,4 @@
-//! Tests: pools, class files and codes that are read from bytes, and rows of locals.
+//! Tests: constant pools, class files and code read from bytes, the verifier's local variables, and the sizes of the test classes.
 #![tactic(auto)]
 
 #[cfg(test)]

@@ -1,4 +1,4 @@
-//! Rows of locals that are written, kept, entered and compared.
+//! Types of local variables that are written, kept, entered and compared.
 
 use jtypes::{JType, RefType};
 use locals::*;
@@ -9,7 +9,7 @@ const NUMBER: JType = JType::Ref(RefType::Number);
 
 const BOXED: JType = JType::Ref(RefType::Long);
 
-/// So many blank locals.
+/// Returns `count` local variables of type top; panics when out of memory.
 fn blank(rt: &impl Abort, alloc: Global, count: usize) -> Locals {
     let Ok(locals) = Locals::new(alloc, count) else {
         panic!(rt; "no memory");
@@ -17,7 +17,7 @@ fn blank(rt: &impl Abort, alloc: Global, count: usize) -> Locals {
     locals
 }
 
-/// Puts types in the locals, where there is room for them.
+/// Writes these types from index `at`; panics if there is no such local variable, or when out of memory.
 fn put(rt: &impl Abort, locals: &mut Locals, at: usize, types: &[JType]) {
     assert!(rt; at < 65_536 && 0 < types.len() && types.len() < 65_536);
     let Some(_) = locals.get(at + types.len() - 1) else {
@@ -28,7 +28,7 @@ fn put(rt: &impl Abort, locals: &mut Locals, at: usize, types: &[JType]) {
     };
 }
 
-/// Puts a type in a local, where there is one.
+/// Writes the type of local variable `n`; panics if there is no such local variable, or when out of memory.
 fn set(rt: &impl Abort, locals: &mut Locals, n: usize, t: JType) {
     let Some(_) = locals.get(n) else {
         panic!(rt; "no such local");
@@ -54,7 +54,7 @@ fn fits(rt: &impl Abort, locals: &mut Locals, number: usize) -> bool {
     locals.fits(number)
 }
 
-/// Whether the locals are these and no others: so many of a type, then so many of the next.
+/// Checks that the local variables are exactly these runs, each a count and a type.
 fn are(locals: &Locals, runs: &[(usize, JType)]) -> bool {
     let mut at = 0usize;
     for (count, t) in runs {
@@ -149,7 +149,7 @@ fn types_that_are_there_change_nothing(rt: HostRuntime) {
     );
     assert!(rt; fits(&rt, &mut locals, 0));
 
-    // The first page has them already, the second has one more.
+    // The first page is unchanged, the second has one more type.
     put(&rt, &mut locals, 250, &[JType::Int; 11]);
     assert!(rt;
         are(
@@ -219,7 +219,7 @@ fn a_fit_is_found_and_found_again(rt: HostRuntime) {
         assert!(rt; fits(&rt, &mut locals, 1));
     }
 
-    // Not the other way round, and no row is changed by the question.
+    // The reverse doesn't fit, and `fits` changes no local variables.
     enter(&rt, &mut locals, 0);
     for _ in 0..2 {
         assert!(rt; fits(&rt, &mut locals, 0));

@@ -1,9 +1,9 @@
-//! Sizes of the classes of rowclasses, counted by hand from the layout.
+//! The sizes in bytes of the class files of `rowclasses`, computed from the class file layout.
 
 use rowclasses::*;
 use std::alloc::{AllocError, Global};
 
-/// The size of a class; none where there was no memory for it.
+/// Returns the size of a class file in bytes, `None` when out of memory.
 fn size(class: Result<Vec<u8>, AllocError>) -> Option<usize> {
     match class {
         Ok(bytes) => Some(bytes.len()),
@@ -25,7 +25,7 @@ fn classes_have_their_sizes(rt: HostRuntime) {
     assert!(rt; size(give_entry_with_stack(alloc, 8)) == Some(671 + 26 + 2));
 }
 
-/// The size of the class with this name, 0 where there is none.
+/// Returns the size in bytes of the class file with this name, 0 if there is none; `None` when out of memory.
 fn size_of(alloc: Global, name: &str) -> Option<usize> {
     match class_named(alloc, name) {
         Ok(Some(bytes)) => Some(bytes.len()),
@@ -54,6 +54,6 @@ fn further_classes_have_their_sizes(rt: HostRuntime) {
 fn families_have_their_sizes(rt: HostRuntime) {
     let alloc = rt.alloc();
     assert!(rt; size(diamond(alloc, 3)) == Some(671 + 26 + 17 + 8 + 3));
-    // Two methods: their constants take 5, 5 and 5 bytes each.
+    // The three constant pool entries of each of the two methods have 5 bytes each.
     assert!(rt; size(line_of(alloc, 2, 1)) == Some(671 + 26 + 5 + 2 * 15 + 26 + 4 + 26 + 1));
 }

@@ -1,11 +1,11 @@
-//! Calls on entries, with each outcome and effect.
+//! Invocations on entries, with each outcome and effect.
 
 use embedded::{ArgNumbers, CallNumbers, DoneNumbers, Engine, define, invoke, not_run};
 use rowclasses::{self as rows, class_of, process};
 use std::alloc::Global;
 use std::test::Fail;
 
-/// The kinds of an argument.
+/// The kind of a null argument. The kinds of a `Long` and an `Integer` follow.
 const NULL: u32 = 0;
 
 const LONG: u32 = 1;
@@ -20,7 +20,7 @@ fn arg(kind: u32, value: i64) -> ArgNumbers {
     }
 }
 
-/// A call on key 7 with an entry.
+/// Returns an invocation of class `number` on key 7, with the entry `before`.
 fn on(number: u32, before: i64) -> CallNumbers {
     CallNumbers {
         number,
@@ -30,7 +30,7 @@ fn on(number: u32, before: i64) -> CallNumbers {
     }
 }
 
-/// An end that keeps the entry, which is untouched.
+/// Returns the result of an invocation that doesn't touch its entry.
 fn kept(outcome: u32, value: i64, steps: u32) -> DoneNumbers {
     DoneNumbers {
         outcome,
@@ -44,7 +44,7 @@ fn kept(outcome: u32, value: i64, steps: u32) -> DoneNumbers {
     }
 }
 
-/// Keeps Plus, a class that returns its second argument, SetRemove and NestFault, in this order.
+/// Defines Plus, a class that returns its second argument, SetRemove and NestFault, in this order.
 fn keep_classes(alloc: Global, engine: &mut Engine) -> Result<(), Fail> {
     let second = class_of(alloc, &[process(2, 3, &[0x2C, 0x04, 0x32, 0xB0])])?;
     define(alloc, engine, &rows::plus(alloc)?);

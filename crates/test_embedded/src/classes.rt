@@ -1,11 +1,11 @@
-//! Classes that are defined and forgotten, and what is explained of them.
+//! Classes that are defined and forgotten, and their explanations.
 
 use embedded::{Engine, VerdictNumbers, define};
 use explain_text::{explanation, write_explanation};
 use rowclasses as rows;
 use std::test::Fail;
 
-/// The SHA-1 of Plus and of Falls, by another program.
+/// The SHA-1 of the class file of Plus, and below that of Falls, from another program.
 const PLUS_ID: [u8; 20] = [
     0x98, 0xFA, 0x99, 0x61, 0x67, 0x75, 0x41, 0x8A, 0x8F, 0x25, 0x9D, 0x26, 0x27, 0x75, 0x9F, 0xB0,
     0x58, 0xF1, 0xC7, 0xA5,
@@ -16,7 +16,7 @@ const FALLS_ID: [u8; 20] = [
     0x88, 0x75, 0x8D, 0x29,
 ];
 
-/// The verdict on Plus, under this number.
+/// Returns the verdict on Plus, defined with this number.
 fn plus_is(number: u32) -> VerdictNumbers {
     VerdictNumbers {
         refusal: 0,
@@ -30,7 +30,7 @@ fn plus_is(number: u32) -> VerdictNumbers {
     }
 }
 
-/// Falls is refused as FallsOff.
+/// The verdict on Falls: refusal 23, `FallsOff`.
 const FALLS: VerdictNumbers = VerdictNumbers {
     refusal: 23,
     detail: 0,

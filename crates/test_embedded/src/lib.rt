@@ -1,4 +1,4 @@
-//! Tests: what the core answers to a program that holds it.
+//! Tests: the results that the library returns to the program that embeds it.
 #![tactic(auto)]
 
 #[cfg(test)]

@@ -1,4 +1,4 @@
-//! Classes that are cut, or changed in one byte or one count.
+//! Class files that are truncated, or changed in one byte, count or length.
 
 use jtypes::{Arg, Args, Effect, NoLoader, Outcome, Refusal};
 use machine::{Done, Workspace, run};
@@ -8,12 +8,12 @@ use std::process::Abort;
 use std::test::Fail;
 use verify::{Verified, verify};
 
-/// The bytes of the class with this name, none where there is no such class.
+/// Returns the class file of the class with this name, empty if there is no such class.
 fn bytes_of(alloc: Global, name: &str) -> Result<Vec<u8>, AllocError> {
     Ok(rows::class_named(alloc, name)?.unwrap_or(Vec::new(alloc)))
 }
 
-/// Whether each proper front of a class lacks bytes.
+/// Checks that each proper prefix of a class file is refused as `Truncated`.
 fn fronts_are_truncated(alloc: Global, class: &[u8]) -> bool {
     for end in 0..class.len() {
         if !matches!(verify(alloc, &class[..end]), Err(Refusal::Truncated)) {
@@ -35,14 +35,14 @@ fn each_front_is_truncated(rt: HostRuntime) -> Result<(), Fail> {
     Ok(())
 }
 
-/// A count or a length of a class, and what is refused where it is made as great as it can be.
+/// A count or length in a class file, by its offset and size in bytes, and the refusal if it has its greatest value.
 struct Great {
     place: usize,
     size: usize,
     refusal: Refusal,
 }
 
-/// Behind the count of the constants: those of `process`, in their order, and the class's attributes.
+/// The count of the constant pool, the lengths, counts and maxima in `process`, in their order, and the count of the class's attributes.
 static OF_PLUS: [Great; 8] = [
     Great {
         place: 8,
@@ -86,7 +86,7 @@ static OF_PLUS: [Great; 8] = [
     },
 ];
 
-/// The length of the StackMapTable, and the count of its entries.
+/// The length of the `StackMapTable` attribute, and the count of its entries.
 static OF_COUNTER: [Great; 2] = [
     Great {
         place: 753,
@@ -100,7 +100,7 @@ static OF_COUNTER: [Great; 2] = [
     },
 ];
 
-/// Whether a class is refused so where a count in it is as great as it can be.
+/// Checks that a class has this refusal if this count or length has its greatest value.
 fn is_refused(alloc: Global, mut class: Vec<u8>, great: &Great) -> bool {
     for byte in class.iter_mut().skip(great.place).take(great.size) {
         *byte = 0xFF;
@@ -131,10 +131,10 @@ fn great_counts_are_refused(rt: HostRuntime) -> Result<(), Fail> {
     Ok(())
 }
 
-/// In how many ways a byte is changed: to each value that it hasn't.
+/// The number of other values that a byte may have.
 const OTHERS: usize = 255;
 
-/// How many classes were answered how.
+/// The numbers of classes that are refused and accepted, and of runs that returned and threw.
 #[derive(Clone, Copy, Default)]
 struct Counts {
     refused: usize,
@@ -143,12 +143,12 @@ struct Counts {
     threw: usize,
 }
 
-/// The argument 1.
+/// Returns the argument 1.
 fn one() -> Args {
     Args::of(&[Arg::Long(1)]).unwrap_or(Args::none())
 }
 
-/// Whether a run is within the bounds of its class, and has changed nothing where it threw.
+/// Checks that a run is within the bounds of its class, and that the entry is kept if it threw.
 fn is_bounded(class: &Verified, done: Done) -> bool {
     let bounds = class.bounds();
     let is_kept = match done.outcome {
@@ -159,7 +159,8 @@ fn is_bounded(class: &Verified, done: Done) -> bool {
 }
 
 impl Counts {
-    /// Counts one class, by its runs on key 7 with no entry and with 41. It is false where a run is not within its bounds.
+    /// Counts one class, and its runs on key 7 without an entry and with 41, each without an argument and with 1.
+    /// Returns false if a run is out of bounds.
     fn add(&mut self, alloc: Global, class: &[u8], space: &mut Workspace) -> bool {
         let Ok(class) = verify(alloc, class) else {
             self.refused = self.refused.saturating_add(1);
@@ -176,7 +177,7 @@ impl Counts {
         true
     }
 
-    /// Counts one run. It is false where the run is not within the class's bounds.
+    /// Counts one run; returns false if it is out of bounds.
     fn add_run(
         &mut self,
         class: &Verified,
@@ -192,7 +193,7 @@ impl Counts {
         is_bounded(class, done)
     }
 
-    /// Counts a class with each of its bytes changed to each other value. It is false where a run is not within its bounds.
+    /// Counts a class with each of its bytes changed to each other value; returns false if a run is out of bounds.
     fn add_changed(&mut self, alloc: Global, class: &mut [u8], space: &mut Workspace) -> bool {
         for place in 0..class.len() {
             for bits in 1..=255 {
@@ -208,14 +209,14 @@ impl Counts {
     }
 }
 
-/// Turns these bits of a byte round.
+/// Inverts these bits of the byte at offset `place`.
 fn flip(class: &mut [u8], place: usize, bits: u8) {
     if let Some(byte) = class.get_mut(place) {
         *byte ^= bits;
     }
 }
 
-/// Has each changed class judged and run, and compares how many there are.
+/// Verifies each changed class and runs those that are accepted, and checks the counts.
 fn is_judged_and_run(rt: &impl Abort, alloc: Global, mut class: Vec<u8>) -> Result<(), Fail> {
     let mut space = Workspace::new(alloc)?;
     let mut counts = Counts::default();

@@ -1,4 +1,4 @@
-//! Sixteen calls at once.
+//! Sixteen concurrent calls.
 
 use cache::Gate;
 use jtypes::NoLoader;
@@ -11,16 +11,16 @@ use std::thread;
 use std::time::{Clock, Duration};
 use wire::Counted;
 
-/// How many jobs there are, each on a stripe of its own.
+/// The number of jobs, each on a different stripe.
 const JOBS: usize = 16;
 
-/// Holds all jobs but the last in their begun calls until the last was answered, for ten seconds at most.
+/// Blocks each job but the last at the start of its call until the last is answered, for about ten seconds at most.
 #[derive(Drop)]
 struct Holding<'s, R> {
     rt: &'s R,
     /// How often the last job was answered.
     last: AtomicUsize,
-    /// How many jobs saw that.
+    /// How many jobs saw the answer to the last.
     saw: AtomicUsize,
 }
 
@@ -47,7 +47,7 @@ impl<'s, R: Clock> Gate for Holding<'s, R> {
 
 static ROUND_END: [u8; 5] = [0, 0, 0, 1, 8];
 
-/// A class that counts the entry up is defined, and in a second round invoked on as many keys as there are jobs.
+/// Returns a stream of two rounds: the first defines Counter, the second invokes it on sixteen keys.
 fn script(alloc: Global) -> Result<Vec<u8>, AllocError> {
     let mut input = Vec::new(alloc);
     input.extend_from_slice(&[0, 0, 2, 0xFD, 1])?;
@@ -62,7 +62,7 @@ fn script(alloc: Global) -> Result<Vec<u8>, AllocError> {
     Ok(input)
 }
 
-/// The result of an invocation that returned 1 as a Long.
+/// The reply to an invocation that returned the `Long` 1.
 static ONE: [u8; 15] = [0, 0, 0, 0x0B, 6, 0, 1, 0, 0, 0, 0, 0, 0, 0, 1];
 
 #[test]
@@ -93,7 +93,7 @@ fn sixteen_stripes_work_at_once(rt: HostRuntime) -> Result<(), Fail> {
     assert_eq!(rt; result, Ok(()));
     assert_eq!(rt; gate.last.load(Ordering::SeqCst), 1);
     assert_eq!(rt; gate.saw.load(Ordering::SeqCst), JOBS - 1);
-    // The class and its round come first, and an end last.
+    // The first 22 bytes are the reply to the definition and the end of its round, the last 5 the end of the second round.
     let output = writer.into_inner();
     assert_eq!(rt; output.len(), 22 + 15 * JOBS + 5);
     assert!(rt;

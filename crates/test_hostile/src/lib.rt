@@ -1,4 +1,4 @@
-//! Tests: classes that were made to do harm, streams that break off, devices that fail, and many threads.
+//! Tests: malformed classes, truncated streams, readers, writers and allocations that fail, and many threads.
 #![tactic(auto)]
 
 #[cfg(test)]

@@ -1,4 +1,4 @@
-//! A stream with calls on one key, where one growth of memory is refused.
+//! A stream with calls on one key, when an allocation may be refused.
 
 use cache::NoGate;
 use jtypes::NoLoader;
@@ -10,7 +10,8 @@ use std::test::Fail;
 use std::thread::Threads;
 use wire::Counted;
 
-/// Adds one is class 0. Key 7 is put to 41; then class 0 is invoked on it, and beside that on the keys 7 and 8 by one request.
+/// Returns a stream of two rounds. The first defines Plus as class 0 and puts 41 on key 7.
+/// The second invokes class 0 on key 7, and by one request on the keys 7 and 8.
 fn script(alloc: Global) -> Result<Vec<u8>, AllocError> {
     let mut input = Vec::new(alloc);
     input.extend_from_slice(&[0, 0, 2, 0xD8, 1])?;
@@ -47,14 +48,14 @@ enum End {
     LackedMemory,
 }
 
-/// Replies that are read from their front.
+/// The replies that are not read yet.
 #[derive(Clone, Copy)]
 struct Replies<'r> {
     rest: &'r [u8],
 }
 
 impl<'r> Replies<'r> {
-    /// Whether these bytes come next. It goes behind them then.
+    /// Returns whether these bytes come next; if they do, it skips them.
     fn takes(&mut self, bytes: &[u8]) -> bool {
         match self.rest.split_at_checked(bytes.len()) {
             Some((front, rest)) if front == bytes => {
@@ -65,7 +66,7 @@ impl<'r> Replies<'r> {
         }
     }
 
-    /// The outcome of a job, as it stands in a reply.
+    /// Reads the outcome of a job within a reply; returns `None` if it is malformed.
     fn end(&mut self) -> Option<End> {
         if self.takes(&[1, 3]) {
             return Some(End::ThrewNullPointer);
@@ -81,7 +82,7 @@ impl<'r> Replies<'r> {
         Some(End::Returned(*value))
     }
 
-    /// The reply to an invocation.
+    /// Reads the reply to an invocation; returns `None` if it is malformed.
     fn result(&mut self) -> Option<End> {
         if self.takes(&DENIED_MEMORY) {
             return Some(End::LackedMemory);
@@ -92,7 +93,7 @@ impl<'r> Replies<'r> {
         self.end()
     }
 
-    /// The reply to the invocations on the keys 7 and 8.
+    /// Reads the reply to the invocations on the keys 7 and 8; returns `None` if it is malformed.
     fn results(&mut self) -> Option<(End, End)> {
         let (length, rest) = self.rest.split_at_checked(4)?;
         self.rest = rest;
@@ -117,7 +118,7 @@ impl<'r> Replies<'r> {
     }
 }
 
-/// Whether two jobs that each add one to a key may end so, in some order.
+/// Checks that two jobs that each add 1 to the entry of key 7 may end so in some order; `is_put` says if the entry was put.
 fn may_end(is_put: bool, first: End, second: End) -> bool {
     if is_put {
         matches!(
@@ -131,7 +132,7 @@ fn may_end(is_put: bool, first: End, second: End) -> bool {
     }
 }
 
-/// Whether the second round's replies can be those to its requests.
+/// Checks that the replies may be those to the requests of the second round.
 fn second_round(replies: &mut Replies<'_>, is_defined: bool, is_put: bool) -> bool {
     if !is_defined {
         return replies.takes(&DENIED_CLASS) && replies.takes(&DENIED_CLASS);
@@ -145,7 +146,7 @@ fn second_round(replies: &mut Replies<'_>, is_defined: bool, is_put: bool) -> bo
     may_end(is_put, first, second) && !matches!(absent, End::Returned(_))
 }
 
-/// Whether the replies are those to both rounds, or to the whole rounds before memory lacked.
+/// Checks that the replies are those to both rounds, or, with the fault `NoMemory`, those to none or to the first.
 fn are_right(replies: &[u8], fault: Option<ServeFault>) -> bool {
     let may_end = match fault {
         None => false,
@@ -172,7 +173,7 @@ fn are_right(replies: &[u8], fault: Option<ServeFault>) -> bool {
         && replies.rest.is_empty()
 }
 
-/// Whether the script is served by so many workers as it must be.
+/// Serves the script with `workers` workers, and checks the replies.
 fn is_served<T: Threads + Wait + Sync>(
     rt: &T,
     alloc: Global,
@@ -200,7 +201,7 @@ fn is_served<T: Threads + Wait + Sync>(
     Ok(are_right(output.as_slice(), fault))
 }
 
-/// Where memory lacks for the script itself, there is nothing to see.
+/// When the script or the output buffer can't be allocated, nothing is checked.
 #[test]
 fn calls_on_one_key_are_served_or_lack_memory(rt: HostRuntime) {
     for workers in [0, 4] {

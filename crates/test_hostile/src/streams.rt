@@ -1,4 +1,4 @@
-//! A stream of two rounds that breaks off behind each of its bytes: by its end, by a reader that fails, or by a writer that fails.
+//! A stream of two rounds that is cut at each offset: by its end, by a reader that fails, or by a writer that fails.
 
 use cache::NoGate;
 use jtypes::NoLoader;
@@ -11,7 +11,7 @@ use std::test::Fail;
 use std::thread::Threads;
 use wire::{Counted, Plain};
 
-/// A put of 1 on key 5, an end, a get of key 5, an end.
+/// A put of 1 on key 5, a round end, a get of key 5, a round end.
 static REQUESTS: [u8; 44] = [
     0, 0, 0, 0x11, 2, 0, 0, 0, 0, 0, 0, 0, 5, 0, 0, 0, 0, 0, 0, 0, 1, //
     0, 0, 0, 1, 8, //
@@ -19,7 +19,7 @@ static REQUESTS: [u8; 44] = [
     0, 0, 0, 1, 8,
 ];
 
-/// The replies to it.
+/// The replies to `REQUESTS`.
 static REPLIES: [u8; 29] = [
     0, 0, 0, 1, 3, //
     0, 0, 0, 1, 9, //
@@ -27,7 +27,7 @@ static REPLIES: [u8; 29] = [
     0, 0, 0, 1, 9,
 ];
 
-/// The replies to the rounds that end within so many bytes of the requests.
+/// Returns the replies to the rounds that end within the first `count` bytes of `REQUESTS`.
 fn answered(count: usize) -> &'static [u8] {
     match count {
         0..=25 => &[],
@@ -36,7 +36,7 @@ fn answered(count: usize) -> &'static [u8] {
     }
 }
 
-/// By how many workers a stream is served.
+/// The worker counts with which a stream is served.
 static WORKERS: [usize; 3] = [0, 1, 4];
 
 fn settings(workers: usize) -> Settings {
@@ -77,7 +77,7 @@ fn a_cut_stream_answers_its_whole_rounds(rt: HostRuntime) -> Result<(), Fail> {
     Ok(())
 }
 
-/// Gives at most so many bytes a call, and fails behind the last one.
+/// A reader that returns at most `most` bytes a call, and fails after its last byte.
 #[derive(Drop)]
 struct Failing<'a> {
     rest: &'a [u8],
@@ -132,14 +132,14 @@ fn a_reader_that_fails_ends_the_stream(rt: HostRuntime) -> Result<(), Fail> {
     Ok(())
 }
 
-/// What a writer does with a byte behind the last one that it takes.
+/// What a full writer does with a further byte.
 #[derive(Clone, Copy, PartialEq, Eq)]
 enum Full {
     Fails,
     TakesNone,
 }
 
-/// Takes at most so many bytes a call, and so many in all.
+/// A writer that accepts at most `at_once` bytes a call, and `most` bytes in all.
 #[derive(Drop)]
 struct Sink {
     bytes: Vec<u8>,
@@ -164,7 +164,7 @@ impl Write for Sink {
     }
 }
 
-/// What serving the two rounds to such a writer comes to, and what is written.
+/// Serves `REQUESTS` to such a writer. Returns the result, and the bytes that are written.
 fn served_to<T: Threads + Wait + Sync>(
     rt: &T,
     alloc: Global,

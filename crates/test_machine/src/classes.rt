@@ -1,4 +1,4 @@
-//! Small classes: what is linked of them, and their invocations.
+//! Small classes: their linked code, and their invocations.
 
 mod linking;
 mod loading;
@@ -11,7 +11,7 @@ use rowclasses as rows;
 use std::alloc::{AllocError, Global};
 use verify::{Verified, verify};
 
-/// The bytes of the class with this name, none where there is no such class.
+/// Returns the class file of the class with this name, empty if there is no such class.
 fn bytes_of(alloc: Global, name: &str) -> Result<Vec<u8>, AllocError> {
     match name {
         "Plus" => rows::plus(alloc),
@@ -21,7 +21,7 @@ fn bytes_of(alloc: Global, name: &str) -> Result<Vec<u8>, AllocError> {
     }
 }
 
-/// The class with this name, verified; none where it is refused.
+/// Returns the verified class with this name, `None` if it is refused.
 fn class_named(alloc: Global, name: &str) -> Option<Verified> {
     match bytes_of(alloc, name) {
         Ok(bytes) => verify(alloc, &bytes).ok(),
@@ -29,7 +29,7 @@ fn class_named(alloc: Global, name: &str) -> Option<Verified> {
     }
 }
 
-/// What Plus makes of 41.
+/// The result of Plus on the entry 41.
 const MADE_42: Done = Done {
     outcome: Outcome::Returned(Arg::Long(42)),
     effect: Effect::Put(42),
@@ -39,7 +39,7 @@ const MADE_42: Done = Done {
     words: 0,
 };
 
-/// The fault of NestFault, a division by zero in a called method.
+/// The result of NestFault: the exception for a division by zero in a called method.
 const THREW: Done = Done {
     outcome: Outcome::Threw(JavaFault::Arithmetic),
     effect: Effect::Keep,

@@ -1,4 +1,4 @@
-//! Tests: classes that are verified, the rows of an invocation, and invocations whole and step by step.
+//! Tests: verified classes, the slots of an invocation, and invocations whole and step by step.
 #![tactic(auto)]
 
 #[cfg(test)]

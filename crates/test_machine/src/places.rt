@@ -1,11 +1,11 @@
-//! The operations of an invocation, one after the other.
+//! Operations on the operand stack and the local variables of an invocation.
 
 ghost use Rattle.slots.specs.Reads.{HasRows};
 
 use slots::{Slots, Window};
 use std::test::Fail;
 
-/// An int goes onto the operands and back.
+/// Pushes an int on the operand stack, and pops it.
 fn through_the_operands(slots: &mut Slots, n: i32) -> i32
     requires { HasRows slots.old }
 {
@@ -14,7 +14,7 @@ fn through_the_operands(slots: &mut Slots, n: i32) -> i32
     slots.pop_int()
 }
 
-/// An int goes to a method that is called and comes back; the caller's place, and the int.
+/// Passes an int to a called method, which returns the same int. Returns the index at which the caller continues, and the int.
 fn call(slots: &mut Slots, n: i32) -> (Option<usize>, i32)
     requires { HasRows slots.old }
 {
@@ -34,7 +34,7 @@ fn call(slots: &mut Slots, n: i32) -> (Option<usize>, i32)
     (place, window.pop_int())
 }
 
-/// An int goes into a local and back.
+/// Stores an int in local variable 3, and loads it.
 fn through_a_local(slots: &mut Slots, n: i32) -> i32
     requires { HasRows slots.old }
 {

@@ -1,4 +1,4 @@
-//! Each call on an arena once, with the extremes.
+//! Each operation of an arena, with extreme values.
 
 use arena::*;
 use jtypes::{ArrayKind, JavaFault};

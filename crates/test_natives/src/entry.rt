@@ -1,4 +1,4 @@
-//! Each call on an entry once, with the extremes.
+//! Each operation of a mutable entry, with extreme values.
 
 use jtypes::{Effect, JavaFault, RefValue};
 use mutentry::*;

@@ -1,4 +1,4 @@
-//! Tests: the entry, the words and arrays, and the library calls of an invocation.
+//! Tests: the mutable entry, the word buffer, the arrays and the library calls of an invocation.
 #![tactic(auto)]
 
 #[cfg(test)]

@@ -1,4 +1,4 @@
-//! Each library call and each cast once, with the extremes.
+//! Each library call and each cast, with extreme values.
 
 ghost use Rattle.std.specs.Prelude.{ℕ};
 ghost use Rattle.arena.specs.Placing.{IsArrayAt, IsReference};
@@ -127,14 +127,14 @@ fn another_receiver_of_an_interface_call_is_a_fault(rt: HostRuntime) {
     assert_eq!(rt; entry.get_value(), Some(7));
 }
 
-// Whether a reference passes that is the same in the definitions, as each but an array's is.
+// Returns whether a cast to `target` passes this reference, which the specification has in the same form, as any but an array's.
 fn passes_as(arena: &Arena, value: RefValue, target: RefType) -> bool
     requires { IsReference arena.now.arrays value value }
 {
     passes(arena, value, &target)
 }
 
-// Whether an array passes.
+// Returns whether a cast to `target` passes this array.
 fn array_passes_as(arena: &Arena, id: ArrayId, target: RefType) -> bool
     requires { (k : ℕ) × IsArrayAt arena.now.arrays k id }
 {

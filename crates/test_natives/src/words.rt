@@ -1,4 +1,4 @@
-//! Each call on a row of words once, with the extremes.
+//! Each operation of a word buffer, with extreme values.
 
 use rawwords::*;
 use std::test::Fail;

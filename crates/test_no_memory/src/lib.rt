@@ -1,4 +1,5 @@
-//! Tests: what calls, rounds and streams leave where one growth of memory is refused. With ample memory they show that nothing is refused.
+//! Tests: the state and the replies that calls, rounds and streams leave when an allocation is refused.
+//! They accept a refusal for out of memory in each run, so they pass with ample memory too.
 #![tactic(auto)]
 
 #[cfg(test)]

@@ -1,4 +1,4 @@
-//! Rounds and calls on many keys, on a cache.
+//! Rounds and `invoke_all` on 48 keys of a cache.
 
 ghost use Rattle.std.specs.Prelude.{◌≡◌, length, IfOk, IfSome};
 ghost use Rattle.std.specs.List.{All};
@@ -22,10 +22,10 @@ use std::test::Fail;
 use std::thread::Threads;
 use stripe::{ArgSlice, Reply, Tables};
 
-/// How many keys there are.
+/// The number of keys, which are 0 to 47.
 const KEYS: usize = 48;
 
-/// The entry of each key.
+/// The entries, indexed by key.
 type Entries = [Option<i64>; KEYS];
 
 fn entries_of(tables: &Tables) -> Entries {
@@ -36,16 +36,17 @@ fn entries_of(tables: &Tables) -> Entries {
     entries
 }
 
-/// What is done on each key.
+/// The job of a round on each key.
 #[derive(Clone, Copy, PartialEq, Eq)]
 enum Work {
-    /// A put of the key's own number.
+    /// Puts the key itself as the value.
     Put,
-    /// An invocation that adds one.
+    /// Invokes an entry processor that adds 1.
     Plus,
 }
 
-/// Whether the entry that a key has afterwards is what this tells of the work on it.
+/// Checks that the entry `now` of a key follows from its entry `before` and the answer `told` to the job on it.
+/// A job that is out of memory must leave the entry unchanged.
 fn is_told(work: Work, key: i64, before: Option<i64>, told: &JobReply, now: Option<i64>) -> bool {
     match (work, before, told) {
         (_, _, Err(InvokeRefusal::NoMemory)) => now == before,
@@ -60,7 +61,7 @@ fn is_told(work: Work, key: i64, before: Option<i64>, told: &JobReply, now: Opti
     }
 }
 
-/// Whether each key's entry is the one that its answer tells; without answers nothing has changed.
+/// Checks `is_told` for each key. Without answers no entry may have changed.
 fn are_told(work: Work, before: &Entries, answers: Option<&[JobReply]>, now: &Entries) -> bool {
     let Some(answers) = answers else {
         return now == before;
@@ -76,7 +77,8 @@ fn are_told(work: Work, before: &Entries, answers: Option<&[JobReply]>, now: &En
     true
 }
 
-/// The same of the results of a call on all keys, each listed once, in order.
+/// Checks `is_told` for the results of `invoke_all`, which lists each key once, in ascending order.
+/// Without results no entry may have changed.
 fn are_listed(before: &Entries, results: Option<&[(i64, JobReply)]>, now: &Entries) -> bool {
     let Some(results) = results else {
         return now == before;
@@ -93,7 +95,7 @@ fn are_listed(before: &Entries, results: Option<&[(i64, JobReply)]>, now: &Entri
     true
 }
 
-/// The work on each key.
+/// Returns one job for each key.
 fn jobs_for<'j>(
     alloc: Global,
     work: Work,
@@ -118,7 +120,7 @@ fn jobs_for<'j>(
     Ok(jobs)
 }
 
-/// So many workspaces.
+/// Returns `count` workspaces.
 fn workspaces(alloc: Global, count: usize) -> Result<Vec<Workspace>, AllocError>
     ensures { IfOk result (λ v. length v.items ≡ count) }
 {
@@ -129,7 +131,7 @@ fn workspaces(alloc: Global, count: usize) -> Result<Vec<Workspace>, AllocError>
     Ok(list)
 }
 
-/// A cache with these tables, and its seats; or the tables again.
+/// Opens a cache on these tables, with `seats` seats; returns the tables if it is refused.
 fn opened<'a>(
     alloc: Global,
     registry: &'a Registry,
@@ -147,10 +149,10 @@ fn opened<'a>(
     }
 }
 
-/// What was answered, if the round was run, and the tables afterwards.
+/// The answers, `None` if there are none, and the tables after the cache is closed.
 type AnswersLeft<A> = (Option<Vec<A>>, Tables);
 
-/// Does a round on a cache that is opened for it.
+/// Runs a round on a cache opened for it, with `count` seats.
 fn round<R: Threads + Wait + Sync>(
     rt: &R,
     alloc: Global,
@@ -175,7 +177,7 @@ fn round<R: Threads + Wait + Sync>(
     }
 }
 
-/// Each key, and some of them once more.
+/// Returns 64 keys: each key once, and the keys 0 to 15 a second time.
 fn keys_and_doubles() -> [i64; 64] {
     let mut keys = [0; 64];
     for place in 0..64 {
@@ -184,7 +186,7 @@ fn keys_and_doubles() -> [i64; 64] {
     keys
 }
 
-/// Adds one to each key by one call at these seats.
+/// Invokes the class on each key by one `invoke_all`; returns `None` when out of memory.
 fn listed<'a, R: Threads + Wait + Sync>(
     rt: &R,
     alloc: Global,
@@ -218,7 +220,7 @@ fn listed<'a, R: Threads + Wait + Sync>(
     }
 }
 
-/// The same on a cache that is opened for it.
+/// Does the same on a cache opened for it, with `count` seats.
 fn plus_on_all<R: Threads + Wait + Sync>(
     rt: &R,
     alloc: Global,
@@ -237,7 +239,7 @@ fn plus_on_all<R: Threads + Wait + Sync>(
     (results, cache.close(seats).tables)
 }
 
-/// Whether a round of this work, by so many workers, does what it tells; and the tables afterwards.
+/// Runs a round of this work with `count` workers. Returns whether the entries follow from the answers, and the tables.
 fn work_is_right<R: Threads + Wait + Sync>(
     rt: &R,
     alloc: Global,
@@ -257,7 +259,7 @@ fn work_is_right<R: Threads + Wait + Sync>(
     Ok((is_told, tables))
 }
 
-/// Whether rounds of a class by so many workers, of puts, of invocations and of one call on all keys, do what they tell.
+/// Checks a round of puts, a round of invocations and one `invoke_all` on all keys, each with `count` workers.
 fn all_are_right<R: Threads + Wait + Sync>(
     rt: &R,
     alloc: Global,
@@ -278,7 +280,7 @@ fn all_are_right<R: Threads + Wait + Sync>(
     Ok(is_put && is_run && is_listed)
 }
 
-/// The same of Plus, in a registry of its own.
+/// Does the same with Plus, in a new registry.
 fn rounds_are_right<R: Threads + Wait + Sync>(
     rt: &R,
     alloc: Global,
@@ -291,7 +293,7 @@ fn rounds_are_right<R: Threads + Wait + Sync>(
     all_are_right(rt, alloc, &registry, &class, count)
 }
 
-/// Where memory lacks for what stands around the rounds, there is nothing to see.
+/// When an allocation outside the rounds is refused, nothing is checked.
 #[test]
 fn rounds_do_what_they_tell_or_nothing(rt: HostRuntime) {
     for count in [1, 4] {

@@ -1,4 +1,4 @@
-//! Streams of requests.
+//! Request streams, when an allocation may be refused.
 
 use cache::NoGate;
 use jtypes::NoLoader;
@@ -10,7 +10,7 @@ use std::test::Fail;
 use std::thread::Threads;
 use wire::Counted;
 
-/// How many keys there are.
+/// The number of keys, which are 0 to 39.
 const KEYS: u8 = 40;
 
 static ROUND_END: [u8; 5] = [0, 0, 0, 1, 8];
@@ -29,12 +29,12 @@ static REFUSED_MEMORY: [u8; 10] = [0, 0, 0, 6, 2, 30, 0, 0, 0, 0];
 
 static THREW_NULL_POINTER: [u8; 7] = [0, 0, 0, 3, 6, 1, 3];
 
-/// The result of an invocation that returned this Long.
+/// Returns the reply to an invocation that returned this `Long`.
 fn returned(n: u8) -> [u8; 15] {
     [0, 0, 0, 0x0B, 6, 0, 1, 0, 0, 0, 0, 0, 0, 0, n]
 }
 
-/// A class that adds one is defined, each key is put to its own number, and in a second round invoked.
+/// Returns a stream of two rounds: the first defines Plus and puts each key as its own value, the second invokes Plus on each key.
 fn script(alloc: Global) -> Result<Vec<u8>, AllocError> {
     let plus = rows::plus(alloc)?;
     let mut input = Vec::new(alloc);
@@ -53,13 +53,14 @@ fn script(alloc: Global) -> Result<Vec<u8>, AllocError> {
     Ok(input)
 }
 
-/// What follows this frame in the replies; none where they don't begin with it.
+/// Returns the bytes after `frame`, `None` if `replies` doesn't begin with it.
 fn behind<'r>(replies: &'r [u8], frame: &[u8]) -> Option<&'r [u8]> {
     let (front, rest) = replies.split_at_checked(frame.len())?;
     if front == frame { Some(rest) } else { None }
 }
 
-/// What follows the replies to the first round; none where they can't be. Also whether the class is defined, and which keys are put.
+/// Reads the replies to the first round. Returns the bytes after them, whether the class is defined, and which keys are put.
+/// Returns `None` if they can't be the replies to this round.
 fn first_round<'r>(replies: &'r [u8]) -> Option<(&'r [u8], bool, [bool; 40])> {
     let (mut rest, is_defined) = match behind(replies, &DEFINED) {
         Some(rest) => (rest, true),
@@ -78,7 +79,7 @@ fn first_round<'r>(replies: &'r [u8]) -> Option<(&'r [u8], bool, [bool; 40])> {
     Some((behind(rest, &ENDED)?, is_defined, are_put))
 }
 
-/// What follows the reply to an invocation on a key; none where it can't be.
+/// Returns the bytes after the reply to an invocation on a key, `None` if it can't be the reply.
 fn invoked<'r>(replies: &'r [u8], is_defined: bool, key: u8, is_put: bool) -> Option<&'r [u8]> {
     if !is_defined {
         return behind(replies, &DENIED_CLASS);
@@ -94,7 +95,7 @@ fn invoked<'r>(replies: &'r [u8], is_defined: bool, key: u8, is_put: bool) -> Op
     }
 }
 
-/// Whether the replies are those to both rounds, or to the whole rounds before memory lacked.
+/// Returns `Some(true)` if the replies are those to both rounds, or, with the fault `NoMemory`, those to none or to the first.
 fn are_right(replies: &[u8], fault: Option<ServeFault>) -> Option<bool> {
     let may_end = fault == Some(ServeFault::NoMemory);
     if may_end && replies.is_empty() {
@@ -110,7 +111,7 @@ fn are_right(replies: &[u8], fault: Option<ServeFault>) -> Option<bool> {
     Some(fault.is_none() && behind(rest, &ENDED)?.is_empty())
 }
 
-/// Serves the script by so many workers.
+/// Serves the script with `workers` workers, and checks the replies.
 fn script_is_served<T: Threads + Wait + Sync>(
     rt: &T,
     alloc: Global,
@@ -138,7 +139,7 @@ fn script_is_served<T: Threads + Wait + Sync>(
     Ok(are_right(output.as_slice(), fault).unwrap_or(false))
 }
 
-/// Where memory lacks for the script itself, there is nothing to see.
+/// When the script or the output buffer can't be allocated, nothing is checked.
 #[test]
 fn streams_are_served_or_lack_memory(rt: HostRuntime) {
     for workers in [0, 1, 4] {

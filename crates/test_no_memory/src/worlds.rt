@@ -1,14 +1,15 @@
-//! Calls in a world.
+//! Puts in a world, when an allocation may be refused.
 
 use jtypes::NoLoader;
 use std::test::Fail;
 use stripe::{BeginRefusal, Call, OpenRefusal, Tables};
 use world::{Applied, Event, World};
 
-/// How many keys there are.
+/// The number of keys, which are 0 to 63.
 const KEYS: usize = 64;
 
-/// Puts each key to its own number, and answers which puts were done. Others were refused for want of memory.
+/// Puts each key as its own value. Returns which puts are done; any other was refused for out of memory.
+/// Returns `None` if an event has another result.
 fn put_all(world: &mut World<'_, NoLoader>) -> Option<[bool; KEYS]> {
     let mut are_put = [false; KEYS];
     for place in 0..KEYS {
@@ -27,7 +28,7 @@ fn put_all(world: &mut World<'_, NoLoader>) -> Option<[bool; KEYS]> {
     Some(are_put)
 }
 
-/// Whether each key has its entry where it was put, and none where it wasn't.
+/// Checks that a key that was put has its own number as its entry, and that any other key has none.
 fn has_entries(tables: &Tables, are_put: &[bool; KEYS]) -> bool {
     for (place, is_put) in are_put.iter().enumerate() {
         let key = place as i64;

@@ -20,12 +20,12 @@ use workers::{
     CALL_COST, PoolRound, RoundLeft, WorkspacePool, cost_of, run_by_workers, workers_for,
 };
 
-/// An invocation returned this Long.
+/// Returns the answer to an invocation that returned this `Long`.
 fn returned(n: i64) -> JobReply {
     Ok(Reply::Result(Outcome::Returned(Arg::Long(n))))
 }
 
-/// What a round of these jobs leaves, by 1 to 16 workers.
+/// Runs a round of these jobs by 1 to 16 workers, and returns what it leaves.
 fn round<R: Threads + Wait + Sync>(
     rt: &R,
     alloc: Global,
@@ -53,7 +53,7 @@ fn round<R: Threads + Wait + Sync>(
     }
 }
 
-/// Three entries are put.
+/// Returns puts on the keys 2, 3 and 5.
 fn three_puts<'j>() -> [Job<'j>; 3]
     ensures { (registry : Shelves) → All (IsCallable registry) result }
 {
@@ -64,7 +64,7 @@ fn three_puts<'j>() -> [Job<'j>; 3]
     ]
 }
 
-/// A job of each kind, each on a key of its own.
+/// Returns a job of each kind, each on a different key.
 fn on_own_keys<'j>(class: &'j ClassId, args: &'j Args) -> [Job<'j>; 5]
     ensures { (registry : Shelves) → IsOf registry class.now → All (IsCallable registry) result }
 {
@@ -81,7 +81,7 @@ fn on_own_keys<'j>(class: &'j ClassId, args: &'j Args) -> [Job<'j>; 5]
     ]
 }
 
-/// A job of each kind, on two keys.
+/// Returns a job of each kind, on the keys 1 and 3.
 fn on_two_keys<'j>(class: &'j ClassId, args: &'j Args) -> [Job<'j>; 5]
     ensures { (registry : Shelves) → IsOf registry class.now → All (IsCallable registry) result }
 {
@@ -98,7 +98,7 @@ fn on_two_keys<'j>(class: &'j ClassId, args: &'j Args) -> [Job<'j>; 5]
     ]
 }
 
-/// What a round leaves behind a round of three puts, on two stripes.
+/// Runs a round of `three_puts` and then a round of these jobs on two stripes, and returns what the latter leaves.
 fn behind_puts<R: Threads + Wait + Sync>(
     rt: &R,
     alloc: Global,
@@ -117,7 +117,7 @@ fn behind_puts<R: Threads + Wait + Sync>(
     }
 }
 
-/// The entries of the keys 1 to 5.
+/// Returns the entries of the keys 1 to 5.
 fn entries_in(tables: &Tables) -> [Option<i64>; 5] {
     [
         tables.entry(1),
@@ -128,7 +128,7 @@ fn entries_in(tables: &Tables) -> [Option<i64>; 5] {
     ]
 }
 
-/// Whether a round behind three puts leaves these answers and entries.
+/// Checks the answers and the entries that a round of these jobs leaves after a round of `three_puts`.
 fn leaves<R: Threads + Wait + Sync>(
     rt: &R,
     alloc: Global,
@@ -146,7 +146,7 @@ fn leaves<R: Threads + Wait + Sync>(
     }
 }
 
-/// Whether a round of jobs on keys of their own leaves what it has to.
+/// Checks what a round of `on_own_keys` leaves.
 fn own_keys_are_right<R: Threads + Wait + Sync>(
     rt: &R,
     alloc: Global,
@@ -169,7 +169,7 @@ fn own_keys_are_right<R: Threads + Wait + Sync>(
     leaves(rt, alloc, registry, workers, &jobs, &answers, entries)
 }
 
-/// The same by 1 and by 4 workers.
+/// Does the same by 1 and by 4 workers, in a new registry, which defines the class.
 fn own_keys_by_each<R: Threads + Wait + Sync>(
     rt: &R,
     alloc: Global,
@@ -195,7 +195,7 @@ fn jobs_on_own_keys_have_one_outcome(rt: HostRuntime) -> Result<(), Fail> {
     Ok(())
 }
 
-/// Whether one worker runs jobs on two keys in their order.
+/// Checks that one worker runs the jobs of `on_two_keys` in order.
 fn two_keys_are_right<R: Threads + Wait + Sync>(
     rt: &R,
     alloc: Global,
@@ -217,7 +217,7 @@ fn two_keys_are_right<R: Threads + Wait + Sync>(
     leaves(rt, alloc, registry, 1, &jobs, &answers, entries)
 }
 
-/// The same, with a registry of its own.
+/// Does the same in a new registry, which defines the class.
 fn two_keys<R: Threads + Wait + Sync>(rt: &R, alloc: Global, plus: &[u8]) -> Option<bool> {
     match Registry::new(alloc) {
         Ok(registry) => match registry.define(rt, alloc, plus) {
@@ -236,7 +236,7 @@ fn one_worker_keeps_the_order(rt: HostRuntime) -> Result<(), Fail> {
     Ok(())
 }
 
-/// Whether a round without jobs leaves the entries as they were, by 1 and by 4 workers.
+/// Checks that a round without jobs leaves the entries unchanged, by 1 and by 4 workers.
 fn no_jobs_by_each<R: Threads + Wait + Sync>(rt: &R, alloc: Global) -> Option<[bool; 2]> {
     let entries = [None, Some(41), Some(7), None, Some(50)];
     match Registry::new(alloc) {
@@ -254,7 +254,8 @@ fn no_jobs_leave_the_entries(rt: HostRuntime) -> Result<(), Fail> {
     Ok(())
 }
 
-/// How many of four workers a round is worth that has five calls and runs 14 instructions at most: reckoned as 974 of them.
+/// Returns how many of four workers a round gets for each of eight shares, in instructions.
+/// The round has five calls, one of them an invocation of at most 14 instructions, and an estimated cost of 974 instructions.
 fn worths(registry: &Registry, class: &ClassId) -> [usize; 8]
     requires { IsOf registry.now class.now }
 {
@@ -267,7 +268,7 @@ fn worths(registry: &Registry, class: &ClassId) -> [usize; 8]
     worths
 }
 
-/// The same, with a registry of its own.
+/// Does the same in a new registry, which defines the class.
 fn worths_of<R: Threads + Wait + Sync>(rt: &R, alloc: Global, plus: &[u8]) -> Option<[usize; 8]> {
     match Registry::new(alloc) {
         Ok(registry) => match registry.define(rt, alloc, plus) {

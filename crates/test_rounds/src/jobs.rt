@@ -1,4 +1,4 @@
-//! Rounds, by several workers.
+//! Rounds on a cache, by several workers.
 
 ghost use Rattle.std.specs.Prelude.{◌≡◌, ◌<◌, ◌≤◌, length, IfOk, IfSome};
 ghost use Rattle.std.specs.List.{All};
@@ -24,7 +24,7 @@ use std::test::Fail;
 use std::thread::Threads;
 use stripe::{ArgSlice, Reply, Tables};
 
-/// What a job asks.
+/// The call of a job.
 #[derive(Clone, Copy)]
 enum Ask {
     Put(i64, i64),
@@ -32,14 +32,14 @@ enum Ask {
     Run(i64),
 }
 
-/// What a round leaves: its tables and its answers.
+/// What a round leaves: the tables and the answers.
 #[derive(Drop)]
 struct AfterRound {
     tables: Tables,
     answers: Vec<JobReply>,
 }
 
-/// An invocation returned this Long.
+/// Returns the answer to an invocation that returned this `Long`.
 fn returned(n: i64) -> JobReply {
     Ok(Reply::Result(Outcome::Returned(Arg::Long(n))))
 }
@@ -72,7 +72,7 @@ fn jobs_of<'j>(
     Ok(jobs)
 }
 
-/// So many workspaces.
+/// Returns `count` workspaces.
 fn workspaces(alloc: Global, count: usize) -> Result<Vec<Workspace>, AllocError>
     ensures { IfOk result (λ v. length v.items ≡ count) }
 {
@@ -83,7 +83,7 @@ fn workspaces(alloc: Global, count: usize) -> Result<Vec<Workspace>, AllocError>
     Ok(list)
 }
 
-/// A cache with these tables, and its seats.
+/// Opens a cache on these tables, with `seats` seats.
 fn opened<'a>(
     alloc: Global,
     registry: &'a Registry,
@@ -101,7 +101,7 @@ fn opened<'a>(
     }
 }
 
-/// Runs a round on a cache that is opened for it.
+/// Runs a round on a cache that is opened for it, with `seats` seats.
 fn ran<R: Threads + Wait + Sync, G: Gate + Sync>(
     rt: &R,
     alloc: Global,
@@ -129,7 +129,7 @@ fn ran<R: Threads + Wait + Sync, G: Gate + Sync>(
     }
 }
 
-/// The same, by what the jobs ask, on a class with one argument 1 or none.
+/// Does the same with the jobs of `asks`; each invocation has the argument 1.
 fn done<R: Threads + Wait + Sync, G: Gate + Sync>(
     rt: &R,
     alloc: Global,
@@ -151,7 +151,7 @@ fn done<R: Threads + Wait + Sync, G: Gate + Sync>(
     }
 }
 
-/// What a round by one worker leaves on so many empty stripes.
+/// Returns the tables after a round of `first` by one worker, on `stripes` empty stripes.
 fn begun<R: Threads + Wait + Sync>(
     rt: &R,
     alloc: Global,
@@ -171,7 +171,7 @@ fn begun<R: Threads + Wait + Sync>(
     }
 }
 
-/// A round behind another by one worker.
+/// Runs a round of `first` by one worker, and then a round of `asks` with `seats` seats.
 fn behind<R: Threads + Wait + Sync, G: Gate + Sync>(
     rt: &R,
     alloc: Global,
@@ -191,7 +191,7 @@ fn behind<R: Threads + Wait + Sync, G: Gate + Sync>(
     }
 }
 
-/// The same, with a registry of its own.
+/// Does the same in a new registry, which defines the class.
 fn asked<R: Threads + Wait + Sync, G: Gate + Sync>(
     rt: &R,
     alloc: Global,
@@ -215,7 +215,7 @@ fn asked<R: Threads + Wait + Sync, G: Gate + Sync>(
     }
 }
 
-/// A put of each key below 100 to its own entry.
+/// Returns a put of each key below 100, with the key as its value.
 fn own_puts() -> [Ask; 100] {
     let mut asks = [Ask::Put(0, 0); 100];
     for key in 0..100 {
@@ -224,7 +224,7 @@ fn own_puts() -> [Ask; 100] {
     asks
 }
 
-/// An invocation on each key below 100.
+/// Returns an invocation on each key below 100.
 fn runs() -> [Ask; 100] {
     let mut asks = [Ask::Run(0); 100];
     for key in 0..100 {
@@ -233,7 +233,7 @@ fn runs() -> [Ask; 100] {
     asks
 }
 
-/// Whether 100 invocations of Plus return each its key plus one, by so many seats.
+/// Checks that 100 invocations of Plus return each key plus 1, with `seats` seats.
 fn hundred<R: Threads + Wait + Sync>(rt: &R, alloc: Global, plus: &[u8], seats: usize) -> bool {
     let Some(left) = asked(rt, alloc, plus, 4, &own_puts(), seats, &runs(), &NoGate) else {
         return false;
@@ -258,7 +258,7 @@ fn each_job_has_its_own_answer(rt: HostRuntime) -> Result<(), Fail> {
     Ok(())
 }
 
-/// What `invoke_all` of a class gives on these keys of a cache with these tables.
+/// Returns the results of `invoke_all` of a class on these keys, on a cache opened on these tables.
 fn gathered<R: Threads + Wait + Sync>(
     rt: &R,
     alloc: Global,
@@ -293,7 +293,7 @@ fn gathered<R: Threads + Wait + Sync>(
     }
 }
 
-/// The same, after these puts on four stripes.
+/// Does the same after a round of `first` on four stripes.
 fn gathered_behind<R: Threads + Wait + Sync>(
     rt: &R,
     alloc: Global,
@@ -311,7 +311,7 @@ fn gathered_behind<R: Threads + Wait + Sync>(
     }
 }
 
-/// The same, with a registry of its own.
+/// Does the same in a new registry, which defines the class.
 fn collected<R: Threads + Wait + Sync>(
     rt: &R,
     alloc: Global,
@@ -329,7 +329,7 @@ fn collected<R: Threads + Wait + Sync>(
     }
 }
 
-/// Whether Ratio on keys 1, 2, 2 and 3 gives a Long, an exception and, of key 3, nothing.
+/// Checks the results of Ratio on the keys 1, 2, 2 and 3: a `Long` for key 1, one exception for key 2, no result for key 3.
 fn are_ratios<R: Threads + Wait + Sync>(rt: &R, alloc: Global, ratio: &[u8], seats: usize) -> bool {
     let first = [Ask::Put(1, 2), Ask::Put(2, 0), Ask::Put(3, 1)];
     let Some(results) = collected(rt, alloc, ratio, &first, seats, &[1, 2, 2, 3]) else {
@@ -339,7 +339,7 @@ fn are_ratios<R: Threads + Wait + Sync>(rt: &R, alloc: Global, ratio: &[u8], sea
     results.as_slice() == [(1, returned(0)), (2, threw)].as_slice()
 }
 
-/// The same by 1, 2 and 4 seats.
+/// Does the same with 1, 2 and 4 seats.
 fn ratios_by_each<R: Threads + Wait + Sync>(rt: &R, alloc: Global, ratio: &[u8]) -> [bool; 3] {
     [
         are_ratios(rt, alloc, ratio, 1),
@@ -359,7 +359,7 @@ fn doubles_and_nulls_are_dropped(rt: HostRuntime) -> Result<(), Fail> {
     Ok(())
 }
 
-/// The Long that a job's processor returned.
+/// Returns the `Long` that the entry processor of a job returned, `None` for any other answer.
 fn long_of(answers: &[JobReply], job: usize) -> Option<i64> {
     match *answers.get(job)? {
         Ok(Reply::Result(Outcome::Returned(Arg::Long(n)))) => Some(n),
@@ -367,7 +367,7 @@ fn long_of(answers: &[JobReply], job: usize) -> Option<i64> {
     }
 }
 
-/// What two invocations beside a put returned, and the entry that they left.
+/// Returns the numbers that the invocations of the jobs 1 and 2 returned, and the entry of key 5 after the round.
 fn outcome_of(left: &AfterRound) -> Option<(i64, i64, i64)> {
     match (
         long_of(&left.answers, 1),
@@ -379,7 +379,7 @@ fn outcome_of(left: &AfterRound) -> Option<(i64, i64, i64)> {
     }
 }
 
-/// The same of Counter, beside a put of 1.
+/// Runs a round with a put of 1 and two invocations of Counter on key 5, and returns the outcome.
 fn beside_a_put<R: Threads + Wait + Sync>(
     rt: &R,
     alloc: Global,
@@ -392,7 +392,7 @@ fn beside_a_put<R: Threads + Wait + Sync>(
     }
 }
 
-/// What two invocations of Counter beside a put of 1 may return, and the entry that they leave, by the six orders of the three calls.
+/// The possible outcomes of a put of 1 and two invocations of Counter, for the six orders of the three calls.
 static OUTCOMES: [(i64, i64, i64); 6] = [
     (2, 3, 3),
     (3, 2, 3),
@@ -402,7 +402,7 @@ static OUTCOMES: [(i64, i64, i64); 6] = [
     (2, 1, 1),
 ];
 
-/// Whether the three calls may have had this outcome, one after the other in some order.
+/// Checks that some order of the three calls has this outcome.
 fn is_possible(outcome: Option<(i64, i64, i64)>) -> bool {
     outcome.is_some_and(|outcome| OUTCOMES.contains(&outcome))
 }

@@ -1,4 +1,4 @@
-//! Tests: rounds of jobs by several workers, and rounds on a cache that is opened for each.
+//! Tests: rounds of jobs by one or several workers, rounds on a cache opened for each, and rounds with a loader.
 #![tactic(auto)]
 
 #[cfg(test)]

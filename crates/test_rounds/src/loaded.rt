@@ -1,4 +1,4 @@
-//! Calls on absent keys where there is a loader (JSR 107, `CacheLoader`), on one thread and by workers.
+//! Calls on absent keys with a loader (JSR 107, `CacheLoader`), on one thread and by workers.
 
 ghost use Rattle.std.specs.Prelude.{true};
 ghost use Rattle.std.specs.List.{All};
@@ -20,7 +20,7 @@ use stripe::{ArgSlice, Call, Reply, Tables};
 use verify::Verified;
 use workers::{PoolRound, WorkspacePool, run_by_workers};
 
-/// 7 gives 41, 9 gives 0, 13 fails, and no other key has a value.
+/// A loader: key 7 has the value 41, key 9 has 0, key 13 fails, and any other key has no value.
 struct Few;
 
 impl Loader for Few {
@@ -40,7 +40,7 @@ impl Loader for Few {
     }
 }
 
-/// An invocation of a class on an absent key, what it is told, and the entry afterwards.
+/// An invocation of a class on an absent key, its outcome, and the entry after it.
 struct Row {
     class: &'static str,
     key: i64,
@@ -101,7 +101,7 @@ static ROWS: [Row; 7] = [
     },
 ];
 
-/// The bytes of the class with this name.
+/// Returns the class file of the class with this name, empty if there is no such class.
 fn bytes_of(alloc: Global, name: &str) -> Result<Vec<u8>, AllocError> {
     match name {
         "Plus" => rows::plus(alloc),
@@ -111,10 +111,10 @@ fn bytes_of(alloc: Global, name: &str) -> Result<Vec<u8>, AllocError> {
     }
 }
 
-/// What a round leaves: its replies are these, and the entry of a key is that.
+/// Whether a round has the expected replies, and the entry of a key after it; `None` if the round is not run.
 type Left = Option<(bool, Option<i64>)>;
 
-/// Whether the answers have these replies.
+/// Checks that the answers have these replies; `None` is a refusal.
 fn have(answers: &[JobReply], replies: &[Option<Reply>]) -> bool {
     answers.len() == replies.len()
         && answers
@@ -123,7 +123,7 @@ fn have(answers: &[JobReply], replies: &[Option<Reply>]) -> bool {
             .all(|(answer, reply)| (*answer).ok() == *reply)
 }
 
-/// What a round of these jobs leaves, by four workers.
+/// Runs a round of these jobs by four workers.
 fn by_workers<R: Threads + Wait + Sync>(
     rt: &R,
     alloc: Global,
@@ -156,7 +156,7 @@ fn by_workers<R: Threads + Wait + Sync>(
     }
 }
 
-/// The same in turn, on this thread.
+/// Runs a round of these calls round-robin, on this thread.
 fn by_turns(alloc: Global, calls: &[Call<'_>], replies: &[Option<Reply>], key: i64) -> Left {
     if calls.len() > 4096 {
         return None;
@@ -170,7 +170,7 @@ fn by_turns(alloc: Global, calls: &[Call<'_>], replies: &[Option<Reply>], key: i
     }
 }
 
-/// One invocation.
+/// Returns one invocation as a job.
 fn one_job<'j>(class: &'j ClassId, key: i64, args: &'j Args) -> [Job<'j>; 1]
     ensures { (registry : Shelves) → IsOf registry class.now → All (IsCallable registry) result }
 {
@@ -181,7 +181,7 @@ fn one_job<'j>(class: &'j ClassId, key: i64, args: &'j Args) -> [Job<'j>; 1]
     }]
 }
 
-/// The same as a call.
+/// Returns the same invocation as a call.
 fn one_call<'a>(class: &'a Verified, key: i64, args: &'a Args) -> [Call<'a>; 1] {
     [Call::Invoke {
         class,
@@ -190,7 +190,7 @@ fn one_call<'a>(class: &'a Verified, key: i64, args: &'a Args) -> [Call<'a>; 1] 
     }]
 }
 
-/// What the invocation of a row leaves, in turn and by four workers.
+/// Runs the invocation of a `Row` round-robin and by four workers.
 fn row_by_each<R: Threads + Wait + Sync>(
     rt: &R,
     alloc: Global,
@@ -211,7 +211,7 @@ fn row_by_each<R: Threads + Wait + Sync>(
     ])
 }
 
-/// The same, with a registry of its own.
+/// Does the same in a new registry, which defines the class.
 fn row_of_its_class<R: Threads + Wait + Sync>(
     rt: &R,
     alloc: Global,
@@ -238,7 +238,7 @@ fn calls_on_absent_keys_are_loaded(rt: HostRuntime) -> Result<(), Fail> {
     Ok(())
 }
 
-/// Jobs on different keys, all absent.
+/// Returns jobs on different absent keys, none of them an invocation.
 fn plain_jobs<'j>() -> [Job<'j>; 5]
     ensures { (registry : Shelves) → All (IsCallable registry) result }
 {
@@ -251,7 +251,7 @@ fn plain_jobs<'j>() -> [Job<'j>; 5]
     ]
 }
 
-/// The entry of key 7 that the same calls leave, where their replies are these, in turn and by four workers.
+/// Makes the calls of `plain_jobs` round-robin and by four workers. Returns whether they have these replies, and the entry of key 7.
 fn plainly<R: Threads + Wait + Sync>(
     rt: &R,
     alloc: Global,

@@ -1,4 +1,4 @@
--- What a round of a single request gathers.
+-- The works and the calls that a round of one request gathers.
 use Rattle.std.proofs.Common.{◌≡◌, ◌≢◌, ℕ, ℤ, List, [], ◌∷◌, ◌++◌, length, refl, sym, ap, ◌∙◌, subst}
 use Rattle.std.specs.List.{AllByRecursion}
 use Rattle.typecheck.specs.Typing.{Class}
@@ -12,7 +12,7 @@ pub not_nil : {A : Type 0} (xs : List A) (x : A) → xs ++ x ∷ [] ≡ [] → �
 not_nil [] x e = cc
 not_nil (y ∷ xs) x e = cc
 
--- two lists that end in one element each
+-- lists that are equal have equal last elements, and are equal before them
 pub same_front : {A : Type 0} (xs ys : List A) (x y : A) → xs ++ x ∷ [] ≡ ys ++ y ∷ [] → (xs ≡ ys) × (x ≡ y)
 same_front [] [] x y e = let h : x ≡ y = cc in (refl, h)
 same_front [] (b ∷ ys) x y e = let t : [] ≡ ys ++ y ∷ [] = cc in absurd (not_nil ys y (sym t))
@@ -23,7 +23,7 @@ same_front (a ∷ xs) (b ∷ ys) x y e =
     let r = same_front xs ys x y t in
     (ap (λ z. z ∷ xs) h ∙ ap (λ l. b ∷ l) r.0, r.1)
 
--- ---- no round's end is gathered
+-- ---- no request that a round gathers is a round end
 
 is_open : {classes later : List Class} {at : ℕ} {r : Request} {p : Part} → Adds classes at r p later → r ≢ RoundEnd
 is_open (rounds.defines bytes c r few d) = λ e. cc

@@ -1,4 +1,4 @@
--- The stream of a put and of a get has its answer, and no other.
+-- The stream of a put and a get has its answer, and no other.
 use Rattle.std.proofs.Common.{arith, ◌≡◌, ◌≢◌, ℕ, ℤ, pos, false, List, [], ◌∷◌, ◌++◌, Some, None, refl, sym, ap, ◌∙◌, subst, inl, inr, append_assoc}
 use Rattle.std.proofs.lemmas.List.Elements.{All-cons, All-nil}
 use Rattle.std.proofs.lemmas.List.Sorted.{IsPermutation-refl}
@@ -48,7 +48,7 @@ text_is : stream ≡ requests_text requests
 text_is = refl
 
 module _ (gives : ℤ → LoadAnswer → Type 0) where
-  -- ---- it has its answer
+  -- ---- the stream has its answer
 
   abbrev put_record : Record
   put_record = record { caller = 0; number = 0; call = call.Put (pos 5) (pos 1); reply = told.Done; after = Some (pos 1); asked = None }
@@ -104,9 +104,9 @@ module _ (gives : ℤ → LoadAnswer → Type 0) where
     };
   }
 
-  -- ---- it has no other
+  -- ---- the stream has no other answer
 
-  -- requests that are answered, of which the last round was these
+  -- answered requests, split before their last round
   record Last (asked : List Request) (replies : List Reply) (t : Stand) : Type 0 where
     before : List Request
     told : List Reply
@@ -122,17 +122,17 @@ module _ (gives : ℤ → LoadAnswer → Type 0) where
   last served.Answers.none some = absurd (some refl)
   last (served.round before told s t more others a r) some = record { before = before; told = told; s = s; more = more; others = others; answers = a; round = r; asked_are = refl; replies_are = refl }
 
-  -- nothing is answered to nothing
+  -- without requests there are no replies, and the state is the first one
   none_answered : {asked : List Request} {replies : List Reply} {t : Stand} → Answers false gives asked replies t → asked ≡ [] → (replies ≡ []) × (t ≡ first_stand)
   none_answered served.Answers.none e = (refl, refl)
   none_answered (served.round before told s t more others a r) e = absurd (not_nil (before ++ more) RoundEnd (append_assoc before more (RoundEnd ∷ []) ∙ e))
 
-  -- what is answered ends in a round's end
+  -- the last of the requests that are answered is a round end
   ends_so : {asked : List Request} {replies : List Reply} {t : Stand} → Answers false gives asked replies t → (front : List Request) (q : Request) → asked ≡ front ++ q ∷ [] → q ≡ RoundEnd
   ends_so served.Answers.none front q e = absurd (not_nil front q (sym e))
   ends_so (served.round before told s t more others a r) front q e = sym ((same_front (before ++ more) front RoundEnd q (append_assoc before more (RoundEnd ∷ []) ∙ e)).1)
 
-  -- the requests of the last round, and those before it
+  -- without the last round end, the requests are those before the last round, followed by those of the last round
   parts_of : {asked : List Request} {replies : List Reply} {t : Stand} (l : Last asked replies t) (front : List Request) → asked ≡ front ++ RoundEnd ∷ [] → l.before ++ l.more ≡ front
   parts_of l front e = (same_front (l.before ++ l.more) front RoundEnd RoundEnd (append_assoc l.before l.more (RoundEnd ∷ []) ∙ sym l.asked_are ∙ e)).0
 
@@ -173,7 +173,7 @@ module _ (gives : ℤ → LoadAnswer → Type 0) where
       differ : get ≡ RoundEnd → ⊥
       differ e = cc
 
-  -- the first round
+  -- the reply to the first round, the put, and the entry of key 5 after it
   record AfterPut (replies : List Reply) (t : Stand) : Type 0 where
     r : Reply
     is : PutTold None r (t.entries (pos 5))
@@ -196,7 +196,7 @@ module _ (gives : ℤ → LoadAnswer → Type 0) where
       some : [] ≡ put ∷ RoundEnd ∷ [] → ⊥
       some e = cc
 
-  -- both rounds
+  -- the bytes of the replies to both rounds
   abbrev replied : Reply → Reply → List ℕ
   replied p g = replies_text (p ∷ reply.RoundEnd ∷ g ∷ reply.RoundEnd ∷ [])
 

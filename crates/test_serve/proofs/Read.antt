@@ -1,4 +1,4 @@
--- The same bytes are the frames of one list of requests at most.
+-- At most one list of requests has these bytes as its frames.
 use Rattle.std.proofs.Common.{◌≡◌, ℕ, List, [], ◌∷◌, refl, sym, ap, ◌∙◌}
 use Rattle.std.specs.List.{AllByRecursion}
 use Rattle.wire.specs.Requests.{Request}

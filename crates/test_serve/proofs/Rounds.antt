@@ -1,4 +1,4 @@
--- Rounds of a single call on key 5: what it may be told, and the entry that it leaves.
+-- Rounds of one call on key 5: its reply, and the entry after it.
 use Rattle.std.proofs.Common.{arith, ◌≡◌, ◌⊎◌, ℤ, pos, Bool, true, false, List, [], ◌∷◌, map, Option, Some, None, if◌then◌else◌, All, refl, sym, ap, ◌∙◌, subst, inl, inr}
 use Rattle.std.proofs.lemmas.List.Elements.{All-cons, All-nil, All-head}
 use Rattle.std.proofs.lemmas.List.Sorted.{All-permutation, length_permutation}
@@ -17,7 +17,7 @@ use Rattle.serve.specs.Rounds.{Work, Job, work_reply, job_reply}
 use Rattle.serve.specs.Served.{Stand, IsRound}
 use Rattle.test_serve.proofs.Gathered.{put_gathered, get_gathered}
 
--- a call is refused and changes nothing, or it answers on the entry that its key had
+-- `Comes before c after answers` holds if `c` is refused and its entry unchanged, or `Answers` relates its reply to both entries
 pub data Comes (before : Entries) (c : Call) (after : Entries) : List (Option Told) → Type 0 where
   refused : after (key_of c) ≡ before (key_of c) → Comes before c after (None ∷ [])
   made : (r : Told) (asked : Option LoadAnswer) → Answers false (before (key_of c)) c r (after (key_of c)) asked → Comes before c after (Some r ∷ [])
@@ -47,7 +47,7 @@ module _ (gives : ℤ → LoadAnswer → Type 0) (before after : Entries) (c : C
 
 -- ---- the put
 
--- what it is told, and the entry of key 5 then
+-- the reply to the put, and the entry of key 5 before and after it
 abbrev pub PutTold : Entry → Reply → Entry → Type 0
 PutTold before r after = ((r ≡ reply.Done) × (after ≡ Some (pos 1))) ⊎ ((r ≡ reply.Denied NoMemory) × (after ≡ before))
 

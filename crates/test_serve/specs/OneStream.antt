@@ -1,9 +1,9 @@
--- A stream of two rounds, byte by byte: key 5 is put to 1, and then it is got. And what may be answered to it.
+-- A stream of two rounds, byte by byte: a put of 1 on key 5, and a get of key 5. And the answers to it.
 use Rattle.std.specs.Prelude.{false, ℕ, ℤ, List, [], ◌∷◌, ◌++◌}
 use Rattle.jtypes.specs.declared.loader.LoadAnswer.{LoadAnswer}
 use Rattle.serve.specs.Served.{IsServed}
 
--- the length, and the kind of the request or of the reply; a number has eight bytes
+-- a frame is its length in four bytes, the kind of the request or of the reply, and its numbers of eight bytes each
 abbrev pub put_5_to_1 : List ℕ
 put_5_to_1 = 0 ∷ 0 ∷ 0 ∷ 17 ∷ 2 ∷ 0 ∷ 0 ∷ 0 ∷ 0 ∷ 0 ∷ 0 ∷ 0 ∷ 5 ∷ 0 ∷ 0 ∷ 0 ∷ 0 ∷ 0 ∷ 0 ∷ 0 ∷ 1 ∷ []
 
@@ -19,35 +19,35 @@ stream = put_5_to_1 ++ round_end ++ get_5 ++ round_end
 abbrev pub done : List ℕ
 done = 0 ∷ 0 ∷ 0 ∷ 1 ∷ 3 ∷ []
 
--- there is no value, and the value is 1
+-- the replies to a get: no value, and the value 1
 abbrev pub no_value : List ℕ
 no_value = 0 ∷ 0 ∷ 0 ∷ 2 ∷ 4 ∷ 0 ∷ []
 
 abbrev pub value_1 : List ℕ
 value_1 = 0 ∷ 0 ∷ 0 ∷ 10 ∷ 4 ∷ 1 ∷ 0 ∷ 0 ∷ 0 ∷ 0 ∷ 0 ∷ 0 ∷ 0 ∷ 1 ∷ []
 
--- the call found no memory, and changed nothing
+-- the reply to a call that is out of memory, and changes nothing
 abbrev pub lacks_memory : List ℕ
 lacks_memory = 0 ∷ 0 ∷ 0 ∷ 2 ∷ 8 ∷ 3 ∷ []
 
 abbrev pub round_ended : List ℕ
 round_ended = 0 ∷ 0 ∷ 0 ∷ 1 ∷ 9 ∷ []
 
--- the replies to the put and to the get, each with the end of its round
+-- the output with these replies to the put and to the get, each followed by the end of its round
 abbrev pub answer : List ℕ → List ℕ → List ℕ
 answer put get = put ++ round_ended ++ get ++ round_ended
 
--- the value that was put is got; the other answers are those where memory was wanting
+-- `MayAnswer output` holds if the get returns the value that was put, or a call in `output` is out of memory
 pub data MayAnswer : List ℕ → Type 0 where
   whole : MayAnswer (answer done value_1)
   get_lacks : MayAnswer (answer done lacks_memory)
   put_lacks : MayAnswer (answer lacks_memory no_value)
   both_lack : MayAnswer (answer lacks_memory lacks_memory)
 
--- where no loader is asked, whatever it would give, the stream is served with the first answer
+-- `HasItsAnswer gives` holds if the stream is served with the first of these outputs and no loader is asked
 abbrev pub HasItsAnswer : (ℤ → LoadAnswer → Type 0) → Type 0
 HasItsAnswer gives = IsServed false gives stream (answer done value_1)
 
--- and with no other bytes than those
+-- `HasNoOther gives` holds if `MayAnswer` holds of each output that the stream is served with and no loader is asked
 abbrev pub HasNoOther : (ℤ → LoadAnswer → Type 0) → Type 0
 HasNoOther gives = (output : List ℕ) → IsServed false gives stream output → MayAnswer output

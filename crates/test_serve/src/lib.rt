@@ -1,4 +1,4 @@
-//! Tests: rounds on one thread, and streams of requests byte by byte. And a law of a small stream.
+//! Tests: rounds on one thread, and request streams byte by byte. And a theorem on a small stream.
 #![tactic(auto)]
 
 mod laws;

@@ -1,4 +1,4 @@
-//! Streams, byte by byte.
+//! Request streams and their replies, byte by byte.
 
 mod holding;
 mod meetings;
@@ -16,7 +16,7 @@ use std::test::Fail;
 use std::thread::Threads;
 use wire::{Ahead, Counted, Plain};
 
-/// What a stream came to.
+/// How the service of a stream ended: its fault, `None` if it has none, and the bytes of the replies.
 #[derive(Drop)]
 struct Ended {
     fault: Option<ServeFault>,
@@ -37,7 +37,7 @@ fn serve_all<T: Threads + Wait + Sync>(
     serve_beside(rt, alloc, input, settings, &NoGate)
 }
 
-/// Serves what a reader gives to a writer, without a loader.
+/// Serves the requests from a reader to a writer, without a loader.
 fn served<T: Threads + Wait + Sync, R: Ahead, W: Write, G: Gate + Sync>(
     rt: &T,
     alloc: Global,
@@ -65,7 +65,7 @@ fn serve_beside<T: Threads + Wait + Sync, G: Gate + Sync>(
     }
 }
 
-/// Adds the frame that defines a class.
+/// Appends the frame that defines a class.
 fn define(input: &mut Vec<u8>, class: &[u8]) -> Result<(), AllocError> {
     let length = (1 + class.len()) % 65_536;
     input.extend_from_slice(&[0, 0, (length / 256) as u8, (length % 256) as u8, 1])?;
@@ -74,7 +74,7 @@ fn define(input: &mut Vec<u8>, class: &[u8]) -> Result<(), AllocError> {
 
 static ROUND_END: [u8; 5] = [0, 0, 0, 1, 8];
 
-/// The frame that defines a class, and the bytes behind it.
+/// Returns the frame that defines a class, followed by `rest`.
 fn defined(alloc: Global, class: &[u8], rest: &[u8]) -> Result<Vec<u8>, AllocError> {
     let mut input = Vec::new(alloc);
     define(&mut input, class)?;
@@ -82,7 +82,7 @@ fn defined(alloc: Global, class: &[u8], rest: &[u8]) -> Result<Vec<u8>, AllocErr
     Ok(input)
 }
 
-/// Whether this input, read by so many workers, comes to this.
+/// Checks that this input, served with `workers` workers, has this fault and this output.
 fn comes_to<T: Threads + Wait + Sync>(
     rt: &T,
     alloc: Global,
@@ -95,10 +95,10 @@ fn comes_to<T: Threads + Wait + Sync>(
     ended.fault == fault && ended.output.as_slice() == output
 }
 
-/// The counts of workers by which each stream is run.
+/// The worker counts with which each stream is served.
 static WORKERS: [usize; 4] = [0, 1, 4, 16];
 
-/// The same by each count of workers.
+/// Does the same with each count of `WORKERS`.
 fn each_comes_to<T: Threads + Wait + Sync>(
     rt: &T,
     alloc: Global,
@@ -113,7 +113,7 @@ fn each_comes_to<T: Threads + Wait + Sync>(
     is_right
 }
 
-/// Gives its bytes, and then fails.
+/// A reader that returns its bytes one at a time, and then fails.
 #[derive(Drop)]
 struct Drops<'a> {
     rest: &'a [u8],
@@ -132,7 +132,7 @@ impl<'a> Read for Drops<'a> {
     }
 }
 
-/// Takes at most so many bytes, and then none or an error.
+/// A writer that accepts `most` bytes. Then it accepts none, or fails if `fails` is set.
 #[derive(Drop)]
 struct Sink {
     bytes: Vec<u8>,
@@ -164,7 +164,8 @@ static SETTINGS: Settings = Settings {
     share: 0,
 };
 
-/// What a round's end comes to whose reader fails behind so many of its bytes, how often the reader failed, and how many bytes were written.
+/// Serves a round end from a reader that fails after `end` bytes.
+/// Returns the result, the number of failed reads, and the number of bytes written.
 fn dropped<T: Threads + Wait + Sync>(
     rt: &T,
     alloc: Global,
@@ -192,7 +193,8 @@ fn a_reader_that_fails_is_told(rt: HostRuntime) -> Result<(), Fail> {
     Ok(())
 }
 
-/// What a round's end comes to whose writer takes so many bytes, how often the writer failed and was idle, and whether it took that much of the reply.
+/// Serves a round end to a writer that accepts `most` bytes.
+/// Returns the result, the numbers of failed and of idle writes, and whether the writer has the first `most` bytes of the reply.
 fn sunk<T: Threads + Wait + Sync>(
     rt: &T,
     alloc: Global,
@@ -240,7 +242,7 @@ fn a_writer_that_fails_to_flush_is_told(rt: HostRuntime) -> Result<(), Fail> {
     Ok(())
 }
 
-/// The faults by their numbers from 1 on, and their names.
+/// The faults in the order of their numbers, from 1, and their names.
 static FAULTS: [(ServeFault, &str); 7] = [
     (ServeFault::TooLong, "TooLong"),
     (ServeFault::Truncated, "Truncated"),
@@ -260,7 +262,7 @@ fn faults_have_numbers_and_names(rt: HostRuntime) -> Result<(), Fail> {
     Ok(())
 }
 
-/// Plus is defined and key 7 put to 41, and in a second round Plus is invoked on it.
+/// Returns a stream of two rounds: the first defines Plus and puts 41 on key 7, the second invokes Plus on key 7.
 fn put_and_invoke(alloc: Global) -> Result<Vec<u8>, AllocError> {
     let plus = rows::plus(alloc)?;
     defined(
@@ -288,7 +290,7 @@ fn a_class_is_invoked_on_the_entry_of_the_round_before(rt: HostRuntime) -> Resul
     Ok(())
 }
 
-/// The reply to an invocation that returned this Long.
+/// Returns the reply to an invocation that returned this `Long`.
 fn returned(n: u8) -> [u8; 15] {
     [0, 0, 0, 0x0B, 6, 0, 1, 0, 0, 0, 0, 0, 0, 0, n]
 }

@@ -8,7 +8,7 @@ use std::test::Fail;
 use stripe::{ArgSlice, Call, Reply, Tables};
 use verify::{Verified, verify};
 
-/// An invocation of a class on a key, without arguments.
+/// Returns an invocation of a class on a key, without arguments.
 fn invoke<'a>(class: &'a Verified, key: i64) -> Call<'a> {
     Call::Invoke {
         class,
@@ -17,7 +17,7 @@ fn invoke<'a>(class: &'a Verified, key: i64) -> Call<'a> {
     }
 }
 
-/// What a round of these calls on so many empty stripes leaves.
+/// Runs a round of these calls on `stripes` empty stripes; returns `None` if there are more than 4096 calls, or it is refused.
 fn round(alloc: Global, stripes: usize, calls: &[Call<'_>]) -> Option<TurnsLeft> {
     if calls.len() > 4096 {
         return None;
@@ -31,12 +31,12 @@ fn round(alloc: Global, stripes: usize, calls: &[Call<'_>]) -> Option<TurnsLeft>
     }
 }
 
-/// That an invocation returned this long.
+/// Returns the reply to an invocation that returned this `Long`.
 fn returned(number: i64) -> Option<Reply> {
     Some(Reply::Result(Outcome::Returned(Arg::Long(number))))
 }
 
-/// The entries of two keys that a round on two stripes leaves, where it has these replies.
+/// Runs a round on two stripes. Returns the entries of two keys, `None` if the replies are not these.
 fn entries_after(
     alloc: Global,
     calls: &[Call<'_>],
@@ -55,7 +55,7 @@ fn entries_after(
     }
 }
 
-/// The entry that calls on one key leave, twice.
+/// Makes calls on key 1; returns the entry after them, twice.
 fn one_key(alloc: Global, plus: &Verified) -> Option<(Option<i64>, Option<i64>)> {
     let calls = [
         Call::Put { key: 1, value: 5 },
@@ -74,7 +74,7 @@ fn one_key(alloc: Global, plus: &Verified) -> Option<(Option<i64>, Option<i64>)>
     entries_after(alloc, &calls, &expected, (1, 1))
 }
 
-/// The same of the class with these bytes.
+/// Does the same with a class file of Plus.
 fn one_key_of(alloc: Global, plus: &[u8]) -> Option<(Option<i64>, Option<i64>)> {
     match verify(alloc, plus) {
         Ok(plus) => one_key(alloc, &plus),
@@ -89,7 +89,7 @@ fn calls_on_one_key_are_in_order(rt: HostRuntime) -> Result<(), Fail> {
     Ok(())
 }
 
-/// The entries that calls on keys of two stripes leave, each of which sees those before it on its key.
+/// Makes calls on the keys -1 and 4 of two stripes, each after the calls before it on its key; returns the entries of the keys.
 fn two_stripes(alloc: Global, plus: &Verified) -> Option<(Option<i64>, Option<i64>)> {
     let calls = [
         Call::Put { key: -1, value: 5 },
@@ -112,7 +112,7 @@ fn two_stripes(alloc: Global, plus: &Verified) -> Option<(Option<i64>, Option<i6
     entries_after(alloc, &calls, &expected, (-1, 4))
 }
 
-/// The same of the class with these bytes.
+/// Does the same with a class file of Plus.
 fn two_stripes_of(alloc: Global, plus: &[u8]) -> Option<(Option<i64>, Option<i64>)> {
     match verify(alloc, plus) {
         Ok(plus) => two_stripes(alloc, &plus),
@@ -127,7 +127,7 @@ fn calls_on_two_stripes_take_turns(rt: HostRuntime) -> Result<(), Fail> {
     Ok(())
 }
 
-/// How many replies, which entry of key 2 and how many stripes a round without calls leaves behind a put.
+/// Runs a round without calls after a round with a put. Returns the number of replies, the entry of key 2 and the number of stripes.
 fn without_calls(alloc: Global) -> Option<(usize, Option<i64>, usize)> {
     match round(alloc, 3, &[Call::Put { key: 2, value: 9 }]) {
         Some(first) => match run_in_turns(alloc, first.tables, &[], &NoLoader) {

@@ -1,4 +1,4 @@
-//! Tables as loaders, and files of rows.
+//! `Table` as a loader, and table files.
 
 use jtypes::{LoadAnswer, Loader};
 use std::alloc::{AllocError, Global};
@@ -39,13 +39,13 @@ fn a_table_is_a_loader(rt: HostRuntime) -> Result<(), Fail> {
     Ok(())
 }
 
-/// 7 gives 41, and -1 the least number.
+/// A table file: key 7 has the value 41, key -1 has `i64::MIN`.
 static FILE: [u8; 32] = [
     0, 0, 0, 0, 0, 0, 0, 7, 0, 0, 0, 0, 0, 0, 0, 0x29, 0xFF, 0xFF, 0xFF, 0xFF, 0xFF, 0xFF, 0xFF,
     0xFF, 0x80, 0, 0, 0, 0, 0, 0, 0,
 ];
 
-/// The values of 7 and of -1 in the table of a file, if it is one.
+/// Returns the values of the keys 7 and -1 in a table file, `None` if its length isn't that of whole pairs.
 fn values(alloc: Global, file: &[u8]) -> Result<Option<[Option<i64>; 2]>, AllocError> {
     match Table::read(alloc, file)? {
         Some(table) => Ok(Some([table.find(7), table.find(-1)])),

@@ -1,4 +1,4 @@
-//! Calls on stripes, one after the other.
+//! Calls on stripes, one at a time.
 
 ghost use Rattle.std.specs.Prelude.{◌≡◌, None, IsTrue, false, length};
 ghost use Rattle.stripe.specs.Kept.{IsOf, IsEnd};
@@ -13,15 +13,15 @@ use std::test::Fail;
 use stripe::*;
 use verify::{Verified, verify};
 
-/// A reply, and the entry that the call left.
+/// The reply to a call and the entry after it, `None` if the call is not made.
 type Told = Option<(Reply, Option<i64>)>;
 
-/// The bytes of the class with this name, none where there is no such class.
+/// Returns the class file of the class with this name, empty if there is no such class.
 fn bytes_of(alloc: Global, name: &str) -> Result<Vec<u8>, AllocError> {
     Ok(rows::class_named(alloc, name)?.unwrap_or(Vec::new(alloc)))
 }
 
-/// The class with these bytes. That it is refused is told as want of memory, so a test fails.
+/// Verifies a class file. A refusal is returned as `AllocError` too, so that the test fails.
 fn verified(alloc: Global, bytes: Vec<u8>) -> Result<Verified, AllocError> {
     match verify(alloc, &bytes) {
         Ok(class) => Ok(class),
@@ -29,7 +29,7 @@ fn verified(alloc: Global, bytes: Vec<u8>) -> Result<Verified, AllocError> {
     }
 }
 
-/// How an invocation ends that found this entry; nothing for another call.
+/// Runs an invocation on the entry `before`; returns `None` for any other call.
 fn end_of(call: &Call<'_>, before: Option<i64>, workspace: &mut Workspace) -> Option<Done>
     ensures { IsEnd false before (call_of call.now) result None }
 {
@@ -44,7 +44,7 @@ fn end_of(call: &Call<'_>, before: Option<i64>, workspace: &mut Workspace) -> Op
     }
 }
 
-/// Makes a call; none where it may not begin, or is refused.
+/// Makes a call; returns `None` if the stripe isn't ready for it, or it is refused.
 fn made<'a>(
     stripe: &mut Stripe<'a>,
     number: u32,
@@ -62,14 +62,14 @@ fn made<'a>(
     Some((record.reply, record.after))
 }
 
-/// Gives a stripe back, if it is the next one.
+/// Adds a stripe to `rest`, if it is the next one.
 fn give_back<'a>(rest: &mut Rest<'a>, stripe: Stripe<'a>) {
     if rest.is_next(&stripe) {
         rest.add(stripe);
     }
 }
 
-/// The last of so many stripes, the others, and what takes them back.
+/// Splits empty tables into `stripes` stripes. Returns the last stripe, the stripes before it, and the `Rest` to add them to.
 fn last_stripe<'a>(
     alloc: Global,
     stripes: usize,
@@ -87,7 +87,7 @@ fn last_stripe<'a>(
     Some((last, split, rest))
 }
 
-/// The entry of a key when the only stripe is back.
+/// Adds the only stripe to `rest`, and returns the entry of a key; `None` if another stripe is missing too.
 fn entry_back<'a>(mut rest: Rest<'a>, stripe: Stripe<'a>, key: i64) -> Option<i64> {
     give_back(&mut rest, stripe);
     if !rest.is_whole() {
@@ -108,7 +108,7 @@ fn made_four<'a>(alloc: Global, stripe: &mut Stripe<'a>, calls: &[Call<'a>]) -> 
     told
 }
 
-/// What up to four calls on one stripe were told, and the entry of a key at the end.
+/// Makes up to four calls on the only stripe. Returns their results, and the entry of a key at the end.
 fn made_all(alloc: Global, calls: &[Call<'_>], key: i64) -> ([Told; 4], Option<i64>) {
     match last_stripe(alloc, 1, 16) {
         Some((mut stripe, _split, rest)) => {
@@ -119,12 +119,12 @@ fn made_all(alloc: Global, calls: &[Call<'_>], key: i64) -> ([Told; 4], Option<i
     }
 }
 
-/// An invocation returned this Long.
+/// Returns the reply to an invocation that returned this `Long`.
 fn returned(n: i64) -> Reply {
     Reply::Result(Outcome::Returned(Arg::Long(n)))
 }
 
-/// An invocation of a class on a key.
+/// Returns an invocation of a class on a key.
 fn invoke<'a>(class: &'a Verified, key: i64, args: &'a Args) -> Call<'a> {
     Call::Invoke {
         class,
@@ -152,12 +152,13 @@ fn keys_have_stripes(rt: HostRuntime) {
     }
 }
 
-/// Why there are not so many tables.
+/// Returns why tables of `stripes` stripes are refused, `None` if they are not.
 fn refused(alloc: Global, stripes: usize) -> Option<OpenRefusal> {
     Tables::new(alloc, stripes).err()
 }
 
-/// Why tables are not split for so many records, and how many tables come back.
+/// Returns why tables aren't split with `journal` records a stripe, and the number of stripes of the tables that are returned.
+/// Returns `None` if they are split.
 fn not_split(alloc: Global, stripes: usize, journal: usize) -> Option<(OpenRefusal, usize)> {
     match Tables::new(alloc, stripes) {
         Ok(tables) => match tables.split(alloc, journal) {
@@ -168,7 +169,7 @@ fn not_split(alloc: Global, stripes: usize, journal: usize) -> Option<(OpenRefus
     }
 }
 
-/// How many tables there are, how many stripes they are split into, and how many histories come back with those.
+/// Splits tables and adds all stripes to the rest. Returns the number of stripes in the tables, of stripes split off, and of histories.
 fn split_and_back(alloc: Global, stripes: usize, journal: usize) -> Option<[usize; 3]> {
     let tables = Tables::new(alloc, stripes).ok()?;
     let count = tables.stripes();
@@ -177,7 +178,7 @@ fn split_and_back(alloc: Global, stripes: usize, journal: usize) -> Option<[usiz
     Some([count, parts, all_back(rest, split)?])
 }
 
-/// How many histories come back with all stripes.
+/// Adds all stripes to `rest`; returns the number of histories, `None` if a stripe is missing.
 fn all_back<'a>(mut rest: Rest<'a>, split: Vec<Stripe<'a>>) -> Option<usize> {
     for stripe in split {
         give_back(&mut rest, stripe);
@@ -212,7 +213,7 @@ fn counts_inside_are_taken(rt: HostRuntime) {
     }
 }
 
-/// Makes eight calls on a stripe, with the numbers from 0 on.
+/// Makes eight calls on a stripe, numbered from 0; returns `None` when out of memory.
 fn made_in_row<'a>(
     alloc: Global,
     stripe: &mut Stripe<'a>,
@@ -230,7 +231,7 @@ fn made_in_row<'a>(
     }
 }
 
-/// What calls on a stripe leave.
+/// The state of a stripe after calls.
 #[derive(Clone, Copy, PartialEq, Eq)]
 struct Seen {
     /// The entries of the keys 1 and -7.
@@ -252,7 +253,7 @@ fn left_on(stripe: &Stripe<'_>) -> Seen {
     }
 }
 
-/// What eight calls on the last of two stripes were told, and what they left.
+/// Makes eight calls on the last of two stripes. Returns their results, and the state of the stripe.
 fn told_and_seen(alloc: Global, calls: &[Call<'_>; 8]) -> Option<(Option<[Told; 8]>, Seen)> {
     match last_stripe(alloc, 2, 8) {
         Some((mut odd, _split, _rest)) => {
@@ -294,7 +295,7 @@ fn calls_on_one_key(rt: HostRuntime) {
     assert!(rt; told_and_seen(rt.alloc(), &calls) == Some((Some(told), left)));
 }
 
-/// What a put of 6 on key 1 was told, then a put where the history is full, and a call on a key of the other stripe.
+/// Makes a put of 6 on key 1, a put when the history is full, and a get on a key of the other stripe; returns their results.
 fn three_told(alloc: Global, odd: &mut Stripe<'_>) -> Option<[Told; 3]> {
     match Workspace::new(alloc) {
         Ok(mut workspace) => Some([
@@ -306,7 +307,7 @@ fn three_told(alloc: Global, odd: &mut Stripe<'_>) -> Option<[Told; 3]> {
     }
 }
 
-/// What two stripes leave that come back: the entries of the keys 1, -7 and 2, and how many records each history has.
+/// Adds both stripes to `rest`. Returns the entries of the keys 1, -7 and 2, and the number of records in each history.
 fn back<'a>(
     mut rest: Rest<'a>,
     even: Stripe<'a>,
@@ -339,7 +340,7 @@ fn stripes_come_back(rt: HostRuntime) {
     assert!(rt; left == Some(([Some(6), None, None], [0, 1])));
 }
 
-/// The caller, the number and the key of the call that is open, and the entry that it found.
+/// Returns the caller, the number and the key of the open call, and the entry before it; `None` if no call is open.
 fn open_in(stripe: &Stripe<'_>) -> Option<(u8, u32, i64, Option<i64>)> {
     match stripe.open() {
         Some(open) => Some((open.caller, open.number, open.call.key(), open.before)),
@@ -347,7 +348,7 @@ fn open_in(stripe: &Stripe<'_>) -> Option<(u8, u32, i64, Option<i64>)> {
     }
 }
 
-/// Whether a put of 6 on key 5 begins on a stripe without an entry.
+/// Begins a put of 6 on key 5; returns whether it begins, without an entry before it.
 fn begins(stripe: &mut Stripe<'_>) -> bool {
     stripe.is_ready(5) && stripe.begin(3, 9, Call::Put { key: 5, value: 6 }, &NoLoader) == Ok(None)
 }
@@ -362,7 +363,7 @@ fn an_open_call_is_told(rt: HostRuntime) {
     assert_eq!(rt; open_in(&stripe), Some((3, 9, 5, None)));
 }
 
-/// What one of five plain calls on key -3 was told: a put, a get, and a removal, and whether the key is there.
+/// Makes one of five plain calls on key -3: a put, a get, a removal, and `contains` twice.
 fn plain_told(stripe: &mut Stripe<'_>, number: u32) -> Told {
     if !stripe.is_ready(-3) {
         return None;

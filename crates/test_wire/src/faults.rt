@@ -1,4 +1,4 @@
-//! The numbers of faults.
+//! The numbers of the faults.
 
 use wire::WireFault;
 

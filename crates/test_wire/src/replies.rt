@@ -1,4 +1,4 @@
-//! Replies that are written.
+//! Writing of replies.
 
 ghost use Rattle.std.specs.Prelude.{IfOk};
 ghost use Rattle.wire.specs.Frames.{IsReply};
@@ -10,7 +10,7 @@ use std::alloc::{AllocError, Global};
 use std::test::Fail;
 use wire::{Counted, Denial, JobOutcome, Reply, add_result, write_reply};
 
-/// Whether the frame of a reply is these bytes.
+/// Checks that the reply is written as this frame.
 fn is_written(alloc: Global, reply: Reply, frame: &[u8]) -> bool
     requires { IsReply reply }
 {
@@ -59,7 +59,7 @@ fn values_are_written(rt: HostRuntime) {
     assert!(rt; is_written(rt.alloc(), Reply::Value(None), &[0, 0, 0, 2, 4, 0]));
 }
 
-/// Outcomes, each with its frame.
+/// Outcomes of an invocation, each with its reply frame.
 static OUTCOMES: [(Outcome, &[u8]); 4] = [
     (
         Outcome::Returned(Arg::Long(42)),
@@ -80,7 +80,7 @@ fn outcomes_are_written(rt: HostRuntime) {
     }
 }
 
-/// Whether such a frame stands behind a byte that was there.
+/// Checks that `add_result` appends this frame to a buffer that holds one byte.
 fn is_added(alloc: Global, outcome: Outcome, frame: &[u8]) -> Result<bool, AllocError> {
     let mut bytes = Vec::new(alloc);
     bytes.push(9)?;
@@ -114,7 +114,7 @@ fn denials_are_written(rt: HostRuntime) {
     }
 }
 
-/// Key 1 returned the long 0, key 2 threw fault 1, and key 3 was denied for memory.
+/// Returns the results of three keys: key 1 returned the `Long` 0, key 2 threw `Arithmetic`, key 3 was denied for out of memory.
 fn results(alloc: Global) -> Result<Reply, AllocError>
     ensures { IfOk result (λ r. IsReply r) }
 {
@@ -141,7 +141,7 @@ fn results_are_written(rt: HostRuntime) -> Result<(), Fail> {
     Ok(())
 }
 
-/// How long the frame of so many results is.
+/// Returns the length in bytes of the frame of 4096 results, 0 if the write fails.
 fn length_of_most(alloc: Global) -> Result<usize, AllocError> {
     let job = (-1, JobOutcome::Ended(Outcome::Returned(Arg::Long(-1))));
     let most = Reply::Results(Items::new(vec![in alloc; job; 4096]?));

@@ -1,4 +1,4 @@
-//! Requests that are read.
+//! Reading of requests.
 
 mod hands;
 mod readers;
@@ -10,7 +10,7 @@ use wire::{Counted, Request, WireFault, read_request};
 
 type Answer = Result<Option<Request>, WireFault>;
 
-/// What is read, where it has no rows.
+/// The result of a read. A definition or an invocation is `WithRows`, without its contents.
 #[derive(Clone, Copy, Debug, PartialEq, Eq)]
 enum Told {
     End,
@@ -36,17 +36,17 @@ fn front_of(answer: &Answer) -> Told {
     }
 }
 
-/// What a reader tells next.
+/// Reads the next request.
 fn next(alloc: Global, reader: &mut Counted<&[u8]>) -> Told {
     front_of(&read_request(alloc, reader, &mut Vec::new(alloc)))
 }
 
-/// What is read of these bytes.
+/// Reads the first request of these bytes.
 fn read(alloc: Global, bytes: &[u8]) -> Answer {
     read_request(alloc, &mut Counted::new(bytes), &mut Vec::new(alloc))
 }
 
-/// What is read of these bytes, with its arguments. Others stood in their row before.
+/// Reads the first request of these bytes and its arguments, into a vector that holds another argument before.
 fn read_with_args(alloc: Global, bytes: &[u8]) -> Result<(Answer, Vec<Arg>), AllocError> {
     let mut args = Vec::new(alloc);
     args.push(Arg::Integer(77))?;
@@ -54,7 +54,7 @@ fn read_with_args(alloc: Global, bytes: &[u8]) -> Result<(Answer, Vec<Arg>), All
     Ok((answer, args))
 }
 
-/// Six requests, and the end.
+/// Six requests: put, round end, get, remove, contains, round end.
 static REQUESTS: [u8; 70] = [
     0, 0, 0, 0x11, 2, 0, 0, 0, 0, 0, 0, 0, 5, 0, 0, 0, 0, 0, 0, 0, 1, //
     0, 0, 0, 1, 8, //
@@ -81,7 +81,7 @@ fn requests_are_read_in_order(rt: HostRuntime) {
     assert_eq!(rt; reader.failures(), 0);
 }
 
-/// Whether a class with these bytes is read.
+/// Checks that the frame is read as the definition of this class file.
 fn is_class(alloc: Global, frame: &[u8], class: &[u8]) -> bool {
     match read(alloc, frame) {
         Ok(Some(Request::Define(bytes))) => bytes.as_slice() == class,
@@ -96,7 +96,7 @@ fn a_class_is_read_whole(rt: HostRuntime) {
     assert!(rt; is_class(rt.alloc(), &[0, 0, 0, 1, 1], &[]));
 }
 
-/// Whether an invocation of this class is read, on this key with these arguments.
+/// Checks that the frame is read as an invocation of class `of` on the key `on` with these arguments.
 fn is_invocation(alloc: Global, frame: &[u8], of: u32, on: i64, arguments: &[Arg]) -> bool {
     match &read_with_args(alloc, frame) {
         Ok((Ok(Some(Request::Invoke { class, key })), args)) => {
@@ -106,7 +106,7 @@ fn is_invocation(alloc: Global, frame: &[u8], of: u32, on: i64, arguments: &[Arg
     }
 }
 
-/// The same, on these keys.
+/// Checks that the frame is read as an invocation of class `of` on the keys `on` with these arguments.
 fn is_on_all(alloc: Global, frame: &[u8], of: u32, on: &[i64], arguments: &[Arg]) -> bool {
     match &read_with_args(alloc, frame) {
         Ok((Ok(Some(Request::InvokeAll { class, keys })), args)) => {
@@ -130,7 +130,7 @@ fn invocations_are_read(rt: HostRuntime) {
     assert!(rt; is_invocation(rt.alloc(), &two, 0x0102_0304, -1, &arguments));
 }
 
-/// Class 0 on the keys 1, 2, 2 and 3 with no arguments.
+/// An invocation of class 0 on the keys 1, 2, 2 and 3 without arguments.
 static INVOKE_ALL: [u8; 44] = [
     0, 0, 0, 0x28, 7, 0, 0, 0, 0, 0, 4, //
     0, 0, 0, 0, 0, 0, 0, 1, //
@@ -147,24 +147,24 @@ fn invocations_on_many_keys_are_read(rt: HostRuntime) {
     assert!(rt; is_on_all(rt.alloc(), &no_keys, 256, &[], &[Arg::Null]));
 }
 
-/// Why these bytes are no request; none where they are one, or none.
+/// Returns the fault of the first read, `None` if it returns a request or the end of the stream.
 fn fault_of(alloc: Global, bytes: &[u8]) -> Option<WireFault> {
     read(alloc, bytes).err()
 }
 
-/// Frames that are whole and no request has.
+/// Complete frames that encode no request.
 static MALFORMED: [&[u8]; 9] = [
     &[0, 0, 0, 0],
     &[0, 0, 0, 1, 10],
     &[0, 0, 0, 1, 0],
     &[0, 0, 0, 2, 8, 0],
     &[0, 0, 0, 1, 7],
-    // Nine arguments, and one of a third kind.
+    // Nine arguments, and an argument of the unknown kind 3.
     &[
         0, 0, 0, 23, 6, 0, 0, 0, 0, 0, 0, 0, 0, 0, 0, 0, 0, 9, 0, 0, 0, 0, 0, 0, 0, 0, 0,
     ],
     &[0, 0, 0, 15, 6, 0, 0, 0, 0, 0, 0, 0, 0, 0, 0, 0, 0, 1, 3],
-    // A key is short, and one is lacking.
+    // A key of 7 bytes, and a `Long` argument of one byte.
     &[0, 0, 0, 8, 3, 0, 0, 0, 0, 0, 0, 5],
     &[0, 0, 0, 10, 7, 0, 0, 1, 0, 0, 0, 1, 1, 0],
 ];
@@ -180,12 +180,12 @@ fn frames_of_no_request_are_faults(rt: HostRuntime) {
     assert_eq!(rt; longest, Some(WireFault::TooLong));
 }
 
-/// Key 5 and value 1, and other numbers at their places.
+/// A put of 1 on key 5.
 static PUT: [u8; 21] = [
     0, 0, 0, 17, 2, 0, 0, 0, 0, 0, 0, 0, 5, 0, 0, 0, 0, 0, 0, 0, 1,
 ];
 
-/// How many fronts of a frame, but the empty one and the frame itself, are told to be cut.
+/// Returns how many proper prefixes of a frame, without the empty one, are read as truncated.
 fn cut_fronts(alloc: Global, frame: &[u8]) -> usize {
     let mut count = 0;
     for n in 1..frame.len() {
@@ -196,7 +196,8 @@ fn cut_fronts(alloc: Global, frame: &[u8]) -> usize {
     count
 }
 
-/// Frames that are cut before their kind is looked at, before their count, and before their class is there.
+/// Truncated frames: two of an unknown kind, one with more keys than its length allows, and one with a part of a class file.
+/// The read reports that they are truncated.
 static CUT: [&[u8]; 4] = [
     &[0, 0, 0, 2, 10],
     &[0, 1, 0, 0, 10, 1],
@@ -214,7 +215,7 @@ fn each_front_of_a_frame_is_cut(rt: HostRuntime) {
     }
 }
 
-/// How many bytes the class has, and what is read behind it.
+/// Returns the length in bytes of the class file that is defined, and the next request.
 fn class_and_next(alloc: Global, bytes: &[u8]) -> Option<(usize, Told)> {
     let mut reader = Counted::new(bytes);
     let class = read_request(alloc, &mut reader, &mut Vec::new(alloc));
@@ -224,7 +225,7 @@ fn class_and_next(alloc: Global, bytes: &[u8]) -> Option<(usize, Told)> {
     Some((class.as_slice().len(), next(alloc, &mut reader)))
 }
 
-/// How many keys and arguments an invocation of class 0 has.
+/// Returns how many keys and arguments an invocation of class 0 on several keys has, `None` for any other request.
 fn counts_of_all(alloc: Global, bytes: &[u8]) -> Option<(usize, usize)> {
     match &read_with_args(alloc, bytes) {
         Ok((Ok(Some(Request::InvokeAll { class: 0, keys })), args)) => {
@@ -234,7 +235,7 @@ fn counts_of_all(alloc: Global, bytes: &[u8]) -> Option<(usize, usize)> {
     }
 }
 
-/// The bytes of a longest frame with this head, and of a round's end; the others are zeros.
+/// Returns `head` padded with zeros to 4 + 131,072 bytes, the size of the longest frame, and a round end.
 fn longest(alloc: Global, head: &[u8; 11]) -> Result<Vec<u8>, AllocError> {
     let mut bytes = Vec::new(alloc);
     bytes.extend_from_slice(head)?;

@@ -1,4 +1,4 @@
-//! Two calls on one stripe, of which the first one's observer waits for the answer to the other.
+//! Two calls on one stripe. The gate of the first waits for the answer to the second.
 
 ghost use Rattle.std.specs.Prelude.{◌≡◌};
 
@@ -9,14 +9,14 @@ use std::sync::atomic::{AtomicBool, Ordering};
 use std::thread;
 use std::time::{Clock, Duration};
 
-/// What the two calls have come to.
+/// The progress of the two calls.
 #[derive(Drop)]
 pub struct Marks {
-    /// The first one has begun.
+    /// The first call has begun.
     begun: AtomicBool,
-    /// The other one was answered.
+    /// The second call was answered.
     answered: AtomicBool,
-    /// The first one's observer saw that, when it heard of the first one's answer.
+    /// After the answer to the first call, its gate saw that the second was answered.
     seen: AtomicBool,
 }
 
@@ -34,7 +34,7 @@ impl Marks {
     }
 }
 
-/// Waits until a mark is set, for ten seconds at most: whether it is.
+/// Waits until a mark is set, for about ten seconds at most; returns whether it is set.
 fn is_set_in_time<R: Clock>(rt: &R, mark: &AtomicBool) -> bool {
     for _ in 0..100_000 {
         if mark.load(Ordering::Acquire) {
@@ -45,7 +45,7 @@ fn is_set_in_time<R: Clock>(rt: &R, mark: &AtomicBool) -> bool {
     false
 }
 
-/// The observer of both calls.
+/// The gate of both calls.
 #[derive(Drop)]
 struct Following<'s, R> {
     rt: &'s R,
@@ -69,7 +69,7 @@ impl<'s, R: Clock> Gate for Following<'s, R> {
     }
 }
 
-/// Puts on key 0: the first caller at once, another one when the first one's call has begun.
+/// Puts 7 on key 0: the first caller at once, any other after the first call has begun.
 pub fn follow<'a, R: Wait + Clock>(
     rt: &R,
     cache: &Cache<'a, 'static, NoLoader>,

@@ -1,4 +1,4 @@
-//! Three callers, each with a call on one absent key: their order isn't known.
+//! Three callers, each with one call on the same absent key, in an unspecified order.
 
 ghost use Rattle.std.specs.Prelude.{◌≡◌};
 ghost use Rattle.registry.specs.Ids.{IsOf};
@@ -18,12 +18,12 @@ use std::thread::Threads;
 use std::time::{Clock, Duration};
 use stripe::ArgSlice;
 
-/// The delay of a caller in microseconds.
+/// Returns the delay of a caller in microseconds.
 pub fn delay_at(delays: [u64; 3], place: usize) -> u64 {
     delays.get(place).copied().unwrap_or(0)
 }
 
-/// After so many microseconds the first caller puts 1 on key 5, or another one counts its entry up.
+/// After `delay` microseconds, the first caller puts 1 on key 5, and any other increments the entry.
 pub fn race<'a, R: Wait + Clock>(
     rt: &R,
     alloc: Global,
@@ -51,10 +51,10 @@ pub fn race<'a, R: Wait + Clock>(
     }
 }
 
-/// What the two counts returned, and the entry that is left.
+/// The numbers that the two increments returned, and the entry after all calls.
 type Outcome = (i64, i64, i64);
 
-/// What the first call of a seat returned.
+/// Returns the `Long` that the first call at a seat returned.
 fn count_of(closed: &Closed<'_>, seat: usize) -> Option<i64> {
     count_in(closed.receipts.get(seat)?.first()?)
 }
@@ -70,7 +70,7 @@ fn outcome_of(closed: &Closed<'_>) -> Option<Outcome> {
     }
 }
 
-/// What a put and two counts come to, each after its delay.
+/// Makes a put and two increments, each after its delay, and returns the outcome.
 fn raced<R: Threads + Wait + Clock + Sync>(
     rt: &R,
     alloc: Global,
@@ -92,7 +92,7 @@ fn raced<R: Threads + Wait + Clock + Sync>(
     }
 }
 
-/// What the calls may come to, by their six orders.
+/// The possible outcomes, for the six orders of the calls.
 static OUTCOMES: [Outcome; 6] = [
     (2, 3, 3),
     (3, 2, 3),
@@ -102,7 +102,7 @@ static OUTCOMES: [Outcome; 6] = [
     (2, 1, 1),
 ];
 
-/// The delays of the three callers: none, and those that favour each order.
+/// The delays of the three callers in microseconds: none, and those that favour each order.
 static DELAYS: [[u64; 3]; 7] = [
     [0, 0, 0],
     [0, 300, 600],
@@ -113,7 +113,7 @@ static DELAYS: [[u64; 3]; 7] = [
     [600, 300, 0],
 ];
 
-/// Marks this outcome as seen. It is false where the calls can't come to it.
+/// Marks this outcome as seen; returns false if no order of the calls has it.
 fn is_marked(seen: &mut [bool; 6], outcome: Outcome) -> bool {
     let mut is_known = false;
     for (mark, known) in seen.iter_mut().zip(OUTCOMES) {
@@ -125,7 +125,7 @@ fn is_marked(seen: &mut [bool; 6], outcome: Outcome) -> bool {
     is_known
 }
 
-/// Which outcomes are seen in a race by each of the delays. It is none where there is another outcome.
+/// Marks the outcomes of a race with each of the delays; returns false if one of them is impossible.
 fn race_all<R: Threads + Wait + Clock + Sync>(
     rt: &R,
     alloc: Global,

@@ -1,4 +1,4 @@
-//! Codes that are refused, and by what.
+//! Code that is refused, with the refusal.
 
 use super::{ALONE, SWITCHES, WITH_OPERANDS, each_tag, refusal};
 use constpool::Pool;
@@ -31,7 +31,7 @@ fn refuses_other_opcodes(rt: HostRuntime) {
     }
 }
 
-/// Where an instruction can be cut without being refused for it.
+/// Returns a length at which the instruction can be cut without the refusal `BadOperand`.
 fn accepted_cut(rt: &HostRuntime, pool: &Pool, bytes: &[u8]) -> Option<usize> {
     (1..bytes.len()).find(|end| refusal(rt, pool, &bytes[..*end]) != Some(Refusal::BadOperand))
 }
@@ -47,10 +47,10 @@ fn refuses_cut_operands(rt: HostRuntime) {
     }
 }
 
-/// `ldc`, `ldc_w` and `ldc2_w`, each with the only index of the pool that it may have.
+/// `ldc`, `ldc_w` and `ldc2_w`, each with the only constant pool index that it accepts.
 static CONSTANTS: [(u8, u8); 3] = [(0x12, 2), (0x13, 2), (0x14, 4)];
 
-/// An instruction that pushes the constant at an index; behind `ldc`, whose index is one byte, stands a nop.
+/// Returns an instruction that pushes the constant at this index. A `nop` follows `ldc`, whose index is one byte.
 fn constant_of(opcode: u8, index: u8) -> [u8; 3] {
     if opcode == 0x12 {
         [opcode, index, 0]
@@ -75,7 +75,7 @@ fn refuses_constants(rt: HostRuntime) {
     }
 }
 
-/// Calls and type tests, each with the only index of the pool that it may have.
+/// Calls and type checks, each with the only constant pool index that it accepts.
 static MEMBERS: [(u8, u8); 6] = [
     (0xB6, 13),
     (0xB7, 13),
@@ -90,7 +90,7 @@ fn refuses_members(rt: HostRuntime) {
     let pool = each_tag(&rt);
     for (opcode, only) in MEMBERS {
         for index in 0..=21 {
-            // A count of 4 and a zero belong to `invokeinterface`; behind the others they are two instructions.
+            // The bytes 4 and 0 are operands of `invokeinterface`; after any other opcode they are two instructions.
             let got = refusal(&rt, &pool, &[opcode, 0, index, 4, 0]);
             assert_eq!(rt; got.is_none(), index == only, "{opcode} {index}");
             assert!(rt;
@@ -127,7 +127,7 @@ fn refuses_counts_and_codes(rt: HostRuntime) {
 #[test]
 fn refuses_targets(rt: HostRuntime) {
     let pool = each_tag(&rt);
-    // nop, goto, bipush, nop: at 0, 1, 4 and 6
+    // `nop`, the branch, `bipush` and `nop`, at pc 0, 1, 4 and 6
     for (high, low, want) in [
         (0x80, 0x00, Some(Refusal::BackwardBranch)),
         (0xFF, 0xFE, Some(Refusal::BackwardBranch)),
@@ -147,7 +147,7 @@ fn refuses_targets(rt: HostRuntime) {
     }
 }
 
-/// A switch at place 0 with these words behind three bytes of padding, and a nop.
+/// Returns a switch at pc 0, with these words after three bytes of padding, and a `nop`.
 fn switch_of(alloc: Global, opcode: u8, padding: u8, words: &[i32]) -> Result<Vec<u8>, AllocError> {
     let mut bytes = Vec::new(alloc);
     bytes.extend_from_slice(&[opcode, padding, padding, padding])?;
@@ -158,7 +158,8 @@ fn switch_of(alloc: Global, opcode: u8, padding: u8, words: &[i32]) -> Result<Ve
     Ok(bytes)
 }
 
-/// Switches by their words: where they lead without a key, their keys, and where those lead. A nop stands at 20, or at 28.
+/// Switches by their words, with the refusal: the default offset, then the bounds of a `tableswitch` and its offset, or the pairs of a
+/// `lookupswitch` after their count. The `nop` is at pc 20, or at pc 28.
 static SWITCH_WORDS: [(u8, &[i32], Option<Refusal>); 14] = [
     (0xAA, &[20, 5, 5, 20], None),
     (0xAA, &[20, 6, 5, 20], Some(Refusal::BadOperand)),
@@ -196,7 +197,7 @@ fn reads_and_refuses_switches(rt: HostRuntime) -> Result<(), Fail> {
     Ok(())
 }
 
-/// Codes with several faults, and the refusal of the first place.
+/// Code with several faults, and the refusal that is reported. Branch targets are checked after all instructions are decoded.
 static FIRST: [(&[u8], Refusal); 4] = [
     (&[0xCA, 0xC9, 0x12], Refusal::UnknownOpcode),
     (&[0xC9, 0xCA, 0x12], Refusal::OutsideProfile(0xC9)),

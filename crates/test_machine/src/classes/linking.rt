@@ -1,4 +1,4 @@
-//! Classes that are verified, with their bounds and their linked code.
+//! Verified classes, with their bounds and their linked code.
 
 use super::class_named;
 use jtypes::{Binary, Comparison, Native, RefType, Refusal};
@@ -7,29 +7,29 @@ use std::test::Fail;
 use verify::{Verified, is_checked, verify};
 use vmcode::{Keys, LinkedSwitch, StackInstr};
 
-/// The instruction with a number.
+/// Returns the stack instruction with this index.
 fn linked_at(class: &Verified, number: usize) -> Option<StackInstr> {
     class.linked().code.get(number).copied()
 }
 
-/// Where the method with a number begins.
+/// Returns the index of the first stack instruction of this method.
 fn start_of(class: &Verified, number: usize) -> Option<u32> {
     Some(class.linked().methods.get(number)?.start)
 }
 
-/// The bounds of a class: steps, words, slots and depth.
+/// Returns the bounds of a class: steps, words, slots and depth.
 fn bounds_of(class: &Verified) -> (u32, u32, u32, u32) {
     let bounds = class.bounds();
     (bounds.steps, bounds.words, bounds.slots, bounds.depth)
 }
 
-/// The entrance of `process`: its start, its parameters and its locals.
+/// Returns the start index of `process`, and the numbers of its parameters and its local variables.
 fn process_of(class: &Verified) -> (u32, u16, u16) {
     let process = class.linked().process;
     (process.start, process.params, process.locals)
 }
 
-/// The instructions of Plus.
+/// The stack code of Plus.
 static PLUS: [StackInstr; 14] = [
     StackInstr::LoadReference(1),
     StackInstr::CallLibrary(Native::GetValue),
@@ -73,7 +73,7 @@ fn branches_lead_to_numbers(rt: HostRuntime) {
     }
 }
 
-/// Whether a switch has these keys, and leads to the instructions with these numbers, the default's first.
+/// Checks that a switch has these keys and these branch targets, by index, the default first.
 fn leads(switch: Option<&LinkedSwitch>, keys: &[i32], targets: &[u32]) -> bool {
     match switch {
         Some(

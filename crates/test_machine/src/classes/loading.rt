@@ -1,4 +1,4 @@
-//! Invocations on absent keys, where there is a loader (JSR 107, `CacheLoader`).
+//! Invocations on absent keys with a loader (JSR 107, `CacheLoader`).
 
 ghost use Rattle.std.specs.Prelude.{true};
 
@@ -10,7 +10,7 @@ use machine::{Done, Workspace, run};
 use mutentry::EntryState;
 use std::alloc::Global;
 
-/// 7 gives 41, 9 gives 0, 13 fails, and no other key has a value.
+/// A loader: key 7 has the value 41, key 9 has 0, key 13 fails, and any other key has no value.
 struct Few;
 
 impl Loader for Few {
@@ -30,7 +30,7 @@ impl Loader for Few {
     }
 }
 
-/// An invocation of a class on an absent key, and how it ends.
+/// An invocation of a class on an absent key, and its result.
 struct Row {
     class: &'static str,
     key: i64,
@@ -132,7 +132,7 @@ static ROWS: [Row; 7] = [
     },
 ];
 
-/// How the invocation of a row ends with a loader, and on an entry that needs none.
+/// Returns the result of the invocation of a `Row` with this loader, on the entry `before`.
 fn done_of<L: Loader>(alloc: Global, row: &Row, before: Option<i64>, loader: &L) -> Option<Done> {
     let class = class_named(alloc, row.class)?;
     let args = Args::of(row.args)?;

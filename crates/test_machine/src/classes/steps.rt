@@ -10,7 +10,7 @@ use machine::{Done, Going, Workspace, one_state_runs, run};
 use std::alloc::Global;
 use verify::Verified;
 
-/// The invocation that runs goes on until it ends, for so many steps at most: the steps, and the end.
+/// Steps the running invocation until it ends. Returns the steps and the result, `None` if it has not ended after `most` steps.
 fn stepped(class: &Verified, workspace: &mut Workspace, most: u32) -> Option<(u32, Done)>
     requires { (s : State) × IsRunningWith false class.now s workspace.old }
 {
@@ -23,7 +23,7 @@ fn stepped(class: &Verified, workspace: &mut Workspace, most: u32) -> Option<(u3
     None
 }
 
-/// How an invocation that is started on an entry of key 7 ends within so many steps.
+/// Starts an invocation on key 7, and steps it until it ends, at most `most` times.
 fn started(alloc: Global, class: &Verified, before: Option<i64>, most: u32) -> Option<(u32, Done)> {
     match Workspace::new(alloc) {
         Ok(mut workspace) => {
@@ -53,7 +53,7 @@ fn an_exception_ends_an_invocation(rt: HostRuntime) {
     assert_eq!(rt; told, Some((10, THREW)));
 }
 
-/// How an invocation of the first class goes within so many steps, and how one of the second ends that is run in its place.
+/// Steps an invocation of the first class at most `most` times, and then runs the second class in the same workspace.
 fn left_and_run(
     alloc: Global,
     first: &Verified,
@@ -79,7 +79,7 @@ fn left_and_run(
     }
 }
 
-/// The same by the names of the classes.
+/// Does the same with the classes of these names.
 fn left_and_run_of(
     alloc: Global,
     first: &str,

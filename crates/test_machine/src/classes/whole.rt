@@ -6,7 +6,7 @@ use machine::{Done, Workspace, run};
 use std::alloc::Global;
 use verify::Verified;
 
-/// How invocations of a class on key 7 end, one with each of two entries, in one workspace.
+/// Invokes a class on key 7 twice in one workspace, with one of these entries each; returns `None` when out of memory.
 fn run_twice(
     alloc: Global,
     class: &Verified,
@@ -23,7 +23,7 @@ fn run_twice(
     }
 }
 
-/// The same of the class with a name, without arguments.
+/// Does the same with the class of this name, without arguments.
 fn done_twice(alloc: Global, name: &str, entries: [Option<i64>; 2]) -> Option<[Done; 2]> {
     match class_named(alloc, name) {
         Some(class) => run_twice(alloc, &class, entries, &Args::none()),
@@ -43,7 +43,7 @@ fn an_exception_changes_nothing(rt: HostRuntime) {
     assert_eq!(rt; done, Some([THREW, THREW]));
 }
 
-/// The outcomes of two invocations, and what they do to the entry.
+/// Returns the outcomes of two invocations, and their effects on the entry.
 fn outcomes(done: Option<[Done; 2]>) -> Option<[(Outcome, Effect); 2]> {
     match done {
         Some(done) => Some([
@@ -62,7 +62,7 @@ fn an_entry_is_removed(rt: HostRuntime) {
     assert_eq!(rt; outcomes(done), Some([removed, never_there]));
 }
 
-/// What an array of all the words makes.
+/// The result of CallArr, whose array occupies all words.
 const MADE_65535: Done = Done {
     outcome: Outcome::Returned(Arg::Long(65_535)),
     effect: Effect::Keep,
@@ -78,7 +78,7 @@ fn all_words_are_there_for_the_next_run(rt: HostRuntime) {
     assert_eq!(rt; done, Some([MADE_65535, MADE_65535]));
 }
 
-/// Classes with a switch of the entry's value, each with two values, what it makes of them, and in how many steps.
+/// Classes with a switch on the entry's value, each with two values, and what it returns for them in how many steps.
 static SWITCHED: [(&str, [i64; 2], [(Arg, u32); 2]); 4] = [
     ("Table", [1, 2], [(Arg::Long(1), 9), (Arg::Null, 8)]),
     ("Table", [3, 0], [(Arg::Long(0), 9), (Arg::Long(0), 9)]),
@@ -86,7 +86,7 @@ static SWITCHED: [(&str, [i64; 2], [(Arg, u32); 2]); 4] = [
     ("Look", [5, 10], [(Arg::Long(0), 9), (Arg::Long(0), 9)]),
 ];
 
-/// What two invocations return, and their steps.
+/// Returns the outcomes and the steps of two invocations.
 fn told(done: Option<[Done; 2]>) -> Option<[(Outcome, u32); 2]> {
     match done {
         Some(done) => Some([
@@ -109,7 +109,7 @@ fn switches_lead_where_their_keys_do(rt: HostRuntime) {
     }
 }
 
-/// How an invocation of Counter with these arguments ends, and its steps.
+/// Returns the outcome and the steps of an invocation of Counter on the entry 41 with these arguments.
 fn counted(alloc: Global, args: &[Arg]) -> Option<(Outcome, u32)> {
     let args = Args::of(args)?;
     match class_named(alloc, "Counter") {
@@ -121,7 +121,7 @@ fn counted(alloc: Global, args: &[Arg]) -> Option<(Outcome, u32)> {
     }
 }
 
-/// Arguments, each with what Counter makes of them and in how many steps.
+/// Arguments of Counter, each with the outcome and the steps.
 static COUNTED: [(&[Arg], Outcome, u32); 4] = [
     (&[Arg::Long(1)], Outcome::Returned(Arg::Long(42)), 24),
     (&[Arg::Integer(1)], Outcome::Threw(JavaFault::ClassCast), 14),

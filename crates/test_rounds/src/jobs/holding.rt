@@ -1,4 +1,4 @@
-//! Calls that are answered while one on another stripe is held.
+//! Calls that are answered while a call on another stripe is blocked.
 
 use super::{Ask, asked, returned};
 use cache::Gate;
@@ -11,7 +11,7 @@ use std::thread;
 use std::thread::Threads;
 use std::time::{Clock, Duration};
 
-/// Holds job 0 in its begun call until job 1 was answered, for ten seconds at most.
+/// Blocks the call of job 0 at its start until job 1 is answered, for about ten seconds at most.
 #[derive(Drop)]
 struct Holding<'s, R> {
     rt: &'s R,
@@ -40,7 +40,7 @@ impl<'s, R: Clock> Gate for Holding<'s, R> {
     }
 }
 
-/// Whether a call on one stripe is answered while one on another is held.
+/// Checks that a call on one stripe is answered while a call on another is blocked.
 fn meet<R: Threads + Wait + Clock + Sync>(
     rt: &R,
     alloc: Global,
@@ -72,8 +72,8 @@ fn stripes_do_not_wait_for_one_another(rt: HostRuntime) -> Result<(), Fail> {
     Ok(())
 }
 
-/// Of the jobs on the keys 0 to 63 holds job 0 in its begun call until all those on other stripes of sixteen were answered, for ten
-/// seconds at most.
+/// For jobs on the keys 0 to 63 and 16 stripes: blocks the call of job 0 at its start until the 60 jobs on the other stripes are answered,
+/// for about ten seconds at most.
 #[derive(Drop)]
 struct HoldingStripe<'s, R> {
     rt: &'s R,
@@ -102,7 +102,7 @@ impl<'s, R: Clock> Gate for HoldingStripe<'s, R> {
     }
 }
 
-/// Whether so many workers make all calls on other stripes while one is held, and each call in the end.
+/// Checks that `workers` workers make all calls on the other stripes while one call is blocked, and each call in the end.
 fn all_meet<R: Threads + Wait + Clock + Sync>(
     rt: &R,
     alloc: Global,

@@ -1,5 +1,5 @@
-//! Three rounds at once on one cache, each with a call on one absent key: the order of these calls isn't known. In one round all calls on a
-//! key are made in the order of its jobs, so it takes several rounds to see another one.
+//! Three concurrent rounds on one cache, each with one call on the same absent key, in an unspecified order.
+//! One round makes all calls on a key in the order of its jobs, so it takes several rounds to see another order.
 
 ghost use Rattle.std.specs.Prelude.{◌≡◌, length, IfOk, IfSome};
 ghost use denote.Param.Send.{IsSync};
@@ -26,7 +26,7 @@ use std::thread::{Threads, join_mut};
 use std::time::{Clock, Duration};
 use stripe::{ArgSlice, Reply, Tables};
 
-/// Holds each call for a while when it has begun, and sees whether another one begins meanwhile.
+/// Delays each call at its start, and records whether another call starts meanwhile.
 #[derive(Drop)]
 struct Holding<'s, R> {
     rt: &'s R,
@@ -46,7 +46,7 @@ impl<'s, R: Clock> Gate for Holding<'s, R> {
     fn answered(&self, _job: usize) {}
 }
 
-/// What runs a round, and the answers that came.
+/// The seats and the workspaces of a round, and its answers.
 #[derive(Drop)]
 struct Caller<'a> {
     seats: Vec<Seat<'a>>,
@@ -54,7 +54,7 @@ struct Caller<'a> {
     answers: Vec<JobReply>,
 }
 
-/// What rounds at once on one cache share, of which each begins after so many microseconds.
+/// What the concurrent rounds share, and their delays in microseconds.
 #[derive(Drop)]
 struct Race<'s, 'a, R> {
     rt: &'s R,
@@ -65,10 +65,10 @@ struct Race<'s, 'a, R> {
     delays: [u64; 3],
 }
 
-/// The argument of each count.
+/// The argument of each increment.
 static ONE: [Arg; 1] = [Arg::Long(1)];
 
-/// The first caller's job puts 1 on key 5, and another one's counts its entry up.
+/// Returns the job of a caller: the first puts 1 on key 5, any other increments the entry.
 fn job_at<'a>(counter: &'a ClassId, place: usize) -> Job<'a>
     ensures { (registry : Shelves) → IsOf registry counter.now → IsCallable registry result }
 {
@@ -83,7 +83,7 @@ fn job_at<'a>(counter: &'a ClassId, place: usize) -> Job<'a>
     }
 }
 
-/// Runs the round of the caller at this place.
+/// Runs the round of the caller at index `place`, after its delay.
 fn call<'a, R: Threads + Wait + Clock + Sync>(
     race: &Race<'_, 'a, R>,
     place: usize,
@@ -105,7 +105,7 @@ fn call<'a, R: Threads + Wait + Clock + Sync>(
     }
 }
 
-/// Has the callers at the places 1 and 2 run their rounds at once.
+/// Runs the rounds of the callers at the indexes 1 and 2 concurrently.
 fn call_both<'a, R: Threads + Wait + Clock + Sync>(
     race: &Race<'_, 'a, R>,
     second: &mut Caller<'a>,
@@ -124,7 +124,7 @@ fn call_both<'a, R: Threads + Wait + Clock + Sync>(
     join_mut(race.rt, &mut one, &mut other);
 }
 
-/// Has three callers run their rounds at once.
+/// Runs the rounds of three callers concurrently.
 fn call_all<'a, R: Threads + Wait + Clock + Sync>(
     race: &Race<'_, 'a, R>,
     first: &mut Caller<'a>,
@@ -146,7 +146,7 @@ fn call_all<'a, R: Threads + Wait + Clock + Sync>(
     join_mut(race.rt, &mut one, &mut others);
 }
 
-/// A caller at this seat.
+/// Returns a caller with this seat and one workspace.
 fn caller_at<'a>(alloc: Global, seat: Seat<'a>) -> Result<Caller<'a>, AllocError>
     ensures seats { IfOk result (λ c. IsWorkerCount (length c.seats.items)) }
     ensures spaces { IfOk result (λ c. length c.spaces.items ≡ length c.seats.items) }
@@ -161,7 +161,7 @@ fn caller_at<'a>(alloc: Global, seat: Seat<'a>) -> Result<Caller<'a>, AllocError
     })
 }
 
-/// A caller of a cache at the last of these seats.
+/// Returns a caller with the last of these seats, `None` if there is none, or when out of memory.
 fn next_caller<'a>(
     alloc: Global,
     _cache: &Cache<'a, 'static, NoLoader>,
@@ -179,7 +179,7 @@ fn next_caller<'a>(
     }
 }
 
-/// What the two counts returned, and the entry that is left.
+/// The numbers that the two increments returned, and the entry after all calls.
 type Outcome = (i64, i64, i64);
 
 fn outcome_of(
@@ -197,7 +197,8 @@ fn outcome_of(
     }
 }
 
-/// What a put and two counts come to, each by a round of its own. It is none where one began while another was held.
+/// Makes a put and two increments, each in a separate round, and returns the outcome.
+/// Returns `None` if a call started while another was delayed.
 fn raced<'a, R: Threads + Wait + Clock + Sync>(
     rt: &R,
     alloc: Global,
@@ -233,7 +234,7 @@ fn raced<'a, R: Threads + Wait + Clock + Sync>(
     outcome_of(&second, &third, cache.get(rt, &mut reader, 5))
 }
 
-/// The same, with a registry of its own.
+/// Does the same in a new registry, which defines the class.
 fn raced_anew<R: Threads + Wait + Clock + Sync>(
     rt: &R,
     alloc: Global,
@@ -260,7 +261,7 @@ static DELAYS: [[u64; 3]; 7] = [
     [600, 300, 0],
 ];
 
-/// Marks this outcome as seen. It is false where the calls can't come to it.
+/// Marks this outcome as seen; returns false if no order of the calls has it.
 fn is_marked(seen: &mut [bool; 6], outcome: Outcome) -> bool {
     let mut is_known = false;
     for (mark, known) in seen.iter_mut().zip(OUTCOMES) {
@@ -272,7 +273,7 @@ fn is_marked(seen: &mut [bool; 6], outcome: Outcome) -> bool {
     is_known
 }
 
-/// Marks the outcomes of a race by each of the delays. It is false where there is one that the calls can't come to.
+/// Marks the outcomes of a race with each of the delays; returns false if one of them is impossible.
 fn race_all<R: Threads + Wait + Clock + Sync>(
     rt: &R,
     alloc: Global,

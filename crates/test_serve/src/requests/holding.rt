@@ -1,12 +1,12 @@
-//! A gate that holds one call up until another one was answered.
+//! A gate that blocks one call until another is answered.
 
 use cache::Gate;
 use std::sync::atomic::{AtomicBool, Ordering};
 use std::thread;
 use std::time::{Clock, Duration};
 
-/// Holds one job in its begun call until another one was answered, for ten seconds at most. A single worker that makes the held job's
-/// call first can't answer the other one meanwhile.
+/// Blocks the call of job `held` at its start until job `other` is answered, for about ten seconds at most.
+/// A single worker that makes the call of `held` first can't answer `other` meanwhile.
 #[derive(Drop)]
 pub struct Holding<'s, R> {
     rt: &'s R,
@@ -27,7 +27,7 @@ impl<'s, R> Holding<'s, R> {
         }
     }
 
-    /// Whether the held job saw that the other one was answered.
+    /// Returns whether job `held` saw the answer to job `other`.
     pub fn saw(&self) -> bool {
         self.seen.load(Ordering::Acquire)
     }

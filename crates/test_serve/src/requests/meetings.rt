@@ -1,4 +1,4 @@
-//! Calls of one round that meet.
+//! Concurrent calls of one round.
 
 use super::holding::Holding;
 use super::{ROUND_END, defined, returned, serve_beside};
@@ -10,20 +10,20 @@ use std::test::Fail;
 use std::thread::Threads;
 use std::time::Clock;
 
-/// Adds an invocation of class 0 on a key, with this argument.
+/// Appends an invocation of class 0 on a key, with the argument `by`.
 fn invoke(input: &mut Vec<u8>, key: u8, by: u8) -> Result<(), AllocError> {
     input.extend_from_slice(&[
         0, 0, 0, 0x17, 6, 0, 0, 0, 0, 0, 0, 0, 0, 0, 0, 0, key, 1, 1, 0, 0, 0, 0, 0, 0, 0, by,
     ])
 }
 
-/// The stream of Counter and a round's end.
+/// Returns the definition of Counter and a round end.
 fn counter_defined(alloc: Global) -> Result<Vec<u8>, AllocError> {
     let counter = rows::counter(alloc)?;
     defined(alloc, &counter, &ROUND_END)
 }
 
-/// The stream of Counter, a round's end, two invocations on two stripes, and a round's end.
+/// Returns the definition of Counter, a round end, two invocations on two stripes, and a round end.
 fn two_calls(alloc: Global) -> Result<Vec<u8>, AllocError> {
     let mut input = counter_defined(alloc)?;
     invoke(&mut input, 0, 1)?;
@@ -32,13 +32,14 @@ fn two_calls(alloc: Global) -> Result<Vec<u8>, AllocError> {
     Ok(input)
 }
 
-/// Whether the invocations returned 1 and 2, in their order.
+/// Checks that the invocations returned 1 and 2, in this order.
 fn both_returned(output: &[u8]) -> bool {
-    // The class and its round come first.
+    // The first 22 bytes are the reply to the definition and the end of its round.
     output.len() == 57 && &output[22..37] == &returned(1)[..] && &output[37..52] == &returned(2)[..]
 }
 
-/// How a stream of two calls ends where a worker's share is so many instructions, whether the held one saw the other's answer, and whether both returned 1.
+/// Serves a stream of two calls with this share of instructions a worker.
+/// Returns the fault, whether the blocked call saw the answer to the other, and whether the calls returned 1 and 2.
 fn met<R: Threads + Wait + Clock + Sync>(
     rt: &R,
     alloc: Global,
@@ -62,7 +63,7 @@ fn two_stripes_work_at_once(rt: HostRuntime) -> Result<(), Fail> {
     Ok(())
 }
 
-/// Fewer instructions than Counter states.
+/// A share below the bound on steps of Counter.
 const FEW: u32 = 10;
 
 #[test]

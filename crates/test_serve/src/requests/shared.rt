@@ -1,4 +1,4 @@
-//! Rounds that several workers share: that they do is seen by a call that is held up until another worker has answered a later one.
+//! Rounds that several workers share: a blocked call sees that another worker answers a later call.
 
 ghost use Rattle.std.specs.Prelude.{true};
 
@@ -14,14 +14,15 @@ use std::thread::Threads;
 use std::time::Clock;
 use wire::Counted;
 
-/// The counts of workers by which each stream is run.
+/// The worker counts with which each stream is served.
 static WORKERS: [usize; 3] = [1, 4, 16];
 
-/// No round has a job of this number.
+/// The number of no job in any round.
 const NO_JOB: usize = 4096;
 
-/// What this stream comes to by so many workers, each worth a round's share, and whether more than one was seen at work where there are
-/// more: the held job of its round, which comes first, saw the answer to the other one.
+/// Serves this stream with `workers` workers, and uses all of them in each round.
+/// `jobs` are a job whose call is blocked at its start, and a later job of its round whose answer it waits for. One worker blocks no call.
+/// Returns whether the blocked call saw that answer, true for one worker, and how the service ended.
 fn serve_shared<T: Threads + Wait + Clock + Sync, L: Loader + Sync>(
     rt: &T,
     alloc: Global,
@@ -44,8 +45,7 @@ fn serve_shared<T: Threads + Wait + Clock + Sync, L: Loader + Sync>(
     (workers < 2 || gate.saw(), Ended { fault, output })
 }
 
-/// Whether by each count of workers this stream has these replies and ends so, and more than one worker was seen at work where there are
-/// more.
+/// Checks `serve_shared` with each worker count: this stream has these replies and this fault, and the blocked call sees the answer.
 fn each_comes_to<T: Threads + Wait + Clock + Sync, L: Loader + Sync>(
     rt: &T,
     alloc: Global,
@@ -64,26 +64,26 @@ fn each_comes_to<T: Threads + Wait + Clock + Sync, L: Loader + Sync>(
     is_right
 }
 
-/// Adds a put of a number on a key.
+/// Appends a put of a number on a key.
 fn put(input: &mut Vec<u8>, key: u8, number: u8) -> Result<(), AllocError> {
     input.extend_from_slice(&[
         0, 0, 0, 0x11, 2, 0, 0, 0, 0, 0, 0, 0, key, 0, 0, 0, 0, 0, 0, 0, number,
     ])
 }
 
-/// Adds a request of this kind that is of a key alone: 3 gets it, 5 asks whether it is there. The key has two bytes.
+/// Appends a request of kind 3, a get, or of kind 5, `contains`, on a key of two bytes.
 fn ask(input: &mut Vec<u8>, kind: u8, key: [u8; 2]) -> Result<(), AllocError> {
     input.extend_from_slice(&[0, 0, 0, 9, kind, 0, 0, 0, 0, 0, 0, key[0], key[1]])
 }
 
-/// Adds an invocation of a class on a key of two bytes, without arguments.
+/// Appends an invocation of a class on a key of two bytes, without arguments.
 fn invoke(input: &mut Vec<u8>, class: u8, key: [u8; 2]) -> Result<(), AllocError> {
     input.extend_from_slice(&[
         0, 0, 0, 0x0E, 6, 0, 0, 0, class, 0, 0, 0, 0, 0, 0, key[0], key[1], 0,
     ])
 }
 
-/// Adds an invocation of a class on a key of two bytes, with the argument 1.
+/// Appends an invocation of a class on a key of two bytes, with the argument 1.
 fn invoke_with_one(input: &mut Vec<u8>, class: u8, key: [u8; 2]) -> Result<(), AllocError> {
     input.extend_from_slice(&[
         0, 0, 0, 0x17, 6, 0, 0, 0, class, 0, 0, 0, 0, 0, 0, key[0], key[1], 1, 1, 0, 0, 0, 0, 0, 0,
@@ -91,7 +91,7 @@ fn invoke_with_one(input: &mut Vec<u8>, class: u8, key: [u8; 2]) -> Result<(), A
     ])
 }
 
-/// Adds puts of 1 to 16 on the keys 0 to 15, each on a stripe of its own, and a round's end.
+/// Appends puts of 1 to 16 on the keys 0 to 15, each on a different stripe, and a round end.
 fn sixteen_puts(input: &mut Vec<u8>) -> Result<(), AllocError> {
     for key in 0..16 {
         put(input, key, key + 1)?;
@@ -103,17 +103,17 @@ static ENDED: [u8; 5] = [0, 0, 0, 1, 9];
 
 static DONE: [u8; 5] = [0, 0, 0, 1, 3];
 
-/// The reply to a class that was accepted, with its number and its bound of steps.
+/// Returns the reply to a class that is accepted, with its number and its bound on steps.
 fn accepted(class: u8, steps: u8) -> [u8; 17] {
     [0, 0, 0, 13, 1, 0, 0, 0, class, 0, 0, 0, steps, 0, 0, 0, 0]
 }
 
-/// The reply to a get of an entry with this number.
+/// Returns the reply to a get of an entry with this number.
 fn value(number: u8) -> [u8; 14] {
     [0, 0, 0, 0x0A, 4, 1, 0, 0, 0, 0, 0, 0, 0, number]
 }
 
-/// Adds the replies to sixteen puts, and an end.
+/// Appends the replies to sixteen puts and a round end.
 fn sixteen_done(output: &mut Vec<u8>) -> Result<(), AllocError> {
     for _ in 0..16 {
         output.extend_from_slice(&DONE)?;
@@ -121,7 +121,7 @@ fn sixteen_done(output: &mut Vec<u8>) -> Result<(), AllocError> {
     output.extend_from_slice(&ENDED)
 }
 
-/// A round of sixteen puts, and a round of gets of the same keys.
+/// Returns a round of sixteen puts, and a round of gets of the same keys.
 fn puts_and_gets(alloc: Global) -> Result<Vec<u8>, AllocError> {
     let mut input = Vec::new(alloc);
     sixteen_puts(&mut input)?;
@@ -132,7 +132,7 @@ fn puts_and_gets(alloc: Global) -> Result<Vec<u8>, AllocError> {
     Ok(input)
 }
 
-/// The replies to it.
+/// Returns the replies to `puts_and_gets`.
 fn done_and_values(alloc: Global) -> Result<Vec<u8>, AllocError> {
     let mut output = Vec::new(alloc);
     sixteen_done(&mut output)?;
@@ -151,7 +151,7 @@ fn puts_are_read_in_the_next_round(rt: HostRuntime) -> Result<(), Fail> {
     Ok(())
 }
 
-/// Plus is defined, a round of sixteen puts, and a round that invokes it on the same keys.
+/// Returns a round that defines Plus and has sixteen puts, and a round that invokes Plus on the same keys.
 fn puts_and_runs(alloc: Global) -> Result<Vec<u8>, AllocError> {
     let mut input = Vec::new(alloc);
     define(&mut input, &rows::plus(alloc)?)?;
@@ -163,7 +163,7 @@ fn puts_and_runs(alloc: Global) -> Result<Vec<u8>, AllocError> {
     Ok(input)
 }
 
-/// The replies to it.
+/// Returns the replies to `puts_and_runs`.
 fn done_and_returned(alloc: Global) -> Result<Vec<u8>, AllocError> {
     let mut output = Vec::new(alloc);
     output.extend_from_slice(&accepted(0, 14))?;
@@ -183,7 +183,7 @@ fn a_class_is_invoked_on_the_entries_of_the_round_before(rt: HostRuntime) -> Res
     Ok(())
 }
 
-/// A round of sixteen puts, and one of another put whose last request is cut.
+/// Returns a round of sixteen puts, and a second round of a put and a truncated request.
 fn puts_and_cut(alloc: Global) -> Result<Vec<u8>, AllocError> {
     let mut input = Vec::new(alloc);
     sixteen_puts(&mut input)?;
@@ -202,12 +202,12 @@ fn a_cut_round_behind_a_whole_one_is_not_run(rt: HostRuntime) -> Result<(), Fail
     Ok(())
 }
 
-/// The class with this name, none where there is no such class.
+/// Returns the class file of the class with this name, empty if there is no such class.
 fn class_named(alloc: Global, name: &str) -> Result<Vec<u8>, AllocError> {
     Ok(rows::class_named(alloc, name)?.unwrap_or(Vec::new(alloc)))
 }
 
-/// Ratio is defined, a round of three puts, and a round of one `invokeAll` over the keys 1, 2, 2 and 3.
+/// Returns a round that defines Ratio and has three puts, and a round of one `invokeAll` on the keys 1, 2, 2 and 3.
 fn puts_and_ratios(alloc: Global) -> Result<Vec<u8>, AllocError> {
     let mut input = Vec::new(alloc);
     define(&mut input, &class_named(alloc, "Ratio")?)?;
@@ -224,7 +224,7 @@ fn puts_and_ratios(alloc: Global) -> Result<Vec<u8>, AllocError> {
     Ok(input)
 }
 
-/// The replies to it: a Long, an exception and, of key 3, nothing.
+/// Returns the replies to `puts_and_ratios`: a `Long` for key 1, an exception for key 2, no result for key 3.
 fn done_and_ratios(alloc: Global) -> Result<Vec<u8>, AllocError> {
     let mut output = Vec::new(alloc);
     output.extend_from_slice(&accepted(0, 14))?;
@@ -247,7 +247,7 @@ fn results_have_the_order_of_the_keys(rt: HostRuntime) -> Result<(), Fail> {
     Ok(())
 }
 
-/// Counter is defined; a round that puts 1 on key 5 and invokes Counter on it twice, beside a get of key 6; and a round that gets key 5.
+/// Returns a round that defines Counter, puts 1 on key 5, invokes Counter on it twice and gets key 6, and a round that gets key 5.
 fn beside_a_put(alloc: Global) -> Result<Vec<u8>, AllocError> {
     let mut input = Vec::new(alloc);
     define(&mut input, &rows::counter(alloc)?)?;
@@ -261,7 +261,7 @@ fn beside_a_put(alloc: Global) -> Result<Vec<u8>, AllocError> {
     Ok(input)
 }
 
-/// What the two invocations return and leave, by the orders of the three calls.
+/// What the two invocations return and the entry after the three calls, for the six orders of the calls.
 static IN_SOME_ORDER: [[u8; 3]; 6] = [
     [2, 3, 3],
     [3, 2, 3],
@@ -271,7 +271,7 @@ static IN_SOME_ORDER: [[u8; 3]; 6] = [
     [2, 1, 1],
 ];
 
-/// The replies to them where they return and leave this.
+/// Returns the replies to `beside_a_put` with this outcome.
 fn replies_of(alloc: Global, outcome: [u8; 3]) -> Result<Vec<u8>, AllocError> {
     let mut output = Vec::new(alloc);
     output.extend_from_slice(&accepted(0, 24))?;
@@ -285,7 +285,7 @@ fn replies_of(alloc: Global, outcome: [u8; 3]) -> Result<Vec<u8>, AllocError> {
     Ok(output)
 }
 
-/// Whether these are the replies to them in some order.
+/// Checks that these are the replies to `beside_a_put` for some order of its calls.
 fn are_in_some_order(alloc: Global, output: &[u8]) -> Result<bool, AllocError> {
     let mut is_found = false;
     for outcome in IN_SOME_ORDER {
@@ -308,7 +308,7 @@ fn calls_on_an_absent_key_are_in_some_order(rt: HostRuntime) -> Result<(), Fail>
     Ok(())
 }
 
-/// Of each hundred of keys 7 gives 41, 9 gives 0, 13 fails, and no other one has a value.
+/// A loader by the key modulo 100: 7 has the value 41, 9 has 0, 13 fails, and any other has no value.
 struct Hundreds;
 
 impl Loader for Hundreds {
@@ -328,7 +328,7 @@ impl Loader for Hundreds {
     }
 }
 
-/// The keys of the calls where there is a loader: 7, 108, 213, 307, 407, 507, 609 and 713, all absent.
+/// The last two bytes of the keys of the calls with a loader: 7, 108, 213, 307, 407, 507, 609 and 713. All of them are absent.
 static KEYS: [[u8; 2]; 8] = [
     [0, 7],
     [0, 108],
@@ -340,7 +340,7 @@ static KEYS: [[u8; 2]; 8] = [
     [2, 201],
 ];
 
-/// Adds the definitions of Plus, Unbox, Counter, SetRemove and Ratio, which become the classes 0 to 4.
+/// Appends the definitions of Plus, Unbox, Counter, SetRemove and Ratio, which become the classes 0 to 4.
 fn five_classes(alloc: Global, input: &mut Vec<u8>) -> Result<(), AllocError> {
     define(input, &rows::plus(alloc)?)?;
     define(input, &rows::unbox(alloc)?)?;
@@ -349,7 +349,8 @@ fn five_classes(alloc: Global, input: &mut Vec<u8>) -> Result<(), AllocError> {
     define(input, &class_named(alloc, "Ratio")?)
 }
 
-/// A round that invokes these classes on absent keys, and gets one, and a round that asks which of them are there.
+/// Returns three rounds. The first defines the five classes, invokes them on absent keys and gets an absent key.
+/// The second asks for each of these keys if it is present, the third gets three of them.
 fn loaded_calls(alloc: Global) -> Result<Vec<u8>, AllocError> {
     let mut input = Vec::new(alloc);
     five_classes(alloc, &mut input)?;
@@ -373,12 +374,12 @@ fn loaded_calls(alloc: Global) -> Result<Vec<u8>, AllocError> {
     Ok(input)
 }
 
-/// The reply to an invocation that threw, and to a get whose load failed.
+/// Returns the reply to an invocation that threw the exception with this number, or to a get whose load failed.
 fn threw(number: u8) -> [u8; 7] {
     [0, 0, 0, 3, 6, 1, number]
 }
 
-/// The replies to the classes and the first round.
+/// Returns the replies to the first round of `loaded_calls`.
 fn first_of_loaded(alloc: Global) -> Result<Vec<u8>, AllocError> {
     let mut output = Vec::new(alloc);
     for (class, steps) in [(0, 14), (1, 6), (2, 24), (3, 21), (4, 14)] {
@@ -396,7 +397,7 @@ fn first_of_loaded(alloc: Global) -> Result<Vec<u8>, AllocError> {
     Ok(output)
 }
 
-/// All the replies.
+/// Returns the replies to `loaded_calls`.
 fn loaded_replies(alloc: Global) -> Result<Vec<u8>, AllocError> {
     let mut output = first_of_loaded(alloc)?;
     for is_there in [1, 0, 0, 1, 1, 0, 0, 0] {

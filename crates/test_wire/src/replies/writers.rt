@@ -1,4 +1,4 @@
-//! Writers that fail, or take a few bytes at a time.
+//! Writers that fail, or that accept a few bytes a call.
 
 use super::{RESULTS, results};
 use std::alloc::{AllocError, Global};
@@ -7,7 +7,7 @@ use std::io::Write;
 use std::test::Fail;
 use wire::{Counted, WriteFailed, write_bytes, write_reply};
 
-/// Takes at most so many bytes, a few at a time, and then none or an error.
+/// A writer that accepts `most` bytes in all, at most 3 a call. Then it accepts none, or fails if `fails` is set.
 #[derive(Drop)]
 struct Sink {
     bytes: Vec<u8>,
@@ -34,17 +34,17 @@ impl Write for Sink {
     }
 }
 
-/// What a writer was given.
+/// The result of a write to a `Sink`, and the state of the writer after it.
 #[derive(Clone, Copy, Debug, PartialEq, Eq)]
 struct Given {
     result: Result<(), WriteFailed>,
     failures: u64,
     idle: u64,
-    /// Whether its bytes are these.
+    /// Whether the sink holds the expected bytes.
     is_as_wanted: bool,
 }
 
-/// What a writer that takes so many bytes was given of the results, which are to be their beginning.
+/// Writes the results to a sink that accepts `most` bytes, and compares its bytes with the first `most` bytes of the frame.
 fn results_given(alloc: Global, most: usize, fails: bool) -> Result<Given, AllocError> {
     let reply = results(alloc)?;
     let mut writer = Counted::new(Sink {
@@ -63,7 +63,7 @@ fn results_given(alloc: Global, most: usize, fails: bool) -> Result<Given, Alloc
     })
 }
 
-/// A writer that failed in the middle.
+/// The expected result for a sink that is full before the end of the frame.
 fn failed(fails: bool) -> Given {
     Given {
         result: Err(WriteFailed),
@@ -83,7 +83,7 @@ fn a_writer_that_fails_has_a_beginning(rt: HostRuntime) -> Result<(), Fail> {
     Ok(())
 }
 
-/// What a writer that takes few bytes at a time was given of the results and four bytes; then a write of nothing and a flush fail.
+/// Writes the results and four bytes to a sink that accepts 3 bytes a call. Then an empty write and a flush must fail.
 fn given_all(alloc: Global) -> Result<Given, AllocError> {
     let reply = results(alloc)?;
     let mut writer = Counted::new(Sink {

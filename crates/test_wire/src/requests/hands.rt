@@ -1,4 +1,4 @@
-//! Requests that are read where they stand, and requests that are copied first.
+//! Requests that are parsed in the reader's buffer, and requests that are copied first.
 
 use super::{Told, front_of};
 use jtypes::Arg;
@@ -7,14 +7,14 @@ use std::io::BufReader;
 use std::test::Fail;
 use wire::{Ahead, Counted, Invocation, Plain, WireFault, invocation_at_hand, read_request};
 
-/// What is read of a stream.
+/// The requests and the arguments that are read from a stream.
 #[derive(Drop)]
 struct Heard {
     told: Vec<Told>,
     args: Vec<Arg>,
 }
 
-/// Reads four frames, or up to the end or a fault.
+/// Reads four requests, or up to the end of the stream or a fault.
 fn hear<R: Ahead + Drop>(alloc: Global, reader: R) -> Result<Heard, AllocError> {
     let mut reader = Counted::new(reader);
     let mut heard = Heard {
@@ -37,7 +37,7 @@ fn is_alike(one: &Heard, other: &Heard) -> bool {
     one.told.as_slice() == other.told.as_slice() && one.args.as_slice() == other.args.as_slice()
 }
 
-/// An invocation with three arguments, a put, and a frame that no request has.
+/// An invocation with three arguments, a put, a malformed frame, and a round end.
 static FRAMES: [u8; 65] = [
     0, 0, 0, 0x1D, 6, 0, 0, 0, 3, 0, 0, 0, 0, 0, 0, 0, 5, 3, //
     1, 0, 0, 0, 0, 0, 0, 0, 7, 0, 2, 0xFF, 0xFF, 0xFF, 0xFE, //
@@ -59,10 +59,10 @@ fn the_frames_are_these(rt: HostRuntime) -> Result<(), Fail> {
     Ok(())
 }
 
-/// The class, the key and the count of arguments of an invocation, if one is taken; nothing at want of memory.
+/// The class, the key and the number of arguments of an invocation; `Some(None)` if none is read, `None` when out of memory.
 type Taken = Option<Option<(u32, i64, usize)>>;
 
-/// What is taken at hand, and what is read behind it.
+/// Calls `invocation_at_hand`, and then reads the next request.
 fn taken<R: Ahead + Drop>(alloc: Global, reader: R) -> (Taken, Told) {
     let mut reader = Counted::new(reader);
     let mut args = Vec::new(alloc);

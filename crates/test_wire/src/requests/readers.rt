@@ -6,7 +6,7 @@ use std::io;
 use std::io::Read;
 use wire::{Counted, Plain, Request, WireFault, read_request};
 
-/// Gives its bytes one at a time, and then fails.
+/// A reader that returns one byte a call, and then fails with `error`.
 #[derive(Drop)]
 struct Drops<'a> {
     rest: &'a [u8],
@@ -26,7 +26,7 @@ impl<'a> Read for Drops<'a> {
     }
 }
 
-/// What is read from such a reader: the fault, or whether it is the put; and how many reads failed.
+/// Reads a request from such a reader. Returns the fault, or whether the request is `PUT`, and how many reads failed.
 fn read_from(alloc: Global, rest: &[u8], error: io::ErrorKind) -> (Result<bool, WireFault>, u64) {
     let inner = Drops { rest, error };
     let mut reader = Counted::new(Plain { inner });

@@ -23,13 +23,13 @@ found [] i a d e = absurd (some-ne-none a (sym e))
 found (x ∷ xs) zero a d e = some-injective x a e
 found (x ∷ xs) (suc i) a d e = found xs i a d e
 
--- the seats of a cache can make calls on it
+-- fresh seats of a cache have its table, which is the precondition of a call
 ready : (t : TableId) (n : ℕ) (seats : List Sitting) → AreFresh t n seats → All (λ (s : Sitting). s.table ≡ t) seats
 ready t n seats fresh k d h =
     let x = there seats k h in
     ap (λ (s : Sitting). s.table) (found seats k x.0 d x.1 ∙ fresh.each k x.0 x.1)
 
--- the seats are in their places still
+-- the seats after the callers' work are still the seats of the cache, as `close` requires
 served : {L : Type 0} (d : Opened L) (old new : List Sitting) → AreFresh d.table d.seats old → length new ≡ length old
     → ((i : ℕ) (s : Sitting) → i < length old → ((slice_index_or new i s).table ≡ (slice_index_or old i s).table) × ((slice_index_or new i s).caller ≡ (slice_index_or old i s).caller) × ((slice_index_or new i s).made ≡ (slice_index_or old i s).made))
     → AreSeats d new

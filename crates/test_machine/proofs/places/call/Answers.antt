@@ -10,7 +10,7 @@ use Rattle.slots.proofs.Arrays.{reads_top, stack_top}
 use Rattle.test_machine.proofs.Begun.{own, begun}
 use Rattle.test_machine.proofs.places.call.Goals as goal
 
--- the caller, and the locals of the method that is called
+-- the frame of the caller, and the local variables of the called method
 abbrev caller : Activation
 caller = record { method = 0; place = 0; locals = own; operands = [] }
 

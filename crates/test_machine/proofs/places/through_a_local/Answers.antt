@@ -8,7 +8,7 @@ use Rattle.slots.proofs.Arrays.{reads_top}
 use Rattle.test_machine.proofs.Begun.{own, begun}
 use Rattle.test_machine.proofs.places.through_a_local.Goals as goal
 
--- the locals after the store
+-- the local variables after the store
 abbrev after_store : ℤ → List (Option Value)
 after_store i = store_value own 3 (Int i)
 
