@@ -18,7 +18,7 @@ use std::time::Duration;
 use stripe::{ArgSlice, BeginRefusal, Call, Reply, ask, stripe_of};
 use verify::Verified;
 
-/// The stripe of a call's key, of so many.
+/// Returns the stripe of the key of a call.
 fn place_of(stripes: usize, call: &Call<'_>) -> usize
     requires some { 0 < stripes }
     requires few { stripes ≤ 64 }
