@@ -88,9 +88,8 @@ fn list(keys: &[i64], answers: &[JobReply], results: &mut Vec<(i64, JobReply)>)
 /// A key whose entry processor returned null has no result. A key whose entry processor threw has the exception (`EntryProcessorResult`),
 /// and a key whose call was refused has the refusal.
 /// The error is out of memory before the first call, and leaves the seats and the workspaces unchanged.
-pub fn invoke_all<'a, R: Threads + Wait + Sync, G: Gate + Sync, L: Loader + Sync>(
+pub fn invoke_all<'a, R: Threads + Wait + Sync + AllocGlobal, G: Gate + Sync, L: Loader + Sync>(
     rt: &R,
-    alloc: Global,
     cache: &Cache<'a, '_, L>,
     class: &'a ClassId,
     keys: &[i64],
@@ -108,11 +107,12 @@ pub fn invoke_all<'a, R: Threads + Wait + Sync, G: Gate + Sync, L: Loader + Sync
     ensures workspaces { OnOk result (length workspaces.new.items ≡ length workspaces.old.items) }
     ensures err { OnErr result ((seats.new.items ≡ seats.old.items) × (workspaces.new.items ≡ workspaces.old.items)) }
 {
+    let alloc = rt.alloc();
     let set = once_each(alloc, keys)?;
     let keys = set.as_slice();
     let mut results = Vec::with_capacity(alloc, keys.len())?;
     let jobs = jobs_for(alloc, class, keys, args)?;
-    let answers = run_round(rt, alloc, cache, jobs.as_slice(), seats, workspaces, gate)?;
+    let answers = run_round(rt, cache, jobs.as_slice(), seats, workspaces, gate)?;
     list(keys, answers.as_slice(), &mut results);
     Ok(results)
 }

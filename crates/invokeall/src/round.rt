@@ -20,7 +20,7 @@ use cache::{Cache, Gate, Seat};
 use claims::Counter;
 use jtypes::Loader;
 use machine::Workspace;
-use std::alloc::{AllocError, Global};
+use std::alloc::AllocError;
 use std::mem;
 use std::sync::Wait;
 use std::thread::Threads;
@@ -34,9 +34,8 @@ use std::thread::Threads;
 ///
 /// All buffers of the round itself are allocated before the first claim. The error is out of memory then, and no job has run.
 /// Later a job may be refused by its answer.
-pub fn run_round<'a, R: Threads + Wait + Sync, G: Gate + Sync, L: Loader + Sync>(
+pub fn run_round<'a, R: Threads + Wait + Sync + AllocGlobal, G: Gate + Sync, L: Loader + Sync>(
     rt: &R,
-    alloc: Global,
     cache: &Cache<'a, '_, L>,
     jobs: &[Job<'a>],
     seats: &mut Vec<Seat<'a>>,
@@ -52,6 +51,7 @@ pub fn run_round<'a, R: Threads + Wait + Sync, G: Gate + Sync, L: Loader + Sync>
     ensures workspaces { OnOk result (length workspaces.new.items ≡ length workspaces.old.items) }
     ensures err { OnErr result ((seats.new.items ≡ seats.old.items) × (workspaces.new.items ≡ workspaces.old.items)) }
 {
+    let alloc = rt.alloc();
     let buffers = buffers_for(alloc, jobs.len(), cache.stripes(), seats.len())?;
     let calls = calls_for(alloc, cache.registry(), jobs)?;
     let round = Round {

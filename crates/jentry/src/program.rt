@@ -91,7 +91,7 @@ fn table_of<'a>(alloc: Global, files: &impl Files, file: &'a str) -> Result<Tabl
 }
 
 /// Serves the requests of the input up to its end.
-fn serve_input<'a, T: Threads + Wait + Sync, I: Read, W: Write, L: Loader + Sync>(
+fn serve_input<'a, T: Threads + Wait + Sync + AllocGlobal, I: Read, W: Write, L: Loader + Sync>(
     rt: &T,
     alloc: Global,
     settings: Settings,
@@ -104,15 +104,7 @@ fn serve_input<'a, T: Threads + Wait + Sync, I: Read, W: Write, L: Loader + Sync
     };
     let mut reader = Counted::new(buffered);
     let mut writer = Counted::new(output);
-    match serve(
-        rt,
-        alloc,
-        &mut reader,
-        &mut writer,
-        settings,
-        &NoGate,
-        loader,
-    ) {
+    match serve(rt, &mut reader, &mut writer, settings, &NoGate, loader) {
         Ok(()) => Ok(OK),
         Err(fault) => Err(Failure::Fault(fault.number(), fault.name())),
     }
@@ -134,7 +126,7 @@ fn words_of<'a>(alloc: Global, words: &'a [String]) -> Result<Vec<&'a str>, Allo
     Ok(texts)
 }
 
-fn perform<'a, T: Threads + Wait + Sync, I: Read, W: Write>(
+fn perform<'a, T: Threads + Wait + Sync + AllocGlobal, I: Read, W: Write>(
     rt: &T,
     alloc: Global,
     words: &'a [&'a str],
@@ -192,7 +184,7 @@ pub fn no_memory<W: Write>(errors: &mut W) -> u8 {
 /// Executes the command in `words` and returns its exit status.
 /// Lines that begin with `error` or `serve fault` go to `errors`, all other output goes to `output`.
 /// Only `serve` reads `input`.
-pub fn command<T: Threads + Wait + Sync, I: Read, W: Write, E: Write>(
+pub fn command<T: Threads + Wait + Sync + AllocGlobal, I: Read, W: Write, E: Write>(
     rt: &T,
     alloc: Global,
     words: &[String],

@@ -16,7 +16,6 @@ use bumpalo::Bump;
 use cache::Gate;
 use jtypes::Loader;
 use registry::Registry;
-use std::alloc::Global;
 use std::io::Write;
 use std::sync::Wait;
 use std::thread::Threads;
@@ -29,9 +28,14 @@ const MOST_WORKERS: usize = 16;
 
 /// Serves the requests of the reader, round by round, up to its end. The writer is flushed after each round.
 /// If a fault ends the stream early, the replies to the rounds before are written already.
-pub fn serve<T: Threads + Wait + Sync, R: Ahead, W: Write, G: Gate + Sync, L: Loader + Sync>(
+pub fn serve<
+    T: Threads + Wait + Sync + AllocGlobal,
+    R: Ahead,
+    W: Write,
+    G: Gate + Sync,
+    L: Loader + Sync,
+>(
     rt: &T,
-    alloc: Global,
     reader: &mut Counted<R>,
     writer: &mut Counted<W>,
     settings: Settings,
@@ -47,6 +51,7 @@ pub fn serve<T: Threads + Wait + Sync, R: Ahead, W: Write, G: Gate + Sync, L: Lo
     ensures count { (result ≡ Err ServeFault.BadCount) ↔ (¬ CanServe settings) }
     ensures untouched { result ≡ Err ServeFault.BadCount → (reader.new ≡ reader.old) × (writer.new ≡ writer.old) }
 {
+    let alloc = rt.alloc();
     let workers = settings.workers;
     if workers > MOST_WORKERS {
         return Err(ServeFault::BadCount);

@@ -81,15 +81,7 @@ fn sixteen_stripes_work_at_once(rt: HostRuntime) -> Result<(), Fail> {
     };
     let mut reader = Counted::new(input.as_slice());
     let mut writer = Counted::new(Vec::new(alloc));
-    let result = serve(
-        &rt,
-        alloc,
-        &mut reader,
-        &mut writer,
-        settings,
-        &gate,
-        &NoLoader,
-    );
+    let result = serve(&rt, &mut reader, &mut writer, settings, &gate, &NoLoader);
     assert_eq!(rt; result, Ok(()));
     assert_eq!(rt; gate.last.load(Ordering::SeqCst), 1);
     assert_eq!(rt; gate.saw.load(Ordering::SeqCst), JOBS - 1);

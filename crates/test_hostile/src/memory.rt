@@ -174,7 +174,7 @@ fn are_right(replies: &[u8], fault: Option<ServeFault>) -> bool {
 }
 
 /// Serves the script with `workers` workers, and checks the replies.
-fn is_served<T: Threads + Wait + Sync>(
+fn is_served<T: Threads + Wait + Sync + AllocGlobal>(
     rt: &T,
     alloc: Global,
     workers: usize,
@@ -187,16 +187,7 @@ fn is_served<T: Threads + Wait + Sync>(
         stripes: 16,
         share: 0,
     };
-    let fault = serve(
-        rt,
-        alloc,
-        &mut reader,
-        &mut writer,
-        settings,
-        &NoGate,
-        &NoLoader,
-    )
-    .err();
+    let fault = serve(rt, &mut reader, &mut writer, settings, &NoGate, &NoLoader).err();
     let output = writer.into_inner();
     Ok(are_right(output.as_slice(), fault))
 }

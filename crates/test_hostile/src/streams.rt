@@ -54,15 +54,7 @@ fn a_cut_stream_answers_its_whole_rounds(rt: HostRuntime) -> Result<(), Fail> {
             let mut reader = Counted::new(&REQUESTS[..count]);
             let mut writer = Counted::new(Vec::new(rt.alloc()));
             let settings = settings(workers);
-            let result = serve(
-                &rt,
-                rt.alloc(),
-                &mut reader,
-                &mut writer,
-                settings,
-                &NoGate,
-                &NoLoader,
-            );
+            let result = serve(&rt, &mut reader, &mut writer, settings, &NoGate, &NoLoader);
             let is_whole = count == 0 || count == 26 || count == 44;
             let wanted = if is_whole {
                 Ok(())
@@ -110,15 +102,7 @@ fn a_reader_that_fails_ends_the_stream(rt: HostRuntime) -> Result<(), Fail> {
                 let mut reader = Counted::new(Plain { inner });
                 let mut writer = Counted::new(Vec::new(rt.alloc()));
                 let settings = settings(workers);
-                let result = serve(
-                    &rt,
-                    rt.alloc(),
-                    &mut reader,
-                    &mut writer,
-                    settings,
-                    &NoGate,
-                    &NoLoader,
-                );
+                let result = serve(&rt, &mut reader, &mut writer, settings, &NoGate, &NoLoader);
                 assert!(rt;
                     result == Err(ServeFault::Read),
                     "{count} bytes, {workers} workers"
@@ -165,7 +149,7 @@ impl Write for Sink {
 }
 
 /// Serves `REQUESTS` to such a writer. Returns the result, and the bytes that are written.
-fn served_to<T: Threads + Wait + Sync>(
+fn served_to<T: Threads + Wait + Sync + AllocGlobal>(
     rt: &T,
     alloc: Global,
     workers: usize,
@@ -174,15 +158,7 @@ fn served_to<T: Threads + Wait + Sync>(
     let mut reader = Counted::new(&REQUESTS[..]);
     let mut writer = Counted::new(sink);
     let settings = settings(workers);
-    let result = serve(
-        rt,
-        alloc,
-        &mut reader,
-        &mut writer,
-        settings,
-        &NoGate,
-        &NoLoader,
-    );
+    let result = serve(rt, &mut reader, &mut writer, settings, &NoGate, &NoLoader);
     let Sink { bytes, .. } = writer.into_inner();
     (result, bytes)
 }

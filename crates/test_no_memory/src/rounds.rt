@@ -153,7 +153,7 @@ fn opened<'a>(
 type AnswersLeft<A> = (Option<Vec<A>>, Tables);
 
 /// Runs a round on a cache opened for it, with `count` seats.
-fn round<R: Threads + Wait + Sync>(
+fn round<R: Threads + Wait + Sync + AllocGlobal>(
     rt: &R,
     alloc: Global,
     registry: &Registry,
@@ -171,7 +171,7 @@ fn round<R: Threads + Wait + Sync>(
     let Ok(mut spaces) = workspaces(alloc, seats.len()) else {
         return (None, cache.close(seats).tables);
     };
-    match run_round(rt, alloc, &cache, jobs, &mut seats, &mut spaces, &NoGate) {
+    match run_round(rt, &cache, jobs, &mut seats, &mut spaces, &NoGate) {
         Ok(answers) => (Some(answers), cache.close(seats).tables),
         Err(AllocError) => (None, cache.close(seats).tables),
     }
@@ -187,7 +187,7 @@ fn keys_and_doubles() -> [i64; 64] {
 }
 
 /// Invokes the class on each key by one `invoke_all`; returns `None` when out of memory.
-fn listed<'a, R: Threads + Wait + Sync>(
+fn listed<'a, R: Threads + Wait + Sync + AllocGlobal>(
     rt: &R,
     alloc: Global,
     cache: &Cache<'a, '_, NoLoader>,
@@ -206,7 +206,6 @@ fn listed<'a, R: Threads + Wait + Sync>(
     let keys = keys_and_doubles();
     match invoke_all(
         rt,
-        alloc,
         cache,
         class,
         &keys,
@@ -221,7 +220,7 @@ fn listed<'a, R: Threads + Wait + Sync>(
 }
 
 /// Does the same on a cache opened for it, with `count` seats.
-fn plus_on_all<R: Threads + Wait + Sync>(
+fn plus_on_all<R: Threads + Wait + Sync + AllocGlobal>(
     rt: &R,
     alloc: Global,
     registry: &Registry,
@@ -240,7 +239,7 @@ fn plus_on_all<R: Threads + Wait + Sync>(
 }
 
 /// Runs a round of this work with `count` workers. Returns whether the entries follow from the answers, and the tables.
-fn work_is_right<R: Threads + Wait + Sync>(
+fn work_is_right<R: Threads + Wait + Sync + AllocGlobal>(
     rt: &R,
     alloc: Global,
     registry: &Registry,
@@ -260,7 +259,7 @@ fn work_is_right<R: Threads + Wait + Sync>(
 }
 
 /// Checks a round of puts, a round of invocations and one `invoke_all` on all keys, each with `count` workers.
-fn all_are_right<R: Threads + Wait + Sync>(
+fn all_are_right<R: Threads + Wait + Sync + AllocGlobal>(
     rt: &R,
     alloc: Global,
     registry: &Registry,
@@ -281,7 +280,7 @@ fn all_are_right<R: Threads + Wait + Sync>(
 }
 
 /// Does the same with Plus, in a new registry.
-fn rounds_are_right<R: Threads + Wait + Sync>(
+fn rounds_are_right<R: Threads + Wait + Sync + AllocGlobal>(
     rt: &R,
     alloc: Global,
     count: usize,

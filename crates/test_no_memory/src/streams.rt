@@ -112,7 +112,7 @@ fn are_right(replies: &[u8], fault: Option<ServeFault>) -> Option<bool> {
 }
 
 /// Serves the script with `workers` workers, and checks the replies.
-fn script_is_served<T: Threads + Wait + Sync>(
+fn script_is_served<T: Threads + Wait + Sync + AllocGlobal>(
     rt: &T,
     alloc: Global,
     workers: usize,
@@ -125,16 +125,7 @@ fn script_is_served<T: Threads + Wait + Sync>(
         stripes: 4,
         share: 0,
     };
-    let fault = serve(
-        rt,
-        alloc,
-        &mut reader,
-        &mut writer,
-        settings,
-        &NoGate,
-        &NoLoader,
-    )
-    .err();
+    let fault = serve(rt, &mut reader, &mut writer, settings, &NoGate, &NoLoader).err();
     let output = writer.into_inner();
     Ok(are_right(output.as_slice(), fault).unwrap_or(false))
 }

@@ -102,7 +102,7 @@ fn opened<'a>(
 }
 
 /// Runs a round on a cache that is opened for it, with `seats` seats.
-fn ran<R: Threads + Wait + Sync, G: Gate + Sync>(
+fn ran<R: Threads + Wait + Sync + AllocGlobal, G: Gate + Sync>(
     rt: &R,
     alloc: Global,
     registry: &Registry,
@@ -120,7 +120,7 @@ fn ran<R: Threads + Wait + Sync, G: Gate + Sync>(
     let Ok(mut spaces) = workspaces(alloc, seats.len()) else {
         return None;
     };
-    match run_round(rt, alloc, &cache, jobs, &mut seats, &mut spaces, gate) {
+    match run_round(rt, &cache, jobs, &mut seats, &mut spaces, gate) {
         Ok(answers) => Some(AfterRound {
             tables: cache.close(seats).tables,
             answers,
@@ -130,7 +130,7 @@ fn ran<R: Threads + Wait + Sync, G: Gate + Sync>(
 }
 
 /// Does the same with the jobs of `asks`; each invocation has the argument 1.
-fn done<R: Threads + Wait + Sync, G: Gate + Sync>(
+fn done<R: Threads + Wait + Sync + AllocGlobal, G: Gate + Sync>(
     rt: &R,
     alloc: Global,
     registry: &Registry,
@@ -152,7 +152,7 @@ fn done<R: Threads + Wait + Sync, G: Gate + Sync>(
 }
 
 /// Returns the tables after a round of `first` by one worker, on `stripes` empty stripes.
-fn begun<R: Threads + Wait + Sync>(
+fn begun<R: Threads + Wait + Sync + AllocGlobal>(
     rt: &R,
     alloc: Global,
     registry: &Registry,
@@ -172,7 +172,7 @@ fn begun<R: Threads + Wait + Sync>(
 }
 
 /// Runs a round of `first` by one worker, and then a round of `asks` with `seats` seats.
-fn behind<R: Threads + Wait + Sync, G: Gate + Sync>(
+fn behind<R: Threads + Wait + Sync + AllocGlobal, G: Gate + Sync>(
     rt: &R,
     alloc: Global,
     registry: &Registry,
@@ -192,7 +192,7 @@ fn behind<R: Threads + Wait + Sync, G: Gate + Sync>(
 }
 
 /// Does the same in a new registry, which defines the class.
-fn asked<R: Threads + Wait + Sync, G: Gate + Sync>(
+fn asked<R: Threads + Wait + Sync + AllocGlobal, G: Gate + Sync>(
     rt: &R,
     alloc: Global,
     bytes: &[u8],
@@ -234,7 +234,12 @@ fn runs() -> [Ask; 100] {
 }
 
 /// Checks that 100 invocations of Plus return each key plus 1, with `seats` seats.
-fn hundred<R: Threads + Wait + Sync>(rt: &R, alloc: Global, plus: &[u8], seats: usize) -> bool {
+fn hundred<R: Threads + Wait + Sync + AllocGlobal>(
+    rt: &R,
+    alloc: Global,
+    plus: &[u8],
+    seats: usize,
+) -> bool {
     let Some(left) = asked(rt, alloc, plus, 4, &own_puts(), seats, &runs(), &NoGate) else {
         return false;
     };
@@ -259,7 +264,7 @@ fn each_job_has_its_own_answer(rt: HostRuntime) -> Result<(), Fail> {
 }
 
 /// Returns the results of `invoke_all` of a class on these keys, on a cache opened on these tables.
-fn gathered<R: Threads + Wait + Sync>(
+fn gathered<R: Threads + Wait + Sync + AllocGlobal>(
     rt: &R,
     alloc: Global,
     registry: &Registry,
@@ -279,7 +284,6 @@ fn gathered<R: Threads + Wait + Sync>(
     };
     match invoke_all(
         rt,
-        alloc,
         &cache,
         class,
         keys,
@@ -294,7 +298,7 @@ fn gathered<R: Threads + Wait + Sync>(
 }
 
 /// Does the same after a round of `first` on four stripes.
-fn gathered_behind<R: Threads + Wait + Sync>(
+fn gathered_behind<R: Threads + Wait + Sync + AllocGlobal>(
     rt: &R,
     alloc: Global,
     registry: &Registry,
@@ -312,7 +316,7 @@ fn gathered_behind<R: Threads + Wait + Sync>(
 }
 
 /// Does the same in a new registry, which defines the class.
-fn collected<R: Threads + Wait + Sync>(
+fn collected<R: Threads + Wait + Sync + AllocGlobal>(
     rt: &R,
     alloc: Global,
     bytes: &[u8],
@@ -330,7 +334,12 @@ fn collected<R: Threads + Wait + Sync>(
 }
 
 /// Checks the results of Ratio on the keys 1, 2, 2 and 3: a `Long` for key 1, one exception for key 2, no result for key 3.
-fn are_ratios<R: Threads + Wait + Sync>(rt: &R, alloc: Global, ratio: &[u8], seats: usize) -> bool {
+fn are_ratios<R: Threads + Wait + Sync + AllocGlobal>(
+    rt: &R,
+    alloc: Global,
+    ratio: &[u8],
+    seats: usize,
+) -> bool {
     let first = [Ask::Put(1, 2), Ask::Put(2, 0), Ask::Put(3, 1)];
     let Some(results) = collected(rt, alloc, ratio, &first, seats, &[1, 2, 2, 3]) else {
         return false;
@@ -340,7 +349,11 @@ fn are_ratios<R: Threads + Wait + Sync>(rt: &R, alloc: Global, ratio: &[u8], sea
 }
 
 /// Does the same with 1, 2 and 4 seats.
-fn ratios_by_each<R: Threads + Wait + Sync>(rt: &R, alloc: Global, ratio: &[u8]) -> [bool; 3] {
+fn ratios_by_each<R: Threads + Wait + Sync + AllocGlobal>(
+    rt: &R,
+    alloc: Global,
+    ratio: &[u8],
+) -> [bool; 3] {
     [
         are_ratios(rt, alloc, ratio, 1),
         are_ratios(rt, alloc, ratio, 2),
@@ -380,7 +393,7 @@ fn outcome_of(left: &AfterRound) -> Option<(i64, i64, i64)> {
 }
 
 /// Runs a round with a put of 1 and two invocations of Counter on key 5, and returns the outcome.
-fn beside_a_put<R: Threads + Wait + Sync>(
+fn beside_a_put<R: Threads + Wait + Sync + AllocGlobal>(
     rt: &R,
     alloc: Global,
     counter: &[u8],

@@ -23,7 +23,7 @@ struct Ended {
     output: Vec<u8>,
 }
 
-fn serve_all<T: Threads + Wait + Sync>(
+fn serve_all<T: Threads + Wait + Sync + AllocGlobal>(
     rt: &T,
     alloc: Global,
     input: &[u8],
@@ -38,18 +38,17 @@ fn serve_all<T: Threads + Wait + Sync>(
 }
 
 /// Serves the requests from a reader to a writer, without a loader.
-fn served<T: Threads + Wait + Sync, R: Ahead, W: Write, G: Gate + Sync>(
+fn served<T: Threads + Wait + Sync + AllocGlobal, R: Ahead, W: Write, G: Gate + Sync>(
     rt: &T,
-    alloc: Global,
     reader: &mut Counted<R>,
     writer: &mut Counted<W>,
     settings: Settings,
     gate: &G,
 ) -> Result<(), ServeFault> {
-    serve(rt, alloc, reader, writer, settings, gate, &NoLoader)
+    serve(rt, reader, writer, settings, gate, &NoLoader)
 }
 
-fn serve_beside<T: Threads + Wait + Sync, G: Gate + Sync>(
+fn serve_beside<T: Threads + Wait + Sync + AllocGlobal, G: Gate + Sync>(
     rt: &T,
     alloc: Global,
     input: &[u8],
@@ -58,7 +57,7 @@ fn serve_beside<T: Threads + Wait + Sync, G: Gate + Sync>(
 ) -> Ended {
     let mut reader = Counted::new(input);
     let mut writer = Counted::new(Vec::new(alloc));
-    let fault = served(rt, alloc, &mut reader, &mut writer, settings, gate).err();
+    let fault = served(rt, &mut reader, &mut writer, settings, gate).err();
     Ended {
         fault,
         output: writer.into_inner(),
@@ -83,7 +82,7 @@ fn defined(alloc: Global, class: &[u8], rest: &[u8]) -> Result<Vec<u8>, AllocErr
 }
 
 /// Checks that this input, served with `workers` workers, has this fault and this output.
-fn comes_to<T: Threads + Wait + Sync>(
+fn comes_to<T: Threads + Wait + Sync + AllocGlobal>(
     rt: &T,
     alloc: Global,
     input: &[u8],
@@ -99,7 +98,7 @@ fn comes_to<T: Threads + Wait + Sync>(
 static WORKERS: [usize; 4] = [0, 1, 4, 16];
 
 /// Does the same with each count of `WORKERS`.
-fn each_comes_to<T: Threads + Wait + Sync>(
+fn each_comes_to<T: Threads + Wait + Sync + AllocGlobal>(
     rt: &T,
     alloc: Global,
     input: &[u8],
@@ -166,7 +165,7 @@ static SETTINGS: Settings = Settings {
 
 /// Serves a round end from a reader that fails after `end` bytes.
 /// Returns the result, the number of failed reads, and the number of bytes written.
-fn dropped<T: Threads + Wait + Sync>(
+fn dropped<T: Threads + Wait + Sync + AllocGlobal>(
     rt: &T,
     alloc: Global,
     end: usize,
@@ -180,7 +179,7 @@ fn dropped<T: Threads + Wait + Sync>(
         },
     });
     let mut writer = Counted::new(Vec::new(alloc));
-    let result = served(rt, alloc, &mut reader, &mut writer, SETTINGS, &NoGate);
+    let result = served(rt, &mut reader, &mut writer, SETTINGS, &NoGate);
     (result, reader.failures(), writer.into_inner().len())
 }
 
@@ -195,7 +194,7 @@ fn a_reader_that_fails_is_told(rt: HostRuntime) -> Result<(), Fail> {
 
 /// Serves a round end to a writer that accepts `most` bytes.
 /// Returns the result, the numbers of failed and of idle writes, and whether the writer has the first `most` bytes of the reply.
-fn sunk<T: Threads + Wait + Sync>(
+fn sunk<T: Threads + Wait + Sync + AllocGlobal>(
     rt: &T,
     alloc: Global,
     most: usize,
@@ -210,7 +209,7 @@ fn sunk<T: Threads + Wait + Sync>(
         most,
         fails,
     });
-    let result = served(rt, alloc, &mut reader, &mut writer, SETTINGS, &NoGate);
+    let result = served(rt, &mut reader, &mut writer, SETTINGS, &NoGate);
     let (failures, idle) = (writer.failures(), writer.idle());
     let is_beginning = writer.into_inner().bytes.as_slice() == &[0, 0, 0, 1, 9][..most];
     (result, failures, idle, is_beginning)

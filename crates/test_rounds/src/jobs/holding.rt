@@ -41,7 +41,7 @@ impl<'s, R: Clock> Gate for Holding<'s, R> {
 }
 
 /// Checks that a call on one stripe is answered while a call on another is blocked.
-fn meet<R: Threads + Wait + Clock + Sync>(
+fn meet<R: Threads + Wait + Clock + Sync + AllocGlobal>(
     rt: &R,
     alloc: Global,
     counter: &[u8],
@@ -103,7 +103,7 @@ impl<'s, R: Clock> Gate for HoldingStripe<'s, R> {
 }
 
 /// Checks that `workers` workers make all calls on the other stripes while one call is blocked, and each call in the end.
-fn all_meet<R: Threads + Wait + Clock + Sync>(
+fn all_meet<R: Threads + Wait + Clock + Sync + AllocGlobal>(
     rt: &R,
     alloc: Global,
     counter: &[u8],

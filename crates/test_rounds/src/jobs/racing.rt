@@ -58,7 +58,6 @@ struct Caller<'a> {
 #[derive(Drop)]
 struct Race<'s, 'a, R> {
     rt: &'s R,
-    alloc: Global,
     cache: &'s Cache<'a, 'static, NoLoader>,
     counter: &'a ClassId,
     gate: &'s Holding<'s, R>,
@@ -84,7 +83,7 @@ fn job_at<'a>(counter: &'a ClassId, place: usize) -> Job<'a>
 }
 
 /// Runs the round of the caller at index `place`, after its delay.
-fn call<'a, R: Threads + Wait + Clock + Sync>(
+fn call<'a, R: Threads + Wait + Clock + Sync + AllocGlobal>(
     race: &Race<'_, 'a, R>,
     place: usize,
     caller: &mut Caller<'a>,
@@ -98,15 +97,13 @@ fn call<'a, R: Threads + Wait + Clock + Sync>(
     thread::sleep(race.rt, Duration::from_micros(delay));
     let jobs = [job_at(race.counter, place)];
     let (seats, spaces) = (&mut caller.seats, &mut caller.spaces);
-    if let Ok(answers) = run_round(
-        race.rt, race.alloc, race.cache, &jobs, seats, spaces, race.gate,
-    ) {
+    if let Ok(answers) = run_round(race.rt, race.cache, &jobs, seats, spaces, race.gate) {
         caller.answers = answers;
     }
 }
 
 /// Runs the rounds of the callers at the indexes 1 and 2 concurrently.
-fn call_both<'a, R: Threads + Wait + Clock + Sync>(
+fn call_both<'a, R: Threads + Wait + Clock + Sync + AllocGlobal>(
     race: &Race<'_, 'a, R>,
     second: &mut Caller<'a>,
     third: &mut Caller<'a>,
@@ -125,7 +122,7 @@ fn call_both<'a, R: Threads + Wait + Clock + Sync>(
 }
 
 /// Runs the rounds of three callers concurrently.
-fn call_all<'a, R: Threads + Wait + Clock + Sync>(
+fn call_all<'a, R: Threads + Wait + Clock + Sync + AllocGlobal>(
     race: &Race<'_, 'a, R>,
     first: &mut Caller<'a>,
     second: &mut Caller<'a>,
@@ -199,7 +196,7 @@ fn outcome_of(
 
 /// Makes a put and two increments, each in a separate round, and returns the outcome.
 /// Returns `None` if a call started while another was delayed.
-fn raced<'a, R: Threads + Wait + Clock + Sync>(
+fn raced<'a, R: Threads + Wait + Clock + Sync + AllocGlobal>(
     rt: &R,
     alloc: Global,
     registry: &'a Registry,
@@ -221,7 +218,6 @@ fn raced<'a, R: Threads + Wait + Clock + Sync>(
     };
     let race = Race {
         rt,
-        alloc,
         cache: &cache,
         counter,
         gate: &gate,
@@ -235,7 +231,7 @@ fn raced<'a, R: Threads + Wait + Clock + Sync>(
 }
 
 /// Does the same in a new registry, which defines the class.
-fn raced_anew<R: Threads + Wait + Clock + Sync>(
+fn raced_anew<R: Threads + Wait + Clock + Sync + AllocGlobal>(
     rt: &R,
     alloc: Global,
     bytes: &[u8],
@@ -274,7 +270,7 @@ fn is_marked(seen: &mut [bool; 6], outcome: Outcome) -> bool {
 }
 
 /// Marks the outcomes of a race with each of the delays; returns false if one of them is impossible.
-fn race_all<R: Threads + Wait + Clock + Sync>(
+fn race_all<R: Threads + Wait + Clock + Sync + AllocGlobal>(
     rt: &R,
     alloc: Global,
     counter: &[u8],

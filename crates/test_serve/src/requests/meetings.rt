@@ -40,7 +40,7 @@ fn both_returned(output: &[u8]) -> bool {
 
 /// Serves a stream of two calls with this share of instructions a worker.
 /// Returns the fault, whether the blocked call saw the answer to the other, and whether the calls returned 1 and 2.
-fn met<R: Threads + Wait + Clock + Sync>(
+fn met<R: Threads + Wait + Clock + Sync + AllocGlobal>(
     rt: &R,
     alloc: Global,
     input: &[u8],

@@ -23,7 +23,7 @@ const NO_JOB: usize = 4096;
 /// Serves this stream with `workers` workers, and uses all of them in each round.
 /// `jobs` are a job whose call is blocked at its start, and a later job of its round whose answer it waits for. One worker blocks no call.
 /// Returns whether the blocked call saw that answer, true for one worker, and how the service ended.
-fn serve_shared<T: Threads + Wait + Clock + Sync, L: Loader + Sync>(
+fn serve_shared<T: Threads + Wait + Clock + Sync + AllocGlobal, L: Loader + Sync>(
     rt: &T,
     alloc: Global,
     input: &[u8],
@@ -40,13 +40,13 @@ fn serve_shared<T: Threads + Wait + Clock + Sync, L: Loader + Sync>(
     let gate = Holding::new(rt, held, other);
     let mut reader = Counted::new(input);
     let mut writer = Counted::new(Vec::new(alloc));
-    let fault = serve(rt, alloc, &mut reader, &mut writer, settings, &gate, loader).err();
+    let fault = serve(rt, &mut reader, &mut writer, settings, &gate, loader).err();
     let output = writer.into_inner();
     (workers < 2 || gate.saw(), Ended { fault, output })
 }
 
 /// Checks `serve_shared` with each worker count: this stream has these replies and this fault, and the blocked call sees the answer.
-fn each_comes_to<T: Threads + Wait + Clock + Sync, L: Loader + Sync>(
+fn each_comes_to<T: Threads + Wait + Clock + Sync + AllocGlobal, L: Loader + Sync>(
     rt: &T,
     alloc: Global,
     input: &[u8],
