@@ -16,3 +16,4 @@ pub mod Putting
 pub mod RegLoop
 pub mod RegBoxes
 pub mod RegEntries
+pub mod Rare
