@@ -7,7 +7,7 @@
 Requests, one a line: define FILE, put KEY VALUE, get KEY, remove KEY, contains KEY,
 invoke CLASS KEY [ARGS..], invokeall CLASS KEY,KEY,.. [ARGS..], end (of a round).
 CLASS is the number that the reply to the class's definition told. ARGS are decimal numbers
-(Long), numbers followed by i (Integer), or null.
+(Long), numbers followed by i (Integer), true, false or null.
 """
 import struct
 import sys
@@ -21,6 +21,7 @@ FAULTS = {
     6: "CacheLoaderException",
 }
 DENIALS = {1: "UnknownClass", 2: "JournalFull", 3: "NoMemory", 4: "TooManyClasses", 5: "TooManyJobs"}
+WORDS = {"null": b"\0", "false": b"\3", "true": b"\4"}
 ON_ONE_KEY = {"get": 3, "remove": 4, "contains": 5}
 
 
@@ -29,8 +30,8 @@ def long_text(word):
 
 
 def arg_text(word):
-    if word == "null":
-        return b"\0"
+    if word in WORDS:
+        return WORDS[word]
     if word.endswith("i"):
         return b"\2" + struct.pack(">i", int(word[:-1]))
     return b"\1" + long_text(word)
@@ -62,8 +63,9 @@ def request_text(kind, *words):
 
 def arg_of(body):
     """The argument at the front of a body, and what follows it."""
-    if body[0] == 0:
-        return "null", body[1:]
+    for word, text in WORDS.items():
+        if body[:1] == text:
+            return word, body[1:]
     if body[0] == 1:
         return str(struct.unpack_from(">q", body, 1)[0]), body[9:]
     return f"{struct.unpack_from('>i', body, 1)[0]}i", body[5:]

@@ -208,8 +208,7 @@ class Explain(Runs):
 
     def test_the_compiler_is_named_where_it_helps(self):
         helps = {
-            "VoidResult": (7, "jentry-compile takes Void, byte, short and char, and leaves unused methods out."),
-            "Main": (7, "jentry-compile takes Void, byte, short and char, and leaves unused methods out."),
+            "Main": (7, "jentry-compile takes byte, short and char, and leaves unused methods out."),
             "StaticTable": (10, "jentry-compile computes static final tables and boxed constants at compile time."),
             "BoxedConstant": (10, "jentry-compile computes static final tables and boxed constants at compile time."),
             "StaticCounter": (17, "jentry-compile makes constants of final fields."),
@@ -221,7 +220,7 @@ class Explain(Runs):
             ),
             "UnknownCall": (
                 24,
-                "jentry-compile copies most methods of Long, Integer, Math and Objects into the class.",
+                "jentry-compile copies most methods of Long, Integer, Boolean, Math and Objects into the class.",
             ),
         }
         for source in sources():

@@ -6,7 +6,9 @@ import unittest
 from collections import namedtuple
 from concurrent.futures import ThreadPoolExecutor
 
-LIMIT = 60
+import pace
+
+LIMIT = pace.patience(os.environ.get("JENTRY_PROGRAM"))
 """The time limit of a run, in seconds."""
 
 proved_only = unittest.skipIf(

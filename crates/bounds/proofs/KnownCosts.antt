@@ -19,7 +19,7 @@ use Rattle.bounds.specs.Rows.{IsRowOf, AreRowsOf, AreKnown, AreAllKnown, IsCostO
 use Rattle.bounds.specs.Told.{AreCostsOf}
 use Rattle.bounds.proofs.Greatest.{tables_are_bounds}
 use Rattle.bounds.proofs.FilledTables.{each_has_table}
-use Rattle.jtypes.specs.Profile.{Second}
+use Rattle.jtypes.specs.Profile.{Third}
 
 -- ---- new costs
 
@@ -82,7 +82,7 @@ judged c j k x (Ok b) are same (within, steps, words, slots, depth) =
     let d' = within.depth in
     subst (AreBounds c j) (same_bounds (bounds_of k) (bounds_in b) (omega (arith, s, s', steps)) (omega (arith, w, w', words)) (omega (arith, u, u', slots)) (omega (arith, d, d', depth))) are
 judged c j k x (Err r) are same exceeding = record {
-  steps = λ e. exceeds c j k.steps (step_limit Second) x.steps (λ y. y.steps) are.steps (ap (λ (y : Cell). y.steps) same) (subst (Exceeds x) e exceeding);
+  steps = λ e. exceeds c j k.steps (step_limit Third) x.steps (λ y. y.steps) are.steps (ap (λ (y : Cell). y.steps) same) (subst (Exceeds x) e exceeding);
   words = λ e. exceeds c j k.words word_limit x.words (λ y. y.words) are.words (ap (λ (y : Cell). y.words) same) (subst (Exceeds x) e exceeding);
   frames = λ e. either (subst (Exceeds x) e exceeding);
 }

@@ -5,7 +5,7 @@ use Rattle.jtypes.specs.declared.refusal.Refusal.TheVariants.{NoMemory, NoProces
 use Rattle.bounds.specs.declared.costs.Cost.{Cost}
 use Rattle.bounds.specs.declared.limits.Bounds.{Bounds}
 use Rattle.bounds.specs.Paths.{step_limit, word_limit, slot_limit, depth_limit}
-use Rattle.jtypes.specs.Profile.{Profile, Second}
+use Rattle.jtypes.specs.Profile.{Profile, Third}
 
 -- `IsWithinLimits profile b` holds if none of the four bounds exceeds its limit
 pub record IsWithinLimits (profile : Profile) (b : Bounds) : Type 0 where
@@ -16,14 +16,14 @@ pub record IsWithinLimits (profile : Profile) (b : Bounds) : Type 0 where
 
 -- `Exceeds k r` holds if the cost exceeds the limit of the refusal
 abbrev pub Exceeds : Cost → Refusal → Type 0
-Exceeds k StepLimit = step_limit Second < k.steps
+Exceeds k StepLimit = step_limit Third < k.steps
 Exceeds k WordLimit = word_limit < k.words
 Exceeds k FrameLimit = (slot_limit < k.slots) ⊎ (depth_limit < k.depth)
 Exceeds k _ = ⊥
 
 -- `Judges k result` holds if the result is the bounds of the cost within the limits, or the refusal of a limit that it exceeds
 abbrev pub Judges : Cost → Result Bounds Refusal → Type 0
-Judges k (Ok b) = IsWithinLimits Second b × (b.steps ≡ k.steps) × (b.words ≡ k.words) × (b.slots ≡ k.slots) × (b.depth ≡ k.depth)
+Judges k (Ok b) = IsWithinLimits Third b × (b.steps ≡ k.steps) × (b.words ≡ k.words) × (b.slots ≡ k.slots) × (b.depth ≡ k.depth)
 Judges k (Err r) = Exceeds k r
 
 abbrev pub IsLimit : Refusal → Type 0

@@ -13,7 +13,7 @@ use Rattle.bounds.specs.Recursion.{HasCall, IsRecursive}
 use Rattle.bounds.specs.Paths.{Bounds, AreBounds, SomePathExceeds, step_limit, word_limit, slot_limit, depth_limit}
 use Rattle.bounds.specs.declared.limits.Bounds as declared
 use Rattle.bounds.specs.Cells.{Cell, capped, known_at}
-use Rattle.jtypes.specs.Profile.{Second}
+use Rattle.jtypes.specs.Profile.{Third}
 
 -- `IsRowOf c row` holds if the typed method is the class's method with its index: it has its environment, its code and its own calls
 pub record IsRowOf (c : Class) (row : Typed) : Type 0 where
@@ -121,7 +121,7 @@ bounds_in b = record { steps = b.steps; words = b.words; slots = b.slots; depth 
 
 -- `IsRefusalOf c j r` holds if some path of method `j` exceeds the limit that `r` refuses
 pub record IsRefusalOf (c : Class) (j : ℕ) (r : Refusal) : Type 0 where
-  pub steps : r ≡ StepLimit → SomePathExceeds c j (λ k. k.steps) (step_limit Second)
+  pub steps : r ≡ StepLimit → SomePathExceeds c j (λ k. k.steps) (step_limit Third)
   pub words : r ≡ WordLimit → SomePathExceeds c j (λ k. k.words) word_limit
   pub frames : r ≡ FrameLimit → SomePathExceeds c j (λ k. k.slots) slot_limit ⊎ SomePathExceeds c j (λ k. k.depth) depth_limit
 

@@ -9,7 +9,7 @@ ghost use Rattle.bounds.specs.Told.{AreCostsOf};
 ghost use Rattle.bounds.specs.Limits.{IsLimit, IsOfBounds, IsWithinLimits, Judges};
 ghost use Rattle.bounds.specs.Table.{Costs, IsTable, LeadsOn};
 ghost use Rattle.bounds.specs.Rows.{AreRowsOf, AreKnown, AreBelow, AreGrounded, AreAllKnown, AreNotRecursive, StaysKnown, StaysGrounded, Learns, LearnsUpTo, OneIsUnknown, IsCircleIn, IsAnswerFor};
-ghost use Rattle.jtypes.specs.Profile.{Second};
+ghost use Rattle.jtypes.specs.Profile.{Third};
 
 use crate::costs::{Cost, greatest, is_ready, known_at};
 use crate::lengths::all_have_lengths;
@@ -137,7 +137,7 @@ fn within_limits(cost: Cost) -> Result<Bounds, Refusal>
 
 /// Returns the bounds of a class, the maximum over all paths of `process`, from its methods except the constructor.
 pub fn bound(alloc: Global, methods: &[Typed]) -> Result<Bounds, Refusal>
-    ensures limits { IfOk result (IsWithinLimits Second) }
+    ensures limits { IfOk result (IsWithinLimits Third) }
     // For typed methods of a class: the bounds are the class's, and some path exceeds a limit that is refused.
     ensures answer { (c : Class) (set : ℕ → Bool) → LeadsOn c set → AreRowsOf c set methods.now → IsAnswerFor c result }
     // For all of its typed methods, the class is recursive if the error is `Recursive`.

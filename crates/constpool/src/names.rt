@@ -1,7 +1,7 @@
 //! The names that a class file of the profile may use, in internal form (JVMS §4.2.1).
 
 ghost use Rattle.std.specs.Prelude.{◌≡◌};
-ghost use Rattle.constpool.specs.Names.{object_name, number_name, long_name, integer_name, math_name, mutable_entry_name, entry_processor_name, cache_entry_name, int_array_name, long_array_name, object_array_name, init_name, clinit_name, process_name, process_descriptor, code_name, stack_map_name};
+ghost use Rattle.constpool.specs.Names.{object_name, number_name, long_name, integer_name, boolean_name, void_name, math_name, mutable_entry_name, entry_processor_name, cache_entry_name, int_array_name, long_array_name, object_array_name, init_name, clinit_name, process_name, process_descriptor, code_name, stack_map_name};
 
 /// `java.lang.Object`
 pub const OBJECT: &[u8] = b"java/lang/Object";
@@ -11,6 +11,10 @@ pub const NUMBER: &[u8] = b"java/lang/Number";
 pub const LONG: &[u8] = b"java/lang/Long";
 /// `java.lang.Integer`
 pub const INTEGER: &[u8] = b"java/lang/Integer";
+/// `java.lang.Boolean`
+pub const BOOLEAN: &[u8] = b"java/lang/Boolean";
+/// `java.lang.Void`
+pub const VOID: &[u8] = b"java/lang/Void";
 /// `java.lang.Math`
 pub const MATH: &[u8] = b"java/lang/Math";
 /// `javax.cache.processor.MutableEntry`
@@ -45,6 +49,8 @@ pub fn are_spelled_so()
     ensures of_number { NUMBER.now ≡ number_name }
     ensures of_long { LONG.now ≡ long_name }
     ensures of_integer { INTEGER.now ≡ integer_name }
+    ensures of_boolean { BOOLEAN.now ≡ boolean_name }
+    ensures of_void { VOID.now ≡ void_name }
     ensures of_math { MATH.now ≡ math_name }
     ensures of_mutable_entry { MUTABLE_ENTRY.now ≡ mutable_entry_name }
     ensures of_entry_processor { ENTRY_PROCESSOR.now ≡ entry_processor_name }

@@ -5,7 +5,7 @@ use Rattle.std.proofs.lemmas.List.{length-append}
 use Rattle.jtypes.specs.declared.refusal.Refusal.{Refusal}
 use Rattle.jtypes.specs.declared.refusal.Refusal.TheVariants.{BadTarget, BackwardBranch, NoMemory}
 use Rattle.jtypes.specs.Layout.{Stands}
-use Rattle.jtypes.specs.Profile.{Profile, Second}
+use Rattle.jtypes.specs.Profile.{Profile, Third}
 use Rattle.constpool.specs.Lookup.{Slot}
 use Rattle.decode.specs.declared.instruction.Placed.{Placed}
 use Rattle.decode.specs.Code.{one, IsSequence}
@@ -31,14 +31,14 @@ element (x ∷ code) q p e = go (element code q p) (x.place == q) e
 -- ---- the read that stops with a refusal
 
 pub run_stops_at : (pool : List Slot) (bytes : List ℕ) (ps : List Placed) (rest : List ℕ) (place : ℕ) (r : Refusal) → Run pool (length bytes) bytes ps rest → 0 < length rest → place ≡ length bytes - length rest
-    → Stands (one Second pool (length bytes - length rest)) rest r → StopsAt Second pool bytes place r
+    → Stands (one Third pool (length bytes - length rest)) rest r → StopsAt Third pool bytes place r
 run_stops_at pool bytes ps rest place r run n at h =
     let i = run_found pool (length bytes) bytes ps rest (omega arith) run in
     let z : length bytes - length bytes ≡ 0 = omega arith in
-    let s = subst (λ (m : ℕ). IsSequence Second pool m i.0 ps) z i.2 in
+    let s = subst (λ (m : ℕ). IsSequence Third pool m i.0 ps) z i.2 in
     let l : length bytes ≡ length i.0 + length rest = ap length i.1 ∙ length-append i.0 rest in
     let k : length bytes - length rest ≡ length i.0 = omega arith in
-    (ps, i.0, rest, i.1, s, n, subst (λ (m : ℕ). Stands (one Second pool m) rest r) k h, sym k ∙ sym at)
+    (ps, i.0, rest, i.1, s, n, subst (λ (m : ℕ). Stands (one Third pool m) rest r) k h, sym k ∙ sym at)
 
 -- ---- branch targets
 

@@ -3,7 +3,7 @@ use Rattle.std.proofs.Common.{ℕ, zero, suc, ◌+◌, ◌<◌, Bool, true, fals
 use Rattle.std.specs.Prelude.{IsTrue}
 use Rattle.jtypes.specs.Layout.{Layout, known, part_or, followed, judged, stopped, chosen, ended, needed, IsLaidOut}
 use Rattle.jtypes.specs.declared.refusal.Refusal.TheVariants.{BadOperand}
-use Rattle.jtypes.specs.Profile.{Profile, Second}
+use Rattle.jtypes.specs.Profile.{Profile, Third}
 use Rattle.constpool.specs.declared.constant.Constant.TheVariants as constant
 use Rattle.constpool.specs.Lookup.{Slot, constant_at}
 use Rattle.decode.specs.declared.instruction.Instruction.{Instruction}
@@ -98,7 +98,7 @@ operands_rise pool at opcode (form.Branch test) = λ x t h. refl
 operands_rise pool at opcode form.Goto = λ x t h. refl
 operands_rise pool at opcode form.TableSwitch = λ s t h default t1 h1 low t2 h2 high t3 h3 u t4 h4 targets t5 h5. refl
 operands_rise pool at opcode form.LookupSwitch = λ s t h default t1 h1 count t2 h2 u t3 h3 found t4 h4 v t5 h5. holds (keys_rise found) t5 v h5
-operands_rise pool at opcode form.Wide = λ o t h. wide_rises o (form_at Second o)
+operands_rise pool at opcode form.Wide = λ o t h. wide_rises o (form_at Third o)
 operands_rise pool at opcode form.GotoWide = λ x t h. refl
 operands_rise pool at opcode (form.Invoke kind) = λ i t h u t1 h1. refl
 operands_rise pool at opcode form.InvokeInterface = λ i t h n t1 h1 z t2 h2 u t3 h3. refl

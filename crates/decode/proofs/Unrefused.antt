@@ -11,7 +11,7 @@ use Rattle.decode.specs.declared.instruction.Form.TheVariants as form
 use Rattle.decode.specs.Code.{one, by_form, operands, signed_byte, signed_short, signed_word, far_target, switch_case, keys_between, is_wide_elsewhere, refused_wide, widened, int_constant, long_constant, array_of_code}
 use Rattle.decode.specs.Places.{CodeStands}
 use Rattle.decode.specs.Table.{form_at}
-use Rattle.jtypes.specs.Profile.{Profile, Second}
+use Rattle.jtypes.specs.Profile.{Profile, Third}
 
 -- `IsNever` holds if the layout has no part with this refusal
 abbrev IsNever : {A : Type 0} → Refusal → Layout A → Type 0
@@ -97,7 +97,7 @@ operands_never pool at opcode (form.Store kind) = (number_never 1, λ x. tt)
 operands_never pool at opcode form.Increment = (number_never 1, λ n. ((number_never 1, λ x. tt), λ x. tt))
 operands_never pool at opcode (form.Branch test) = ((number_never 2, λ x. tt), λ x. tt)
 operands_never pool at opcode form.Goto = ((number_never 2, λ x. tt), λ x. tt)
-operands_never pool at opcode form.Wide = (number_never 1, λ o. wide_never o (form_at Second o))
+operands_never pool at opcode form.Wide = (number_never 1, λ o. wide_never o (form_at Third o))
 operands_never pool at opcode form.TableSwitch =
     ((λ e. cc e), λ s. (far_never at, λ d. (word_never, λ low. (word_never, λ high. ((tt, λ e. cc e), λ u. (many_never (keys_between low high) (far_target at) (far_never at), λ ts. tt))))))
 operands_never pool at opcode form.LookupSwitch =

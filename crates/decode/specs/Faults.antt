@@ -4,7 +4,7 @@ use Rattle.std.specs.Global.{Vec}
 use Rattle.jtypes.specs.declared.refusal.Refusal.{Refusal}
 use Rattle.jtypes.specs.declared.refusal.Refusal.TheVariants.{BadTarget, BackwardBranch, NoMemory}
 use Rattle.jtypes.specs.Layout.{Stands}
-use Rattle.jtypes.specs.Profile.{Profile, Second}
+use Rattle.jtypes.specs.Profile.{Profile, Third}
 use Rattle.constpool.specs.Lookup.{Slot}
 use Rattle.decode.specs.declared.instruction.Placed.{Placed}
 use Rattle.decode.specs.declared.fault.Fault.{Fault}
@@ -29,5 +29,5 @@ CodeStandsAt profile pool bytes place r =
 
 -- the result of the read of a sequence of instructions
 abbrev pub Reads : List Slot → List ℕ → Result (Vec Placed) Fault → Type 0
-Reads pool bytes (Ok placed) = IsSequence Second pool 0 bytes placed.items × ((r : Refusal) → StopsWith Second pool bytes r → ⊥)
-Reads pool bytes (Err f) = f.refusal ≢ NoMemory → StopsAt Second pool bytes f.place f.refusal
+Reads pool bytes (Ok placed) = IsSequence Third pool 0 bytes placed.items × ((r : Refusal) → StopsWith Third pool bytes r → ⊥)
+Reads pool bytes (Err f) = f.refusal ≢ NoMemory → StopsAt Third pool bytes f.place f.refusal

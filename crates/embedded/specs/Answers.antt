@@ -1,7 +1,7 @@
 -- The results of the C interface.
 use Rattle.std.specs.Prelude.{◌≡◌, ◌⊎◌, ℕ, nat_le, Bool, true, false, List, length, Option, Some, None}
 use Rattle.sha1.specs.Sha1.{sha1}
-use Rattle.jtypes.specs.Profile.{Second}
+use Rattle.jtypes.specs.Profile.{Third}
 use Rattle.jtypes.specs.declared.refusal.Refusal.{Refusal}
 use Rattle.jtypes.specs.declared.refusal.Refusal.TheVariants.{NoMemory}
 use Rattle.jtypes.specs.declared.types.Arg.{Arg}
@@ -20,7 +20,7 @@ use Rattle.embedded.specs.Numbers.{accepted_in, refused_in, args_in, before_in, 
 -- The class is accepted and stored under the next number, or it is refused, which changes nothing.
 pub data IsVerdict (bytes : List ℕ) (before : Classes) (v : VerdictNumbers) (after : Classes) : Type 0 where
   of_accepted : (d : Defined) → IsDefined bytes before d after → v ≡ accepted_in d (sha1 bytes) → IsVerdict bytes before v after
-  of_refused : (r : Refusal) → (r ≡ NoMemory) ⊎ IsRefused Second bytes r → after ≡ before → v ≡ refused_in r (sha1 bytes) → IsVerdict bytes before v after
+  of_refused : (r : Refusal) → (r ≡ NoMemory) ⊎ IsRefused Third bytes r → after ≡ before → v ≡ refused_in r (sha1 bytes) → IsVerdict bytes before v after
 
 -- Why a call is not run, by its class and whether it has at most eight arguments:
 -- there is no class (4), or there are more than eight arguments (5), or one of them is invalid (6).

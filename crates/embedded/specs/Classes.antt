@@ -1,7 +1,7 @@
 -- The classes of an engine, by their numbers.
 use Rattle.std.specs.Prelude.{◌≡◌, ℕ, List, [], ◌∷◌, ◌++◌, length, Option, Some, slice_get}
 use Rattle.jtypes.specs.Lists.{◌>>=◌}
-use Rattle.jtypes.specs.Profile.{Second}
+use Rattle.jtypes.specs.Profile.{Third}
 use Rattle.typecheck.specs.Typing.{Class, IsProcessOf}
 use Rattle.bounds.specs.declared.limits.Bounds.{Bounds}
 use Rattle.bounds.specs.Limits.{IsWithinLimits}
@@ -21,15 +21,15 @@ class_at classes number = slice_get classes number >>= (λ class. class)
 
 -- Each run of the class stays within these bounds, which are within the limits.
 pub record HasBounds (c : Class) (b : Bounds) : Type 0 where
-  pub limits : IsWithinLimits Second b
+  pub limits : IsWithinLimits Third b
   pub bounds : (j : ℕ) → IsProcessOf c j → AreBounds c j (bounds_in b)
   pub safe : IsSafe c (bounds_in b)
 
 -- The bytes are accepted, and their class has these bounds and is stored under the next number.
 pub record IsDefined (bytes : List ℕ) (before : Classes) (d : Defined) (after : Classes) : Type 0 where
-  pub accepted : IsAccepted Second bytes
+  pub accepted : IsAccepted Third bytes
   pub class : Class
-  pub of_bytes : IsClassOf Second bytes class
+  pub of_bytes : IsClassOf Third bytes class
   pub bounds : HasBounds class d.bounds
   pub number : d.number ≡ length before
   pub kept : after ≡ before ++ (Some class ∷ [])

@@ -1,11 +1,12 @@
 -- The numbers of the C interface.
 use Rattle.std.specs.Prelude.{◌==◌, ℕ, ◌^◌, nat_lt, ℤ, pos, negsuc, Bool, true, false, List, [], ◌∷◌, Option, Some, None, option_map, if◌then◌else◌}
+use Rattle.std.specs.Ordering.{int_eq}
 use Rattle.jtypes.specs.Entry.{Entry, after_effect}
 use Rattle.jtypes.specs.Lists.{only_if, ◌>>=◌}
 use Rattle.jtypes.specs.Refusals.{number, detail, fault_number}
 use Rattle.jtypes.specs.declared.refusal.Refusal.{Refusal}
 use Rattle.jtypes.specs.declared.types.Arg.{Arg}
-use Rattle.jtypes.specs.declared.types.Arg.TheVariants.{Null, Long, Integer}
+use Rattle.jtypes.specs.declared.types.Arg.TheVariants.{Null, Long, Integer, Boolean}
 use Rattle.jtypes.specs.declared.types.Outcome.{Outcome}
 use Rattle.jtypes.specs.declared.types.Outcome.TheVariants.{Returned, Threw}
 use Rattle.jtypes.specs.declared.types.Effect.{Effect}
@@ -33,9 +34,15 @@ abbrev pub is_int : ℤ → Bool
 is_int (pos n) = nat_lt n (2 ^ 31)
 is_int (negsuc n) = nat_lt n (2 ^ 31)
 
--- The argument, or `None` if the kind is unknown or an Integer does not fit 32 bits.
+-- A Boolean is 1 or 0.
+abbrev pub boolean_in : ℤ → Option Arg
+boolean_in n = if int_eq n (pos 0) then Some (Boolean false) else if int_eq n (pos 1) then Some (Boolean true) else None
+
+-- The argument, or `None` if the kind is unknown, an Integer does not fit 32 bits or a Boolean isn't 0 or 1.
 abbrev pub arg_in : ArgNumbers → Option Arg
-arg_in a = if a.kind == 0 then Some Null else if a.kind == 1 then Some (Long a.value) else if a.kind == 2 then only_if (is_int a.value) (Some (Integer a.value)) else None
+arg_in a =
+    if a.kind == 0 then Some Null else if a.kind == 1 then Some (Long a.value) else if a.kind == 2 then only_if (is_int a.value) (Some (Integer a.value))
+    else if a.kind == 7 then boolean_in a.value else None
 
 -- The arguments in order, if each is valid.
 abbrev pub args_in : List ArgNumbers → Option (List Arg)
@@ -58,6 +65,8 @@ abbrev pub outcome_in : Outcome → ℕ × ℤ
 outcome_in (Returned Null) = (0, pos 0)
 outcome_in (Returned (Long x)) = (1, x)
 outcome_in (Returned (Integer x)) = (2, x)
+outcome_in (Returned (Boolean false)) = (7, pos 0)
+outcome_in (Returned (Boolean true)) = (7, pos 1)
 outcome_in (Threw fault) = (3, pos (fault_number fault))
 
 abbrev pub effect_in : Effect → ℕ × ℤ

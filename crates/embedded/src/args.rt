@@ -2,7 +2,7 @@
 
 ghost use Rattle.std.specs.Prelude.{◌≡◌, length, nat_le};
 ghost use Rattle.jtypes.specs.Lists.{only_if};
-ghost use Rattle.embedded.specs.Numbers.{arg_in, args_in};
+ghost use Rattle.embedded.specs.Numbers.{arg_in, args_in, boolean_in};
 
 use crate::numbers::ArgNumbers;
 use jtypes::{Arg, Args};
@@ -14,7 +14,23 @@ const LONG: u32 = 1;
 
 const INTEGER: u32 = 2;
 
-/// Returns the argument, or `None` if the kind is unknown or an Integer does not fit 32 bits.
+/// Behind the numbers of outcomes that aren't kinds, as the outcome of a returned Boolean has the same number.
+const BOOLEAN: u32 = 7;
+
+/// Returns the Boolean that is 1 or 0, `None` for any other number.
+fn boolean_of(value: i64) -> Option<Arg>
+    ensures { result ≡ boolean_in value }
+{
+    if value == 0 {
+        Some(Arg::Boolean(false))
+    } else if value == 1 {
+        Some(Arg::Boolean(true))
+    } else {
+        None
+    }
+}
+
+/// Returns the argument, or `None` if the kind is unknown, an Integer does not fit 32 bits or a Boolean isn't 0 or 1.
 fn arg_of(numbers: ArgNumbers) -> Option<Arg>
     ensures { result ≡ arg_in numbers }
 {
@@ -25,6 +41,7 @@ fn arg_of(numbers: ArgNumbers) -> Option<Arg>
             Ok(value) => Some(Arg::Integer(value)),
             Err(_) => None,
         },
+        BOOLEAN => boolean_of(numbers.value),
         _ => None,
     }
 }

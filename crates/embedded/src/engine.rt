@@ -33,7 +33,7 @@ impl Model for Engine {
 
 impl Engine {
     ghost use Rattle.std.specs.Prelude.{◌≡◌, ◌≢◌, ◌⊎◌, ℕ, [], length, Some, None, is_some, IfOk, IfErr, OnErr, IfSome, IfNone, false};
-    ghost use Rattle.jtypes.specs.Profile.{Second};
+    ghost use Rattle.jtypes.specs.Profile.{Third};
     ghost use Rattle.jtypes.specs.declared.refusal.Refusal.{Refusal};
     ghost use Rattle.typecheck.specs.Typing.{Class};
     ghost use Rattle.verdict.specs.Verdict.{IsRefused};
@@ -54,7 +54,7 @@ impl Engine {
     /// Verifies the bytes of a class (JVMS §4, §4.10.1), and stores it under the next number, of which there are 2^32.
     pub fn define(&mut self, alloc: Global, bytes: &[u8]) -> Result<Defined, Refusal>
         ensures defined { IfOk result (λ d. IsDefined bytes.now self.old d self.new) }
-        ensures refused { IfErr result (λ r. (r ≡ Refusal.NoMemory) ⊎ IsRefused Second bytes.now r) }
+        ensures refused { IfErr result (λ r. (r ≡ Refusal.NoMemory) ⊎ IsRefused Third bytes.now r) }
         ensures unchanged { OnErr result (self.new ≡ self.old) }
     {
         let Ok(number) = u32::try_from(self.classes.len()) else {

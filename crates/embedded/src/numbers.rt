@@ -121,6 +121,7 @@ fn outcome_numbers(outcome: Outcome) -> (u32, i64)
         Outcome::Returned(Arg::Null) => (0, 0),
         Outcome::Returned(Arg::Long(value)) => (1, value),
         Outcome::Returned(Arg::Integer(value)) => (2, i64::from(value)),
+        Outcome::Returned(Arg::Boolean(value)) => (7, i64::from(value)),
         Outcome::Threw(fault) => (3, i64::from(fault.number())),
     }
 }

@@ -4,7 +4,7 @@ use Rattle.std.specs.Prelude.{slice_get, Contains, IsSome, Result, Ok, Err, IfOk
 use Rattle.std.specs.declared.alloc.AllocError.{AllocError}
 use Rattle.jtypes.specs.declared.refusal.Refusal.{Refusal}
 use Rattle.jtypes.specs.declared.refusal.Refusal.TheVariants.{NoMemory, NoProcess, LengthNotConstant, Recursive, StepLimit, WordLimit, FrameLimit}
-use Rattle.jtypes.specs.Profile.{Second}
+use Rattle.jtypes.specs.Profile.{Third}
 use Rattle.constpool.specs.Lookup.{Slot}
 use Rattle.classfile.specs.declared.class_file.Parts.{Parts}
 use Rattle.classfile.specs.View.{view_of}
@@ -45,12 +45,12 @@ use Rattle.explain.specs.Explanation.{AreCostsIn, IsExplanation}
 use Rattle.explain.specs.Listed.{AreCostsListed, IsLackingAmong}
 
 module _ (bytes : List ℕ) (pool : List Slot) (p : Parts) (rows : List Typed) (t : IsTypedClass bytes pool p rows) where
-  of_file : (c : Class) → IsClassOf Second bytes c → IsClassOfFile Second pool p c
+  of_file : (c : Class) → IsClassOf Third bytes c → IsClassOfFile Third pool p c
   of_file c of =
       let same = the_file bytes pool of.pool p of.parts t.file.laid_out of.file in
-      subst (λ (x : List Slot). IsClassOfFile Second x p c) (sym same.0) (subst (λ (x : Parts). IsClassOfFile Second of.pool x c) (sym same.1) of.class)
+      subst (λ (x : List Slot). IsClassOfFile Third x p c) (sym same.0) (subst (λ (x : Parts). IsClassOfFile Third of.pool x c) (sym same.1) of.class)
 
-  leads : AreNotRecursive rows → (c : Class) → IsClassOf Second bytes c → LeadsOn c (members c)
+  leads : AreNotRecursive rows → (c : Class) → IsClassOf Third bytes c → LeadsOn c (members c)
   leads none c of = class_leads_on pool p t.constructor t.codes t.shape rows t.typed c (of_file c of) (instructions_stand pool p t.constructor t.codes t.shape t.items t.found) none
 
   -- ---- costs
@@ -79,7 +79,7 @@ module _ (bytes : List ℕ) (pool : List Slot) (p : Parts) (rows : List Typed) (
 
   -- ---- circles
 
-  call_in : (c : Class) → IsClassOf Second bytes c → (j place k : ℕ) → IsCallAmong rows j place k → Calls c j place k
+  call_in : (c : Class) → IsClassOf Third bytes c → (j place k : ℕ) → IsCallAmong rows j place k → Calls c j place k
   call_in c of j place k (row, (i, l, is, number), reaches) =
       let typed = t.typed.each i row l in
       let there : IsRowOf c (get_or rows i row) = row_is pool p t.constructor t.codes t.shape rows t.typed c (of_file c of) i row l in
@@ -89,12 +89,12 @@ module _ (bytes : List ℕ) (pool : List Slot) (p : Parts) (rows : List Typed) (
       let stands = some_of (at_place row.code place) (called_stands row.calls.items row.code placed place (own_is_some (callee_in row.calls.items place) k own)) in
       (of_row.method.0, stands.0, ap (slice_get c.methods) (sym number) ∙ of_row.method.1, ap (λ (code : List Placed). at_place code place) of_row.method.3 ∙ stands.1, of_row.calls place stands.0 stands.1 ∙ own)
 
-  pub circle_in : (calls : List OwnCall) → IsCircleAmong rows calls → (c : Class) → IsClassOf Second bytes c → IsCircle c calls
+  pub circle_in : (calls : List OwnCall) → IsCircleAmong rows calls → (c : Class) → IsClassOf Third bytes c → IsCircle c calls
   circle_in calls among c of = record { some = among.some; each = λ i d l. call_in c of (get_or calls i d).method (get_or calls i d).place _ (among.each i d l) }
 
   -- ---- lengths
 
-  length_at : (number place : ℕ) → OneLacksLengthAt rows number place → IsAtSpot Second bytes LengthNotConstant (AtInstruction number place)
+  length_at : (number place : ℕ) → OneLacksLengthAt rows number place → IsAtSpot Third bytes LengthNotConstant (AtInstruction number place)
   length_at number place (i, row, l, is, of, lacks) =
       let typed = t.typed.each i row l in
       let here = get_or rows i row in
@@ -111,9 +111,9 @@ module _ (bytes : List ℕ) (pool : List Slot) (p : Parts) (rows : List Typed) (
           let there = subst (λ (xs : List ℕ). Contains xs place) places.2.are has in
           inr (places.0, places.1, frame_among places.0 place there.0 place there.1 there.2)
 
-  pub lacking_in : (l : Located) → IsLackingAmong rows l → IsAtSpot Second bytes l.refusal l.spot
+  pub lacking_in : (l : Located) → IsLackingAmong rows l → IsAtSpot Third bytes l.refusal l.spot
   lacking_in l (refusal, number, place, spot, lacks) =
-      subst (λ (r : Refusal). IsAtSpot Second bytes r l.spot) (sym refusal) (subst (IsAtSpot Second bytes LengthNotConstant) (sym spot) (length_at number place lacks))
+      subst (λ (r : Refusal). IsAtSpot Third bytes r l.spot) (sym refusal) (subst (IsAtSpot Third bytes LengthNotConstant) (sym spot) (length_at number place lacks))
 
   -- If all array lengths are constant, no `newarray` lacks one.
   pub not_both : HaveLengths rows → OneLacksLength rows → ⊥
@@ -131,10 +131,10 @@ module _ (bytes : List ℕ) (pool : List Slot) (p : Parts) (rows : List Typed) (
 
   -- ---- refusals
 
-  pub circle_refused : HaveLengths rows → IsCircleIn rows → IsRefused Second bytes Recursive
+  pub circle_refused : HaveLengths rows → IsCircleIn rows → IsRefused Third bytes Recursive
   circle_refused lengths circle = go (bounds_refused bytes pool p t.constructor t.codes t.shape t.items t.found rows t.typed t.file Recursive tt (λ _. lengths) (λ h. absurd h) (λ _. circle) (λ e. cc e) (λ e. cc e) (λ c set on are. early_refusal Recursive (λ _. refl) c))
     where
-      go : (Recursive ≡ NoMemory) ⊎ IsRefused Second bytes Recursive → IsRefused Second bytes Recursive
+      go : (Recursive ≡ NoMemory) ⊎ IsRefused Third bytes Recursive → IsRefused Third bytes Recursive
       go (inl e) = cc e
       go (inr s) = s
 
@@ -146,13 +146,13 @@ told_refused bytes l (Ok x) (inl e) h = absurd (h.1 e)
 told_refused bytes l (Ok x) (inr is) h = subst (IsExplanation bytes) (sym h.0) is
 
 -- A refusal of the class as a whole.
-pub whole_told : (bytes : List ℕ) (r : Refusal) (l : Located) → l.refusal ≡ r → l.spot ≡ Whole → (r ≡ NoMemory) ⊎ IsRefused Second bytes r → (r ≢ NoMemory → IsOfWhole r) → IsToldOf bytes l
+pub whole_told : (bytes : List ℕ) (r : Refusal) (l : Located) → l.refusal ≡ r → l.spot ≡ Whole → (r ≡ NoMemory) ⊎ IsRefused Third bytes r → (r ≢ NoMemory → IsOfWhole r) → IsToldOf bytes l
 whole_told bytes r l is at (inl e) whole = inl (is ∙ e)
 whole_told bytes NoMemory l is at (inr s) whole = inl is
 whole_told bytes r l is at (inr s) whole =
-    inr (subst (IsRefused Second bytes) (sym is) s, subst (λ (x : Refusal). IsAtSpot Second bytes x l.spot) (sym is) (subst (IsAtSpot Second bytes r) (sym at) (inr (whole (λ e. cc)))))
+    inr (subst (IsRefused Third bytes) (sym is) s, subst (λ (x : Refusal). IsAtSpot Third bytes x l.spot) (sym is) (subst (IsAtSpot Third bytes r) (sym at) (inr (whole (λ e. cc)))))
 
-pub limit_refused : (bytes : List ℕ) (r : Refusal) → IsLimit r → (r ≡ NoMemory) ⊎ IsRefused Second bytes r → IsRefused Second bytes r
+pub limit_refused : (bytes : List ℕ) (r : Refusal) → IsLimit r → (r ≡ NoMemory) ⊎ IsRefused Third bytes r → IsRefused Third bytes r
 limit_refused bytes r h (inl e) = absurd (subst IsLimit e h)
 limit_refused bytes r h (inr s) = s
 
@@ -171,8 +171,8 @@ module _ (bytes : List ℕ) (pool : List Slot) (p : Parts) (rows : List Typed) (
   recursive_told NoMemory l is at lengths err = inl is
   recursive_told r l is at lengths err =
       let h = err (λ e. cc e) in
-      whole_told bytes r l is at (inr (subst (IsRefused Second bytes) (sym h.0) (circle_refused bytes pool p rows t lengths h.1))) (λ _. subst IsOfWhole (sym h.0) tt)
+      whole_told bytes r l is at (inr (subst (IsRefused Third bytes) (sym h.0) (circle_refused bytes pool p rows t lengths h.1))) (λ _. subst IsOfWhole (sym h.0) tt)
 
-  pub lacking_told : (l : Located) → IsLackingAmong rows l → (LengthNotConstant ≡ NoMemory) ⊎ IsRefused Second bytes LengthNotConstant → IsToldOf bytes l
+  pub lacking_told : (l : Located) → IsLackingAmong rows l → (LengthNotConstant ≡ NoMemory) ⊎ IsRefused Third bytes LengthNotConstant → IsToldOf bytes l
   lacking_told l lacks (inl e) = cc e
-  lacking_told l lacks (inr s) = inr (subst (IsRefused Second bytes) (sym lacks.0) s, lacking_in bytes pool p rows t l lacks)
+  lacking_told l lacks (inr s) = inr (subst (IsRefused Third bytes) (sym lacks.0) s, lacking_in bytes pool p rows t l lacks)

@@ -1,7 +1,7 @@
 -- Explanations of the verdict on a class file.
 use Rattle.std.specs.Prelude.{ℕ, List}
 use Rattle.jtypes.specs.declared.refusal.Refusal.TheVariants.{Recursive}
-use Rattle.jtypes.specs.Profile.{Second}
+use Rattle.jtypes.specs.Profile.{Third}
 use Rattle.typecheck.specs.Typing.{Class, IsProcessOf}
 use Rattle.bounds.specs.Paths.{AreBounds}
 use Rattle.bounds.specs.Rows.{bounds_in}
@@ -15,12 +15,12 @@ use Rattle.explain.specs.Circles.{IsCircle}
 
 -- `AreCostsIn` holds if these are the costs of the methods of the class in these bytes.
 abbrev pub AreCostsIn : List ℕ → List MethodCost → Type 0
-AreCostsIn bytes costs = (c : Class) → IsClassOf Second bytes c → AreCostsOf c costs
+AreCostsIn bytes costs = (c : Class) → IsClassOf Third bytes c → AreCostsOf c costs
 
 -- `IsExplanation` holds if the explanation is correct for the bytes.
 abbrev pub IsExplanation : List ℕ → Explained → Type 0
 IsExplanation bytes (told.Accepted bounds methods) =
-    IsAccepted Second bytes × ((c : Class) (j : ℕ) → IsClassOf Second bytes c → IsProcessOf c j → AreBounds c j (bounds_in bounds)) × AreCostsIn bytes methods.items
-IsExplanation bytes (told.Refused l) = IsRefused Second bytes l.refusal × IsAtSpot Second bytes l.refusal l.spot
-IsExplanation bytes (told.Recursive calls) = IsRefused Second bytes Recursive × ((c : Class) → IsClassOf Second bytes c → IsCircle c calls.items)
-IsExplanation bytes (told.PastLimit refusal methods) = IsRefused Second bytes refusal × AreCostsIn bytes methods.items
+    IsAccepted Third bytes × ((c : Class) (j : ℕ) → IsClassOf Third bytes c → IsProcessOf c j → AreBounds c j (bounds_in bounds)) × AreCostsIn bytes methods.items
+IsExplanation bytes (told.Refused l) = IsRefused Third bytes l.refusal × IsAtSpot Third bytes l.refusal l.spot
+IsExplanation bytes (told.Recursive calls) = IsRefused Third bytes Recursive × ((c : Class) → IsClassOf Third bytes c → IsCircle c calls.items)
+IsExplanation bytes (told.PastLimit refusal methods) = IsRefused Third bytes refusal × AreCostsIn bytes methods.items

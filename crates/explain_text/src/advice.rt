@@ -21,7 +21,7 @@ fn of_layout(refusal: Refusal) -> &'static str {
 fn of_shape(refusal: Refusal) -> &'static str {
     match refusal {
         Refusal::BadDescriptor => {
-            "A method has a parameter or a result of a type that isn't accepted: use int, long, boolean, Object, Number, Long, Integer, the entry, int[], long[] or Object[]. jentry-compile takes Void, byte, short and char, and leaves unused methods out."
+            "A method has a parameter or a result of a type that isn't accepted: use int, long, boolean, Object, Number, Long, Integer, Boolean, Void, the entry, int[], long[] or Object[]. jentry-compile takes byte, short and char, and leaves unused methods out."
         }
         Refusal::BadHeader => {
             "Write a plain class with `implements EntryProcessor<Long, Long, ..>` that extends no other, and copy what an abstract base class would hold."
@@ -80,10 +80,10 @@ fn of_code(refusal: Refusal) -> &'static str {
             "Loops aren't accepted as they are: compile the class with jentry-compile, which writes the passes of counted loops out, or use a formula."
         }
         Refusal::UnknownMember => {
-            "Only methods of the class itself and a few of the entry, Long, Integer, Number and Math are known: write it as a method of the class, and cast to Long, Integer, Number or Object. jentry-compile copies most methods of Long, Integer, Math and Objects into the class."
+            "Only methods of the class itself and a few of the entry, Long, Integer, Boolean, Number and Math are known: write it as a method of the class, and cast to Long, Integer, Boolean, Number or Object. jentry-compile copies most methods of Long, Integer, Boolean, Math and Objects into the class."
         }
         Refusal::BadStackMap => {
-            "Where ways through the code meet, each local in use has a type that is known here: declare it as Object, Number, Long or Integer."
+            "Where ways through the code meet, each local in use has a type that is known here: declare it as Object, Number, Long, Integer or Boolean."
         }
         Refusal::LengthNotConstant => {
             "The length of a new array is a constant from 0 to 65,535: take the greatest length as `final int`, and keep a count beside it."

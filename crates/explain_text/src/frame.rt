@@ -24,6 +24,8 @@ fn class_name(named: RefType) -> &'static str {
         RefType::Number => "Number",
         RefType::Long => "Long",
         RefType::Integer => "Integer",
+        RefType::Boolean => "Boolean",
+        RefType::Void => "Void",
         RefType::This => "this",
         RefType::MutableEntry => "MutableEntry",
         RefType::EntryProcessor => "EntryProcessor",

@@ -2,7 +2,7 @@
 
 ghost use Rattle.std.specs.Prelude.{◌≡◌, ℕ, IfOk, Some, option_map, map, slice_get};
 ghost use Rattle.jtypes.specs.Lists.{same_bytes};
-ghost use Rattle.frames.specs.Members.{library_rows, is_row_of, row_of, library_params, library_callee, numbered, pairs_with, own_callee, member_at, callee_at};
+ghost use Rattle.frames.specs.Members.{library_rows, is_row_of, row_of, library_row, library_params, library_callee, numbered, pairs_with, own_callee, member_at, callee_at};
 ghost use Rattle.frames.specs.Seen.{member_seen, row_seen};
 ghost use Rattle.frames.specs.Signed.{AreNamesakes, method_of, method_at};
 
@@ -49,7 +49,7 @@ impl LibraryRow {
     }
 }
 
-static LIBRARY: [LibraryRow; 19] = [
+static LIBRARY: [LibraryRow; 21] = [
     LibraryRow {
         kind: Invoke::Static,
         class: names::LONG,
@@ -63,6 +63,13 @@ static LIBRARY: [LibraryRow; 19] = [
         name: b"valueOf",
         descriptor: b"(I)Ljava/lang/Integer;",
         native: Native::IntegerValueOf,
+    },
+    LibraryRow {
+        kind: Invoke::Static,
+        class: names::BOOLEAN,
+        name: b"valueOf",
+        descriptor: b"(Z)Ljava/lang/Boolean;",
+        native: Native::BooleanValueOf,
     },
     LibraryRow {
         kind: Invoke::Static,
@@ -133,6 +140,13 @@ static LIBRARY: [LibraryRow; 19] = [
         name: b"longValue",
         descriptor: b"()J",
         native: Native::LongValue,
+    },
+    LibraryRow {
+        kind: Invoke::Virtual,
+        class: names::BOOLEAN,
+        name: b"booleanValue",
+        descriptor: b"()Z",
+        native: Native::BooleanValue,
     },
     LibraryRow {
         kind: Invoke::Interface,
@@ -207,6 +221,17 @@ fn row_of(kind: Invoke, member: &MemberRef<'_>) -> Option<&'static LibraryRow>
     ensures { option_map (λ r. row_seen r.now) result ≡ row_of library_rows kind (member_seen member.now) }
 {
     row_in(&LIBRARY, kind, member)
+}
+
+/// Returns the library method that the call kind and the member name, as seen in the class `own`.
+fn library_row(own: &[u8], kind: Invoke, member: &MemberRef<'_>) -> Option<&'static LibraryRow>
+    ensures { option_map (λ r. row_seen r.now) result ≡ library_row own.now kind (member_seen member.now) }
+{
+    if same_bytes(names::BOOLEAN, own) && same_bytes(member.class, own) {
+        None
+    } else {
+        row_of(kind, member)
+    }
 }
 
 /// Returns the parameter types of a library method, with the receiver first unless the call is static.
@@ -351,7 +376,7 @@ pub fn callee_at(
     let Some(member) = member_at(view.pool(), kind, i) else {
         return Ok(None);
     };
-    match row_of(kind, &member) {
+    match library_row(view.class().name(), kind, &member) {
         Some(row) => library_callee(alloc, view.class().name(), row),
         None => own_callee(alloc, view, kind, &member),
     }

@@ -30,6 +30,10 @@ fn known_class(name: &[u8]) -> Option<RefType>
         Some(RefType::Long)
     } else if same_bytes(names::INTEGER, name) {
         Some(RefType::Integer)
+    } else if same_bytes(names::BOOLEAN, name) {
+        Some(RefType::Boolean)
+    } else if same_bytes(names::VOID, name) {
+        Some(RefType::Void)
     } else if same_bytes(names::MUTABLE_ENTRY, name) {
         Some(RefType::MutableEntry)
     } else if same_bytes(names::ENTRY_PROCESSOR, name) {

@@ -131,7 +131,7 @@ fn argument_at(args: &Args, index: i32) -> Option<Arg>
     }
 }
 
-/// Returns an argument as a reference: null, a `Long` or an `Integer`.
+/// Returns an argument as a reference: null, a `Long`, an `Integer` or a `Boolean`.
 fn reference_of(argument: Arg) -> RefValue
     ensures { Value.Ref result ≡ value_of_arg argument }
 {
@@ -139,6 +139,7 @@ fn reference_of(argument: Arg) -> RefValue
         Arg::Null => RefValue::Null,
         Arg::Long(n) => RefValue::Long(n),
         Arg::Integer(n) => RefValue::Integer(n),
+        Arg::Boolean(b) => RefValue::Boolean(b),
     }
 }
 

@@ -122,13 +122,14 @@ pub fn call_library(machine: &mut Machine, native: Native) -> Result<(), Outcome
     ensures keeps { Keeps machine.old machine.new }
 {
     match native {
-        Native::IntegerValueOf => call_on_int(machine, native),
+        Native::IntegerValueOf | Native::BooleanValueOf => call_on_int(machine, native),
         Native::LongValueOf => call_on_long(machine, native),
         Native::MaxOfInts | Native::MinOfInts => call_on_ints(machine, native),
         Native::MaxOfLongs | Native::MinOfLongs => call_on_longs(machine, native),
         Native::SetValue => call_on_references(machine, native),
         Native::IntValue
         | Native::LongValue
+        | Native::BooleanValue
         | Native::GetKey
         | Native::GetValue
         | Native::Exists

@@ -99,10 +99,13 @@ fn number(text: &str) -> Option<i64> {
     text.parse::<i64>().ok()
 }
 
-/// Parses an argument: a number, a number that fits an `int` followed by `i`, or `null`.
+/// Parses an argument: a number, a number that fits an `int` followed by `i`, `false`, `true`, or `null`.
 fn argument(text: &str) -> Option<Arg> {
-    if text == "null" {
-        return Some(Arg::Null);
+    match text {
+        "null" => return Some(Arg::Null),
+        "false" => return Some(Arg::Boolean(false)),
+        "true" => return Some(Arg::Boolean(true)),
+        _ => {}
     }
     match text.strip_suffix("i") {
         None => Some(Arg::Long(number(text)?)),

@@ -106,6 +106,7 @@ fn result_text(alloc: Global, returned: Arg) -> Result<String, AllocError> {
         Arg::Null => String::from_str(alloc, "null"),
         Arg::Long(n) => format!(in alloc; "{n}"),
         Arg::Integer(n) => format!(in alloc; "{n}i"),
+        Arg::Boolean(b) => String::from_str(alloc, if b { "true" } else { "false" }),
     }
 }
 

@@ -14,6 +14,8 @@ fn is_array(r: RefType) -> bool
         | RefType::Number
         | RefType::Long
         | RefType::Integer
+        | RefType::Boolean
+        | RefType::Void
         | RefType::This
         | RefType::MutableEntry
         | RefType::EntryProcessor
@@ -31,6 +33,8 @@ pub fn ref_assignable(r: RefType, declared: RefType) -> bool
         RefType::Number => matches!(r, RefType::Number | RefType::Long | RefType::Integer),
         RefType::Long => matches!(r, RefType::Long),
         RefType::Integer => matches!(r, RefType::Integer),
+        RefType::Boolean => matches!(r, RefType::Boolean),
+        RefType::Void => matches!(r, RefType::Void),
         RefType::This => matches!(r, RefType::This),
         RefType::IntArray => matches!(r, RefType::IntArray),
         RefType::LongArray => matches!(r, RefType::LongArray),

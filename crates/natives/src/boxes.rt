@@ -1,4 +1,4 @@
-//! The methods of `Long` and `Integer`: `intValue` and `longValue`.
+//! The methods of `Long`, `Integer` and `Boolean`: `intValue`, `longValue` and `booleanValue`.
 
 ghost use Rattle.std.specs.Prelude.{◌≡◌};
 ghost use Rattle.jtypes.specs.Arithmetic.{low_int};
@@ -8,7 +8,8 @@ ghost use Rattle.natives.specs.Answer.{given};
 
 use jtypes::{Native, RefValue, Value};
 
-/// Returns the result of `intValue` or `longValue` (Java API, `Number`), or `None` for another method or receiver.
+/// Returns the result of `intValue` or `longValue` (Java API, `Number`) or of `booleanValue`,
+/// or `None` for another method or receiver.
 #[inline(always)]
 pub fn box_call(native: Native, receiver: RefValue) -> Option<Value>
     ensures { (now : Entry) → box_reply native now receiver ≡ given result now }
@@ -18,6 +19,7 @@ pub fn box_call(native: Native, receiver: RefValue) -> Option<Value>
         (Native::IntValue, RefValue::Integer(n)) => Some(Value::Int(n)),
         (Native::LongValue, RefValue::Long(n)) => Some(Value::Long(n)),
         (Native::LongValue, RefValue::Integer(n)) => Some(Value::Long(i64::from(n))),
+        (Native::BooleanValue, RefValue::Boolean(b)) => Some(Value::Int(i32::from(b))),
         _ => None,
     }
 }

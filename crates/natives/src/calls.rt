@@ -2,7 +2,7 @@
 
 ghost use Rattle.std.specs.Prelude.{◌≡◌, ◌∷◌};
 ghost use Rattle.jtypes.specs.declared.types.Value.TheVariants.{Ref};
-ghost use Rattle.jtypes.specs.Library.{Misses, library, instance_reply};
+ghost use Rattle.jtypes.specs.Library.{Misses, is_static, library, instance_reply};
 ghost use Rattle.natives.specs.Answer.{Answers};
 
 use crate::boxes::box_call;
@@ -25,20 +25,32 @@ pub fn call(
     requires { ¬ (library native key entry.old.now.entry values.now ≡ Misses) }
     ensures { Answers native (library native key entry.old.now.entry values.now) result entry.old entry.new }
 {
-    match native {
-        Native::LongValueOf
-        | Native::IntegerValueOf
-        | Native::MaxOfInts
-        | Native::MinOfInts
-        | Native::MaxOfLongs
-        | Native::MinOfLongs => Ok(Some(static_call(native, values).unwrap())),
-        _ => match values {
-            [Value::Ref(receiver), arguments @ ..] => {
-                instance_call(native, key, entry, *receiver, arguments)
-            }
-            _ => unreachable!(),
-        },
+    if is_static(native) {
+        return Ok(Some(static_call(native, values).unwrap()));
     }
+    match values {
+        [Value::Ref(receiver), arguments @ ..] => {
+            instance_call(native, key, entry, *receiver, arguments)
+        }
+        _ => unreachable!(),
+    }
+}
+
+/// Returns whether a library method is static.
+#[inline(always)]
+fn is_static(native: Native) -> bool
+    ensures { result ≡ is_static native }
+{
+    matches!(
+        native,
+        Native::LongValueOf
+            | Native::IntegerValueOf
+            | Native::BooleanValueOf
+            | Native::MaxOfInts
+            | Native::MinOfInts
+            | Native::MaxOfLongs
+            | Native::MinOfLongs
+    )
 }
 
 /// Performs a call on a receiver: null throws (JVMS §6.5, `invokevirtual` and `invokeinterface`).
@@ -55,7 +67,7 @@ fn instance_call(
 {
     match (native, receiver) {
         (_, RefValue::Null) => Err(JavaFault::NullPointer),
-        (Native::IntValue | Native::LongValue, _) => {
+        (Native::IntValue | Native::LongValue | Native::BooleanValue, _) => {
             Ok(Some(box_call(native, receiver).unwrap()))
         }
         (_, RefValue::Entry) => entry_call(native, key, entry, arguments),

@@ -23,6 +23,7 @@ pub fn passes(arena: &Arena, value: RefValue, target: &RefType) -> bool
         (_, RefType::Object) => true,
         (RefValue::Long(_), RefType::Long | RefType::Number) => true,
         (RefValue::Integer(_), RefType::Integer | RefType::Number) => true,
+        (RefValue::Boolean(_), RefType::Boolean) => true,
         (RefValue::Entry, RefType::MutableEntry | RefType::CacheEntry) => true,
         (RefValue::This, RefType::This | RefType::EntryProcessor) => true,
         (RefValue::Args, RefType::ObjectArray) => true,

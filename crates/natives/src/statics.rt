@@ -1,4 +1,4 @@
-//! The static methods: `Long.valueOf`, `Integer.valueOf`, `Math.max` and `Math.min`.
+//! The static methods: `valueOf` of `Long`, `Integer` and `Boolean`, `Math.max` and `Math.min`.
 
 ghost use Rattle.std.specs.Prelude.{◌≡◌};
 ghost use Rattle.jtypes.specs.Entry.{Entry};
@@ -15,6 +15,7 @@ pub fn static_call(native: Native, arguments: &[Value]) -> Option<Value>
     match (native, arguments) {
         (Native::LongValueOf, [Value::Long(n)]) => Some(Value::Ref(RefValue::Long(*n))),
         (Native::IntegerValueOf, [Value::Int(n)]) => Some(Value::Ref(RefValue::Integer(*n))),
+        (Native::BooleanValueOf, [Value::Int(n)]) => Some(Value::Ref(RefValue::Boolean(*n != 0))),
         (Native::MaxOfInts, [Value::Int(a), Value::Int(b)]) => Some(Value::Int((*a).max(*b))),
         (Native::MinOfInts, [Value::Int(a), Value::Int(b)]) => Some(Value::Int((*a).min(*b))),
         (Native::MaxOfLongs, [Value::Long(a), Value::Long(b)]) => Some(Value::Long((*a).max(*b))),

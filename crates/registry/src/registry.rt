@@ -1,7 +1,7 @@
 //! The registry of accepted classes, and their ids.
 
 ghost use Rattle.std.specs.Prelude.{◌≡◌, ◌⊎◌, IfOk, IfErr};
-ghost use Rattle.jtypes.specs.Profile.{Second};
+ghost use Rattle.jtypes.specs.Profile.{Third};
 
 use boxcar::Pushed;
 use jtypes::Refusal;
@@ -58,9 +58,9 @@ impl Registry {
     /// It may wait for another call that adds a class.
     pub fn define<R: Wait>(&self, rt: &R, alloc: Global, bytes: &[u8]) -> Result<ClassId, Refusal>
         ensures given { IfOk result (λ id. IsOf self.now id) }
-        ensures class { IfOk result (λ id. IsClassOf Second bytes.now (class_of id)) }
-        ensures accepted { IfOk result (λ _. IsAccepted Second bytes.now) }
-        ensures refused { IfErr result (λ r. (r ≡ Refusal.NoMemory) ⊎ IsRefused Second bytes.now r) }
+        ensures class { IfOk result (λ id. IsClassOf Third bytes.now (class_of id)) }
+        ensures accepted { IfOk result (λ _. IsAccepted Third bytes.now) }
+        ensures refused { IfErr result (λ r. (r ≡ Refusal.NoMemory) ⊎ IsRefused Third bytes.now r) }
     {
         let class = verify(alloc, bytes)?;
         match self.classes.push_shown(rt, class) {

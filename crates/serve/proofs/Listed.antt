@@ -11,6 +11,7 @@ one_listed k None = omega arith
 one_listed k (Some (answer.Result (Returned arg.Null))) = omega arith
 one_listed k (Some (answer.Result (Returned (arg.Long n)))) = omega arith
 one_listed k (Some (answer.Result (Returned (arg.Integer n)))) = omega arith
+one_listed k (Some (answer.Result (Returned (arg.Boolean n)))) = omega arith
 one_listed k (Some (answer.Result (Threw f))) = omega arith
 one_listed k (Some answer.Done) = omega arith
 one_listed k (Some (answer.Value v)) = omega arith

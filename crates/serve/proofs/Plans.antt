@@ -29,7 +29,7 @@ use Rattle.serve.specs.declared.batch.Batch.{Batch}
 use Rattle.serve.specs.declared.batch.Work.{Work as Planned}
 use Rattle.serve.specs.declared.batch.Work.TheVariants as planned
 use Rattle.serve.specs.Kept.{HasFew, Grows, Adding, work_of, works_of, calls_of}
-use Rattle.jtypes.specs.Profile.{Second}
+use Rattle.jtypes.specs.Profile.{Third}
 
 -- ---- arguments
 
@@ -197,12 +197,12 @@ pushed x args old new c keys i d all h called is g =
     ap (λ l. l ++ invocations x args (drop (i + 1) keys)) (one_more_call old new c is)
     ∙ map_step (λ k. call.Invoke x k args) (all_seen old) keys i d (seen_call c) all h called g
 
-pub refused_as : (classes : List Class) (at : ℕ) (bytes : List ℕ) (r : Refusal) → length classes < most_classes → (r ≡ refusal.NoMemory) ⊎ IsRefused Second bytes r → Adds classes at (Define bytes) (told (reply.Refused r)) classes
+pub refused_as : (classes : List Class) (at : ℕ) (bytes : List ℕ) (r : Refusal) → length classes < most_classes → (r ≡ refusal.NoMemory) ⊎ IsRefused Third bytes r → Adds classes at (Define bytes) (told (reply.Refused r)) classes
 refused_as classes at bytes r few (inl e) = subst (λ x. Adds classes at (Define bytes) (told (reply.Refused x)) classes) (sym e) (lacks_memory bytes few)
 refused_as classes at bytes r few (inr is) = refuses bytes r few is
 
 -- A class is defined with the number and the list of classes that the code has.
-pub defined_as : (classes later : List Class) (at n : ℕ) (bytes : List ℕ) (c : Class) (b : Bounds) → length classes < most_classes → n ≡ length classes → later ≡ classes ++ c ∷ [] → IsAccepted Second bytes → IsClassOf Second bytes c
+pub defined_as : (classes later : List Class) (at n : ℕ) (bytes : List ℕ) (c : Class) (b : Bounds) → length classes < most_classes → n ≡ length classes → later ≡ classes ++ c ∷ [] → IsAccepted Third bytes → IsClassOf Third bytes c
     → ((j : ℕ) → IsProcessOf c j → AreBounds c j b) → Adds classes at (Define bytes) (told (reply.Defined n b.steps b.words)) later
 defined_as classes later at n bytes c b few count items accepted class bounds =
     subst (λ (l : List Class). Adds classes at (Define bytes) (told (reply.Defined n b.steps b.words)) l) (sym items)

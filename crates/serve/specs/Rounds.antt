@@ -19,7 +19,7 @@ use Rattle.wire.specs.declared.reply.JobOutcome.{JobOutcome}
 use Rattle.wire.specs.declared.reply.JobOutcome.TheVariants as job
 use Rattle.wire.specs.declared.reply.Reply.{Reply}
 use Rattle.wire.specs.declared.reply.Reply.TheVariants as reply
-use Rattle.jtypes.specs.Profile.{Second}
+use Rattle.jtypes.specs.Profile.{Third}
 
 -- The maximum number of classes of a stream.
 abbrev pub most_classes : ℕ
@@ -67,8 +67,8 @@ of_class (Some c) f = f c
 
 -- `IsDefined` holds if the class is accepted, and the reply has its number and its bounds.
 pub record IsDefined (bytes : List ℕ) (n : ℕ) (c : Class) (r : Reply) : Type 0 where
-  pub accepted : IsAccepted Second bytes
-  pub class : IsClassOf Second bytes c
+  pub accepted : IsAccepted Third bytes
+  pub class : IsClassOf Third bytes c
   pub bounds : Bounds
   pub bounds_are : (j : ℕ) → IsProcessOf c j → AreBounds c j bounds
   pub reply : r ≡ reply.Defined n bounds.steps bounds.words
@@ -77,7 +77,7 @@ pub record IsDefined (bytes : List ℕ) (n : ℕ) (c : Class) (r : Reply) : Type
 pub data Adds (classes : List Class) (at : ℕ) : Request → Part → List Class → Type 0 where
   defines : (bytes : List ℕ) (c : Class) (r : Reply) → length classes < most_classes → IsDefined bytes (length classes) c r
       → Adds classes at (Define bytes) (told r) (classes ++ c ∷ [])
-  refuses : (bytes : List ℕ) (r : Refusal) → length classes < most_classes → IsRefused Second bytes r → Adds classes at (Define bytes) (told (reply.Refused r)) classes
+  refuses : (bytes : List ℕ) (r : Refusal) → length classes < most_classes → IsRefused Third bytes r → Adds classes at (Define bytes) (told (reply.Refused r)) classes
   lacks_memory : (bytes : List ℕ) → length classes < most_classes → Adds classes at (Define bytes) (told (reply.Refused refusal.NoMemory)) classes
   too_many : (bytes : List ℕ) → most_classes ≤ length classes → Adds classes at (Define bytes) (told (reply.Denied TooManyClasses)) classes
   puts : (key value : ℤ) → Adds classes at (Put key value) (one at (call.Put key value)) classes

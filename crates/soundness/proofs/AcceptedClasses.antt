@@ -37,11 +37,11 @@ use Rattle.verdict.proofs.OwnCalls.{process_found}
 use Rattle.verdict.proofs.ParameterRoom.{signed_slots, one_contains}
 use Rattle.jtypes.proofs.Fit.{then_some_parts}
 use Rattle.soundness.proofs.DeclaredFrames.{declared_has_no_top}
-use Rattle.jtypes.specs.Profile.{Second}
+use Rattle.jtypes.specs.Profile.{Third}
 
 -- ---- the class's name
 
-pub accepted_is_named : (bytes : List ℕ) (c : Class) → IsAccepted Second bytes → IsClassOf Second bytes c → is_one_of c.view.name reserved_names ≡ false
+pub accepted_is_named : (bytes : List ℕ) (c : Class) → IsAccepted Third bytes → IsClassOf Third bytes c → is_one_of c.view.name reserved_names ≡ false
 accepted_is_named bytes c ok of =
     let named : is_one_of (class_name_at of.pool of.parts.this_class) reserved_names ≡ false =
     false_from_ne_true _ (λ e. ok BadHeader (by_shape of.pool of.parts of.file (reserved e)))
@@ -59,7 +59,7 @@ alike v i j m n a b name descriptor none = go (cases_order i j)
     go (inr (inl l)) = absurd (none i j m n (record { order = l; first = a; second = b; name = name; descriptor = descriptor }))
     go (inr (inr l)) = absurd (none j i n m (record { order = l; first = b; second = a; name = sym name; descriptor = sym descriptor }))
 
-pub accepted_process_is_instance : (bytes : List ℕ) (c : Class) → IsAccepted Second bytes → IsClassOf Second bytes c → (j : ℕ) (w : MethodView) → IsProcessOf c j → slice_get c.view.methods j ≡ Some w → is_static w.flags ≡ false
+pub accepted_process_is_instance : (bytes : List ℕ) (c : Class) → IsAccepted Third bytes → IsClassOf Third bytes c → (j : ℕ) (w : MethodView) → IsProcessOf c j → slice_get c.view.methods j ≡ Some w → is_static w.flags ≡ false
 accepted_process_is_instance bytes c ok of j w is known = false_from_ne_true (is_static w.flags) static
   where
     view : ClassView
@@ -92,13 +92,13 @@ map_length : {A B : Type 0} (f : A → B) (xs : List A) → length (map f xs) �
 map_length f [] = refl
 map_length f (x ∷ xs) = ap suc (map_length f xs)
 
-pub accepted_count : (bytes : List ℕ) (c : Class) → IsClassOf Second bytes c → length c.methods ≡ length c.view.methods
+pub accepted_count : (bytes : List ℕ) (c : Class) → IsClassOf Third bytes c → length c.methods ≡ length c.view.methods
 accepted_count bytes c of =
-    sym (zip_count (IsMethodOf Second of.pool of.parts) of.parts.methods c.methods of.class.methods) ∙ sym (map_length (method_view of.pool) of.parts.methods) ∙ ap (λ (v : ClassView). length v.methods) (sym of.class.view)
+    sym (zip_count (IsMethodOf Third of.pool of.parts) of.parts.methods c.methods of.class.methods) ∙ sym (map_length (method_view of.pool) of.parts.methods) ∙ ap (λ (v : ClassView). length v.methods) (sym of.class.view)
 
-pub accepted_signed : (bytes : List ℕ) (c : Class) → IsClassOf Second bytes c → (j : ℕ) (w : MethodView) (m : Method) → slice_get c.view.methods j ≡ Some w → slice_get c.methods j ≡ Some m → method_signature c.view w ≡ Some m.environment.signature
+pub accepted_signed : (bytes : List ℕ) (c : Class) → IsClassOf Third bytes c → (j : ℕ) (w : MethodView) (m : Method) → slice_get c.view.methods j ≡ Some w → slice_get c.methods j ≡ Some m → method_signature c.view w ≡ Some m.environment.signature
 accepted_signed bytes c of j w m known found =
-    let x = zip_back (IsMethodOf Second of.pool of.parts) of.parts.methods c.methods j m of.class.methods found in
+    let x = zip_back (IsMethodOf Third of.pool of.parts) of.parts.methods c.methods j m of.class.methods found in
     let viewed : slice_get (view_of of.pool of.parts).methods j ≡ Some (method_view of.pool x.0) = slice_get-map (method_view of.pool) of.parts.methods j ∙ ap (option_map (method_view of.pool)) x.1 in
     let both : Some (method_view of.pool x.0) ≡ Some w = sym viewed ∙ subst (λ (v : ClassView). slice_get v.methods j ≡ Some w) of.class.view known in
     let same : method_view of.pool x.0 ≡ w = cc both in
@@ -177,16 +177,16 @@ placed_at (x ∷ code) q p e = go (placed_at code q p) (x.place == q) refl e
     go later false is f = let r = later f in (suc r.0, r.1, r.2)
 
 -- The member of the class file for a method of the class.
-pub record InFile (bytes : List ℕ) (c : Class) (of : IsClassOf Second bytes c) (m : Method) : Type 0 where
+pub record InFile (bytes : List ℕ) (c : Class) (of : IsClassOf Third bytes c) (m : Method) : Type 0 where
   pub number : ℕ
   pub item : Member
   pub there : slice_get of.parts.methods number ≡ Some item
-  pub is : IsMethodOf Second of.pool of.parts item m
+  pub is : IsMethodOf Third of.pool of.parts item m
   pub other : is_constructor of.pool item ≡ false
 
-pub in_file : (bytes : List ℕ) (c : Class) (of : IsClassOf Second bytes c) (j : ℕ) (w : MethodView) (m : Method) → IsMember c j w m → InFile bytes c of m
+pub in_file : (bytes : List ℕ) (c : Class) (of : IsClassOf Third bytes c) (j : ℕ) (w : MethodView) (m : Method) → IsMember c j w m → InFile bytes c of m
 in_file bytes c of j w m member =
-    let x = zip_back (IsMethodOf Second of.pool of.parts) of.parts.methods c.methods j m of.class.methods member.method in
+    let x = zip_back (IsMethodOf Third of.pool of.parts) of.parts.methods c.methods j m of.class.methods member.method in
     let viewed : slice_get (view_of of.pool of.parts).methods j ≡ Some (method_view of.pool x.0) = slice_get-map (method_view of.pool) of.parts.methods j ∙ ap (option_map (method_view of.pool)) x.1 in
     let both : Some (method_view of.pool x.0) ≡ Some w = sym viewed ∙ subst (λ (v : ClassView). slice_get v.methods j ≡ Some w) of.class.view member.view in
     let same : method_view of.pool x.0 ≡ w = cc both in
@@ -198,7 +198,7 @@ in_file bytes c of j w m member =
       other = false_from_ne_true (is_constructor of.pool x.0) (λ e. member.other (sym (ap (λ (y : MethodView). y.name) same) ∙ same_is (text_at of.pool x.0.name) init_name e));
     }
 
-pub accepted_forward : (bytes : List ℕ) (c : Class) → IsAccepted Second bytes → (of : IsClassOf Second bytes c) (j : ℕ) (w : MethodView) (m : Method) → IsMember c j w m → (q r : ℕ) (p : Placed) → instruction_at m q ≡ Some p → IsTarget p.instruction (pos r) → q < r
+pub accepted_forward : (bytes : List ℕ) (c : Class) → IsAccepted Third bytes → (of : IsClassOf Third bytes c) (j : ℕ) (w : MethodView) (m : Method) → IsMember c j w m → (q r : ℕ) (p : Placed) → instruction_at m q ≡ Some p → IsTarget p.instruction (pos r) → q < r
 accepted_forward bytes c ok of j w m member q r p e to = go (cases_lt q r)
   where
     file : InFile bytes c of m
@@ -214,7 +214,7 @@ accepted_forward bytes c ok of j w m member q r p e to = go (cases_lt q r)
         let below : r ≤ p.place = (let k = x.2 in omega (arith, l, k)) in
         let low : pos r ≤ℤ pos p.place = record { le = subst T (sym (le-leb r p.place below)) tt } in
         let branch : Any HasBackwardTarget m.code = any_from HasBackwardTarget m.code x.0 p x.1 (pos r, to, low) in
-        let stands : InstructionsStand Second of.pool of.parts BackwardBranch = any_from (λ y. IsFalse (is_constructor of.pool y) × ((z : CodeParts) × HasCode of.pool y z × InstructionStands Second (view_of of.pool of.parts) z.code BackwardBranch)) of.parts.methods file.number file.item file.there (file.other, (file.is.body.parts, file.is.body.has_code, inr (m.code, file.is.body.sequence, branch))) in
+        let stands : InstructionsStand Third of.pool of.parts BackwardBranch = any_from (λ y. IsFalse (is_constructor of.pool y) × ((z : CodeParts) × HasCode of.pool y z × InstructionStands Third (view_of of.pool of.parts) z.code BackwardBranch)) of.parts.methods file.number file.item file.there (file.other, (file.is.body.parts, file.is.body.has_code, inr (m.code, file.is.body.sequence, branch))) in
         absurd (ok BackwardBranch (by_instructions of.pool of.parts of.file shape stands))
 
 test_true : (t : Bool) → T t → t ≡ true
@@ -223,7 +223,7 @@ test_true false h = absurd h
 
 -- ---- lengths of arrays
 
-pub accepted_lengths : (bytes : List ℕ) (c : Class) → IsAccepted Second bytes → (of : IsClassOf Second bytes c) (j : ℕ) (w : MethodView) (m : Method) → IsMember c j w m → (q : ℕ) (p : Placed) (k : ArrayKind) → instruction_at m q ≡ Some p → p.instruction ≡ NewArray k → IsNone (declared_at m q) × HasLength m.code q
+pub accepted_lengths : (bytes : List ℕ) (c : Class) → IsAccepted Third bytes → (of : IsClassOf Third bytes c) (j : ℕ) (w : MethodView) (m : Method) → IsMember c j w m → (q : ℕ) (p : Placed) (k : ArrayKind) → instruction_at m q ≡ Some p → p.instruction ≡ NewArray k → IsNone (declared_at m q) × HasLength m.code q
 accepted_lengths bytes c ok of j w m member q p k e is = (false_from_ne_true (is_some (declared_at m q)) (λ h. refuse (inr (m.declared, file.is.declared, h))), go (pushed_before m.code q) refl)
   where
     file : InFile bytes c of m
@@ -232,13 +232,13 @@ accepted_lengths bytes c ok of j w m member q p k e is = (false_from_ne_true (is
     shape : HasShape of.pool of.parts
     shape = record { none_stands = λ x s. ok x (by_shape of.pool of.parts of.file s) }
 
-    instructions : HasInstructions Second of.pool of.parts
+    instructions : HasInstructions Third of.pool of.parts
     instructions = record { none_stands = λ x s. ok x (by_instructions of.pool of.parts of.file shape s) }
 
     refuse : ((HasLength m.code q → ⊥) ⊎ HasFrame (view_of of.pool of.parts) m.environment m.code file.is.tables q) → ⊥
     refuse h =
         let lacks : LacksLength (view_of of.pool of.parts) m.environment m.code file.is.tables = (q, p, k, e, is, h) in
-        let stands : TypesStand Second of.pool of.parts LengthNotConstant = any_from (λ y. IsFalse (is_constructor of.pool y) × ((x : Environment) × (code : List Placed) × (tables : List (List ℕ)) × IsBody Second of.pool of.parts y x code tables × BodyStands (view_of of.pool of.parts) x code tables LengthNotConstant)) of.parts.methods file.number file.item file.there (file.other, (m.environment, m.code, file.is.tables, file.is.body, lacks)) in
+        let stands : TypesStand Third of.pool of.parts LengthNotConstant = any_from (λ y. IsFalse (is_constructor of.pool y) × ((x : Environment) × (code : List Placed) × (tables : List (List ℕ)) × IsBody Third of.pool of.parts y x code tables × BodyStands (view_of of.pool of.parts) x code tables LengthNotConstant)) of.parts.methods file.number file.item file.there (file.other, (m.environment, m.code, file.is.tables, file.is.body, lacks)) in
         ok LengthNotConstant (by_types of.pool of.parts of.file shape instructions stands)
 
     sized : (n : ℕ) → pushed_before m.code q ≡ Some (pos n) → (n < 65536) ⊎ (65536 ≤ n) → HasLength m.code q
@@ -259,7 +259,7 @@ accepted_lengths bytes c ok of j w m member q p k e is = (false_from_ne_true (is
 
 -- ---- local variables for the parameters
 
-pub accepted_room : (bytes : List ℕ) (c : Class) → IsAccepted Second bytes → (of : IsClassOf Second bytes c) (j : ℕ) (w : MethodView) (m : Method) → IsMember c j w m → slots_by is_long m.environment.signature.params ≤ m.environment.max_locals
+pub accepted_room : (bytes : List ℕ) (c : Class) → IsAccepted Third bytes → (of : IsClassOf Third bytes c) (j : ℕ) (w : MethodView) (m : Method) → IsMember c j w m → slots_by is_long m.environment.signature.params ≤ m.environment.max_locals
 accepted_room bytes c ok of j w m member = go (cases_lt m.environment.max_locals (slots_by is_long m.environment.signature.params))
   where
     file : InFile bytes c of m
@@ -279,7 +279,7 @@ accepted_room bytes c ok of j w m member = go (cases_lt m.environment.max_locals
 
 -- ---- all of these premises
 
-pub accepted_is_formed : (bytes : List ℕ) (c : Class) → IsAccepted Second bytes → IsClassOf Second bytes c → (j : ℕ) (w : MethodView) (m : Method) → IsMember c j w m → IsFormed m
+pub accepted_is_formed : (bytes : List ℕ) (c : Class) → IsAccepted Third bytes → IsClassOf Third bytes c → (j : ℕ) (w : MethodView) (m : Method) → IsMember c j w m → IsFormed m
 accepted_is_formed bytes c ok of j w m member =
     let file = in_file bytes c of j w m member in
     let signed = signed_has_no_top (view_of of.pool of.parts) (method_view of.pool file.item) m.environment.signature file.is.body.signature in

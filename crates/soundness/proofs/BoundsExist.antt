@@ -26,7 +26,7 @@ use Rattle.soundness.proofs.PathsExist.{own_call, starts_inside}
 use Rattle.soundness.proofs.SafeRuns.{without_room}
 use Rattle.soundness.proofs.AcceptedRanks.{accepted_has_ranks}
 use Rattle.soundness.proofs.TypedMethods.{accepted_is_checked}
-use Rattle.jtypes.specs.Profile.{Second}
+use Rattle.jtypes.specs.Profile.{Third}
 
 -- ---- the methods except the constructor
 
@@ -73,7 +73,7 @@ checked_leads_on c ok = record { next = next; target = target; callee = callee; 
 
 -- ---- `process`
 
-accepted_has_process : (bytes : List ℕ) (c : Class) → IsAccepted Second bytes → IsClassOf Second bytes c → (j : ℕ) × IsProcessOf c j
+accepted_has_process : (bytes : List ℕ) (c : Class) → IsAccepted Third bytes → IsClassOf Third bytes c → (j : ℕ) × IsProcessOf c j
 accepted_has_process bytes c ok of = go (number_of_process c) refl
   where
     absent : number_of_process c ≡ None → ⊥

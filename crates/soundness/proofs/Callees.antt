@@ -1,6 +1,6 @@
 -- The callees of calls, and the signature of `process`.
 use Rattle.std.proofs.Common.{◌≡◌, ℕ, zero, suc, Bool, true, false, not, List, [], ◌∷◌, length, Option, Some, None, refl, sym, ap, ◌∙◌, subst, arith}
-use Rattle.std.specs.Prelude.{slice_get, option_map, cond, codes}
+use Rattle.std.specs.Prelude.{slice_get, option_map, cond, codes, ◌&&◌}
 use Rattle.std.proofs.lemmas.Bool.{and_parts, false_from_ne_true, false≢true}
 use Rattle.jtypes.specs.declared.types.RefType.{RefType}
 use Rattle.jtypes.specs.declared.types.RefType.TheVariants as ref
@@ -18,14 +18,14 @@ use Rattle.constpool.specs.declared.descriptor.FieldType.TheVariants as field
 use Rattle.constpool.specs.declared.descriptor.Sig.{Sig}
 use Rattle.constpool.specs.Lookup.{MemberRef}
 use Rattle.constpool.specs.Descriptor.{sig_of, read_params, read_type}
-use Rattle.constpool.specs.Names.{object_name, number_name, long_name, integer_name, math_name, mutable_entry_name, cache_entry_name, init_name, process_name, process_descriptor}
+use Rattle.constpool.specs.Names.{object_name, number_name, long_name, integer_name, boolean_name, math_name, mutable_entry_name, cache_entry_name, init_name, process_name, process_descriptor}
 use Rattle.classfile.specs.View.{MethodView}
 use Rattle.frames.specs.declared.signatures.Signature.{Signature}
-use Rattle.frames.specs.Signatures.{known_classes, by_text, class_type, field_type, field_types, result_type, is_boolean, signature_of, as_method, method_signature}
+use Rattle.frames.specs.Signatures.{known_classes, by_text, class_type, field_type, field_types, result_type, is_boolean, signature_of, as_method, method_signature, is_static}
 use Rattle.frames.specs.declared.members.Reached.{Reached}
 use Rattle.frames.specs.declared.members.Reached.TheVariants.{Library, Own}
 use Rattle.frames.specs.declared.members.Callee.{Callee}
-use Rattle.frames.specs.Members.{LibraryRow, library_rows, is_row_of, row_of, library_params, library_callee, numbered, pairs_with, callee_of, own_callee, member_at, found_callee, callee_at}
+use Rattle.frames.specs.Members.{LibraryRow, library_rows, same_invoke, is_row_of, row_of, means_itself, library_row, library_params, library_callee, numbered, pairs_with, callee_of, own_callee, member_at, found_callee, callee_at}
 use Rattle.typecheck.specs.Typing.{Method, Class, IsProcessOf}
 use Rattle.verdict.specs.Shape.{reserved_names}
 use Rattle.verdict.specs.Checked.{IsMember}
@@ -82,11 +82,11 @@ signature_is own d s params result e f g =
 
 -- `RowFits` holds if the callee for `r` is its library method, with parameters and a result that fit it and aren't `Top`.
 RowFits : List ℕ → LibraryRow → Type 0
-RowFits own r = (callee : Callee) → library_callee own r ≡ Some callee → (callee.reached ≡ Library r.native) × NoneTop callee.params × NoneTop (result_list callee.result) × LibraryFits r.native callee.params callee.result
+RowFits own r = means_itself own r.class ≡ false → (callee : Callee) → library_callee own r ≡ Some callee → (callee.reached ≡ Library r.native) × NoneTop callee.params × NoneTop (result_list callee.result) × LibraryFits r.native callee.params callee.result
 
 row_fits : (own : List ℕ) (r : LibraryRow) (sig : Signature) (params : List JType) → signature_of own r.descriptor ≡ Some sig → library_params r.kind (class_type own r.class) sig.params ≡ Some params → NoneTop params → NoneTop (result_list sig.result) → LibraryFits r.native params sig.result → RowFits own r
 unfolding RowFits
-row_fits own r sig params e f n o fits callee h =
+row_fits own r sig params e f n o fits other callee h =
     let new : Callee = record { reached = Library r.native; params = params; result = sig.result } in
     let is : library_callee own r ≡ Some new =
     ap (λ o. o >>= λ s. library_params r.kind (class_type own r.class) s.params >>= λ ps. Some (record { reached = Library r.native; params = ps; result = s.result })) e
@@ -122,6 +122,17 @@ integer_is own f = class_is own integer_name ref.Integer f.integer refl
 
 mutable_is : (own : List ℕ) → IsForeign own → class_type own mutable_entry_name ≡ Some ref.MutableEntry
 mutable_is own f = class_is own mutable_entry_name ref.MutableEntry f.mutable refl
+
+boolean_is : (own : List ℕ) → same_bytes boolean_name own ≡ false → class_type own boolean_name ≡ Some ref.Boolean
+boolean_is own f = class_is own boolean_name ref.Boolean f refl
+
+only_false : (b : Bool) → (b && b) ≡ false → b ≡ false
+only_false false h = refl
+only_false true h = h
+
+-- A class that doesn't mean itself by the name of `Boolean` has another name.
+is_other : (own : List ℕ) → means_itself own boolean_name ≡ false → same_bytes boolean_name own ≡ false
+is_other own f = only_false (same_bytes boolean_name own) f
 
 entry_is : (own : List ℕ) → IsForeign own → class_type own cache_entry_name ≡ Some ref.CacheEntry
 entry_is own f = class_is own cache_entry_name ref.CacheEntry f.entry refl
@@ -189,11 +200,19 @@ unfolding sig_of read_params read_type field_type field_types result_type
 signature_9 own f =
     signature_is own (codes "()V") (record { params = []; result = None }) ([]) (None) refl (refl) (refl)
 
+signature_10 : (own : List ℕ) → same_bytes boolean_name own ≡ false → signature_of own (codes "(Z)Ljava/lang/Boolean;") ≡ Some (record { params = Int ∷ []; result = Some (Ref ref.Boolean); is_boolean = false })
+unfolding sig_of read_params read_type field_type field_types result_type
+signature_10 own f =
+    signature_is own (codes "(Z)Ljava/lang/Boolean;") (record { params = field.Boolean ∷ []; result = Some (field.Class boolean_name) }) (Int ∷ []) (Some (Ref ref.Boolean)) refl (refl) (class_result own boolean_name ref.Boolean (boolean_is own f))
+
 library_fits : (own : List ℕ) → IsForeign own → EachRow (RowFits own) library_rows
-unfolding library_rows
+unfolding library_rows RowFits
 library_fits own f =
     let r0 = row_fits own (record { kind = Static; class = long_name; name = codes "valueOf"; descriptor = codes "(J)Ljava/lang/Long;"; native = native.LongValueOf }) (record { params = Long ∷ []; result = Some (Ref ref.Long); is_boolean = false }) (Long ∷ []) (signature_0 own f) (refl) (refl, tt) (refl, tt) lemma.long_value_of in
     let r1 = row_fits own (record { kind = Static; class = integer_name; name = codes "valueOf"; descriptor = codes "(I)Ljava/lang/Integer;"; native = native.IntegerValueOf }) (record { params = Int ∷ []; result = Some (Ref ref.Integer); is_boolean = false }) (Int ∷ []) (signature_1 own f) (refl) (refl, tt) (refl, tt) lemma.integer_value_of in
+    let b0 : RowFits own (record { kind = Static; class = boolean_name; name = codes "valueOf"; descriptor = codes "(Z)Ljava/lang/Boolean;"; native = native.BooleanValueOf }) =
+    λ other. row_fits own (record { kind = Static; class = boolean_name; name = codes "valueOf"; descriptor = codes "(Z)Ljava/lang/Boolean;"; native = native.BooleanValueOf }) (record { params = Int ∷ []; result = Some (Ref ref.Boolean); is_boolean = false }) (Int ∷ []) (signature_10 own (is_other own other)) (refl) (refl, tt) (refl, tt) lemma.boolean_value_of other
+    in
     let r2 = row_fits own (record { kind = Static; class = math_name; name = codes "max"; descriptor = codes "(II)I"; native = native.MaxOfInts }) (record { params = Int ∷ Int ∷ []; result = Some Int; is_boolean = false }) (Int ∷ Int ∷ []) (signature_2 own f) (refl) (refl, (refl, tt)) (refl, tt) lemma.max_of_ints in
     let r3 = row_fits own (record { kind = Static; class = math_name; name = codes "min"; descriptor = codes "(II)I"; native = native.MinOfInts }) (record { params = Int ∷ Int ∷ []; result = Some Int; is_boolean = false }) (Int ∷ Int ∷ []) (signature_2 own f) (refl) (refl, (refl, tt)) (refl, tt) lemma.min_of_ints in
     let r4 = row_fits own (record { kind = Static; class = math_name; name = codes "max"; descriptor = codes "(JJ)J"; native = native.MaxOfLongs }) (record { params = Long ∷ Long ∷ []; result = Some Long; is_boolean = false }) (Long ∷ Long ∷ []) (signature_3 own f) (refl) (refl, (refl, tt)) (refl, tt) lemma.max_of_longs in
@@ -204,6 +223,9 @@ library_fits own f =
     let r9 = row_fits own (record { kind = Virtual; class = long_name; name = codes "longValue"; descriptor = codes "()J"; native = native.LongValue }) (record { params = []; result = Some Long; is_boolean = false }) (Ref ref.Long ∷ []) (signature_5 own f) (ap (λ o. library_params Virtual o ([])) (long_is own f)) (refl, tt) (refl, tt) (lemma.long_value ref.Long refl) in
     let r10 = row_fits own (record { kind = Virtual; class = integer_name; name = codes "longValue"; descriptor = codes "()J"; native = native.LongValue }) (record { params = []; result = Some Long; is_boolean = false }) (Ref ref.Integer ∷ []) (signature_5 own f) (ap (λ o. library_params Virtual o ([])) (integer_is own f)) (refl, tt) (refl, tt) (lemma.long_value ref.Integer refl) in
     let r11 = row_fits own (record { kind = Virtual; class = number_name; name = codes "longValue"; descriptor = codes "()J"; native = native.LongValue }) (record { params = []; result = Some Long; is_boolean = false }) (Ref ref.Number ∷ []) (signature_5 own f) (ap (λ o. library_params Virtual o ([])) (number_is own f)) (refl, tt) (refl, tt) (lemma.long_value ref.Number refl) in
+    let b1 : RowFits own (record { kind = Virtual; class = boolean_name; name = codes "booleanValue"; descriptor = codes "()Z"; native = native.BooleanValue }) =
+    λ other. row_fits own (record { kind = Virtual; class = boolean_name; name = codes "booleanValue"; descriptor = codes "()Z"; native = native.BooleanValue }) (record { params = []; result = Some Int; is_boolean = true }) (Ref ref.Boolean ∷ []) (signature_8 own f) (ap (λ o. library_params Virtual o ([])) (boolean_is own (is_other own other))) (refl, tt) (refl, tt) lemma.boolean_value other
+    in
     let r12 = row_fits own (record { kind = Interface; class = mutable_entry_name; name = codes "getKey"; descriptor = codes "()Ljava/lang/Object;"; native = native.GetKey }) (record { params = []; result = Some (Ref ref.Object); is_boolean = false }) (Ref ref.MutableEntry ∷ []) (signature_6 own f) (ap (λ o. library_params Interface o ([])) (mutable_is own f)) (refl, tt) (refl, tt) (lemma.get_key ref.MutableEntry) in
     let r13 = row_fits own (record { kind = Interface; class = cache_entry_name; name = codes "getKey"; descriptor = codes "()Ljava/lang/Object;"; native = native.GetKey }) (record { params = []; result = Some (Ref ref.Object); is_boolean = false }) (Ref ref.CacheEntry ∷ []) (signature_6 own f) (ap (λ o. library_params Interface o ([])) (entry_is own f)) (refl, tt) (refl, tt) (lemma.get_key ref.CacheEntry) in
     let r14 = row_fits own (record { kind = Interface; class = mutable_entry_name; name = codes "getValue"; descriptor = codes "()Ljava/lang/Object;"; native = native.GetValue }) (record { params = []; result = Some (Ref ref.Object); is_boolean = false }) (Ref ref.MutableEntry ∷ []) (signature_6 own f) (ap (λ o. library_params Interface o ([])) (mutable_is own f)) (refl, tt) (refl, tt) (lemma.get_value ref.MutableEntry) in
@@ -211,7 +233,7 @@ library_fits own f =
     let r16 = row_fits own (record { kind = Interface; class = mutable_entry_name; name = codes "setValue"; descriptor = codes "(Ljava/lang/Object;)V"; native = native.SetValue }) (record { params = Ref ref.Object ∷ []; result = None; is_boolean = false }) (Ref ref.MutableEntry ∷ Ref ref.Object ∷ []) (signature_7 own f) (ap (λ o. library_params Interface o (Ref ref.Object ∷ [])) (mutable_is own f)) (refl, (refl, tt)) tt (lemma.set_value ref.MutableEntry) in
     let r17 = row_fits own (record { kind = Interface; class = mutable_entry_name; name = codes "exists"; descriptor = codes "()Z"; native = native.Exists }) (record { params = []; result = Some Int; is_boolean = true }) (Ref ref.MutableEntry ∷ []) (signature_8 own f) (ap (λ o. library_params Interface o ([])) (mutable_is own f)) (refl, tt) (refl, tt) (lemma.exists ref.MutableEntry) in
     let r18 = row_fits own (record { kind = Interface; class = mutable_entry_name; name = codes "remove"; descriptor = codes "()V"; native = native.Remove }) (record { params = []; result = None; is_boolean = false }) (Ref ref.MutableEntry ∷ []) (signature_9 own f) (ap (λ o. library_params Interface o ([])) (mutable_is own f)) (refl, tt) tt (lemma.remove ref.MutableEntry) in
-    (r0, (r1, (r2, (r3, (r4, (r5, (r6, (r7, (r8, (r9, (r10, (r11, (r12, (r13, (r14, (r15, (r16, (r17, (r18, tt)))))))))))))))))))
+    (r0, (r1, (b0, (r2, (r3, (r4, (r5, (r6, (r7, (r8, (r9, (r10, (r11, (b1, (r12, (r13, (r14, (r15, (r16, (r17, (r18, tt)))))))))))))))))))))
 
 -- ---- the class's own methods
 
@@ -234,7 +256,17 @@ abbrev pub CalleeFits : Class → Callee → Reached → Type 0
 CalleeFits c callee (Library n) = NoneTop callee.params × NoneTop (result_list callee.result) × LibraryFits n callee.params callee.result
 CalleeFits c callee (Own k) = IsOwn c callee k
 
-own_fits : (c : Class) → IsCheckedButForRoom c → (kind : Invoke) (m : MemberRef) (callee : Callee) → own_callee c.view kind m ≡ Some callee → CalleeFits c callee callee.reached
+-- The premises on the class's name and signatures.
+pub record HasSignatures (c : Class) : Type 0 where
+  pub named : is_one_of c.view.name reserved_names ≡ false
+  pub instance : (j : ℕ) (v : MethodView) → IsProcessOf c j → slice_get c.view.methods j ≡ Some v → is_static v.flags ≡ false
+  pub count : length c.methods ≡ length c.view.methods
+  pub signed : (j : ℕ) (v : MethodView) (m : Method) → slice_get c.view.methods j ≡ Some v → slice_get c.methods j ≡ Some m → method_signature c.view v ≡ Some m.environment.signature
+
+signatures_of : (c : Class) → IsCheckedButForRoom c → HasSignatures c
+signatures_of c ok = record { named = ok.named; instance = ok.instance; count = ok.count; signed = ok.signed }
+
+own_fits : (c : Class) → HasSignatures c → (kind : Invoke) (m : MemberRef) (callee : Callee) → own_callee c.view kind m ≡ Some callee → CalleeFits c callee callee.reached
 own_fits c ok kind m callee e =
     let p = only_if_some _ _ callee e in
     let tests = and_parts (same_bytes m.class c.view.name) (not (same_bytes m.name init_name)) p.0 in
@@ -251,17 +283,43 @@ own_fits c ok kind m callee e =
     let same : callee_of k method.0.environment.signature ≡ callee = cc both in
     subst (λ (x : Callee). CalleeFits c x x.reached) same (record { view = w; method = method.0; member = record { view = view; method = method.1; other = not_init m w tests.1 named.0 }; params = refl; result = refl })
 
-pub callee_fits : (c : Class) → IsCheckedButForRoom c → (kind : Invoke) (i : ℕ) (callee : Callee) → callee_at c.view kind i ≡ Some callee → CalleeFits c callee callee.reached
-unfolding callee_at RowFits
-callee_fits c ok kind i callee e =
-    let p = then_some_parts (λ m. found_callee c.view kind m (row_of library_rows kind m)) (member_at c.view.pool kind i) callee e in
-    go p.0 (row_of library_rows kind p.0) refl p.2
+-- A row that is found for a member has the member's class.
+row_class : (rows : List LibraryRow) (kind : Invoke) (m : MemberRef) (r : LibraryRow) → row_of rows kind m ≡ Some r → m.class ≡ r.class
+row_class [] kind m r e = cc
+row_class (x ∷ rows) kind m r e = go (row_class rows kind m r) (is_row_of kind m x) refl e
   where
-    go : (m : MemberRef) (o : Option LibraryRow) → row_of library_rows kind m ≡ o → found_callee c.view kind m o ≡ Some callee → CalleeFits c callee callee.reached
+    go : (row_of rows kind m ≡ Some r → m.class ≡ r.class) → (b : Bool) → is_row_of kind m x ≡ b → cond b (Some x) (row_of rows kind m) ≡ Some r → m.class ≡ r.class
+    go later true is f =
+        let same : x ≡ r = cc f in
+        let three = and_parts (same_invoke kind x.kind && same_bytes m.class x.class && same_bytes m.name x.name) (same_bytes m.descriptor x.descriptor) is in
+        let two = and_parts (same_invoke kind x.kind && same_bytes m.class x.class) (same_bytes m.name x.name) three.0 in
+        let class = and_parts (same_invoke kind x.kind) (same_bytes m.class x.class) two.0 in
+        same_is m.class x.class class.1 ∙ ap (λ (y : LibraryRow). y.class) same
+    go later false is f = later f
+
+-- A library method is found only for a member of a class by whose name the class doesn't mean itself.
+pub row_found : (own : List ℕ) (kind : Invoke) (m : MemberRef) (r : LibraryRow) → library_row own kind m ≡ Some r → (row_of library_rows kind m ≡ Some r) × (means_itself own r.class ≡ false)
+row_found own kind m r e = go (means_itself own m.class) refl e
+  where
+    go : (b : Bool) → means_itself own m.class ≡ b → cond b None (row_of library_rows kind m) ≡ Some r → (row_of library_rows kind m ≡ Some r) × (means_itself own r.class ≡ false)
+    go true is f = cc f
+    go false is f = (f, sym (ap (means_itself own) (row_class library_rows kind m r f)) ∙ is)
+
+pub callee_fits_by : (c : Class) → HasSignatures c → (kind : Invoke) (i : ℕ) (callee : Callee) → callee_at c.view kind i ≡ Some callee → CalleeFits c callee callee.reached
+unfolding callee_at RowFits
+callee_fits_by c ok kind i callee e =
+    let p = then_some_parts (λ m. found_callee c.view kind m (library_row c.view.name kind m)) (member_at c.view.pool kind i) callee e in
+    go p.0 (library_row c.view.name kind p.0) refl p.2
+  where
+    go : (m : MemberRef) (o : Option LibraryRow) → library_row c.view.name kind m ≡ o → found_callee c.view kind m o ≡ Some callee → CalleeFits c callee callee.reached
     go m None h f = own_fits c ok kind m callee f
     go m (Some r) h f =
-        let known = found_row (RowFits c.view.name) library_rows kind m r (library_fits c.view.name (foreign c.view.name ok.named)) h callee f in
+        let row = row_found c.view.name kind m r h in
+        let known = found_row (RowFits c.view.name) library_rows kind m r (library_fits c.view.name (foreign c.view.name ok.named)) row.0 row.1 callee f in
         subst (CalleeFits c callee) (sym known.0) (known.1, known.2, known.3)
+
+pub callee_fits : (c : Class) → IsCheckedButForRoom c → (kind : Invoke) (i : ℕ) (callee : Callee) → callee_at c.view kind i ≡ Some callee → CalleeFits c callee callee.reached
+callee_fits c ok = callee_fits_by c (signatures_of c ok)
 
 -- ---- `process`
 
@@ -286,9 +344,9 @@ pub record IsEntry (c : Class) (j : ℕ) (m : Method) : Type 0 where
   pub params : m.environment.signature.params ≡ Ref ref.This ∷ Ref ref.MutableEntry ∷ Ref ref.ObjectArray ∷ []
   pub result : m.environment.signature.result ≡ Some (Ref ref.Object)
 
-pub entry_of : (c : Class) → IsCheckedButForRoom c → (j : ℕ) (m : Method) → IsProcessOf c j → slice_get c.methods j ≡ Some m → IsEntry c j m
+pub entry_by : (c : Class) → HasSignatures c → (j : ℕ) (m : Method) → IsProcessOf c j → slice_get c.methods j ≡ Some m → IsEntry c j m
 unfolding method_signature
-entry_of c ok j m is known =
+entry_by c ok j m is known =
     let p = process_found 0 c.view.methods j is in
     let w = p.0 in
     let view : slice_get c.view.methods j ≡ Some w = subst (λ x. slice_get c.view.methods x ≡ Some w) (let h = p.2 in omega (arith, h)) p.3 in
@@ -307,3 +365,6 @@ entry_of c ok j m is known =
       params = sym (ap (λ (x : Signature). x.params) same);
       result = sym (ap (λ (x : Signature). x.result) same);
     }
+
+pub entry_of : (c : Class) → IsCheckedButForRoom c → (j : ℕ) (m : Method) → IsProcessOf c j → slice_get c.methods j ≡ Some m → IsEntry c j m
+entry_of c ok = entry_by c (signatures_of c ok)

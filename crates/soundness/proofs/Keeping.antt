@@ -127,6 +127,7 @@ module _ (c : Class) (s : State) where
   loads_items a below k (Int i ∷ Ref (reference.Array id) ∷ rest) = loads_from a below k i rest (slice_get s.arrays id)
   loads_items a below k (Int i ∷ Ref (reference.Long n) ∷ rest) = tt
   loads_items a below k (Int i ∷ Ref (reference.Integer n) ∷ rest) = tt
+  loads_items a below k (Int i ∷ Ref (reference.Boolean n) ∷ rest) = tt
   loads_items a below k (Int i ∷ Ref reference.Entry ∷ rest) = tt
   loads_items a below k (Int i ∷ Ref reference.This ∷ rest) = tt
   loads_items a below k (Int i ∷ Ref reference.Args ∷ rest) = tt
@@ -152,6 +153,7 @@ module _ (c : Class) (s : State) where
   stores_numbers a below k (Some n) (Int i ∷ Ref (reference.Array id) ∷ rest) = stores_to a below k id i n rest (slice_get s.arrays id)
   stores_numbers a below k (Some n) (Int i ∷ Ref (reference.Long x) ∷ rest) = tt
   stores_numbers a below k (Some n) (Int i ∷ Ref (reference.Integer x) ∷ rest) = tt
+  stores_numbers a below k (Some n) (Int i ∷ Ref (reference.Boolean x) ∷ rest) = tt
   stores_numbers a below k (Some n) (Int i ∷ Ref reference.Entry ∷ rest) = tt
   stores_numbers a below k (Some n) (Int i ∷ Ref reference.This ∷ rest) = tt
   stores_numbers a below k (Some n) (Int i ∷ Ref reference.Args ∷ rest) = tt
@@ -172,6 +174,7 @@ module _ (c : Class) (s : State) where
   loads_references a below (Int i ∷ Ref (reference.Array id) ∷ rest) = tt
   loads_references a below (Int i ∷ Ref (reference.Long n) ∷ rest) = tt
   loads_references a below (Int i ∷ Ref (reference.Integer n) ∷ rest) = tt
+  loads_references a below (Int i ∷ Ref (reference.Boolean n) ∷ rest) = tt
   loads_references a below (Int i ∷ Ref reference.Entry ∷ rest) = tt
   loads_references a below (Int i ∷ Ref reference.This ∷ rest) = tt
   loads_references a below (Int i ∷ Int n ∷ rest) = tt
@@ -191,6 +194,7 @@ module _ (c : Class) (s : State) where
   measures a below (Ref (reference.Array id) ∷ rest) = lengths a below rest (slice_get s.arrays id)
   measures a below (Ref (reference.Long n) ∷ rest) = tt
   measures a below (Ref (reference.Integer n) ∷ rest) = tt
+  measures a below (Ref (reference.Boolean n) ∷ rest) = tt
   measures a below (Ref reference.Entry ∷ rest) = tt
   measures a below (Ref reference.This ∷ rest) = tt
   measures a below (Int n ∷ rest) = tt

@@ -15,6 +15,7 @@ pub mod StaticProcess
 pub mod ReservedName
 pub mod ScatteredPlaces
 pub mod AcceptedRanks
+pub mod Beyond
 pub mod OneClass
 pub mod SmallBytes
 pub mod SmallVerdict

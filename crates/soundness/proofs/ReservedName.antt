@@ -1,16 +1,15 @@
--- A class with the name `java/lang/Long` gets stuck: `Long.valueOf` is declared to return the class itself, and returns a box.
+-- A class with the name `java/lang/Object` gets stuck: `getKey` is declared to return the class itself, and returns a box.
 use Rattle.std.proofs.Common.{◌≡◌, List, [], ◌∷◌, Some, None, false, refl, sym, subst, arith}
 use Rattle.std.specs.Prelude.{codes, pos}
 use Rattle.jtypes.specs.declared.types.RefType.TheVariants as ref
 use Rattle.jtypes.specs.declared.types.JType.{JType}
 use Rattle.jtypes.specs.declared.types.JType.TheVariants as type
 use Rattle.jtypes.specs.declared.operations.Kind.TheVariants as kind
-use Rattle.jtypes.specs.declared.operations.Invoke.TheVariants.{Static}
-use Rattle.jtypes.specs.declared.operations.Pushed.TheVariants as pushed
+use Rattle.jtypes.specs.declared.operations.Invoke.TheVariants.{Interface}
 use Rattle.constpool.specs.declared.constant.Constant.TheVariants as constant
-use Rattle.constpool.specs.Lookup.{Slot, utf8_at, class_at, pair_at, member_of, method_at}
+use Rattle.constpool.specs.Lookup.{Slot, utf8_at, class_at, pair_at, member_of, interface_method_at}
 use Rattle.constpool.specs.Descriptor.{sig_of, read_params, read_type}
-use Rattle.constpool.specs.Names.{long_name}
+use Rattle.constpool.specs.Names.{object_name, mutable_entry_name}
 use Rattle.classfile.specs.View.{ClassView}
 use Rattle.decode.specs.declared.instruction.Instruction.TheVariants as instruction
 use Rattle.decode.specs.declared.instruction.Placed.{Placed}
@@ -36,28 +35,28 @@ use Rattle.transfer.specs.Transfer.{called, transfer}
 use Rattle.verdict.specs.Machine.{invoke}
 
 abbrev zero : Placed
-zero = placed 0 1 (instruction.Push (pushed.Long (pos 0)))
+zero = placed 0 1 (instruction.Load kind.Reference 1)
 
 abbrev box : Placed
-box = placed 1 4 (instruction.Invoke Static 1)
+box = placed 1 6 (instruction.Invoke Interface 1)
 
 abbrev answer : Placed
-answer = placed 4 5 (instruction.Return kind.Reference)
+answer = placed 6 7 (instruction.Return kind.Reference)
 
--- The constant pool, with `Long.valueOf` at index 1.
+-- The constant pool, with `MutableEntry.getKey` at index 1.
 abbrev pool : List Slot
 pool =
-    Some (constant.Methodref 2 3) ∷ Some (constant.Class 4) ∷ Some (constant.NameAndType 5 6)
-    ∷ Some (constant.Utf8 long_name) ∷ Some (constant.Utf8 (codes "valueOf")) ∷ Some (constant.Utf8 (codes "(J)Ljava/lang/Long;")) ∷ []
+    Some (constant.InterfaceMethodref 2 3) ∷ Some (constant.Class 4) ∷ Some (constant.NameAndType 5 6)
+    ∷ Some (constant.Utf8 mutable_entry_name) ∷ Some (constant.Utf8 (codes "getKey")) ∷ Some (constant.Utf8 (codes "()Ljava/lang/Object;")) ∷ []
 
 abbrev view : ClassView
-view = record { pool = pool; name = long_name; methods = process_with 1 ∷ [] }
+view = record { pool = pool; name = object_name; methods = process_with 1 ∷ [] }
 
 abbrev method : Method
 method = record {
   environment = record {
-    signature = record { params = type.Ref ref.This ∷ type.Ref ref.MutableEntry ∷ type.Ref ref.ObjectArray ∷ []; result = Some (type.Ref ref.Object); is_boolean = false };
-    max_stack = 2;
+    signature = record { params = type.Ref ref.This ∷ type.Ref ref.MutableEntry ∷ type.Ref ref.ObjectArray ∷ []; result = Some (type.Ref ref.This); is_boolean = false };
+    max_stack = 1;
     max_locals = 3;
   };
   code = zero ∷ box ∷ answer ∷ [];
@@ -71,21 +70,21 @@ abbrev frame : List JType → Frame
 frame stack = record { locals = type.Ref ref.This ∷ type.Ref ref.MutableEntry ∷ type.Ref ref.ObjectArray ∷ []; stack = stack }
 
 abbrev frames : List Frame
-frames = frame [] ∷ frame (type.Long ∷ []) ∷ frame (type.Ref ref.This ∷ []) ∷ []
+frames = frame [] ∷ frame (type.Ref ref.MutableEntry ∷ []) ∷ frame (type.Ref ref.This ∷ []) ∷ []
 
-reached : callee_at view Static 1 ≡ Some (record { reached = Library native.LongValueOf; params = type.Long ∷ []; result = Some (type.Ref ref.This) })
-unfolding callee_at library_rows method_at member_of class_at pair_at utf8_at sig_of read_params read_type class_type field_type field_types result_type signature_of method_signature
+reached : callee_at view Interface 1 ≡ Some (record { reached = Library native.GetKey; params = type.Ref ref.MutableEntry ∷ []; result = Some (type.Ref ref.This) })
+unfolding callee_at library_rows interface_method_at member_of class_at pair_at utf8_at sig_of read_params read_type class_type field_type field_types result_type signature_of method_signature
 reached = refl
 
 no_own_call : call_of view box.instruction ≡ None
 no_own_call = ap own_of reached
 
-boxed : transfer view method.environment box.instruction (frame (type.Long ∷ [])) ≡ Some (frame (type.Ref ref.This ∷ []))
-boxed = ap (called method.environment (frame (type.Long ∷ []))) reached
+boxed : transfer view method.environment box.instruction (frame (type.Ref ref.MutableEntry ∷ [])) ≡ Some (frame (type.Ref ref.This ∷ []))
+boxed = ap (called method.environment (frame (type.Ref ref.MutableEntry ∷ []))) reached
 
 outcomes : EachOutcome view method frames method.code frames
 outcomes = (
-  (frame (type.Long ∷ []), refl, record { branches = λ t h. absurd (nowhere t h); falls = λ h. refl; after = λ h k. absurd cc }),
+  (frame (type.Ref ref.MutableEntry ∷ []), refl, record { branches = λ t h. absurd (nowhere t h); falls = λ h. refl; after = λ h k. absurd cc }),
   (
     (frame (type.Ref ref.This ∷ []), boxed, record { branches = λ t h. absurd (nowhere t h); falls = λ h. refl; after = λ h k. absurd cc }),
     ((frame (type.Ref ref.This ∷ []), refl, record { branches = λ t h. absurd (nowhere t h); falls = λ h. absurd cc; after = λ h k. absurd cc }), tt),
@@ -117,16 +116,16 @@ unfolding sig_of read_params read_type class_type field_type field_types result_
 signed = refl
 
 abbrev cost : Cost
-cost = record { steps = 3; words = 0; slots = 5; depth = 1 }
+cost = record { steps = 3; words = 0; slots = 4; depth = 1 }
 
 abbrev limits : Bounds
-limits = record { steps = 3; words = 0; slots = 5; depth = 1 }
+limits = record { steps = 3; words = 0; slots = 4; depth = 1 }
 
 paths : (k : Cost) → Path class 0 0 k → k ≡ cost
 paths k p =
     from_before view method 0 zero refl (record { stays = refl; straight = refl; lone = refl }) (after_one 0 (last_cost method))
     (from_before view method 1 box refl (record { stays = refl; straight = refl; lone = no_own_call }) (last_cost method)
-    (from_last view method 4 answer refl (record { over = refl; straight = refl; lone = refl })))
+    (from_last view method 6 answer refl (record { over = refl; straight = refl; lone = refl })))
     0 0 k refl p
 
 within : (k : Cost) → k ≡ cost → IsWithin k limits
@@ -140,7 +139,7 @@ second = gone_to first (step class first)
 
 -- The step is stuck, because the box isn't of the class itself.
 no_step : step class second ≡ None
-no_step = ap (invoke class second (record { method = 0; place = 4; locals = Some (value.Ref reference.This) ∷ Some (value.Ref reference.Entry) ∷ Some (value.Ref reference.Args) ∷ []; operands = value.Long (pos 0) ∷ [] }) [] Static) reached
+no_step = ap (invoke class second (record { method = 0; place = 6; locals = Some (value.Ref reference.This) ∷ Some (value.Ref reference.Entry) ∷ Some (value.Ref reference.Args) ∷ []; operands = value.Ref reference.Entry ∷ [] }) [] Interface) reached
 
 stuck : IsSafe class limits → ⊥
 stuck h = let n = h.never_stuck plain_call first second refl (onward load.None here refl) load.None in let e = n.1 in cc (e, no_step)

@@ -33,7 +33,8 @@ use Rattle.bounds.specs.Recursion.{HasCall, IsOrdered, IsRecursive}
 use Rattle.bounds.specs.Table.{Costs, IsTable, LeadsOn, cost_by}
 use Rattle.bounds.proofs.Greatest.{tables_are_bounds}
 use Rattle.verdict.specs.Shape.{is_constructor, HasCode, ShapeStands}
-use Rattle.verdict.specs.Verdict.{is_known, InstructionStands, InstructionsStand, HasInstructions, IsBody, BodyStands, TypesStand, HasTypes, IsClassOfFile, ClassStands, BoundStands, by_layout, by_shape, by_instructions, by_types, by_class, IsAccepted, IsClassOf}
+use Rattle.verdict.specs.Verdict.{is_known, InstructionStands, InstructionsStand, HasInstructions, IsBody, BodyStands, TypesStand, HasTypes, IsClassOfFile, ClassStands, BoundStands, by_layout, by_shape, by_instructions, by_types, by_class, by_names, IsAccepted, IsClassOf}
+use Rattle.verdict.proofs.Known.{none_beyond}
 use Rattle.verdict.proofs.Methods.{any_at}
 use Rattle.soundness.specs.Example as example
 use Rattle.soundness.specs.Accepted.{small_bytes, small_pool, small_parts, constructor_member, process_member, constructor_code, constructor_method, small_class}
@@ -42,66 +43,66 @@ use Rattle.frames.proofs.Declares.{declared_once}
 use Rattle.soundness.proofs.OneClass.{code_once, body_once, class_once}
 use Rattle.bounds.proofs.Ranks.{ranked_is_not_recursive}
 use Rattle.soundness.proofs.SmallBytes.{is_file, same_file, has_shape, constructor_parts, process_parts, constructor_signed, process_signed, are_good}
-use Rattle.jtypes.specs.Profile.{Second}
+use Rattle.jtypes.specs.Profile.{Third}
 
 abbrev view : ClassView
 view = view_of small_pool small_parts
 
 -- ---- the instructions
 
-aload_1 : first (one Second small_pool 0) (0x2B ∷ []) ≡ Ok (instruction.Load kind.Reference 1, [])
+aload_1 : first (one Third small_pool 0) (0x2B ∷ []) ≡ Ok (instruction.Load kind.Reference 1, [])
 unfolding one by_form operands form_at operand
 aload_1 = refl
 
-areturn : first (one Second small_pool 1) (0xB0 ∷ []) ≡ Ok (instruction.Return kind.Reference, [])
+areturn : first (one Third small_pool 1) (0xB0 ∷ []) ≡ Ok (instruction.Return kind.Reference, [])
 unfolding one by_form operands form_at operand
 areturn = refl
 
-aload_0 : first (one Second small_pool 0) (0x2A ∷ []) ≡ Ok (instruction.Load kind.Reference 0, [])
+aload_0 : first (one Third small_pool 0) (0x2A ∷ []) ≡ Ok (instruction.Load kind.Reference 0, [])
 unfolding one by_form operands form_at operand
 aload_0 = refl
 
-invokespecial : first (one Second small_pool 1) (0xB7 ∷ 0 ∷ 10 ∷ []) ≡ Ok (instruction.Invoke invoke.Special 10, [])
+invokespecial : first (one Third small_pool 1) (0xB7 ∷ 0 ∷ 10 ∷ []) ≡ Ok (instruction.Invoke invoke.Special 10, [])
 unfolding one by_form operands form_at operand method_at class_at pair_at member_of utf8_at
 invokespecial = refl
 
-returns : first (one Second small_pool 4) (0xB1 ∷ []) ≡ Ok (instruction.ReturnVoid, [])
+returns : first (one Third small_pool 4) (0xB1 ∷ []) ≡ Ok (instruction.ReturnVoid, [])
 unfolding one by_form operands form_at operand
 returns = refl
 
-process_sequence : IsSequence Second small_pool 0 process_parts.code example.method.code
+process_sequence : IsSequence Third small_pool 0 process_parts.code example.method.code
 process_sequence = (
   refl,
   0x2B ∷ [],
   0xB0 ∷ [],
   refl,
   refl,
-  whole_found (one Second small_pool 0) (0x2B ∷ []) (instruction.Load kind.Reference 1) aload_1,
-  (refl, 0xB0 ∷ [], [], refl, refl, whole_found (one Second small_pool 1) (0xB0 ∷ []) (instruction.Return kind.Reference) areturn, refl),
+  whole_found (one Third small_pool 0) (0x2B ∷ []) (instruction.Load kind.Reference 1) aload_1,
+  (refl, 0xB0 ∷ [], [], refl, refl, whole_found (one Third small_pool 1) (0xB0 ∷ []) (instruction.Return kind.Reference) areturn, refl),
 )
 
-constructor_sequence : IsSequence Second small_pool 0 constructor_parts.code constructor_code
+constructor_sequence : IsSequence Third small_pool 0 constructor_parts.code constructor_code
 constructor_sequence = (
   refl,
   0x2A ∷ [],
   0xB7 ∷ 0 ∷ 10 ∷ 0xB1 ∷ [],
   refl,
   refl,
-  whole_found (one Second small_pool 0) (0x2A ∷ []) (instruction.Load kind.Reference 0) aload_0,
+  whole_found (one Third small_pool 0) (0x2A ∷ []) (instruction.Load kind.Reference 0) aload_0,
   (
     refl,
     0xB7 ∷ 0 ∷ 10 ∷ [],
     0xB1 ∷ [],
     refl,
     refl,
-    whole_found (one Second small_pool 1) (0xB7 ∷ 0 ∷ 10 ∷ []) (instruction.Invoke invoke.Special 10) invokespecial,
-    (refl, 0xB1 ∷ [], [], refl, refl, whole_found (one Second small_pool 4) (0xB1 ∷ []) instruction.ReturnVoid returns, refl),
+    whole_found (one Third small_pool 1) (0xB7 ∷ 0 ∷ 10 ∷ []) (instruction.Invoke invoke.Special 10) invokespecial,
+    (refl, 0xB1 ∷ [], [], refl, refl, whole_found (one Third small_pool 4) (0xB1 ∷ []) instruction.ReturnVoid returns, refl),
   ),
 )
 
 -- ---- level by level: the instructions
 
-first_whole : first (one Second small_pool 0) (0x2B ∷ 0xB0 ∷ []) ≡ Ok (instruction.Load kind.Reference 1, 0xB0 ∷ [])
+first_whole : first (one Third small_pool 0) (0x2B ∷ 0xB0 ∷ []) ≡ Ok (instruction.Load kind.Reference 1, 0xB0 ∷ [])
 unfolding one by_form operands form_at operand
 first_whole = refl
 
@@ -131,12 +132,12 @@ no_branch BadTarget h = branch_in (λ p b. (b.0, b.1)) h
 no_branch BackwardBranch h = branch_in (λ p b. (b.0, b.1)) h
 no_branch r h = h
 
-same_code : (code : List Placed) → IsSequence Second small_pool 0 process_parts.code code → code ≡ example.method.code
-same_code code h = sequence_once small_pool 0 process_parts.code process_parts.code code example.method.code refl h process_sequence
+same_code : (code : List Placed) → IsSequence Third small_pool 0 process_parts.code code → code ≡ example.method.code
+same_code code h = sequence_once Third small_pool 0 process_parts.code process_parts.code code example.method.code refl h process_sequence
 
-no_refusal : (r : Refusal) → CodeStands Second small_pool process_parts.code r → ⊥
+no_refusal : (r : Refusal) → CodeStands Third small_pool process_parts.code r → ⊥
 no_refusal r (inl (ps, front, back, e, s, n, h)) =
-    run_goes_on small_pool 2 process_parts.code example.method.code r (omega arith) process_run ps 0 front back refl e s n (subst (λ k. Stands (one Second small_pool k) back r) (sym (zero-add (length front))) h)
+    run_goes_on small_pool 2 process_parts.code example.method.code r (omega arith) process_run ps 0 front back refl e s n (subst (λ k. Stands (one Third small_pool k) back r) (sym (zero-add (length front))) h)
 no_refusal r (inr (code, s, h)) = no_branch r (subst (λ c. BranchStands c r) (same_code code s) h)
 
 names_known : Any (λ p. IsFalse (is_known view p.instruction)) example.method.code → ⊥
@@ -149,7 +150,7 @@ names_known any =
     go (suc zero) p e h = let same : example.give ≡ p = cc e in false≢true (sym (subst (λ (x : Placed). is_known view x.instruction ≡ false) (sym same) h))
     go (suc (suc n)) p e h = cc e
 
-no_instruction : (r : Refusal) → InstructionStands Second view process_parts.code r → ⊥
+no_instruction : (r : Refusal) → InstructionStands Third view process_parts.code r → ⊥
 no_instruction UnknownMember h = names_known (subst (λ c. Any (λ p. IsFalse (is_known view p.instruction)) c) (same_code h.0 h.1) h.2)
 no_instruction r h = no_refusal r h
 
@@ -165,18 +166,18 @@ only_process P any =
     go (suc zero) m e h = let same : process_member ≡ m = cc e in subst P (sym same) h.1
     go (suc (suc n)) m e h = cc e
 
-pub has_instructions : HasInstructions Second small_pool small_parts
+pub has_instructions : HasInstructions Third small_pool small_parts
 has_instructions = record { none_stands = none }
   where
-    none : (r : Refusal) → InstructionsStand Second small_pool small_parts r → ⊥
+    none : (r : Refusal) → InstructionsStand Third small_pool small_parts r → ⊥
     none r h =
-        let it = only_process (λ m. (c : CodeParts) × HasCode small_pool m c × InstructionStands Second view c.code r) h in
+        let it = only_process (λ m. (c : CodeParts) × HasCode small_pool m c × InstructionStands Third view c.code r) h in
         let same : it.0 ≡ process_parts = code_once small_pool process_member it.0 process_parts it.1 are_good.1.0.has_code in
-        no_instruction r (subst (λ (c : CodeParts). InstructionStands Second view c.code r) same it.2)
+        no_instruction r (subst (λ (c : CodeParts). InstructionStands Third view c.code r) same it.2)
 
 -- ---- the types
 
-process_body : IsBody Second small_pool small_parts process_member example.method.environment example.method.code []
+process_body : IsBody Third small_pool small_parts process_member example.method.environment example.method.code []
 unfolding contents_named
 process_body = record {
   parts = process_parts;
@@ -213,13 +214,13 @@ no_type FallsOff (p, e, falls) = let same : example.give ≡ p = cc e in false�
 no_type LengthNotConstant (place, p, k, at, new, h) = each_at (λ x. x.instruction ≡ instruction.NewArray k → ⊥) example.method.code ((λ e. cc e), ((λ e. cc e), tt)) place p at new
 no_type r h = h
 
-pub has_types : HasTypes Second small_pool small_parts
+pub has_types : HasTypes Third small_pool small_parts
 has_types = record { none_stands = none }
   where
-    none : (r : Refusal) → TypesStand Second small_pool small_parts r → ⊥
+    none : (r : Refusal) → TypesStand Third small_pool small_parts r → ⊥
     none r h =
-        let it = only_process (λ m. (e : Environment) × (code : List Placed) × (tables : List (List ℕ)) × IsBody Second small_pool small_parts m e code tables × BodyStands view e code tables r) h in
-        let one = body_once small_pool small_parts process_member it.0 example.method.environment it.1 example.method.code it.2 [] it.3 process_body in
+        let it = only_process (λ m. (e : Environment) × (code : List Placed) × (tables : List (List ℕ)) × IsBody Third small_pool small_parts m e code tables × BodyStands view e code tables r) h in
+        let one = body_once Third small_pool small_parts process_member it.0 example.method.environment it.1 example.method.code it.2 [] it.3 process_body in
         no_type r
         (subst (λ ts. BodyStands view example.method.environment example.method.code ts r) one.tables
         (subst (λ ps. BodyStands view example.method.environment ps it.2 r) one.code
@@ -227,7 +228,7 @@ has_types = record { none_stands = none }
 
 -- ---- the class
 
-constructor_body : IsBody Second small_pool small_parts constructor_member constructor_method.environment constructor_code []
+constructor_body : IsBody Third small_pool small_parts constructor_member constructor_method.environment constructor_code []
 unfolding contents_named
 constructor_body = record {
   parts = constructor_parts;
@@ -239,13 +240,13 @@ constructor_body = record {
   tables_are = refl;
 }
 
-is_class : IsClassOfFile Second small_pool small_parts small_class
+is_class : IsClassOfFile Third small_pool small_parts small_class
 is_class = record {
   view = refl;
   methods = (record { tables = []; body = constructor_body; declared = without }, (record { tables = []; body = process_body; declared = without }, tt));
 }
 
-pub class_is : IsClassOf Second small_bytes small_class
+pub class_is : IsClassOf Third small_bytes small_class
 class_is = record { pool = small_pool; parts = small_parts; file = is_file; class = is_class }
 
 pub process_is : IsProcessOf small_class 1
@@ -334,22 +335,23 @@ few measure limit most j is (k, path, more) =
     let within = are_bounds.none_exceeds k (subst (λ i. Path small_class i 0 k) (process_is_one j is) path) in
     omega (arith, most k within, more)
 
-within_limits : (j : ℕ) (r : Refusal) → IsProcessOf small_class j → BoundStands Second small_class j r → ⊥
-within_limits j StepLimit is h = few (λ k. k.steps) (step_limit Second) (λ k w. omega (arith, w.steps)) j is h
+within_limits : (j : ℕ) (r : Refusal) → IsProcessOf small_class j → BoundStands Third small_class j r → ⊥
+within_limits j StepLimit is h = few (λ k. k.steps) (step_limit Third) (λ k w. omega (arith, w.steps)) j is h
 within_limits j WordLimit is h = few (λ k. k.words) word_limit (λ k w. omega (arith, w.words)) j is h
 within_limits j FrameLimit is (inl h) = few (λ k. k.slots) slot_limit (λ k w. omega (arith, w.slots)) j is h
 within_limits j FrameLimit is (inr h) = few (λ k. k.depth) depth_limit (λ k w. omega (arith, w.depth)) j is h
 within_limits j r is h = h
 
-no_class : (r : Refusal) → ClassStands Second small_class r → ⊥
+no_class : (r : Refusal) → ClassStands Third small_class r → ⊥
 no_class Recursive h = not_recursive h
 no_class r (calm, (j, is, h)) = within_limits j r is h
 
-pub is_accepted : IsAccepted Second small_bytes
+pub is_accepted : IsAccepted Third small_bytes
 is_accepted r (by_layout s) = is_file.none_stands r s
 is_accepted r (by_shape pool p file s) = has_shape.none_stands r (subst (λ (x : List Slot × Parts). ShapeStands x.0 x.1 r) (same_file pool p file) s)
-is_accepted r (by_instructions pool p file a s) = has_instructions.none_stands r (subst (λ (x : List Slot × Parts). InstructionsStand Second x.0 x.1 r) (same_file pool p file) s)
-is_accepted r (by_types pool p file a b s) = has_types.none_stands r (subst (λ (x : List Slot × Parts). TypesStand Second x.0 x.1 r) (same_file pool p file) s)
+is_accepted r (by_instructions pool p file a s) = has_instructions.none_stands r (subst (λ (x : List Slot × Parts). InstructionsStand Third x.0 x.1 r) (same_file pool p file) s)
+is_accepted r (by_types pool p file a b s) = has_types.none_stands r (subst (λ (x : List Slot × Parts). TypesStand Third x.0 x.1 r) (same_file pool p file) s)
 is_accepted r (by_class pool p c file a b d of s) =
-    let class : IsClassOfFile Second small_pool small_parts c = subst (λ (x : List Slot × Parts). IsClassOfFile Second x.0 x.1 c) (same_file pool p file) of in
-    no_class r (subst (λ x. ClassStands Second x r) (class_once small_pool small_parts c small_class class is_class) s)
+    let class : IsClassOfFile Third small_pool small_parts c = subst (λ (x : List Slot × Parts). IsClassOfFile Third x.0 x.1 c) (same_file pool p file) of in
+    no_class r (subst (λ x. ClassStands Third x r) (class_once Third small_pool small_parts c small_class class is_class) s)
+is_accepted r (by_names pool p file _ s) = none_beyond pool p r s

@@ -102,11 +102,13 @@ array_ref arrays k reference.Null h = inl refl
 array_ref arrays k (reference.Array id) h = let x = array_is arrays id (array_type k) h in inr (id, x.0, refl, x.1, kinds_same k x.0.kind x.2)
 array_ref arrays array.Int (reference.Long n) h = cc
 array_ref arrays array.Int (reference.Integer n) h = cc
+array_ref arrays array.Int (reference.Boolean n) h = cc
 array_ref arrays array.Int reference.Entry h = cc
 array_ref arrays array.Int reference.This h = cc
 array_ref arrays array.Int reference.Args h = cc
 array_ref arrays array.Long (reference.Long n) h = cc
 array_ref arrays array.Long (reference.Integer n) h = cc
+array_ref arrays array.Long (reference.Boolean n) h = cc
 array_ref arrays array.Long reference.Entry h = cc
 array_ref arrays array.Long reference.This h = cc
 array_ref arrays array.Long reference.Args h = cc
@@ -121,6 +123,7 @@ args_ref arrays reference.Args h = inr refl
 args_ref arrays (reference.Array id) h = let x = array_is arrays id ref.ObjectArray h in absurd (no_objects x.0.kind x.2)
 args_ref arrays (reference.Long n) h = cc
 args_ref arrays (reference.Integer n) h = cc
+args_ref arrays (reference.Boolean n) h = cc
 args_ref arrays reference.Entry h = cc
 args_ref arrays reference.This h = cc
 
@@ -140,6 +143,7 @@ pub arg_fits : (arrays : Arrays) (x : Arg) → fits arrays (value_of_arg x) (Ref
 arg_fits arrays arg.Null = refl
 arg_fits arrays (arg.Long n) = refl
 arg_fits arrays (arg.Integer n) = refl
+arg_fits arrays (arg.Boolean n) = refl
 
 -- The element type of the array of arguments is `Object`.
 pub args_element : (arrays : Arrays) (t : JType) → fits arrays (value.Ref reference.Args) t ≡ true → is_top t ≡ false → element_of t ≡ Ref ref.Object
@@ -174,6 +178,7 @@ pub cast_fits : (arrays : Arrays) (w : RefValue) (r : RefType) → may_cast arra
 cast_fits arrays reference.Null r h = refl
 cast_fits arrays (reference.Long n) r h = passes_fits arrays (reference.Long n) r h
 cast_fits arrays (reference.Integer n) r h = passes_fits arrays (reference.Integer n) r h
+cast_fits arrays (reference.Boolean n) r h = passes_fits arrays (reference.Boolean n) r h
 cast_fits arrays (reference.Array id) r h = passes_fits arrays (reference.Array id) r h
 cast_fits arrays reference.Entry r h = passes_fits arrays reference.Entry r h
 cast_fits arrays reference.This r h = passes_fits arrays reference.This r h

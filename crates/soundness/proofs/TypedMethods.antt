@@ -24,18 +24,18 @@ use Rattle.verdict.proofs.Methods.{any_from}
 use Rattle.decode.proofs.Consecutive.{sequence_is_consecutive}
 use Rattle.verdict.proofs.ParameterRoom.{one_contains}
 use Rattle.soundness.proofs.AcceptedClasses.{accepted_is_named, accepted_process_is_instance, accepted_count, accepted_signed, accepted_is_formed, InFile, in_file}
-use Rattle.jtypes.specs.Profile.{Second}
+use Rattle.jtypes.specs.Profile.{Third}
 
 -- Nonempty code has a last instruction.
 last_of_some : (x : Placed) (xs : List Placed) → IsSome (last (x ∷ xs))
 last_of_some x [] = refl
 last_of_some x (y ∷ xs) = last_of_some y xs
 
-has_last : (pool : List Slot) (text : List ℕ) (code : List Placed) → IsSequence Second pool 0 text code → (length text ≡ 0 → ⊥) → IsSome (last code)
+has_last : (pool : List Slot) (text : List ℕ) (code : List Placed) → IsSequence Third pool 0 text code → (length text ≡ 0 → ⊥) → IsSome (last code)
 has_last pool text [] h some = absurd (some (ap length h))
 has_last pool text (x ∷ xs) h some = last_of_some x xs
 
-pub accepted_is_typed : (bytes : List ℕ) (c : Class) → IsAccepted Second bytes → IsClassOf Second bytes c → (j : ℕ) (w : MethodView) (m : Method) → IsMember c j w m → IsWellTyped c.view m
+pub accepted_is_typed : (bytes : List ℕ) (c : Class) → IsAccepted Third bytes → IsClassOf Third bytes c → (j : ℕ) (w : MethodView) (m : Method) → IsMember c j w m → IsWellTyped c.view m
 accepted_is_typed bytes c ok of j w m member = subst (λ v. IsWellTyped v m) (sym of.class.view) (typed (failure_of view m) refl)
   where
     view : ClassView
@@ -47,13 +47,13 @@ accepted_is_typed bytes c ok of j w m member = subst (λ v. IsWellTyped v m) (sy
     shape : HasShape of.pool of.parts
     shape = record { none_stands = λ x s. ok x (by_shape of.pool of.parts of.file s) }
 
-    instructions : HasInstructions Second of.pool of.parts
+    instructions : HasInstructions Third of.pool of.parts
     instructions = record { none_stands = λ x s. ok x (by_instructions of.pool of.parts of.file shape s) }
 
     -- No refusal of the types applies to this method.
     none_stands : (r : Refusal) → BodyStands view m.environment m.code file.is.tables r → ⊥
     none_stands r s =
-        let stands : TypesStand Second of.pool of.parts r = any_from (λ y. IsFalse (is_constructor of.pool y) × ((x : Environment) × (code : List Placed) × (tables : List (List ℕ)) × IsBody Second of.pool of.parts y x code tables × BodyStands view x code tables r)) of.parts.methods file.number file.item file.there (file.other, (m.environment, m.code, file.is.tables, file.is.body, s)) in
+        let stands : TypesStand Third of.pool of.parts r = any_from (λ y. IsFalse (is_constructor of.pool y) × ((x : Environment) × (code : List Placed) × (tables : List (List ℕ)) × IsBody Third of.pool of.parts y x code tables × BodyStands view x code tables r)) of.parts.methods file.number file.item file.there (file.other, (m.environment, m.code, file.is.tables, file.is.body, s)) in
         ok r (by_types of.pool of.parts of.file shape instructions stands)
 
     ready : IsReady m

@@ -2,8 +2,8 @@
 use Rattle.std.specs.Prelude.{◌≡◌, ℕ, List}
 use Rattle.typecheck.specs.Typing.{Class}
 use Rattle.verdict.specs.Verdict.{IsClassOf}
-use Rattle.jtypes.specs.Profile.{Second}
+use Rattle.jtypes.specs.Profile.{Profile}
 
 -- The same bytes define at most one class.
 abbrev pub EachClassIsOne : Type 0
-EachClassIsOne = (bytes : List ℕ) (c other : Class) → IsClassOf Second bytes c → IsClassOf Second bytes other → c ≡ other
+EachClassIsOne = (profile : Profile) (bytes : List ℕ) (c other : Class) → IsClassOf profile bytes c → IsClassOf profile bytes other → c ≡ other

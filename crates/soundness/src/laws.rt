@@ -17,7 +17,7 @@ ghost use Rattle.soundness.specs.Premises.{IsCheckedButForInstance, IsCheckedBut
 ghost use Rattle.soundness.specs.Profiles.{AcceptedIsKept, BoundsAreKept, ClassGoesOn, ClassIsKept, MeaningIsKept};
 ghost use Rattle.soundness.specs.Room.{IsCheckedButForRoom};
 ghost use Rattle.soundness.specs.Tables.{EachTableIsOne};
-ghost use Rattle.jtypes.specs.Profile.{Second};
+ghost use Rattle.jtypes.specs.Profile.{Third};
 
 /// Type soundness with bounds.
 /// Let the bytes of a class be accepted, and take the bounds of the paths of its method `process`.
@@ -68,8 +68,8 @@ pub fn example_is_checked()
 /// The bytes of a small class whose `process` loads the entry and returns it satisfy the premises.
 /// They are accepted and define the class, its bounds are the cost of its only path, and it is safe within them.
 pub fn example_is_accepted()
-    ensures accepted { IsAccepted Second small_bytes }
-    ensures class { IsClassOf Second small_bytes small_class }
+    ensures accepted { IsAccepted Third small_bytes }
+    ensures class { IsClassOf Third small_bytes small_class }
     ensures process { IsProcessOf small_class 1 }
     ensures bounds { AreBounds small_class 1 limits }
     ensures safe { IsSafe small_class limits }
@@ -152,10 +152,10 @@ pub fn some_are_never_safe()
     ensures count { SomeIsNeverSafe IsCheckedButForCount }
 {}
 
-/// The second profile is compatible with the first one.
-/// A class that the first profile accepts is accepted by the second one.
-/// It is the same class with the same bounds, within the first profile's limit of steps, and each invocation has the same meaning.
-pub fn first_profile_is_kept()
+/// Each profile is compatible with the one before it.
+/// A class that a profile accepts is accepted by the one after it.
+/// It is the same class with the same bounds, within the earlier profile's limit of steps, and each invocation has the same meaning.
+pub fn profiles_are_kept()
     ensures accepted { AcceptedIsKept }
     ensures goes_on { ClassGoesOn }
     ensures class { ClassIsKept }

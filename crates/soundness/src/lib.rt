@@ -5,7 +5,7 @@ mod laws;
 
 pub use laws::{
     accepted_has_bounds, accepted_is_checked, accepted_is_ordered, example_is_accepted,
-    example_is_checked, first_profile_is_kept, one_class, one_table, other_premises_are_needed,
-    premises_are_needed, ranks_or_recursion, room_is_not_needed, signatures_have_no_top,
+    example_is_checked, one_class, one_table, other_premises_are_needed, premises_are_needed,
+    profiles_are_kept, ranks_or_recursion, room_is_not_needed, signatures_have_no_top,
     some_are_never_safe, starts_and_counts, type_soundness,
 };

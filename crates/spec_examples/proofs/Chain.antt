@@ -5,7 +5,7 @@ use Rattle.std.proofs.lemmas.Bool.{cases_lt}
 use Rattle.jtypes.specs.declared.operations.Invoke.TheVariants as invoke
 use Rattle.jtypes.specs.declared.refusal.Refusal.{Refusal}
 use Rattle.jtypes.specs.declared.refusal.Refusal.TheVariants.{Recursive, StepLimit, WordLimit, FrameLimit}
-use Rattle.jtypes.specs.Profile.{First, Second}
+use Rattle.jtypes.specs.Profile.{First, Third}
 use Rattle.constpool.specs.Descriptor.{sig_of, read_params, read_type}
 use Rattle.constpool.specs.Lookup.{utf8_at, class_at, pair_at, member_of, method_at}
 use Rattle.decode.specs.declared.instruction.Instruction.TheVariants as instruction
@@ -243,13 +243,13 @@ few measure limit most j is (k, path, more) =
     let within = are_bounds.none_exceeds k (subst (λ i. Path chain i 0 k) one path) in
     omega (arith, most k within, more)
 
-within_limits : (j : ℕ) (r : Refusal) → IsProcessOf chain j → BoundStands Second chain j r → ⊥
-within_limits j StepLimit is h = few (λ k. k.steps) (step_limit Second) (λ k w. omega (arith, w.steps)) j is h
+within_limits : (j : ℕ) (r : Refusal) → IsProcessOf chain j → BoundStands Third chain j r → ⊥
+within_limits j StepLimit is h = few (λ k. k.steps) (step_limit Third) (λ k w. omega (arith, w.steps)) j is h
 within_limits j WordLimit is h = few (λ k. k.words) word_limit (λ k w. omega (arith, w.words)) j is h
 within_limits j FrameLimit is (inl h) = few (λ k. k.slots) slot_limit (λ k w. omega (arith, w.slots)) j is h
 within_limits j FrameLimit is (inr h) = few (λ k. k.depth) depth_limit (λ k w. omega (arith, w.depth)) j is h
 within_limits j r is h = h
 
-pub allows : (r : Refusal) → ClassStands Second chain r → ⊥
+pub allows : (r : Refusal) → ClassStands Third chain r → ⊥
 allows Recursive h = not_recursive h
 allows r (calm, (j, is, h)) = within_limits j r is h

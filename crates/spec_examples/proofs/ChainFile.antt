@@ -1,7 +1,7 @@
 -- The chain class is the class of its bytes.
 use Rattle.std.proofs.Common.{◌≡◌, ℕ, zero, suc, ◌+◌, ◌<◌, List, [], ◌∷◌, length, Ok, refl, arith}
 use Rattle.std.specs.List.{AllZip}
-use Rattle.jtypes.specs.Profile.{Profile, First, Second}
+use Rattle.jtypes.specs.Profile.{Profile, First, Second, Third}
 use Rattle.jtypes.specs.Layout.{first, number, many, operand}
 use Rattle.jtypes.specs.declared.operations.Invoke.TheVariants as invoke
 use Rattle.jtypes.specs.declared.operations.Kind.TheVariants as kind
@@ -47,26 +47,31 @@ aload_0 : (profile : Profile) → Reads profile (0x2A ∷ []) (instruction.Load 
 unfolding one by_form operands form_at operand
 aload_0 First at = refl
 aload_0 Second at = refl
+aload_0 Third at = refl
 
 invokespecial : (profile : Profile) → Reads profile (0xB7 ∷ 0 ∷ 10 ∷ []) (instruction.Invoke invoke.Special 10)
 unfolding one by_form operands form_at operand method_at class_at pair_at member_of utf8_at
 invokespecial First at = refl
 invokespecial Second at = refl
+invokespecial Third at = refl
 
 pub returns : (profile : Profile) → Reads profile (0xB1 ∷ []) instruction.ReturnVoid
 unfolding one by_form operands form_at operand
 returns First at = refl
 returns Second at = refl
+returns Third at = refl
 
 pub aconst_null : (profile : Profile) → Reads profile (0x01 ∷ []) (instruction.Push pushed.Null)
 unfolding one by_form operands form_at operand
 aconst_null First at = refl
 aconst_null Second at = refl
+aconst_null Third at = refl
 
 pub areturn : (profile : Profile) → Reads profile (0xB0 ∷ []) (instruction.Return kind.Reference)
 unfolding one by_form operands form_at operand
 areturn First at = refl
 areturn Second at = refl
+areturn Third at = refl
 
 -- The bytes of a call are decoded as the call of method `k` of the chain.
 abbrev ReadsCall : Profile → ℕ → Type 0
@@ -80,9 +85,14 @@ second_calls : Below (ReadsCall Second) 19
 unfolding one by_form operands form_at operand method_at class_at pair_at member_of utf8_at
 second_calls = (((((((((((((((((((tt, λ at. refl), λ at. refl), λ at. refl), λ at. refl), λ at. refl), λ at. refl), λ at. refl), λ at. refl), λ at. refl), λ at. refl), λ at. refl), λ at. refl), λ at. refl), λ at. refl), λ at. refl), λ at. refl), λ at. refl), λ at. refl), λ at. refl)
 
+third_calls : Below (ReadsCall Third) 19
+unfolding one by_form operands form_at operand method_at class_at pair_at member_of utf8_at
+third_calls = (((((((((((((((((((tt, λ at. refl), λ at. refl), λ at. refl), λ at. refl), λ at. refl), λ at. refl), λ at. refl), λ at. refl), λ at. refl), λ at. refl), λ at. refl), λ at. refl), λ at. refl), λ at. refl), λ at. refl), λ at. refl), λ at. refl), λ at. refl), λ at. refl)
+
 invokestatic : (profile : Profile) (k : ℕ) → k < 19 → ReadsCall profile k
 invokestatic First k l = below_at (ReadsCall First) 19 k first_calls l
 invokestatic Second k l = below_at (ReadsCall Second) 19 k second_calls l
+invokestatic Third k l = below_at (ReadsCall Third) 19 k third_calls l
 
 constructor_sequence : (profile : Profile) → IsSequence profile chain_pool 0 (0x2A ∷ 0xB7 ∷ 0 ∷ 10 ∷ 0xB1 ∷ []) constructor_code
 constructor_sequence profile = (

@@ -9,7 +9,7 @@ use Rattle.jtypes.specs.declared.operations.ArrayKind.{ArrayKind}
 use Rattle.jtypes.specs.declared.operations.Invoke.TheVariants as invoke
 use Rattle.jtypes.specs.declared.operations.Kind.TheVariants as kind
 use Rattle.jtypes.specs.declared.operations.Pushed.TheVariants as pushed
-use Rattle.jtypes.specs.Profile.{Profile, First, Second}
+use Rattle.jtypes.specs.Profile.{Profile, First, Second, Third}
 use Rattle.jtypes.specs.Layout.{first, operand, Stands}
 use Rattle.jtypes.proofs.Laws.{first_found, first_stands, laid_out_once}
 use Rattle.constpool.specs.Descriptor.{sig_of, read_params, read_type}
@@ -21,7 +21,7 @@ use Rattle.decode.specs.declared.instruction.Placed.{Placed}
 use Rattle.decode.specs.Code.{IsSequence, one, by_form, operands}
 use Rattle.decode.specs.Places.{falls_through, BranchStands, CodeStands, HasBadTarget, HasBackwardTarget}
 use Rattle.decode.specs.Table.{form_at}
-use Rattle.decode.proofs.Profiles.{first_goes_on}
+use Rattle.decode.proofs.Profiles.{goes_on}
 use Rattle.decode.proofs.Runs.{sequence_once}
 use Rattle.decode.proofs.Targets.{no_target}
 use Rattle.frames.specs.Members.{library_rows, callee_at}
@@ -46,7 +46,6 @@ use Rattle.spec_examples.specs.Chain.{chain, chain_pool, chain_parts, process, p
 use Rattle.spec_examples.proofs.Chain.{Below, below_at}
 use Rattle.spec_examples.proofs.ChainFile.{process_body, link_body, end_body, returns, areturn}
 use Rattle.spec_examples.proofs.ChainShape.{parts_with, good_process, good_link, good_end}
-use Rattle.spec_examples.proofs.FirstAccepts.{body_goes_on}
 
 -- ---- a method without refusals
 
@@ -97,13 +96,21 @@ no_stop profile r (p ∷ ps) at bytes (rest, h, run) (q ∷ qs) front back a (pl
     let there : at + length front ≡ (at + length f) + length g = omega (arith, lx) in
     no_stop profile r ps (at + length f) rest (subst (λ (z : ℕ). ReadsAll profile z rest ps) here run) qs g back (sym one_way.1) s n (subst (λ (z : ℕ). Stands (one profile chain_pool z) back r) there k)
 
-second_sequence : (profile : Profile) (text : List ℕ) (ps : List Placed) → IsSequence profile chain_pool 0 text ps → IsSequence Second chain_pool 0 text ps
-second_sequence First text ps s = first_goes_on chain_pool 0 text ps s
-second_sequence Second text ps s = s
+third_sequence : (profile : Profile) (text : List ℕ) (ps : List Placed) → IsSequence profile chain_pool 0 text ps → IsSequence Third chain_pool 0 text ps
+third_sequence First text ps s = goes_on Second Third tt chain_pool 0 text ps (goes_on First Second tt chain_pool 0 text ps s)
+third_sequence Second text ps s = goes_on Second Third tt chain_pool 0 text ps s
+third_sequence Third text ps s = s
 
-second_body : (profile : Profile) (m : Member) (e : Environment) (code : List Placed) (tables : List (List ℕ)) → IsBody profile chain_pool chain_parts m e code tables → IsBody Second chain_pool chain_parts m e code tables
-second_body First m e code tables b = body_goes_on chain_pool chain_parts m e code tables b
-second_body Second m e code tables b = b
+third_body : (profile : Profile) (m : Member) (e : Environment) (code : List Placed) (tables : List (List ℕ)) → IsBody profile chain_pool chain_parts m e code tables → IsBody Third chain_pool chain_parts m e code tables
+third_body profile m e code tables b = record {
+  parts = b.parts;
+  has_code = b.has_code;
+  signature = b.signature;
+  max_stack = b.max_stack;
+  max_locals = b.max_locals;
+  sequence = third_sequence profile b.parts.code code b.sequence;
+  tables_are = b.tables_are;
+}
 
 no_branch : (code : List Placed) → Each IsStraight code → (r : Refusal) → BranchStands code r → ⊥
 no_branch code s BadTarget h =
@@ -122,7 +129,7 @@ whole m s over (after_end q p e ends some none) =
 
 module _ (profile : Profile) (m : Member) (f : IsFine profile m) where
   same_code : (code : List Placed) → IsSequence profile chain_pool 0 f.parts.code code → code ≡ f.code
-  same_code code s = sequence_once chain_pool 0 f.parts.code f.parts.code code f.code refl (second_sequence profile f.parts.code code s) (second_sequence profile f.parts.code f.code sequence)
+  same_code code s = sequence_once Third chain_pool 0 f.parts.code f.parts.code code f.code refl (third_sequence profile f.parts.code code s) (third_sequence profile f.parts.code f.code sequence)
     where
       sequence : IsSequence profile chain_pool 0 f.parts.code f.code
       sequence = subst (λ (c : CodeParts). IsSequence profile chain_pool 0 c.code f.code) (code_once chain_pool m f.body.parts f.parts f.body.has_code f.has_code) f.body.sequence
@@ -173,19 +180,26 @@ second_links : Below (ReadsLink Second) 18
 unfolding one by_form operands form_at operand method_at class_at pair_at member_of utf8_at
 second_links = ((((((((((((((((((tt, λ at. (refl, refl)), λ at. (refl, refl)), λ at. (refl, refl)), λ at. (refl, refl)), λ at. (refl, refl)), λ at. (refl, refl)), λ at. (refl, refl)), λ at. (refl, refl)), λ at. (refl, refl)), λ at. (refl, refl)), λ at. (refl, refl)), λ at. (refl, refl)), λ at. (refl, refl)), λ at. (refl, refl)), λ at. (refl, refl)), λ at. (refl, refl)), λ at. (refl, refl)), λ at. (refl, refl))
 
+third_links : Below (ReadsLink Third) 18
+unfolding one by_form operands form_at operand method_at class_at pair_at member_of utf8_at
+third_links = ((((((((((((((((((tt, λ at. (refl, refl)), λ at. (refl, refl)), λ at. (refl, refl)), λ at. (refl, refl)), λ at. (refl, refl)), λ at. (refl, refl)), λ at. (refl, refl)), λ at. (refl, refl)), λ at. (refl, refl)), λ at. (refl, refl)), λ at. (refl, refl)), λ at. (refl, refl)), λ at. (refl, refl)), λ at. (refl, refl)), λ at. (refl, refl)), λ at. (refl, refl)), λ at. (refl, refl)), λ at. (refl, refl))
+
 reads_link : (profile : Profile) (k : ℕ) → k < 18 → ReadsLink profile k
 reads_link First k l = below_at (ReadsLink First) 18 k first_links l
 reads_link Second k l = below_at (ReadsLink Second) 18 k second_links l
+reads_link Third k l = below_at (ReadsLink Third) 18 k third_links l
 
 reads_process : (profile : Profile) → first (one profile chain_pool 0) process_code ≡ Ok (instruction.Invoke invoke.Static (reference_of 0), 0x01 ∷ 0xB0 ∷ [])
 unfolding one by_form operands form_at operand method_at class_at pair_at member_of utf8_at
 reads_process First = refl
 reads_process Second = refl
+reads_process Third = refl
 
 reads_null : (profile : Profile) → first (one profile chain_pool 3) (0x01 ∷ 0xB0 ∷ []) ≡ Ok (instruction.Push pushed.Null, 0xB0 ∷ [])
 unfolding one by_form operands form_at operand
 reads_null First = refl
 reads_null Second = refl
+reads_null Third = refl
 
 abbrev Knows : ℕ → Type 0
 Knows k = is_known chain.view (instruction.Invoke invoke.Static (reference_of k)) ≡ true
@@ -302,7 +316,7 @@ has_types profile = record { none_stands = none }
         × ((e : Environment) × (code : List Placed) × (tables : List (List ℕ)) × IsBody profile chain_pool chain_parts m e code tables × BodyStands chain.view e code tables r)) chain_parts.methods h in
         let f = fine_at profile it.0 it.1 it.2 it.3.0 in
         let b = it.3.1 in
-        let once = body_once chain_pool chain_parts it.1 b.0 f.environment b.1 f.code b.2 [] (second_body profile it.1 b.0 b.1 b.2 b.3) (second_body profile it.1 f.environment f.code [] f.body) in
+        let once = body_once Third chain_pool chain_parts it.1 b.0 f.environment b.1 f.code b.2 [] (third_body profile it.1 b.0 b.1 b.2 b.3) (third_body profile it.1 f.environment f.code [] f.body) in
         no_type profile it.1 f r
         (subst (λ ts. BodyStands chain.view f.environment f.code ts r) once.tables
         (subst (λ ps. BodyStands chain.view f.environment ps b.2 r) once.code

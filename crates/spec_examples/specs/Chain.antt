@@ -4,7 +4,7 @@ use Rattle.jtypes.specs.declared.refusal.Refusal.TheVariants.{StepLimit}
 use Rattle.jtypes.specs.declared.operations.Kind.TheVariants as kind
 use Rattle.jtypes.specs.declared.operations.Invoke.TheVariants as invoke
 use Rattle.jtypes.specs.declared.operations.Pushed.TheVariants as pushed
-use Rattle.jtypes.specs.Profile.{Profile, First, Second}
+use Rattle.jtypes.specs.Profile.{Profile, First, Third}
 use Rattle.constpool.specs.declared.constant.Constant.TheVariants.{Utf8, Integer, Long, Class, NameAndType, Methodref, InterfaceMethodref}
 use Rattle.constpool.specs.Lookup.{Slot}
 use Rattle.constpool.specs.Names.{object_name, entry_processor_name, mutable_entry_name, long_name, init_name, code_name, stack_map_name, process_name, process_descriptor}
@@ -155,4 +155,4 @@ RefusesChain = IsRefused First chain_bytes StepLimit
 
 -- The second profile, whose limit is higher, accepts it.
 abbrev pub AcceptsChain : Type 0
-AcceptsChain = IsAccepted Second chain_bytes
+AcceptsChain = IsAccepted Third chain_bytes

@@ -29,9 +29,10 @@ use Rattle.transfer.specs.Transfer.{transfer}
 use Rattle.typecheck.specs.Typing.{Method, Class, call_of, number_of_process}
 use Rattle.bounds.specs.Paths.{Cost, last_cost, after_one, after_call, words_at, step_limit, word_limit, slot_limit, depth_limit}
 use Rattle.verdict.specs.Shape.{reserved_names, has_other_kind, is_constructor, slots_taken, object_init}
+use Rattle.verdict.specs.Known.{knows_signature, knows_named, knows_frame}
 use Rattle.verdict.specs.Verdict.{is_known}
 use Rattle.spec_examples.specs.Plain.{placed, all_read, environment_of, the_method, class_in}
-use Rattle.jtypes.specs.Profile.{Profile, Second}
+use Rattle.jtypes.specs.Profile.{Profile, Third}
 
 -- ---- layouts
 
@@ -115,15 +116,16 @@ has_bad_code pool m = nat_lt 1 (length (codes_of pool m)) || any (λ x. is_bad_c
 abbrev pub has_exceptions : List Slot → Member → Bool
 has_exceptions pool m = any (λ x. holds (λ c. nat_lt 0 c.exceptions) (parts_of_code x)) (codes_of pool m)
 
-abbrev pub has_bad_descriptor : ClassView → MethodView → Bool
-has_bad_descriptor v m = is_none (method_signature v m) || holds (λ s. nat_lt 255 (slots_taken m.flags s)) (sig_of m.descriptor)
+abbrev pub has_bad_descriptor : Profile → ClassView → MethodView → Bool
+has_bad_descriptor profile v m =
+    is_none (method_signature v m) || holds (λ s. not (knows_signature profile s)) (method_signature v m) || holds (λ s. nat_lt 255 (slots_taken m.flags s)) (sig_of m.descriptor)
 
 abbrev pub has_no_body : List Slot → Member → Bool
 has_no_body pool m = is_abstract m.flags || is_native m.flags || length (codes_of pool m) == 0
 
-unfoldable pub shape_refusals : List Slot → Parts → List ℕ
-shape_refusals pool p =
-    flag 7 (any (has_bad_descriptor (view_of pool p)) (view_of pool p).methods)
+unfoldable pub shape_refusals : Profile → List Slot → Parts → List ℕ
+shape_refusals profile pool p =
+    flag 7 (any (has_bad_descriptor profile (view_of pool p)) (view_of pool p).methods)
     ++ flag 8 (has_bad_header pool p)
     ++ flag 9 (not (holds (has_init_form pool) (only (filter (is_constructor pool) p.methods))))
     ++ flag 10 (any (λ m. same_bytes (text_at pool m.name) clinit_name) p.methods)
@@ -158,12 +160,15 @@ is_bad_target code (negsuc n) = true
 abbrev pub targets_of : Instruction → List ℤ
 targets_of i = list_from (target_of i) (λ t. t ∷ []) ++ cases_of i
 
-abbrev pub code_refusals : ClassView → Result (List Placed) Refusal → List ℕ
-code_refusals v (Err r) = number r ∷ []
-code_refusals v (Ok code) =
+abbrev pub names_known : Profile → ClassView → Instruction → Bool
+names_known profile v i = is_known v i && knows_named profile v i
+
+abbrev pub code_refusals : Profile → ClassView → Result (List Placed) Refusal → List ℕ
+code_refusals profile v (Err r) = number r ∷ []
+code_refusals profile v (Ok code) =
     flag 19 (any (λ p. any (is_bad_target code) (targets_of p.instruction)) code)
     ++ flag 20 (any (λ p. any (λ t. int_le t (pos p.place)) (targets_of p.instruction)) code)
-    ++ flag 24 (any (λ p. not (is_known v p.instruction)) code)
+    ++ flag 24 (any (λ p. not (names_known profile v p.instruction)) code)
 
 abbrev pub method_code : List Slot → Member → Option CodeParts
 method_code pool m = only (codes_of pool m) >>= parts_of_code
@@ -173,7 +178,7 @@ others pool p = filter (λ m. not (is_constructor pool m)) p.methods
 
 unfoldable pub instruction_refusals : Profile → List Slot → Parts → List ℕ
 instruction_refusals profile pool p =
-    flat_map (λ m. list_from (method_code pool m) (λ c. code_refusals (view_of pool p) (decoded profile (length c.code) pool 0 c.code))) (others pool p)
+    flat_map (λ m. list_from (method_code pool m) (λ c. code_refusals profile (view_of pool p) (decoded profile (length c.code) pool 0 c.code))) (others pool p)
 
 -- ---- level D
 
@@ -256,20 +261,23 @@ abbrev pub mismatch_number : Option ℕ → List ℕ
 mismatch_number None = []
 mismatch_number (Some p) = (1000 + p) ∷ []
 
-abbrev pub typed_refusals : ClassView → Environment → List Placed → Option (List (ℕ × Frame)) → List ℕ
-typed_refusals v e code None = 21 ∷ flag 26 (lacks_length code [])
-typed_refusals v e code (Some ds) =
-    (if lacks_frame (the_method e code ds) then 21 ∷ [] else mismatch_number (first_mismatch v (the_method e code ds)))
+abbrev pub declares_unknown : Profile → List (ℕ × Frame) → Bool
+declares_unknown profile ds = any (λ d. not (knows_frame profile d.1)) ds
+
+abbrev pub typed_refusals : Profile → ClassView → Environment → List Placed → Option (List (ℕ × Frame)) → List ℕ
+typed_refusals profile v e code None = 21 ∷ flag 26 (lacks_length code [])
+typed_refusals profile v e code (Some ds) =
+    (if declares_unknown profile ds || lacks_frame (the_method e code ds) then 21 ∷ [] else mismatch_number (first_mismatch v (the_method e code ds)))
     ++ flag 26 (lacks_length code ds)
 
-abbrev pub body_refusals : ClassView → Environment → List (List ℕ) → Result (List Placed) Refusal → List ℕ
-body_refusals v e tables (Err r) = []
-body_refusals v e tables (Ok code) =
-    flag 23 (holds (λ p. falls_through p.instruction) (last code)) ++ typed_refusals v e code (frames_declared v e code tables)
+abbrev pub body_refusals : Profile → ClassView → Environment → List (List ℕ) → Result (List Placed) Refusal → List ℕ
+body_refusals profile v e tables (Err r) = []
+body_refusals profile v e tables (Ok code) =
+    flag 23 (holds (λ p. falls_through p.instruction) (last code)) ++ typed_refusals profile v e code (frames_declared v e code tables)
 
 abbrev pub member_refusals : Profile → ClassView → Member → List ℕ
 member_refusals profile v m =
-    list_from (method_code v.pool m) (λ c. list_from (method_signature v (method_view v.pool m)) (λ s. body_refusals v (environment_of c s) (tables_of v.pool c) (decoded profile (length c.code) v.pool 0 c.code)))
+    list_from (method_code v.pool m) (λ c. list_from (method_signature v (method_view v.pool m)) (λ s. body_refusals profile v (environment_of c s) (tables_of v.pool c) (decoded profile (length c.code) v.pool 0 c.code)))
 
 unfoldable pub type_refusals : Profile → List Slot → Parts → List ℕ
 type_refusals profile pool p = flat_map (member_refusals profile (view_of pool p)) (others pool p)
@@ -336,13 +344,13 @@ by_class profile (Some c) = if each_has_cost c 0 c.methods then by_cost profile 
 abbrev pub by_parts : Profile → Option ((List Slot × Parts) × List ℕ) → Answered
 by_parts profile None = Refused []
 by_parts profile (Some (p, rest)) =
-    unless (shape_refusals p.0 p.1) (let i : List ℕ = instruction_refusals profile p.0 p.1 in unless i (let t : List ℕ = type_refusals profile p.0 p.1 in unless t (let c : Option Class = class_in p in by_class profile c)))
+    unless (shape_refusals profile p.0 p.1) (let i : List ℕ = instruction_refusals profile p.0 p.1 in unless i (let t : List ℕ = type_refusals profile p.0 p.1 in unless t (let c : Option Class = class_in p in by_class profile c)))
 
 unfoldable pub judge_by : Profile → List ℕ → Answered
 judge_by profile bytes = unless (standing (class_file (length bytes)) bytes) (by_parts profile (found (class_file (length bytes)) bytes))
 
 abbrev pub judge : List ℕ → Answered
-judge bytes = judge_by Second bytes
+judge bytes = judge_by Third bytes
 
 -- ---- comparison
 

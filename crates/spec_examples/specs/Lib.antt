@@ -6,6 +6,7 @@ pub mod Plain
 pub mod Opened
 pub mod Bytes
 pub mod SwitchBytes
+pub mod BooleanBytes
 pub mod ChainBytes
 pub mod Rows
 pub mod Judge

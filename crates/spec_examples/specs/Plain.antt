@@ -13,7 +13,7 @@ use Rattle.classfile.specs.declared.class_file.CodeParts.{CodeParts}
 use Rattle.classfile.specs.Code.{parts_of_code}
 use Rattle.classfile.specs.Class.{class_file}
 use Rattle.classfile.specs.View.{ClassView, view_of, method_view, codes_of, tables_of}
-use Rattle.jtypes.specs.Profile.{Second}
+use Rattle.jtypes.specs.Profile.{Third}
 use Rattle.decode.specs.declared.instruction.Instruction.{Instruction}
 use Rattle.decode.specs.declared.instruction.Placed.{Placed}
 use Rattle.decode.specs.Code.{one}
@@ -43,7 +43,7 @@ unfoldable pub decode_all : ℕ → List Slot → ℕ → List ℕ → Option (L
 decode_all most pool at [] = Some []
 decode_all zero pool at (b ∷ bytes) = None
 decode_all (suc most) pool at (b ∷ bytes) =
-    item_of at (length (b ∷ bytes)) (first (one Second pool at) (b ∷ bytes)) >>= λ p. option_map (λ ps. p.0 ∷ ps) (decode_all most pool p.0.next p.1)
+    item_of at (length (b ∷ bytes)) (first (one Third pool at) (b ∷ bytes)) >>= λ p. option_map (λ ps. p.0 ∷ ps) (decode_all most pool p.0.next p.1)
 
 -- The declared frames, from no StackMapTable or from one.
 abbrev pub frames_of : ClassView → Environment → List (List ℕ) → Option (List (ℕ × Frame))

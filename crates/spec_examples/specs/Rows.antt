@@ -11,6 +11,7 @@ use Rattle.verdict.specs.Machine.{Final}
 use Rattle.spec_examples.specs.Plain.{class_of, outcome_of, outcome_by, the_call, the_asking_call}
 use Rattle.spec_examples.specs.Opened.{opened}
 use Rattle.spec_examples.specs.SwitchBytes.{table_bytes, look_bytes, far_bytes, inc_bytes, jump_bytes}
+use Rattle.spec_examples.specs.BooleanBytes.{opposite_bytes}
 use Rattle.spec_examples.specs.Bytes.{arr_zero_bytes, bridge_bytes, counter_bytes, div_least_bytes, give_entry_bytes, loose_bytes, nest_fault_bytes, plus_bytes, ratio_bytes, rem_least_bytes, set_remove_bytes, shift64_bytes, shift_neg_bytes, unbox_bytes}
 
 -- The final state if neither `setValue` nor `remove` was called, or an exception undid their effect.
@@ -170,6 +171,24 @@ inc_1 = refl
 pub jump_1 : outcome_of 30 (class_of jump_bytes) (the_call (pos 7) None []) ≡ Some (final (Returned arg.Null) None 3 0)
 unfolding opened jump_bytes
 jump_1 = refl
+
+-- ---- with an argument and a result of type Boolean
+
+pub opposite_1 : outcome_of 30 (class_of opposite_bytes) (the_call (pos 7) (Some (pos 41)) (arg.Boolean true ∷ [])) ≡ Some (final (Returned (arg.Boolean false)) (Some (pos 41)) 9 0)
+unfolding opened opposite_bytes
+opposite_1 = refl
+
+pub opposite_2 : outcome_of 30 (class_of opposite_bytes) (the_call (pos 7) None (arg.Boolean false ∷ [])) ≡ Some (final (Returned (arg.Boolean true)) None 10 0)
+unfolding opened opposite_bytes
+opposite_2 = refl
+
+pub opposite_3 : outcome_of 30 (class_of opposite_bytes) (the_call (pos 7) None (arg.Integer (pos 1) ∷ [])) ≡ Some (final (Threw fault.ClassCast) None 4 0)
+unfolding opened opposite_bytes
+opposite_3 = refl
+
+pub opposite_4 : outcome_of 30 (class_of opposite_bytes) (the_call (pos 7) None (arg.Null ∷ [])) ≡ Some (final (Threw fault.NullPointer) None 5 0)
+unfolding opened opposite_bytes
+opposite_4 = refl
 
 -- ---- with a loader, on absent keys
 

@@ -1,9 +1,10 @@
 -- The verdicts of small classes, with their bounds.
 use Rattle.std.specs.Prelude.{◌≡◌, refl, [], ◌∷◌}
-use Rattle.jtypes.specs.Profile.{First}
+use Rattle.jtypes.specs.Profile.{First, Second}
 use Rattle.spec_examples.specs.Judge.{judge, judge_by, Accepted, Refused}
 use Rattle.spec_examples.specs.Opened.{opened}
 use Rattle.spec_examples.specs.SwitchBytes.{table_bytes, look_bytes, far_bytes, inc_bytes, jump_bytes}
+use Rattle.spec_examples.specs.BooleanBytes.{opposite_bytes, flag_bytes}
 use Rattle.spec_examples.specs.Bytes.{plus_bytes, counter_bytes, nest_fault_bytes, unbox_bytes, set_remove_bytes, div_least_bytes, rem_least_bytes, shift64_bytes, shift_neg_bytes, bridge_bytes, loose_bytes, arr_zero_bytes, ratio_bytes, give_entry_bytes}
 
 pub plus_verdict : judge plus_bytes ≡ Accepted 14 0 9 1
@@ -113,6 +114,24 @@ inc_by_first = refl
 pub jump_by_first : judge_by First jump_bytes ≡ Refused (17 ∷ [])
 unfolding opened jump_bytes
 jump_by_first = refl
+
+-- ---- with the type that the third profile adds
+
+pub opposite_verdict : judge opposite_bytes ≡ Accepted 10 0 5 1
+unfolding opened opposite_bytes
+opposite_verdict = refl
+
+pub opposite_by_second : judge_by Second opposite_bytes ≡ Refused (24 ∷ [])
+unfolding opened opposite_bytes
+opposite_by_second = refl
+
+pub flag_verdict : judge flag_bytes ≡ Accepted 5 0 6 2
+unfolding opened flag_bytes
+flag_verdict = refl
+
+pub flag_by_second : judge_by Second flag_bytes ≡ Refused (7 ∷ [])
+unfolding opened flag_bytes
+flag_by_second = refl
 
 abbrev pub judged : Unit {0}
 judged = tt

@@ -10,7 +10,7 @@ ghost use Rattle.spec_examples.specs.Plain.{class_of};
 ghost use Rattle.spec_examples.specs.Judge.{judge_by};
 ghost use Rattle.spec_examples.specs.Rows.{checked};
 ghost use Rattle.spec_examples.specs.Verdicts.{judged};
-ghost use Rattle.jtypes.specs.Profile.{Profile, Second};
+ghost use Rattle.jtypes.specs.Profile.{Profile, Third};
 
 /// Names the examples, so that a check computes them.
 pub fn all_examples()
@@ -22,7 +22,7 @@ pub fn all_examples()
 
 /// Names the verdict and the statement of soundness, so that a check elaborates them. It claims nothing about them.
 pub fn all_definitions()
-    ensures verdicts { (bytes : List ℕ) (r : Refusal) → IsRefused Second bytes r → IsRefused Second bytes r }
-    ensures classes { (bytes : List ℕ) (c : Class) → IsAccepted Second bytes → IsClassOf Second bytes c → IsClassOf Second bytes c }
+    ensures verdicts { (bytes : List ℕ) (r : Refusal) → IsRefused Third bytes r → IsRefused Third bytes r }
+    ensures classes { (bytes : List ℕ) (c : Class) → IsAccepted Third bytes → IsClassOf Third bytes c → IsClassOf Third bytes c }
     ensures soundness { AcceptedIsChecked → AcceptedIsOrdered → SoundnessOfClasses → TypeSoundness → TypeSoundness }
 {}

@@ -5,12 +5,14 @@ use rowclasses::{self as rows, class_of, process};
 use std::alloc::Global;
 use std::test::Fail;
 
-/// The kind of a null argument. The kinds of a `Long` and an `Integer` follow.
+/// The kind of a null argument. The kinds of a `Long`, an `Integer` and a `Boolean` follow.
 const NULL: u32 = 0;
 
 const LONG: u32 = 1;
 
 const INTEGER: u32 = 2;
+
+const BOOLEAN: u32 = 7;
 
 fn arg(kind: u32, value: i64) -> ArgNumbers {
     ArgNumbers {
@@ -93,6 +95,8 @@ fn arguments_are_in_order(rt: HostRuntime) -> Result<(), Fail> {
         (LONG, i64::MIN),
         (INTEGER, i64::from(i32::MIN)),
         (INTEGER, i64::from(i32::MAX)),
+        (BOOLEAN, 0),
+        (BOOLEAN, 1),
     ] {
         let args = [arg(LONG, 1), arg(kind, value)];
         assert_eq!(rt;
@@ -116,6 +120,9 @@ fn calls_that_are_not_run(rt: HostRuntime) -> Result<(), Fail> {
         arg(3, 1),
         arg(INTEGER, 1 << 31),
         arg(INTEGER, -(1 << 31) - 1),
+        arg(6, 1),
+        arg(BOOLEAN, 2),
+        arg(BOOLEAN, -1),
     ] {
         assert_eq!(rt;
             invoke(&mut engine, &on(1, 41), &[wrong, arg(LONG, 1)]),

@@ -28,6 +28,10 @@ fn statics_answer(rt: HostRuntime) {
         &[Value::Int(i32::MIN)],
     );
     assert_eq!(rt; boxed, Ok(Some(Value::Ref(RefValue::Integer(i32::MIN)))));
+    for (n, flag) in [(0, false), (1, true), (2, true), (i32::MIN, true)] {
+        let boxed = call(Native::BooleanValueOf, KEY, &mut entry, &[Value::Int(n)]);
+        assert_eq!(rt; boxed, Ok(Some(Value::Ref(RefValue::Boolean(flag)))));
+    }
     let ints = [Value::Int(i32::MIN), Value::Int(i32::MAX)];
     assert_eq!(rt;
         call(Native::MaxOfInts, KEY, &mut entry, &ints),
@@ -72,6 +76,17 @@ fn a_box_is_opened(rt: HostRuntime) {
     );
     assert_eq!(rt;
         call(Native::LongValue, KEY, &mut entry, &none),
+        Err(JavaFault::NullPointer)
+    );
+    for (flag, n) in [(false, 0), (true, 1)] {
+        let boxed = [Value::Ref(RefValue::Boolean(flag))];
+        assert_eq!(rt;
+            call(Native::BooleanValue, KEY, &mut entry, &boxed),
+            Ok(Some(Value::Int(n)))
+        );
+    }
+    assert_eq!(rt;
+        call(Native::BooleanValue, KEY, &mut entry, &none),
         Err(JavaFault::NullPointer)
     );
 }
@@ -152,6 +167,12 @@ fn a_cast_goes_by_the_class(rt: HostRuntime) -> Result<(), Fail> {
     assert!(rt; !passes_as(&arena, long, RefType::This));
     let integer = RefValue::Integer(1);
     assert!(rt; passes_as(&arena, integer, RefType::Integer));
+    let flag = RefValue::Boolean(true);
+    assert!(rt; passes_as(&arena, flag, RefType::Boolean));
+    assert!(rt; passes_as(&arena, flag, RefType::Object));
+    assert!(rt; !passes_as(&arena, flag, RefType::Number));
+    assert!(rt; !passes_as(&arena, flag, RefType::Void));
+    assert!(rt; !passes_as(&arena, integer, RefType::Boolean));
     assert!(rt; passes_as(&arena, integer, RefType::Number));
     assert!(rt; passes_as(&arena, integer, RefType::Object));
     assert!(rt; !passes_as(&arena, integer, RefType::Long));

@@ -60,7 +60,7 @@ fn values_are_written(rt: HostRuntime) {
 }
 
 /// Outcomes of an invocation, each with its reply frame.
-static OUTCOMES: [(Outcome, &[u8]); 4] = [
+static OUTCOMES: [(Outcome, &[u8]); 6] = [
     (
         Outcome::Returned(Arg::Long(42)),
         &[0, 0, 0, 11, 6, 0, 1, 0, 0, 0, 0, 0, 0, 0, 0x2A],
@@ -70,6 +70,14 @@ static OUTCOMES: [(Outcome, &[u8]); 4] = [
         &[0, 0, 0, 7, 6, 0, 2, 255, 255, 255, 254],
     ),
     (Outcome::Returned(Arg::Null), &[0, 0, 0, 3, 6, 0, 0]),
+    (
+        Outcome::Returned(Arg::Boolean(false)),
+        &[0, 0, 0, 3, 6, 0, 3],
+    ),
+    (
+        Outcome::Returned(Arg::Boolean(true)),
+        &[0, 0, 0, 3, 6, 0, 4],
+    ),
     (Outcome::Threw(JavaFault::ClassCast), &[0, 0, 0, 3, 6, 1, 4]),
 ];
 

@@ -128,6 +128,9 @@ fn invocations_are_read(rt: HostRuntime) {
     ];
     let arguments = [Arg::Null, Arg::Long(0x1_0000_0000), Arg::Integer(-2)];
     assert!(rt; is_invocation(rt.alloc(), &two, 0x0102_0304, -1, &arguments));
+    let flags = [0, 0, 0, 16, 6, 0, 0, 0, 5, 0, 0, 0, 0, 0, 0, 0, 5, 2, 3, 4];
+    let arguments = [Arg::Boolean(false), Arg::Boolean(true)];
+    assert!(rt; is_invocation(rt.alloc(), &flags, 5, 5, &arguments));
 }
 
 /// An invocation of class 0 on the keys 1, 2, 2 and 3 without arguments.
@@ -159,11 +162,11 @@ static MALFORMED: [&[u8]; 9] = [
     &[0, 0, 0, 1, 0],
     &[0, 0, 0, 2, 8, 0],
     &[0, 0, 0, 1, 7],
-    // Nine arguments, and an argument of the unknown kind 3.
+    // Nine arguments, and an argument of the unknown kind 5.
     &[
         0, 0, 0, 23, 6, 0, 0, 0, 0, 0, 0, 0, 0, 0, 0, 0, 0, 9, 0, 0, 0, 0, 0, 0, 0, 0, 0,
     ],
-    &[0, 0, 0, 15, 6, 0, 0, 0, 0, 0, 0, 0, 0, 0, 0, 0, 0, 1, 3],
+    &[0, 0, 0, 15, 6, 0, 0, 0, 0, 0, 0, 0, 0, 0, 0, 0, 0, 1, 5],
     // A key of 7 bytes, and a `Long` argument of one byte.
     &[0, 0, 0, 8, 3, 0, 0, 0, 0, 0, 0, 5],
     &[0, 0, 0, 10, 7, 0, 0, 1, 0, 0, 0, 1, 1, 0],

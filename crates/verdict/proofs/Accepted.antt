@@ -18,40 +18,41 @@ use Rattle.bounds.specs.Paths.{AreBounds, SomePathExceeds, slot_limit, depth_lim
 use Rattle.bounds.specs.Rows.{AreRowsOf, AreNotRecursive, IsAnswerFor, bounds_in}
 use Rattle.bounds.specs.Table.{LeadsOn}
 use Rattle.verdict.specs.Shaping.{HasGoodShape}
-use Rattle.verdict.specs.Verdict.{IsClassFile, IsClassOfFile, IsClassOf, InstructionsStand, TypesStand, ClassStands, by_layout, by_shape, by_instructions, by_types, by_class, IsAccepted}
+use Rattle.verdict.specs.Verdict.{IsClassFile, IsClassOfFile, IsClassOf, InstructionsStand, TypesStand, ClassStands, by_layout, by_shape, by_instructions, by_types, by_class, by_names, IsAccepted}
 use Rattle.verdict.specs.Checked.{members}
 use Rattle.verdict.specs.Judged.{IsJudgedAs}
 use Rattle.verdict.specs.Judging.{AreTyped, AreFound}
 use Rattle.verdict.specs.declared.instructions.Found.{Found}
 use Rattle.verdict.proofs.RowsOfClass.{are_rows}
+use Rattle.verdict.proofs.Known.{none_beyond}
 use Rattle.verdict.proofs.Shapes.{none_of_file, the_file}
 use Rattle.verdict.proofs.Verdicts.{types_stand, instructions_stand, class_not_recursive, class_leads_on, class_judged, class_exists}
-use Rattle.jtypes.specs.Profile.{Second}
+use Rattle.jtypes.specs.Profile.{Third}
 
 module _ (bytes : List ℕ) (pool : List Slot) (p : Parts) (n : ℕ) (codes : List CodeParts) (shape : HasGoodShape pool p codes n) (items : List Found) (are_found : AreFound (view_of pool p) codes n (length codes) items) (rows : List Typed)
     (are : AreTyped pool p n (length codes) rows) (laid : IsLaidOut (class_file (length bytes)) bytes (pool, p)) (fine : (r : Refusal) → Stands (class_file (length bytes)) bytes r → ⊥) where
-  of_file : (other : List Slot) (q : Parts) (c : Class) → IsClassFile bytes other q → IsClassOfFile Second other q c → IsClassOfFile Second pool p c
+  of_file : (other : List Slot) (q : Parts) (c : Class) → IsClassFile bytes other q → IsClassOfFile Third other q c → IsClassOfFile Third pool p c
   of_file other q c file class =
       let same = the_file bytes pool other p q laid file in
-      subst (λ (x : List Slot). IsClassOfFile Second x p c) (sym same.0) (subst (λ (x : Parts). IsClassOfFile Second other x c) (sym same.1) class)
+      subst (λ (x : List Slot). IsClassOfFile Third x p c) (sym same.0) (subst (λ (x : Parts). IsClassOfFile Third other x c) (sym same.1) class)
 
-  pub is_judged_as : (b : declared.Bounds) (c : Class) → IsClassOf Second bytes c → IsJudgedAs c (record { pool = pool; parts = p; methods = rows; bounds = b })
+  pub is_judged_as : (b : declared.Bounds) (c : Class) → IsClassOf Third bytes c → IsJudgedAs c (record { pool = pool; parts = p; methods = rows; bounds = b })
   is_judged_as b c of = class_judged pool p n codes shape rows are c (of_file of.pool of.parts c of.file of.class) b
 
-  pub has_class : (c : Class) × IsClassOf Second bytes c
+  pub has_class : (c : Class) × IsClassOf Third bytes c
   has_class =
       let c = class_exists pool p n codes shape rows are in
       (c.0, record { pool = pool; parts = p; file = record { laid_out = laid; none_stands = fine }; class = c.1 })
 
   module _ (b : declared.Bounds) (none : AreNotRecursive rows) (answer : (c : Class) (set : ℕ → Bool) → LeadsOn c set → AreRowsOf c set rows → IsAnswerFor c (Ok b)) where
-    bounds_of_file : (c : Class) → IsClassOfFile Second pool p c → (j : ℕ) → IsProcessOf c j → AreBounds c j (bounds_in b)
+    bounds_of_file : (c : Class) → IsClassOfFile Third pool p c → (j : ℕ) → IsProcessOf c j → AreBounds c j (bounds_in b)
     bounds_of_file c class = answer c (members c) (class_leads_on pool p n codes shape rows are c class (instructions_stand pool p n codes shape items are_found) none) (are_rows pool p n codes shape rows are c class)
 
-    pub has_bounds : (c : Class) (j : ℕ) → IsClassOf Second bytes c → IsProcessOf c j → AreBounds c j (bounds_in b)
+    pub has_bounds : (c : Class) (j : ℕ) → IsClassOf Third bytes c → IsProcessOf c j → AreBounds c j (bounds_in b)
     has_bounds c j of is = bounds_of_file c (of_file of.pool of.parts c of.file of.class) j is
 
-    module _ (within : IsWithinLimits Second b) (lengths : HaveLengths rows) where
-      class_stands : (c : Class) → IsClassOfFile Second pool p c → (r : Refusal) → ClassStands Second c r → ⊥
+    module _ (within : IsWithinLimits Third b) (lengths : HaveLengths rows) where
+      class_stands : (c : Class) → IsClassOfFile Third pool p c → (r : Refusal) → ClassStands Third c r → ⊥
       class_stands c class Recursive h = class_not_recursive pool p n codes shape rows are c class none h
       class_stands c class StepLimit h =
           let path = h.1.2 in
@@ -80,13 +81,14 @@ module _ (bytes : List ℕ) (pool : List Slot) (p : Parts) (n : ℕ) (codes : Li
               omega (arith, most, least, limit)
       class_stands c class r h = h.1.2
 
-      pub is_accepted : IsAccepted Second bytes
+      pub is_accepted : IsAccepted Third bytes
       is_accepted r (by_layout s) = fine r s
       is_accepted r (by_shape other q file s) = none_of_file bytes pool p codes n laid shape other q r file s
       is_accepted r (by_instructions other q file good s) =
           let same = the_file bytes pool other p q laid file in
-          instructions_stand pool p n codes shape items are_found r (subst (λ (x : List Slot). InstructionsStand Second x p r) (sym same.0) (subst (λ (x : Parts). InstructionsStand Second other x r) (sym same.1) s))
+          instructions_stand pool p n codes shape items are_found r (subst (λ (x : List Slot). InstructionsStand Third x p r) (sym same.0) (subst (λ (x : Parts). InstructionsStand Third other x r) (sym same.1) s))
       is_accepted r (by_types other q file good ok s) =
           let same = the_file bytes pool other p q laid file in
-          types_stand pool p n codes shape rows are lengths r (subst (λ (x : List Slot). TypesStand Second x p r) (sym same.0) (subst (λ (x : Parts). TypesStand Second other x r) (sym same.1) s))
+          types_stand pool p n codes shape rows are lengths r (subst (λ (x : List Slot). TypesStand Third x p r) (sym same.0) (subst (λ (x : Parts). TypesStand Third other x r) (sym same.1) s))
       is_accepted r (by_class other q c file good ok typed class s) = class_stands c (of_file other q c file class) r s
+      is_accepted r (by_names other q file _ s) = none_beyond other q r s

@@ -12,17 +12,19 @@ use Rattle.decode.specs.declared.instruction.Placed.{Placed}
 use Rattle.decode.specs.Code.{one, by_form, operands, IsSequence}
 use Rattle.decode.specs.Table.{form_at}
 use Rattle.verdict.specs.Shape.{object_init}
-use Rattle.jtypes.specs.Profile.{Profile, First, Second}
+use Rattle.jtypes.specs.Profile.{Profile, First, Second, Third}
 
 load_laid_out : (p : Profile) (pool : List Slot) → IsLaidOut (one p pool 0) (0x2A ∷ []) (instruction.Load kind.Reference 0)
 unfolding one operand by_form operands form_at
 load_laid_out First pool = (0x2A, 0x2A ∷ [], [], refl, (0x2A ∷ [], 0x2A ∷ [], [], refl, (refl, refl), (refl, refl)), (refl, refl))
 load_laid_out Second pool = (0x2A, 0x2A ∷ [], [], refl, (0x2A ∷ [], 0x2A ∷ [], [], refl, (refl, refl), (refl, refl)), (refl, refl))
+load_laid_out Third pool = (0x2A, 0x2A ∷ [], [], refl, (0x2A ∷ [], 0x2A ∷ [], [], refl, (refl, refl), (refl, refl)), (refl, refl))
 
 return_laid_out : (p : Profile) (pool : List Slot) → IsLaidOut (one p pool 4) (0xB1 ∷ []) instruction.ReturnVoid
 unfolding one operand by_form operands form_at
 return_laid_out First pool = (0xB1, 0xB1 ∷ [], [], refl, (0xB1 ∷ [], 0xB1 ∷ [], [], refl, (refl, refl), (refl, refl)), (refl, refl))
 return_laid_out Second pool = (0xB1, 0xB1 ∷ [], [], refl, (0xB1 ∷ [], 0xB1 ∷ [], [], refl, (refl, refl), (refl, refl)), (refl, refl))
+return_laid_out Third pool = (0xB1, 0xB1 ∷ [], [], refl, (0xB1 ∷ [], 0xB1 ∷ [], [], refl, (refl, refl), (refl, refl)), (refl, refl))
 
 needed_met : (b : Bool) → b ≡ true → IsLaidOut (needed BadOperand b) [] tt
 needed_met true e = (refl, refl)
@@ -46,6 +48,21 @@ call_laid_out First pool high low e = (
   ),
 )
 call_laid_out Second pool high low e = (
+  0xB7,
+  0xB7 ∷ [],
+  high ∷ low ∷ [],
+  refl,
+  (0xB7 ∷ [], 0xB7 ∷ [], [], refl, (refl, refl), (refl, refl)),
+  (
+    big_number 2 (high ∷ low ∷ []),
+    high ∷ low ∷ [],
+    [],
+    refl,
+    (high ∷ low ∷ [], high ∷ low ∷ [], [], refl, (refl, refl), (refl, refl)),
+    (tt, [], [], refl, needed_met (is_some (method_at pool (big_number 2 (high ∷ low ∷ [])))) e, (refl, refl)),
+  ),
+)
+call_laid_out Third pool high low e = (
   0xB7,
   0xB7 ∷ [],
   high ∷ low ∷ [],

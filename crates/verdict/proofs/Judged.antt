@@ -29,16 +29,16 @@ use Rattle.verdict.specs.Judging.{IsGoodCode, IsFoundIn, HasInstructionsOf, IsTy
 use Rattle.verdict.specs.declared.instructions.Found.{Found}
 use Rattle.verdict.proofs.Methods.{any_from, zip_back}
 use Rattle.verdict.proofs.Numbered.{map_more}
-use Rattle.jtypes.specs.Profile.{Second}
+use Rattle.jtypes.specs.Profile.{Third}
 
 -- ---- instructions
 
-pub good_code : (v : ClassView) (bytes : List ℕ) (code : List Placed) → IsSequence Second v.pool 0 bytes code → ((r : Refusal) → CodeStands Second v.pool bytes r → ⊥) → ((k : ℕ) (d : Placed) → k < length code → is_known v (get_or code k d).instruction ≡ true) → IsGoodCode v bytes code
+pub good_code : (v : ClassView) (bytes : List ℕ) (code : List Placed) → IsSequence Third v.pool 0 bytes code → ((r : Refusal) → CodeStands Third v.pool bytes r → ⊥) → ((k : ℕ) (d : Placed) → k < length code → is_known v (get_or code k d).instruction ≡ true) → IsGoodCode v bytes code
 good_code v bytes code sequence none known = record { sequence = sequence; none_stands = stands }
   where
-    stands : (r : Refusal) → InstructionStands Second v bytes r → ⊥
+    stands : (r : Refusal) → InstructionStands Third v bytes r → ⊥
     stands UnknownMember h =
-        let same : h.0 ≡ code = sequence_once v.pool 0 bytes bytes h.0 code refl h.1 sequence in
+        let same : h.0 ≡ code = sequence_once Third v.pool 0 bytes bytes h.0 code refl h.1 sequence in
         let any = subst (λ (c : List Placed). Any (λ p. is_known v p.instruction ≡ false) c) same h.2 in
         false≢true (sym any.4 ∙ ap (λ (p : Placed). is_known v p.instruction) (sym any.3) ∙ known any.0 any.1 any.2)
     stands r h = none r h
@@ -72,7 +72,7 @@ has_instructions pool p n codes f parts shape found here not_it =
 
 -- `IsBody` holds of the method whose types are checked.
 pub body_judged : (pool : List Slot) (p : Parts) (number : ℕ) (parts : CodeParts) (code : List Placed) → HasInstructionsOf pool p number parts code → (m : Member) → slice_get p.methods number ≡ Some m → (e : Environment) → method_signature (view_of pool p) (method_view pool m) ≡ Some e.signature → e.max_stack ≡ parts.max_stack → e.max_locals ≡ parts.max_locals
-    → (tables : List (List ℕ)) → tables ≡ tables_of pool parts → IsBody Second pool p m e code tables
+    → (tables : List (List ℕ)) → tables ≡ tables_of pool parts → IsBody Third pool p m e code tables
 body_judged pool p number parts code h m there e signature stack locals tables are =
     let both : Some h.member ≡ Some m = sym h.there ∙ there in
     let same : h.member ≡ m = cc both in
@@ -84,7 +84,7 @@ same_view pool p number m w there viewed =
     let both : Some (method_view pool m) ≡ Some w = sym (slice_get-map (method_view pool) p.methods number ∙ ap (option_map (method_view pool)) there) ∙ sym viewed in
     cc both
 
-pub row_judged : (pool : List Slot) (p : Parts) (number : ℕ) (code : List Placed) (m : Member) → slice_get p.methods number ≡ Some m → (e : Environment) (tables : List (List ℕ)) → IsBody Second pool p m e code tables → (b : Bool) → b ≡ is_named_process pool m
+pub row_judged : (pool : List Slot) (p : Parts) (number : ℕ) (code : List Placed) (m : Member) → slice_get p.methods number ≡ Some m → (e : Environment) (tables : List (List ℕ)) → IsBody Third pool p m e code tables → (b : Bool) → b ≡ is_named_process pool m
     → (r : Result Typed Refusal) → IfOk r (λ t. (t.number ≡ number) × (t.is_process ≡ b)) → IfOk r (λ t. (t.environment ≡ e) × (t.code ≡ code))
     → IfOk r (λ _. (ds : List (ℕ × Frame)) × IsDeclared (view_of pool p) e code tables ds × IsWellTyped (view_of pool p) (record { environment = e; code = code; declared = ds })) → IfOk r (λ t. IsSome (at_place t.code 0)) → IfOk r (λ t. AreCallsOf (view_of pool p) t.code t.calls.items)
     → IfOk r (λ t. (ds : List (ℕ × Frame)) × IsDeclared (view_of pool p) e code tables ds × ArePlacesOf ds t.declared.items) → IfOk r (IsTypedRow pool p)
@@ -94,7 +94,7 @@ row_judged pool p number code m there e tables made b process (Ok t) method body
       member = m;
       there = ap (slice_get p.methods) method.0 ∙ there;
       tables = tables;
-      body = subst (λ (x : Environment). IsBody Second pool p m x t.code tables) (sym body.0) (subst (λ (c : List Placed). IsBody Second pool p m e c tables) (sym body.1) made);
+      body = subst (λ (x : Environment). IsBody Third pool p m x t.code tables) (sym body.0) (subst (λ (c : List Placed). IsBody Third pool p m e c tables) (sym body.1) made);
       process = method.1 ∙ process;
       starts = starts;
       calls = calls;

@@ -15,6 +15,7 @@ pub mod ConstructorCode
 pub mod OwnCalls
 pub mod RowsOfClass
 pub mod Verdicts
+pub mod Known
 pub mod Accepted
 pub mod RowsFound
 pub mod Refused

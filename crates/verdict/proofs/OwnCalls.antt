@@ -15,7 +15,7 @@ use Rattle.frames.specs.declared.signatures.Signature.{Signature}
 use Rattle.frames.specs.Signatures.{signature_of, class_type, method_signature}
 use Rattle.frames.specs.declared.members.Reached.TheVariants.{Library}
 use Rattle.frames.specs.declared.members.Callee.{Callee}
-use Rattle.frames.specs.Members.{LibraryRow, library_rows, row_of, library_params, library_callee, is_method, numbered, pairs_with, callee_of, own_callee, member_at, found_callee, callee_at}
+use Rattle.frames.specs.Members.{LibraryRow, library_rows, row_of, library_row, library_params, library_callee, is_method, numbered, pairs_with, callee_of, own_callee, member_at, found_callee, callee_at}
 use Rattle.typecheck.specs.Typing.{call_of, own_of, own_number, is_process, process_from}
 use Rattle.verdict.proofs.Texts.{same_is, same_refl}
 
@@ -84,8 +84,8 @@ own_call v (instruction.Invoke kind i) k e = go (callee_at v kind i) refl e
     go : (o : Option Callee) → callee_at v kind i ≡ o → own_of o ≡ Some k → Reaches v k
     go None h f = cc
     go (Some callee) h f =
-        let p = then_some_parts (λ m. found_callee v kind m (row_of library_rows kind m)) (member_at v.pool kind i) callee h in
-        by_row p.0 callee (row_of library_rows kind p.0) p.2 f
+        let p = then_some_parts (λ m. found_callee v kind m (library_row v.name kind m)) (member_at v.pool kind i) callee h in
+        by_row p.0 callee (library_row v.name kind p.0) p.2 f
 own_call v _ k e = cc
 
 -- ---- `process`

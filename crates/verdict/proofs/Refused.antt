@@ -37,7 +37,7 @@ use Rattle.verdict.proofs.OwnCalls.{own_call, none_is_process}
 use Rattle.verdict.proofs.RowsOfClass.{are_rows, calls_are, member_of_view, not_constructor, row_of_member}
 use Rattle.verdict.proofs.Verdicts.{types_stand, instructions_stand, class_not_recursive, class_leads_on, class_judged, class_exists, item_of}
 use Rattle.bounds.specs.declared.limits.Bounds as declared
-use Rattle.jtypes.specs.Profile.{Second}
+use Rattle.jtypes.specs.Profile.{Third}
 
 -- A frame is declared at each pc of the list.
 pub frame_among : (ds : List (ℕ × Frame)) (q i d : ℕ) → i < length (map (λ (d : ℕ × Frame). d.0) ds) → get_or (map (λ (d : ℕ × Frame). d.0) ds) i d ≡ q → IsSome (frame_in ds q)
@@ -71,15 +71,15 @@ module _ (bytes : List ℕ) (pool : List Slot) (p : Parts) (n : ℕ) (codes : Li
   good_shape : HasShape pool p
   good_shape = record { none_stands = shape.none_stands }
 
-  good_instructions : HasInstructions Second pool p
+  good_instructions : HasInstructions Third pool p
   good_instructions = record { none_stands = instructions_stand pool p n codes shape items are_found }
 
-  good_types : HaveLengths rows → HasTypes Second pool p
+  good_types : HaveLengths rows → HasTypes Third pool p
   good_types lengths = record { none_stands = types_stand pool p n codes shape rows are lengths }
 
   -- ---- lengths
 
-  length_stands : OneLacksLength rows → IsRefused Second bytes LengthNotConstant
+  length_stands : OneLacksLength rows → IsRefused Third bytes LengthNotConstant
   length_stands (i, row, l, same, lack) =
       let t = are.each i row l in
       let lacks : LacksLengthIn (get_or rows i row) = subst LacksLengthIn same (lack (subst (λ (x : Typed). ArePlacesRising x.declared.items) (sym same) t.places.2.rising)) in
@@ -93,7 +93,7 @@ module _ (bytes : List ℕ) (pool : List Slot) (p : Parts) (n : ℕ) (codes : Li
           let there = subst (λ (xs : List ℕ). Contains xs q) places.2.are has in
           inr (places.0, places.1, frame_among places.0 q there.0 q there.1 there.2)
 
-  module _ (c : Class) (class : IsClassOfFile Second pool p c) where
+  module _ (c : Class) (class : IsClassOfFile Third pool p c) where
     process_exists : (j : ℕ) × IsProcessOf c j
     process_exists = go (number_of_process c) refl
       where
@@ -130,7 +130,7 @@ module _ (bytes : List ℕ) (pool : List Slot) (p : Parts) (n : ℕ) (codes : Li
             let to = own_call c.view some.0.instruction k call in
             member_of_view pool p n codes shape rows are c class k to.0 to.1 to.2
 
-    class_refused : HaveLengths rows → (r : Refusal) → ClassStands Second c r → IsRefused Second bytes r
+    class_refused : HaveLengths rows → (r : Refusal) → ClassStands Third c r → IsRefused Third bytes r
     class_refused lengths r s = by_class pool p c file good_shape good_instructions (good_types lengths) class s
 
     module _ (none : AreNotRecursive rows) where
@@ -138,14 +138,14 @@ module _ (bytes : List ℕ) (pool : List Slot) (p : Parts) (n : ℕ) (codes : Li
       on = class_leads_on pool p n codes shape rows are c class (instructions_stand pool p n codes shape items are_found) none
 
       -- A reported refusal of a limit applies.
-      answered : (r : Refusal) → ((c : Class) (set : ℕ → Bool) → LeadsOn c set → AreRowsOf c set rows → IsAnswerFor c (Err r)) → IsLimit r → ClassStands Second c r
+      answered : (r : Refusal) → ((c : Class) (set : ℕ → Bool) → LeadsOn c set → AreRowsOf c set rows → IsAnswerFor c (Err r)) → IsLimit r → ClassStands Third c r
       answered StepLimit answer h = let j = process_exists in (class_not_recursive pool p n codes shape rows are c class none, (j.0, j.1, (answer c (members c) on (are_rows pool p n codes shape rows are c class) j.0 j.1).steps refl))
       answered WordLimit answer h = let j = process_exists in (class_not_recursive pool p n codes shape rows are c class none, (j.0, j.1, (answer c (members c) on (are_rows pool p n codes shape rows are c class) j.0 j.1).words refl))
       answered FrameLimit answer h = let j = process_exists in (class_not_recursive pool p n codes shape rows are c class none, (j.0, j.1, (answer c (members c) on (are_rows pool p n codes shape rows are c class) j.0 j.1).frames refl))
       answered r answer h = absurd h
 
   pub bounds_refused : (r : Refusal) → IsOfBounds r → (r ≢ LengthNotConstant → HaveLengths rows) → (IsLimit r → AreNotRecursive rows) → (r ≡ Recursive → IsCircleIn rows) → (r ≡ LengthNotConstant → OneLacksLength rows) → (r ≡ NoProcess → (i : ℕ) (d : Typed) → i < length rows → (get_or rows i d).is_process ≡ false)
-      → ((c : Class) (set : ℕ → Bool) → LeadsOn c set → AreRowsOf c set rows → IsAnswerFor c (Err r)) → (r ≡ NoMemory) ⊎ IsRefused Second bytes r
+      → ((c : Class) (set : ℕ → Bool) → LeadsOn c set → AreRowsOf c set rows → IsAnswerFor c (Err r)) → (r ≡ NoMemory) ⊎ IsRefused Third bytes r
   bounds_refused NoMemory of lengths limit circle lack process answer = inl refl
   bounds_refused LengthNotConstant of lengths limit circle lack process answer = inr (length_stands (lack refl))
   bounds_refused NoProcess of lengths limit circle lack process answer =

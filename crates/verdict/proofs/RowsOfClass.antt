@@ -37,7 +37,7 @@ use Rattle.verdict.proofs.Codes.{some_is_only, has_some}
 use Rattle.verdict.proofs.Methods.{zip_has, zip_count}
 use Rattle.verdict.proofs.Numbered.{not_the_one, each_has_one}
 use Rattle.verdict.proofs.OwnCalls.{process_found, first_process}
-use Rattle.jtypes.specs.Profile.{Second}
+use Rattle.jtypes.specs.Profile.{Third}
 
 -- ---- a method has at most one body
 
@@ -47,14 +47,14 @@ environment_of s stack locals = record { signature = s; max_stack = stack; max_l
 same_environment : (e f : Environment) → e.signature ≡ f.signature → e.max_stack ≡ f.max_stack → e.max_locals ≡ f.max_locals → e ≡ f
 same_environment e f s k l = ap (λ x. environment_of x e.max_stack e.max_locals) s ∙ ap (λ n. environment_of f.signature n e.max_locals) k ∙ ap (λ n. environment_of f.signature f.max_stack n) l
 
-pub one_body : (pool : List Slot) (p : Parts) (m : Member) (e f : Environment) (code other : List Placed) (tables others : List (List ℕ)) → IsBody Second pool p m e code tables → IsBody Second pool p m f other others → (e ≡ f) × (code ≡ other) × (tables ≡ others)
+pub one_body : (pool : List Slot) (p : Parts) (m : Member) (e f : Environment) (code other : List Placed) (tables others : List (List ℕ)) → IsBody Third pool p m e code tables → IsBody Third pool p m f other others → (e ≡ f) × (code ≡ other) × (tables ≡ others)
 one_body pool p m e f code other tables others a b =
     let parts : a.parts ≡ b.parts = some_is_only pool m b.parts a.parts b.has_code (has_some pool m a.parts a.has_code) in
     let both : Some e.signature ≡ Some f.signature = sym a.signature ∙ b.signature in
     let signature : e.signature ≡ f.signature = cc both in
     let stack : e.max_stack ≡ f.max_stack = a.max_stack ∙ ap (λ (x : CodeParts). x.max_stack) parts ∙ sym b.max_stack in
     let locals : e.max_locals ≡ f.max_locals = a.max_locals ∙ ap (λ (x : CodeParts). x.max_locals) parts ∙ sym b.max_locals in
-    (same_environment e f signature stack locals, sequence_once pool 0 a.parts.code b.parts.code code other (ap (λ (x : CodeParts). x.code) parts) a.sequence b.sequence, a.tables_are ∙ ap (tables_of pool) parts ∙ sym b.tables_are)
+    (same_environment e f signature stack locals, sequence_once Third pool 0 a.parts.code b.parts.code code other (ap (λ (x : CodeParts). x.code) parts) a.sequence b.sequence, a.tables_are ∙ ap (tables_of pool) parts ∙ sym b.tables_are)
 
 abbrev pub method_of : Environment → List Placed → List (ℕ × Frame) → Method
 method_of e code ds = record { environment = e; code = code; declared = ds }
@@ -117,10 +117,10 @@ module _ (pool : List Slot) (p : Parts) (n : ℕ) (codes : List CodeParts) (shap
       shape.none_stands DuplicateMethod
       (i, j, v, w, record { order = l; first = a; second = b; name = same_is v.name process_name x.0 ∙ sym (same_is w.name process_name y.0); descriptor = same_is v.descriptor process_descriptor x.1 ∙ sym (same_is w.descriptor process_descriptor y.1) })
 
-  module _ (c : Class) (class : IsClassOfFile Second pool p c) where
+  module _ (c : Class) (class : IsClassOfFile Third pool p c) where
     pub method_at : (row : Typed) → IsTypedRow pool p row → RowMethod c row
     method_at row t =
-        let x = zip_has (IsMethodOf Second pool p) p.methods c.methods row.number t.member class.methods t.there in
+        let x = zip_has (IsMethodOf Third pool p) p.methods c.methods row.number t.member class.methods t.there in
         let m = x.0 in
         let is = x.2 in
         let same = one_body pool p t.member m.environment row.environment m.code row.code is.tables t.tables is.body t.body in

@@ -27,17 +27,17 @@ use Rattle.verdict.specs.TypedClasses.{type_spot}
 use Rattle.verdict.proofs.Spots.{told}
 use Rattle.verdict.proofs.Codes.{has_some}
 use Rattle.verdict.proofs.Methods.{any_from}
-use Rattle.jtypes.specs.Profile.{Second}
+use Rattle.jtypes.specs.Profile.{Third}
 
 -- ---- pcs
 
 -- The pc of an instruction is less than the end of its bytes.
-place_within : (pool : List Slot) (at : ℕ) (text : List ℕ) (code : List Placed) → IsSequence Second pool at text code → (q : ℕ) (x : Placed) → at_place code q ≡ Some x → q < at + length text
+place_within : (pool : List Slot) (at : ℕ) (text : List ℕ) (code : List Placed) → IsSequence Third pool at text code → (q : ℕ) (x : Placed) → at_place code q ≡ Some x → q < at + length text
 place_within pool at text [] s q x e = cc
 place_within pool at text (p ∷ code) s q x e = go (p.place == q) refl e (place_within pool (at + length s.1) s.2 code s.6 q x)
   where
     some : 0 < length s.1
-    some = takes_one pool at s.1 p.instruction s.5
+    some = takes_one Third pool at s.1 p.instruction s.5
 
     whole : length text ≡ length s.1 + length s.2
     whole = ap length s.3 ∙ length-append s.1 s.2
@@ -56,7 +56,7 @@ itself q l = omega (arith, l)
 -- ---- members
 
 -- Nonempty code has an instruction at pc 0.
-begins : (pool : List Slot) (bytes : List ℕ) (code : List Placed) → IsSequence Second pool 0 bytes code → (code ≡ [] → ⊥) → IsSome (at_place code 0)
+begins : (pool : List Slot) (bytes : List ℕ) (code : List Placed) → IsSequence Third pool 0 bytes code → (code ≡ [] → ⊥) → IsSome (at_place code 0)
 begins pool bytes [] s some = absurd (some refl)
 begins pool bytes (p ∷ code) s some = ap (λ b. is_some (cond b (Some p) (at_place code 0))) (eq-eqb p.place 0 s.0)
 
@@ -71,7 +71,7 @@ signature_is pool p number parts code h m there w viewed None is none =
     h.shaped.none_stands BadDescriptor (inl (ap is_some (ap (method_signature (view_of pool p)) view ∙ sym is)))
 signature_is pool p number parts code h m there w viewed (Some s) is none = none s refl
 
-module _ (pool : List Slot) (p : Parts) (number : ℕ) (parts : CodeParts) (code : List Placed) (h : HasInstructionsOf pool p number parts code) (m : Member) (there : slice_get p.methods number ≡ Some m) (e : Environment) (tables : List (List ℕ)) (body : IsBody Second pool p m e code tables) where
+module _ (pool : List Slot) (p : Parts) (number : ℕ) (parts : CodeParts) (code : List Placed) (h : HasInstructionsOf pool p number parts code) (m : Member) (there : slice_get p.methods number ≡ Some m) (e : Environment) (tables : List (List ℕ)) (body : IsBody Third pool p m e code tables) where
   bad_code : HasBadCode pool h.member → ⊥
   bad_code bad = h.shaped.none_stands BadCode bad
 
@@ -92,7 +92,7 @@ module _ (pool : List Slot) (p : Parts) (number : ℕ) (parts : CodeParts) (code
 
   not_empty : code ≡ [] → ⊥
   not_empty none =
-      let nothing : parts.code ≡ [] = subst (λ (c : List Placed). IsSequence Second pool 0 parts.code c) none h.good.sequence in
+      let nothing : parts.code ≡ [] = subst (λ (c : List Placed). IsSequence Third pool 0 parts.code c) none h.good.sequence in
       bad_code (empty parts (has_some pool h.member parts h.shaped.has_code) (ap length nothing))
 
   other : is_constructor pool m ≡ false
@@ -109,11 +109,11 @@ module _ (pool : List Slot) (p : Parts) (number : ℕ) (parts : CodeParts) (code
       go (inl first) = subst (λ (n : ℕ). IsSome (at_place code n)) (sym first) (begins pool parts.code code h.good.sequence not_empty)
       go (inr x) = ap is_some x.1
 
-  located : (r : Refusal) → TypesStand Second pool p r → StandsIn Second pool p r (type_spot number r) → (l : Located) → l.refusal ≡ r → l.spot ≡ type_spot number r → IsLocated (TypesStand Second pool p) pool p l
-  located r s at l is spot = told (TypesStand Second pool p) pool p l r (type_spot number r) is spot s at
+  located : (r : Refusal) → TypesStand Third pool p r → StandsIn Third pool p r (type_spot number r) → (l : Located) → l.refusal ≡ r → l.spot ≡ type_spot number r → IsLocated (TypesStand Third pool p) pool p l
+  located r s at l is spot = told (TypesStand Third pool p) pool p l r (type_spot number r) is spot s at
 
   -- A refusal of the types of a method applies at the reported spot.
-  pub types_located : (r : Refusal) → CheckRefuses (view_of pool p) e code tables r → (l : Located) → l.refusal ≡ r → l.spot ≡ type_spot number r → IsLocated (TypesStand Second pool p) pool p l
+  pub types_located : (r : Refusal) → CheckRefuses (view_of pool p) e code tables r → (l : Located) → l.refusal ≡ r → l.spot ≡ type_spot number r → IsLocated (TypesStand Third pool p) pool p l
   types_located NoMemory s l is spot = inl is
   types_located BadStackMap s l is spot = located BadStackMap (any_from _ p.methods number m there (other, (e, code, tables, body, s))) (m, there, (other, e, code, tables, body, s)) l is spot
   types_located (TypeMismatch place) s l is spot =

@@ -50,7 +50,7 @@ use Rattle.verdict.proofs.Methods.{any_from, zip_at, zip_of, zip_count}
 use Rattle.verdict.proofs.Numbered.{each_has_one, numbers_rise}
 use Rattle.verdict.proofs.OwnCalls.{own_call, process_found}
 use Rattle.verdict.proofs.RowsOfClass.{one_body, method_of, row_of, not_constructor, method_at, row_of_view, row_of_member, member_of_view, view_of_row, process_is, are_rows}
-use Rattle.jtypes.specs.Profile.{Second}
+use Rattle.jtypes.specs.Profile.{Third}
 
 -- The element at an index of a list.
 pub item_of : {A : Type 0} (xs : List A) (i : ℕ) → i < length xs → (x : A) × ((d : A) → get_or xs i d ≡ x)
@@ -61,7 +61,7 @@ item_of (x ∷ xs) (suc i) l = item_of xs i (omega (arith, l))
 -- ---- the instructions
 
 module _ (pool : List Slot) (p : Parts) (n : ℕ) (codes : List CodeParts) (shape : HasGoodShape pool p codes n) (items : List Found) (are_found : AreFound (view_of pool p) codes n (length codes) items) where
-  pub instructions_stand : (r : Refusal) → InstructionsStand Second pool p r → ⊥
+  pub instructions_stand : (r : Refusal) → InstructionsStand Third pool p r → ⊥
   instructions_stand r any =
       let k = any.0 in
       let m = any.1 in
@@ -74,7 +74,7 @@ module _ (pool : List Slot) (p : Parts) (n : ℕ) (codes : List CodeParts) (shap
       let has = zip_at (HasCode pool) p.methods codes k m f.parts shape.codes_are at there in
       let b = h.1 in
       let same : b.0 ≡ f.parts = some_is_only pool m f.parts b.0 has (has_some pool m b.0 b.1) in
-      f.good.none_stands r (subst (λ (x : CodeParts). InstructionStands Second (view_of pool p) x.code r) same b.2)
+      f.good.none_stands r (subst (λ (x : CodeParts). InstructionStands Third (view_of pool p) x.code r) same b.2)
     where
       found_of : (k : ℕ) (m : Member) → slice_get p.methods k ≡ Some m → is_constructor pool m ≡ false → (i : ℕ) × (i < length items) × ((d : Found) → (get_or items i d).number ≡ k)
       found_of k m e other =
@@ -131,7 +131,7 @@ module _ (pool : List Slot) (p : Parts) (n : ℕ) (codes : List CodeParts) (shap
                 has.1 (subst (λ (xs : List ℕ). Contains xs h.0) (sym places.2.are) there)
         stands r h = h
 
-    pub types_stand : (r : Refusal) → TypesStand Second pool p r → ⊥
+    pub types_stand : (r : Refusal) → TypesStand Third pool p r → ⊥
     types_stand r any =
         let k = any.0 in
         let m = any.1 in
@@ -144,12 +144,12 @@ module _ (pool : List Slot) (p : Parts) (n : ℕ) (codes : List CodeParts) (shap
         let t = are.each i.0 item.0 i.1 in
         let both : Some t.member ≡ Some m = sym t.there ∙ ap (slice_get p.methods) (i.2 item.0) ∙ at in
         let same : t.member ≡ m = cc both in
-        let one = one_body pool p m b.0 row.environment b.1 row.code b.2 t.tables b.3 (subst (λ (x : Member). IsBody Second pool p x row.environment row.code t.tables) same t.body) in
+        let one = one_body pool p m b.0 row.environment b.1 row.code b.2 t.tables b.3 (subst (λ (x : Member). IsBody Third pool p x row.environment row.code t.tables) same t.body) in
         row_stands i.0 item.0 i.1 r (subst (λ (ts : List (List ℕ)). BodyStands view row.environment row.code ts r) one.2 (subst (λ (c : List Placed). BodyStands view row.environment c b.2 r) one.1 (subst (λ (e : Environment). BodyStands view e b.1 b.2 r) one.0 b.4)))
 
   -- ---- the class
 
-  module _ (c : Class) (class : IsClassOfFile Second pool p c) where
+  module _ (c : Class) (class : IsClassOfFile Third pool p c) where
     -- The `Typed` of method `j`.
     record RowOf (j : ℕ) (m : Method) : Type 0 where
       index : ℕ
@@ -189,7 +189,7 @@ module _ (pool : List Slot) (p : Parts) (n : ℕ) (codes : List CodeParts) (shap
 
     -- ---- successors of instructions
 
-    module _ (instructions : (r : Refusal) → InstructionsStand Second pool p r → ⊥) where
+    module _ (instructions : (r : Refusal) → InstructionsStand Third pool p r → ⊥) where
       forward : (i : ℕ) (d : Typed) → i < length rows → (q t : ℕ) (x : Placed) → at_place (get_or rows i d).code q ≡ Some x → x.place ≡ q → IsTarget x.instruction (pos t) → t ≤ q → ⊥
       forward i d l q t x e place to le =
           let row = get_or rows i d in
@@ -289,10 +289,10 @@ module _ (pool : List Slot) (p : Parts) (n : ℕ) (codes : List CodeParts) (shap
       go None f = absurd (shape.none_stands BadDescriptor (any_from (λ (x : Member). HasBadDescriptor view (method_view pool x)) p.methods k m e (inl (ap is_some f))))
       go (Some s) f = (s, f)
 
-  constructor_method : (k : ℕ) (m : Member) → slice_get p.methods k ≡ Some m → IsConstructor pool m → (y : Method) × IsMethodOf Second pool p m y
+  constructor_method : (k : ℕ) (m : Member) → slice_get p.methods k ≡ Some m → IsConstructor pool m → (y : Method) × IsMethodOf Third pool p m y
   constructor_method k m e form =
       let s = signed k m e in
-      let code = constructor_sequence Second pool form.code.high form.code.low form.parts.code form.code.bytes form.code.calls in
+      let code = constructor_sequence Third pool form.code.high form.code.low form.parts.code form.code.bytes form.code.calls in
       let environment : Environment = record { signature = s.0; max_stack = form.parts.max_stack; max_locals = form.parts.max_locals } in (
         method_of environment code.0 [],
         record {
@@ -302,7 +302,7 @@ module _ (pool : List Slot) (p : Parts) (n : ℕ) (codes : List CodeParts) (shap
         },
       )
 
-  row_method : (k : ℕ) (m : Member) → slice_get p.methods k ≡ Some m → is_constructor pool m ≡ false → (y : Method) × IsMethodOf Second pool p m y
+  row_method : (k : ℕ) (m : Member) → slice_get p.methods k ≡ Some m → is_constructor pool m ≡ false → (y : Method) × IsMethodOf Third pool p m y
   row_method k m e other =
       let i = row_of pool p n codes shape rows are k m e other in
       let item = item_of rows i.0 i.1 in
@@ -310,14 +310,14 @@ module _ (pool : List Slot) (p : Parts) (n : ℕ) (codes : List CodeParts) (shap
       let t = are.each i.0 item.0 i.1 in
       let both : Some t.member ≡ Some m = sym t.there ∙ ap (slice_get p.methods) (i.2 item.0) ∙ e in
       let same : t.member ≡ m = cc both in
-      (method_of row.environment row.code t.typed.0, record { tables = t.tables; body = subst (λ (x : Member). IsBody Second pool p x row.environment row.code t.tables) same t.body; declared = t.typed.1 })
+      (method_of row.environment row.code t.typed.0, record { tables = t.tables; body = subst (λ (x : Member). IsBody Third pool p x row.environment row.code t.tables) same t.body; declared = t.typed.1 })
 
-  pub class_exists : (c : Class) × IsClassOfFile Second pool p c
+  pub class_exists : (c : Class) × IsClassOfFile Third pool p c
   class_exists =
-      let methods = zip_of (IsMethodOf Second pool p) p.methods (λ k m e. go k m e (is_constructor pool m) refl) in
+      let methods = zip_of (IsMethodOf Third pool p) p.methods (λ k m e. go k m e (is_constructor pool m) refl) in
       (record { view = view; methods = methods.0 }, record { view = refl; methods = methods.1 })
     where
-      go : (k : ℕ) (m : Member) → slice_get p.methods k ≡ Some m → (b : Bool) → is_constructor pool m ≡ b → (y : Method) × IsMethodOf Second pool p m y
+      go : (k : ℕ) (m : Member) → slice_get p.methods k ≡ Some m → (b : Bool) → is_constructor pool m ≡ b → (y : Method) × IsMethodOf Third pool p m y
       go k m e false other = row_method k m e other
       go k m e true is =
           let one = shape.constructor_is in

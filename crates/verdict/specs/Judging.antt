@@ -21,7 +21,7 @@ use Rattle.verdict.specs.declared.instructions.Found.{Found}
 use Rattle.verdict.specs.Shape.{is_constructor}
 use Rattle.verdict.specs.Shaping.{is_named_process, HasGoodMethod}
 use Rattle.verdict.specs.Verdict.{InstructionStands, IsBody, is_known}
-use Rattle.jtypes.specs.Profile.{Second}
+use Rattle.jtypes.specs.Profile.{Third}
 
 -- ---- elements by method index
 
@@ -39,8 +39,8 @@ pub record AreNumbered {A : Type 0} (number : A → ℕ) (P : A → Type 0) (c n
 
 -- `IsGoodCode` holds if the bytes decode to this code, and no refusal of the instructions applies to them.
 pub record IsGoodCode (v : ClassView) (bytes : List ℕ) (code : List Placed) : Type 0 where
-  pub sequence : IsSequence Second v.pool 0 bytes code
-  pub none_stands : (r : Refusal) → InstructionStands Second v bytes r → ⊥
+  pub sequence : IsSequence Third v.pool 0 bytes code
+  pub none_stands : (r : Refusal) → InstructionStands Third v bytes r → ⊥
 
 -- `IsFoundIn` holds if `f` has the instructions and the calls of the method with its index.
 pub record IsFoundIn (v : ClassView) (codes : List CodeParts) (f : Found) : Type 0 where
@@ -73,7 +73,7 @@ pub record IsTypedRow (pool : List Slot) (p : Parts) (t : Typed) : Type 0 where
   pub member : Member
   pub there : slice_get p.methods t.number ≡ Some member
   pub tables : List (List ℕ)
-  pub body : IsBody Second pool p member t.environment t.code tables
+  pub body : IsBody Third pool p member t.environment t.code tables
   pub process : t.is_process ≡ is_named_process pool member
   pub starts : IsSome (at_place t.code 0)
   pub calls : AreCallsOf (view_of pool p) t.code t.calls.items

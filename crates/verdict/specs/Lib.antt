@@ -1,5 +1,6 @@
 pub mod Shape
 pub mod Shaping
+pub mod Known
 pub mod Verdict
 pub mod Judging
 pub mod Checked

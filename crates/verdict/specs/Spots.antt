@@ -4,7 +4,7 @@ use Rattle.jtypes.specs.declared.refusal.Refusal.{Refusal}
 use Rattle.jtypes.specs.declared.refusal.Refusal.TheVariants.{NoMemory, BadDescriptor, BadHeader, ConstructorForm, ClassInitialiser, NoProcess, DuplicateMethod, NoBody, BadCode, ExceptionTable, UnknownMember, BadStackMap, TypeMismatch, FallsOff, LengthNotConstant, Recursive, StepLimit, WordLimit, FrameLimit}
 use Rattle.jtypes.specs.declared.operations.ArrayKind.{ArrayKind}
 use Rattle.jtypes.specs.Layout.{Stands}
-use Rattle.jtypes.specs.Profile.{Profile, Second}
+use Rattle.jtypes.specs.Profile.{Profile, Third}
 use Rattle.constpool.specs.Lookup.{Slot}
 use Rattle.classfile.specs.declared.class_file.Member.{Member}
 use Rattle.classfile.specs.declared.class_file.Parts.{Parts}
@@ -116,8 +116,8 @@ IsAtSpot profile bytes r spot = (pool : List Slot) × (p : Parts) × IsClassFile
 
 -- `IsToldOf` holds if the refusal applies to the bytes and has the reported spot, or is `NoMemory`.
 abbrev pub IsToldOf : List ℕ → Located → Type 0
-IsToldOf bytes l = (l.refusal ≡ NoMemory) ⊎ (IsRefused Second bytes l.refusal × IsAtSpot Second bytes l.refusal l.spot)
+IsToldOf bytes l = (l.refusal ≡ NoMemory) ⊎ (IsRefused Third bytes l.refusal × IsAtSpot Third bytes l.refusal l.spot)
 
 -- `IsLocated` holds if the refusal of a level applies to the class and has the reported spot, or is `NoMemory`.
 abbrev pub IsLocated : (Refusal → Type 0) → List Slot → Parts → Located → Type 0
-IsLocated Stands pool p l = (l.refusal ≡ NoMemory) ⊎ (Stands l.refusal × StandsIn Second pool p l.refusal l.spot)
+IsLocated Stands pool p l = (l.refusal ≡ NoMemory) ⊎ (Stands l.refusal × StandsIn Third pool p l.refusal l.spot)

@@ -2,7 +2,7 @@
 use Rattle.std.specs.Prelude.{◌≡◌, ℕ, Bool, true, List, length, Any, Some, IsFalse, is_some, ◌⊎◌}
 use Rattle.std.specs.List.{AllZip}
 use Rattle.jtypes.specs.declared.refusal.Refusal.{Refusal}
-use Rattle.jtypes.specs.declared.refusal.Refusal.TheVariants.{UnknownMember, BadStackMap, TypeMismatch, FallsOff, LengthNotConstant, Recursive, StepLimit, WordLimit, FrameLimit}
+use Rattle.jtypes.specs.declared.refusal.Refusal.TheVariants.{BadDescriptor, UnknownMember, BadStackMap, TypeMismatch, FallsOff, LengthNotConstant, Recursive, StepLimit, WordLimit, FrameLimit}
 use Rattle.jtypes.specs.Profile.{Profile}
 use Rattle.jtypes.specs.Layout.{IsLaidOut, Stands}
 use Rattle.constpool.specs.Lookup.{Slot}
@@ -16,6 +16,8 @@ use Rattle.decode.specs.declared.instruction.Instruction.TheVariants.{Invoke, Ch
 use Rattle.decode.specs.declared.instruction.Placed.{Placed}
 use Rattle.decode.specs.Code.{IsSequence}
 use Rattle.decode.specs.Places.{CodeStands}
+use Rattle.frames.specs.declared.signatures.Signature.{Signature}
+use Rattle.frames.specs.Frames.{Frame}
 use Rattle.frames.specs.Signatures.{method_signature, constant_type}
 use Rattle.frames.specs.Members.{callee_at}
 use Rattle.frames.specs.declared.frame.Environment.{Environment}
@@ -24,6 +26,7 @@ use Rattle.typecheck.specs.Typing.{Method, Class, IsProcessOf}
 use Rattle.typecheck.specs.Mismatch.{HasBadStackMap, HasMismatch, FallsOffEnd, LacksLength}
 use Rattle.bounds.specs.Recursion.{IsRecursive}
 use Rattle.bounds.specs.Paths.{SomePathExceeds, step_limit, word_limit, slot_limit, depth_limit}
+use Rattle.verdict.specs.Known.{knows_signature, knows_named, knows_frame}
 use Rattle.verdict.specs.Shape.{is_constructor, HasCode, ShapeStands}
 
 -- ---- level A: the bytes have the layout of a class file
@@ -114,6 +117,34 @@ abbrev pub ClassStands : Profile → Class → Refusal → Type 0
 ClassStands profile c Recursive = IsRecursive c
 ClassStands profile c r = (IsRecursive c → ⊥) × ((j : ℕ) × IsProcessOf c j × BoundStands profile c j r)
 
+-- ---- the names of later profiles
+
+-- `UsesUnknown` holds if a method's instructions name a member or a type that the profile doesn't know.
+abbrev pub UsesUnknown : Profile → List Slot → Parts → Member → Type 0
+UsesUnknown profile pool p m =
+    (c : CodeParts) × (code : List Placed) × HasCode pool m c × IsSequence profile pool 0 c.code code × Any (λ q. IsFalse (knows_named profile (view_of pool p) q.instruction)) code
+
+-- `DeclaresUnknown` holds if a frame that a method declares has a type that the profile doesn't know.
+abbrev pub DeclaresUnknown : Profile → List Slot → Parts → Member → Type 0
+DeclaresUnknown profile pool p m =
+    (e : Environment) × (code : List Placed) × (tables : List (List ℕ)) × (ds : List (ℕ × Frame)) × IsBody profile pool p m e code tables × IsDeclared (view_of pool p) e code tables ds
+    × Any (λ d. IsFalse (knows_frame profile d.1)) ds
+
+-- `NamesBeyond` holds if the class names what only a later profile knows: in a descriptor, in an instruction or in a declared frame.
+abbrev pub NamesBeyond : Profile → List Slot → Parts → Refusal → Type 0
+NamesBeyond profile pool p BadDescriptor =
+    Any (λ m. (s : Signature) × (method_signature (view_of pool p) (method_view pool m) ≡ Some s) × IsFalse (knows_signature profile s)) p.methods
+NamesBeyond profile pool p UnknownMember = SomeMethod pool p (UsesUnknown profile pool p)
+NamesBeyond profile pool p BadStackMap = SomeMethod pool p (DeclaresUnknown profile pool p)
+NamesBeyond profile pool p _ = ⊥
+
+-- `HasLevelsBefore` holds if no refusal applies at a level before that of the refusal:
+-- descriptors belong to the shape, the instructions' names to the instructions, and declared frames to the types.
+abbrev pub HasLevelsBefore : Profile → List Slot → Parts → Refusal → Type 0
+HasLevelsBefore profile pool p UnknownMember = HasShape pool p
+HasLevelsBefore profile pool p BadStackMap = HasShape pool p × HasInstructions profile pool p
+HasLevelsBefore profile pool p _ = Unit {0}
+
 -- ---- the verdict
 
 -- `IsRefused` holds if the refusal applies at its level, and no refusal of an earlier level applies.
@@ -124,6 +155,7 @@ pub data IsRefused (profile : Profile) (bytes : List ℕ) (r : Refusal) : Type 0
   by_types : (pool : List Slot) (p : Parts) → IsClassFile bytes pool p → HasShape pool p → HasInstructions profile pool p → TypesStand profile pool p r → IsRefused profile bytes r
   by_class : (pool : List Slot) (p : Parts) (c : Class) → IsClassFile bytes pool p → HasShape pool p → HasInstructions profile pool p → HasTypes profile pool p
       → IsClassOfFile profile pool p c → ClassStands profile c r → IsRefused profile bytes r
+  by_names : (pool : List Slot) (p : Parts) → IsClassFile bytes pool p → HasLevelsBefore profile pool p r → NamesBeyond profile pool p r → IsRefused profile bytes r
 
 -- `IsAccepted` holds if no refusal applies to the bytes.
 abbrev pub IsAccepted : Profile → List ℕ → Type 0

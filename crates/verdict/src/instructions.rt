@@ -9,7 +9,7 @@ ghost use Rattle.verdict.specs.Judging.{AreFound, IsGoodCode, IsUnknownAt};
 ghost use Rattle.typecheck.specs.Calls.{AreCallsOf, call_at};
 ghost use Rattle.verdict.specs.Shaping.{HasGoodShape};
 ghost use Rattle.classfile.specs.View.{view_of};
-ghost use Rattle.jtypes.specs.Profile.{Second};
+ghost use Rattle.jtypes.specs.Profile.{Third};
 
 use crate::spot::{Located, Spot};
 use classfile::{ClassFile, CodeParts};
@@ -72,7 +72,7 @@ fn judge_code(
 ) -> Result<(Code, Vec<Called>), Fault>
     ensures code { IfOk result (λ found. IsGoodCode view.now bytes.now found.0) }
     ensures calls { IfOk result (λ found. AreCallsOf view.now found.0 found.1.items) }
-    ensures err { IfErr result (λ f. (f.refusal ≡ Refusal.NoMemory) ⊎ InstructionStandsAt Second view.now bytes.now f.place f.refusal) }
+    ensures err { IfErr result (λ f. (f.refusal ≡ Refusal.NoMemory) ⊎ InstructionStandsAt Third view.now bytes.now f.place f.refusal) }
 {
     let code = decode_at(alloc, bytes, view.pool())?;
     let mut calls = Vec::new(alloc);
@@ -110,7 +110,7 @@ pub fn judge_instructions(
     requires shape { HasGoodShape class.now.pool class.now.parts codes.now constructor }
     requires view { view.now ≡ view_of class.now.pool class.now.parts }
     ensures ok { IfOk result (λ found. AreFound (view_of class.now.pool class.now.parts) codes.now constructor (length codes.now) found.items) }
-    ensures err { IfErr result (IsLocated (InstructionsStand Second class.now.pool class.now.parts) class.now.pool class.now.parts) }
+    ensures err { IfErr result (IsLocated (InstructionsStand Third class.now.pool class.now.parts) class.now.pool class.now.parts) }
 {
     let mut found = Vec::new(alloc);
     for number in 0..codes.len() {

@@ -2,7 +2,7 @@
 
 ghost use Rattle.std.specs.Prelude.{◌≡◌, length, IfOk, IfErr};
 ghost use Rattle.classfile.specs.View.{view_of};
-ghost use Rattle.jtypes.specs.Profile.{Second};
+ghost use Rattle.jtypes.specs.Profile.{Third};
 ghost use Rattle.verdict.specs.Shaping.{HasGoodShape};
 ghost use Rattle.typecheck.specs.Calls.{AreCallsOf};
 ghost use Rattle.verdict.specs.Judging.{AreFound, AreTyped, HasInstructionsOf, IsTypedRow};
@@ -59,7 +59,7 @@ fn judge_method(
     requires calls { AreCallsOf members.now code calls.items }
     ensures number { IfOk result (λ t. t.number ≡ number) }
     ensures row { IfOk result (λ t. IsTypedRow class.now.pool class.now.parts t) }
-    ensures err { IfErr result (IsLocated (TypesStand Second class.now.pool class.now.parts) class.now.pool class.now.parts) }
+    ensures err { IfErr result (IsLocated (TypesStand Third class.now.pool class.now.parts) class.now.pool class.now.parts) }
 {
     let view = class.view();
     let Some(method) = view.method(number) else {
@@ -108,7 +108,7 @@ fn judge_types(
     requires shape { HasGoodShape class.now.pool class.now.parts codes.now constructor }
     requires found { AreFound (view_of class.now.pool class.now.parts) codes.now constructor (length codes.now) found.items }
     ensures ok { IfOk result (λ rows. AreTyped class.now.pool class.now.parts constructor (length codes.now) rows.items) }
-    ensures err { IfErr result (IsLocated (TypesStand Second class.now.pool class.now.parts) class.now.pool class.now.parts) }
+    ensures err { IfErr result (IsLocated (TypesStand Third class.now.pool class.now.parts) class.now.pool class.now.parts) }
 {
     let mut methods = Vec::new(alloc);
     for Found {

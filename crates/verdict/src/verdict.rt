@@ -13,7 +13,7 @@ ghost use Rattle.verdict.specs.Judged.{IsJudgedAs, NumbersRise, row_in, process_
 ghost use Rattle.typecheck.specs.Typing.{Class, IsProcessOf};
 ghost use Rattle.bounds.specs.Paths.{AreBounds};
 ghost use Rattle.bounds.specs.Rows.{bounds_in};
-ghost use Rattle.jtypes.specs.Profile.{Second};
+ghost use Rattle.jtypes.specs.Profile.{Third};
 
 use crate::typed_class::{TypedClass, type_class};
 use bounds::{Bounds, bound};
@@ -100,18 +100,18 @@ pub fn judge(alloc: Global, bytes: &[u8]) -> Result<JudgedClass, Refusal>
     ensures found { IfOk result (λ v. IsLaidOut (class_file (length bytes.now)) bytes.now (v.pool, v.parts)) }
 
     // No refusal of the layout, shape, instructions, types, recursion or bounds applies to an accepted class.
-    ensures accepted { IfOk result (λ _. IsAccepted Second bytes.now) }
+    ensures accepted { IfOk result (λ _. IsAccepted Third bytes.now) }
 
     // The bytes define a class, and the result describes that class, with the bounds of its `process`.
-    ensures class { IfOk result (λ _. (c : Class) × IsClassOf Second bytes.now c) }
-    ensures judged { IfOk result (λ v. (c : Class) → IsClassOf Second bytes.now c → IsJudgedAs c v) }
-    ensures bounds { IfOk result (λ v. (c : Class) (j : ℕ) → IsClassOf Second bytes.now c → IsProcessOf c j → AreBounds c j (bounds_in v.bounds)) }
+    ensures class { IfOk result (λ _. (c : Class) × IsClassOf Third bytes.now c) }
+    ensures judged { IfOk result (λ v. (c : Class) → IsClassOf Third bytes.now c → IsJudgedAs c v) }
+    ensures bounds { IfOk result (λ v. (c : Class) (j : ℕ) → IsClassOf Third bytes.now c → IsProcessOf c j → AreBounds c j (bounds_in v.bounds)) }
 
     // The bounds are within the limits.
-    ensures limits { IfOk result (λ v. IsWithinLimits Second v.bounds) }
+    ensures limits { IfOk result (λ v. IsWithinLimits Third v.bounds) }
 
     // The refusal applies to the bytes, unless it is out of memory.
-    ensures refused { IfErr result (λ r. (r ≡ Refusal.NoMemory) ⊎ IsRefused Second bytes.now r) }
+    ensures refused { IfErr result (λ r. (r ≡ Refusal.NoMemory) ⊎ IsRefused Third bytes.now r) }
 {
     let TypedClass { class, methods } = match type_class(alloc, bytes) {
         Ok(found) => found,

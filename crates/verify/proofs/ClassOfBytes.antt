@@ -13,20 +13,20 @@ use Rattle.verdict.specs.Judged.{Judged, IsJudgedAs, process_row}
 use Rattle.verdict.specs.Verdict.{IsClassOf, IsClassOfFile}
 use Rattle.verify.proofs.Linked.{element, process_stands}
 use Rattle.verify.specs.TheClass.{TheClass, TheClass-prop}
-use Rattle.jtypes.specs.Profile.{Second}
+use Rattle.jtypes.specs.Profile.{Third}
 
 -- The class of the bytes is the class of the constant pool and the parts that the bytes contain.
-pub of_file : (bytes : List ℕ) (c : Class) (pool : List Slot) (parts : Parts) → IsClassOf Second bytes c → IsLaidOut (class_file (length bytes)) bytes (pool, parts) → IsClassOfFile Second pool parts c
+pub of_file : (bytes : List ℕ) (c : Class) (pool : List Slot) (parts : Parts) → IsClassOf Third bytes c → IsLaidOut (class_file (length bytes)) bytes (pool, parts) → IsClassOfFile Third pool parts c
 of_file bytes c pool parts of laid =
     let same = (laid_out_once (class_file (length bytes)) bytes [] bytes [] (of.pool, of.parts) (pool, parts) of.file.laid_out laid refl).2 in
-    subst (λ (x : List Slot × Parts). IsClassOfFile Second x.0 x.1 c) same of.class
+    subst (λ (x : List Slot × Parts). IsClassOfFile Third x.0 x.1 c) same of.class
 
-abbrev pub the_class : (bytes : List ℕ) (c : Class) (pool : List Slot) (parts : Parts) → IsClassOf Second bytes c → IsLaidOut (class_file (length bytes)) bytes (pool, parts) → TheClass pool parts
+abbrev pub the_class : (bytes : List ℕ) (c : Class) (pool : List Slot) (parts : Parts) → IsClassOf Third bytes c → IsLaidOut (class_file (length bytes)) bytes (pool, parts) → TheClass pool parts
 the_class bytes c pool parts of laid = (c, ∣ of_file bytes c pool parts of laid ∣₁)
 
 -- The class of that constant pool and those parts is the class of the bytes.
-pub is_class : (bytes : List ℕ) (c : Class) (pool : List Slot) (parts : Parts) → IsClassOf Second bytes c → IsLaidOut (class_file (length bytes)) bytes (pool, parts) → (t : TheClass pool parts) → IsClassOf Second bytes t.0
-is_class bytes c pool parts of laid t = subst (λ (x : TheClass pool parts). IsClassOf Second bytes x.0) (TheClass-prop pool parts (the_class bytes c pool parts of laid) t) of
+pub is_class : (bytes : List ℕ) (c : Class) (pool : List Slot) (parts : Parts) → IsClassOf Third bytes c → IsLaidOut (class_file (length bytes)) bytes (pool, parts) → (t : TheClass pool parts) → IsClassOf Third bytes t.0
+is_class bytes c pool parts of laid t = subst (λ (x : TheClass pool parts). IsClassOf Third bytes x.0) (TheClass-prop pool parts (the_class bytes c pool parts of laid) t) of
 
 -- ---- preconditions of the linker
 

@@ -5,12 +5,12 @@ use Rattle.classfile.specs.declared.class_file.Parts.{Parts}
 use Rattle.typecheck.specs.Typing.{Class}
 use Rattle.verdict.specs.Verdict.{IsClassOfFile}
 use Rattle.soundness.proofs.OneClass.{class_prop}
-use Rattle.jtypes.specs.Profile.{Second}
+use Rattle.jtypes.specs.Profile.{Third}
 
 -- The class of the class file with this constant pool and these parts.
 abbrev pub TheClass : List Slot → Parts → Type 0
-TheClass pool parts = (c : Class) × ∥ IsClassOfFile Second pool parts c ∥₁
+TheClass pool parts = (c : Class) × ∥ IsClassOfFile Third pool parts c ∥₁
 
 -- There is at most one.
 pub TheClass-prop : (pool : List Slot) (parts : Parts) → IsProp (TheClass pool parts)
-TheClass-prop pool parts = class_prop pool parts
+TheClass-prop pool parts = class_prop Third pool parts

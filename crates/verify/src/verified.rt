@@ -11,16 +11,16 @@ ghost use Rattle.verdict.specs.Sound.{IsSafe};
 ghost use Rattle.verdict.specs.Checked.{IsChecked};
 ghost use Rattle.vmcode.specs.Linking.{IsLinked, IsEntry};
 ghost use Rattle.vmcode.specs.Numbering.{index_of};
-ghost use Rattle.verify.specs.First.{HasFirstSteps};
+ghost use Rattle.verify.specs.Earlier.{IsEarlier, HasStepsOf};
 ghost use Rattle.verify.specs.TheClass.{TheClass, TheClass-prop};
-ghost use Rattle.jtypes.specs.Profile.{First, Second};
+ghost use Rattle.jtypes.specs.Profile.{Profile, Third};
 
 use crate::link::link;
 use bounds::Bounds;
 use classfile::ClassFile;
 use jtypes::Refusal;
 use soundness::{
-    accepted_has_bounds, accepted_is_checked, accepted_is_ordered, first_profile_is_kept,
+    accepted_has_bounds, accepted_is_checked, accepted_is_ordered, profiles_are_kept,
     type_soundness,
 };
 use std::alloc::{AllocError, Global};
@@ -60,9 +60,9 @@ impl fmt::Debug for Verified {
 
 /// Checks a class file, and links its code.
 fn judge_and_link(alloc: Global, bytes: &[u8]) -> Result<Verified, Refusal>
-    ensures class { IfOk result (λ c. IsClassOf Second bytes.now c) }
-    ensures accepted { IfOk result (λ _. IsAccepted Second bytes.now) }
-    ensures refused { IfErr result (λ r. (r ≡ Refusal.NoMemory) ⊎ IsRefused Second bytes.now r) }
+    ensures class { IfOk result (λ c. IsClassOf Third bytes.now c) }
+    ensures accepted { IfOk result (λ _. IsAccepted Third bytes.now) }
+    ensures refused { IfErr result (λ r. (r ≡ Refusal.NoMemory) ⊎ IsRefused Third bytes.now r) }
 {
     accepted_is_ordered();
     accepted_is_checked();
@@ -83,17 +83,17 @@ fn judge_and_link(alloc: Global, bytes: &[u8]) -> Result<Verified, Refusal>
 /// Verifies a class file (JVMS §4, §4.10.1), and links its code (JVMS §5.4).
 /// Returns a refusal that applies to the class file, or `Refusal::NoMemory`.
 pub fn verify(alloc: Global, bytes: &[u8]) -> Result<Verified, Refusal>
-    ensures class { IfOk result (λ c. IsClassOf Second bytes.now c) }
-    ensures accepted { IfOk result (λ _. IsAccepted Second bytes.now) }
-    ensures refused { IfErr result (λ r. (r ≡ Refusal.NoMemory) ⊎ IsRefused Second bytes.now r) }
+    ensures class { IfOk result (λ c. IsClassOf Third bytes.now c) }
+    ensures accepted { IfOk result (λ _. IsAccepted Third bytes.now) }
+    ensures refused { IfErr result (λ r. (r ≡ Refusal.NoMemory) ⊎ IsRefused Third bytes.now r) }
 
-    // A class that the first profile accepts is refused only with `Refusal::NoMemory`.
-    // It is the same class, and its bounds are within the first profile's limit of steps.
-    ensures first { IsAccepted First bytes.now → IfErr result (λ r. r ≡ Refusal.NoMemory) }
-    ensures first_class { (c : Class) → IsClassOf First bytes.now c → IfOk result (λ d. d ≡ c) }
-    ensures first_steps { (c : Class) → IsAccepted First bytes.now → IsClassOf First bytes.now c → IfOk result HasFirstSteps }
+    // A class that an earlier profile accepts is refused only with `Refusal::NoMemory`.
+    // It is the same class, and its bounds are within that profile's limit of steps.
+    ensures earlier { (profile : Profile) → IsEarlier profile → IsAccepted profile bytes.now → IfErr result (λ r. r ≡ Refusal.NoMemory) }
+    ensures earlier_class { (profile : Profile) (c : Class) → IsEarlier profile → IsClassOf profile bytes.now c → IfOk result (λ d. d ≡ c) }
+    ensures earlier_steps { (profile : Profile) (c : Class) → IsEarlier profile → IsAccepted profile bytes.now → IsClassOf profile bytes.now c → IfOk result (HasStepsOf profile) }
 {
-    first_profile_is_kept();
+    profiles_are_kept();
     judge_and_link(alloc, bytes)
 }
 
@@ -101,7 +101,7 @@ impl Verified {
     /// Returns the upper bounds of an invocation: steps, words of arrays, slots, and depth of nested activations.
     /// Each invocation ends within them, and never gets stuck.
     pub fn bounds(&self) -> Bounds
-        ensures limits { IsWithinLimits Second result }
+        ensures limits { IsWithinLimits Third result }
         ensures bounds { (j : ℕ) → IsProcessOf self.now j → AreBounds self.now j (bounds_in result) }
         ensures safe { IsSafe self.now (bounds_in result) }
     {

@@ -56,7 +56,9 @@ found_int text z h laid =
 found_arg_of : (kind : ℕ) (text : List ℕ) (a : Arg) → AreBytes text → IsLaidOut (arg_of kind) text a → (kind ∷ text ≡ arg_text a) × IsArg a
 unfolding arg_of
 found_arg_of kind text a h laid =
-    let two = chosen (kind == 2) (int >>= λ n. known (arg.Integer n)) (stopped BadOperand) in
+    let four = chosen (kind == 4) (known (arg.Boolean true)) (stopped BadOperand) in
+    let three = chosen (kind == 3) (known (arg.Boolean false)) four in
+    let two = chosen (kind == 2) (int >>= λ n. known (arg.Integer n)) three in
     let one = chosen (kind == 1) (long >>= λ n. known (arg.Long n)) two in
     elim (chosen_cases (kind == 0) (known arg.Null) one text a laid) [
       | inl (is, (none, null)) ↦ subst (λ (v : Arg). (kind ∷ text ≡ arg_text v) × IsArg v) (sym null) (same kind 0 text [] (eqb-true kind 0 is) none, tt)
@@ -65,12 +67,18 @@ found_arg_of kind text a h laid =
             let (n, inside, v) = one_found long (λ n. arg.Long n) text a laid_long in
             let f = found_long text n h inside in
             subst (λ (v : Arg). (kind ∷ text ≡ arg_text v) × IsArg v) (sym v) (same kind 1 text (long_text n) (eqb-true kind 1 is) f.0, f.1)
-        | inr (_, rest') ↦ elim (chosen_cases (kind == 2) (int >>= λ n. known (arg.Integer n)) (stopped BadOperand) text a rest') [
+        | inr (_, rest') ↦ elim (chosen_cases (kind == 2) (int >>= λ n. known (arg.Integer n)) three text a rest') [
           | inl (is, laid_int) ↦
               let (n, inside, v) = one_found int (λ n. arg.Integer n) text a laid_int in
               let f = found_int text n h inside in
               subst (λ (v : Arg). (kind ∷ text ≡ arg_text v) × IsArg v) (sym v) (same kind 2 text (int_text n) (eqb-true kind 2 is) f.0, f.1)
-          | inr (_, nothing) ↦ absurd nothing
+          | inr (_, more) ↦ elim (chosen_cases (kind == 3) (known (arg.Boolean false)) four text a more) [
+            | inl (is, (none, was_false)) ↦ subst (λ (v : Arg). (kind ∷ text ≡ arg_text v) × IsArg v) (sym was_false) (same kind 3 text [] (eqb-true kind 3 is) none, tt)
+            | inr (_, last) ↦ elim (chosen_cases (kind == 4) (known (arg.Boolean true)) (stopped BadOperand) text a last) [
+              | inl (is, (none, was_true)) ↦ subst (λ (v : Arg). (kind ∷ text ≡ arg_text v) × IsArg v) (sym was_true) (same kind 4 text [] (eqb-true kind 4 is) none, tt)
+              | inr (_, nothing) ↦ absurd nothing
+            ]
+          ]
         ]
       ]
     ]

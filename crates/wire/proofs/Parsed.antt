@@ -1,5 +1,5 @@
 -- What the result of parsing a body says about the text.
-use Rattle.std.proofs.Common.{◌≡◌, ◌≢◌, ◌⊎◌, ℕ, suc, ◌+◌, ◌*◌, ◌^◌, ◌<◌, ◌≤◌, ℤ, List, [], ◌∷◌, ◌++◌, length, take, drop, append_assoc, Result, Ok, Err, refl, sym, ap, ◌∙◌, subst, arith, inl, inr}
+use Rattle.std.proofs.Common.{◌≡◌, ◌≢◌, ◌⊎◌, ℕ, suc, ◌+◌, ◌*◌, ◌^◌, ◌<◌, ◌≤◌, ℤ, true, false, List, [], ◌∷◌, ◌++◌, length, take, drop, append_assoc, Result, Ok, Err, refl, sym, ap, ◌∙◌, subst, arith, inl, inr}
 use Rattle.std.proofs.lemmas.List.{length-append, take-append-drop}
 use lib.Seq.{take-append_seam}
 use Rattle.byteorder.specs.Endian.{big_bytes}
@@ -106,6 +106,8 @@ args_length (a ∷ args) =
     arg_length arg.Null = omega arith
     arg_length (arg.Long n) = omega arith
     arg_length (arg.Integer n) = omega arith
+    arg_length (arg.Boolean true) = omega arith
+    arg_length (arg.Boolean false) = omega arith
 
 keys_length : (keys : List ℤ) → length (texts long_text keys) ≡ 8 * length keys
 keys_length [] = refl

@@ -60,6 +60,8 @@ unfolding argument arg_of
 read_argument arg.Null rest h = rw (read_byte 0 rest (omega arith)) refl
 read_argument (arg.Long n) rest h = rw (read_byte 1 (long_text n ++ rest) (omega arith), read_long n rest h) refl
 read_argument (arg.Integer n) rest h = rw (read_byte 2 (int_text n ++ rest) (omega arith), read_int n rest h) refl
+read_argument (arg.Boolean false) rest h = rw (read_byte 3 rest (omega arith)) refl
+read_argument (arg.Boolean true) rest h = rw (read_byte 4 rest (omega arith)) refl
 
 read_many : {A : Type 0} (l : Layout A) (f : A → List ℕ) (P : A → Type 0) → Reads l f P → (xs : List A) (rest : List ℕ) → AllByRecursion P xs → first (many (length xs) l) (texts f xs ++ rest) ≡ Ok (xs, rest)
 unfolding many

@@ -1,5 +1,5 @@
 -- The layouts of the bodies of requests.
-use Rattle.std.specs.Prelude.{ℕ, ℤ, ◌==◌, List, nat_lt}
+use Rattle.std.specs.Prelude.{ℕ, ℤ, ◌==◌, true, false, List, nat_lt}
 use Rattle.std.specs.Int.{w32, w64, cast_signed}
 use Rattle.jtypes.specs.declared.types.Arg.{Arg}
 use Rattle.jtypes.specs.declared.types.Arg.TheVariants as arg
@@ -22,7 +22,9 @@ arg_of kind =
     chosen (kind == 0) (known arg.Null)
     (chosen (kind == 1) (long >>= λ n. known (arg.Long n))
     (chosen (kind == 2) (int >>= λ n. known (arg.Integer n))
-    (stopped BadOperand)))
+    (chosen (kind == 3) (known (arg.Boolean false))
+    (chosen (kind == 4) (known (arg.Boolean true))
+    (stopped BadOperand)))))
 
 unfoldable pub argument : Layout Arg
 argument = do

@@ -31,6 +31,8 @@ abbrev pub arg_text : Arg → List ℕ
 arg_text arg.Null = 0 ∷ []
 arg_text (arg.Long n) = 1 ∷ long_text n
 arg_text (arg.Integer n) = 2 ∷ int_text n
+arg_text (arg.Boolean false) = 3 ∷ []
+arg_text (arg.Boolean true) = 4 ∷ []
 
 -- The concatenated texts of the elements of a list.
 abbrev pub texts : {A : Type 0} → (A → List ℕ) → List A → List ℕ
@@ -119,6 +121,7 @@ abbrev pub IsArg : Arg → Type 0
 IsArg arg.Null = Unit {0}
 IsArg (arg.Long n) = FitsSigned w64 n
 IsArg (arg.Integer n) = FitsSigned w32 n
+IsArg (arg.Boolean b) = Unit {0}
 
 pub record AreArgs (args : List Arg) : Type 0 where
   pub few : length args ≤ 8

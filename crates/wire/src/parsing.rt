@@ -38,6 +38,8 @@ fn read_arg_of(kind: u8, cursor: &mut Cursor<'_>) -> Result<Arg, Refusal>
         0 => Ok(Arg::Null),
         1 => Ok(Arg::Long(read_long(cursor)?)),
         2 => Ok(Arg::Integer(read_int(cursor)?)),
+        3 => Ok(Arg::Boolean(false)),
+        4 => Ok(Arg::Boolean(true)),
         _ => Err(Refusal::BadOperand),
     }
 }

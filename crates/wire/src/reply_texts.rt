@@ -115,5 +115,7 @@ fn add_arg(text: &mut Text, arg: Arg)
             text.byte(2);
             text.int(n);
         }
+        Arg::Boolean(false) => text.byte(3),
+        Arg::Boolean(true) => text.byte(4),
     }
 }

@@ -28,7 +28,7 @@ use Rattle.world.specs.Going.{known, state_in, progress_in, is_ended, IsUnderWay
 use Rattle.world.specs.Seating.{running_in}
 use Rattle.world.specs.Stepping.{IsCounted, StepsOn}
 use Rattle.world.proofs.Calls.{start_zero, first_state, going_some, call_in, works_going, turned_goes, turned_ends, going_end, ended_progress}
-use Rattle.jtypes.specs.Profile.{Second}
+use Rattle.jtypes.specs.Profile.{Third}
 
 -- Each open call is in progress or has ended.
 abbrev pub AreGoing : Kept → Machine → Option Done → Option LoadAnswer → Type 0
@@ -191,10 +191,10 @@ module _ (s : Kept) (m : Machine) (done : Option Done) (asked : Option LoadAnswe
     seen_next : running_in s new done asked s.running ≡ Some (running_call o.caller o.number (Invoke c k args) (Working c next.1))
     seen_next = seen_new ∙ ap (λ x. option_map (running_call o.caller o.number (Invoke c k args)) (option_map (λ s. Working c s) x)) after
 
-    pub goes_nearer : new.steps ≡ suc m.steps → new.steps ≤ step_limit Second → turns_on (Some (running_in s new done asked s.running)) < turns_on (Some (running_in s m done asked s.running))
+    pub goes_nearer : new.steps ≡ suc m.steps → new.steps ≤ step_limit Third → turns_on (Some (running_in s new done asked s.running)) < turns_on (Some (running_in s m done asked s.running))
     goes_nearer counts few =
-        let is : turns_on (Some (running_in s new done asked s.running)) ≡ (step_limit Second - next.1.steps) + 2 = ap (λ r. turns_on (Some r)) seen_next in
-        let was : turns_on (Some (running_in s m done asked s.running)) ≡ (step_limit Second - way.2.state.steps) + 2 = ap (λ r. turns_on (Some r)) seen_old in
+        let is : turns_on (Some (running_in s new done asked s.running)) ≡ (step_limit Third - next.1.steps) + 2 = ap (λ r. turns_on (Some r)) seen_next in
+        let was : turns_on (Some (running_in s m done asked s.running)) ≡ (step_limit Third - way.2.state.steps) + 2 = ap (λ r. turns_on (Some r)) seen_old in
         let now = next.5.state.at.rest.steps in
         let before = way.2.running.state.at.rest.steps in
         omega (arith, is, was, now, before, counts, few)
@@ -232,7 +232,7 @@ module _ (s : Kept) (m : Machine) (done : Option Done) (asked : Option LoadAnswe
     pub ends_nearer : turns_on (Some (running_in s new (Some d) asked s.running)) < turns_on (Some (running_in s m done asked s.running))
     ends_nearer =
         let is : turns_on (Some (running_in s new (Some d) asked s.running)) ≡ 1 = ap (λ r. turns_on (Some r)) seen_ended in
-        let was : turns_on (Some (running_in s m done asked s.running)) ≡ (step_limit Second - way.2.state.steps) + 2 = ap (λ r. turns_on (Some r)) seen_old in
+        let was : turns_on (Some (running_in s m done asked s.running)) ≡ (step_limit Third - way.2.state.steps) + 2 = ap (λ r. turns_on (Some r)) seen_old in
         omega (arith, is, was)
 
     ends_given : IsGiven gives k d.asked → AnswerIsGiven gives (running_in s new (Some d) asked s.running)

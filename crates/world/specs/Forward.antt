@@ -4,11 +4,11 @@ use Rattle.bounds.specs.Paths.{step_limit}
 use Rattle.jtypes.specs.declared.loader.LoadAnswer.{LoadAnswer}
 use Rattle.stripe.specs.History.{key_of}
 use Rattle.world.specs.World.{World, Running, Progress, Working, Settled, Event, Start, Step, Finish, entries_now, progress_of}
-use Rattle.jtypes.specs.Profile.{Second}
+use Rattle.jtypes.specs.Profile.{Third}
 
 -- An upper bound on the events that a call still needs: its steps up to the limit of an accepted class, and the finish.
 abbrev pub turns_of : Progress → ℕ
-turns_of (Working c s) = (step_limit Second - s.steps) + 2
+turns_of (Working c s) = (step_limit Third - s.steps) + 2
 turns_of (Settled reply after asked) = 1
 
 abbrev pub turns_on : Option (Option Running) → ℕ

@@ -1,7 +1,7 @@
 //! A stripe and the call that runs on it.
 
 ghost use Rattle.std.specs.Prelude.{◌≡◌, ◌↔◌, ◌≤◌, IfSome, IfNone, IsSome, IsTrue, None, Some, map, length, suc, if◌then◌else◌};
-ghost use Rattle.jtypes.specs.Profile.{Second};
+ghost use Rattle.jtypes.specs.Profile.{Third};
 ghost use Rattle.bounds.specs.Paths.{step_limit};
 ghost use Rattle.verdict.specs.Machine.{State};
 ghost use Rattle.ended.specs.declared.done.Done.{Done as DoneSeen};
@@ -64,7 +64,7 @@ fn one_step<L: Loader>(workspace: &mut Workspace, class: &Verified, loader: &L) 
     requires { (s : State) × IsRunningWith L.ASKS class.now s workspace.old }
     ensures steps { (s : State) → IsRunningWith L.ASKS class.now s workspace.old → StepsOn (L.gives loader.now) class.now s result workspace.new }
     ensures counts { (s : State) → IsRunningWith L.ASKS class.now s workspace.old → result ≡ Going.Going → workspace.new.steps ≡ suc workspace.old.steps }
-    ensures few { (s : State) → IsRunningWith L.ASKS class.now s workspace.old → result ≡ Going.Going → workspace.new.steps ≤ step_limit Second }
+    ensures few { (s : State) → IsRunningWith L.ASKS class.now s workspace.old → result ≡ Going.Going → workspace.new.steps ≤ step_limit Third }
     ensures counted { IsCounted class.now workspace.new }
     ensures given { KeepsGiven (L.gives loader.now) workspace.old workspace.new }
     ensures told { (d : DoneSeen) → result ≡ Going.Ended d → d.asked ≡ workspace.new.entry.now.asked }

@@ -4,7 +4,7 @@ use Rattle.decode.specs.Places.{BranchStands}
 use Rattle.decode.specs.Faults.{BranchStandsAt}
 use Rattle.decode.proofs.Runs.{sequence_once, sequence_rises}
 use Rattle.decode.proofs.RisingKeys.{sequence_keys}
-use Rattle.jtypes.specs.Profile.{Second}
+use Rattle.jtypes.specs.Profile.{Third}
 use Rattle.decode.proofs.reading.decode_at.Goals as goal
 
 pub new-code-requires-clause-rising : goal.new-code-requires-clause-rising
@@ -13,14 +13,14 @@ new-code-requires-clause-rising c =
     sequence_rises c.args.pool.now 0 c.args.bytes.now c.in_ok-read_sequence.field-0.items small c.in_ok-read_sequence.ensures.0
 
 pub new-code-requires-clause-keys : goal.new-code-requires-clause-keys
-new-code-requires-clause-keys c = sequence_keys Second c.args.pool.now 0 c.args.bytes.now c.in_ok-read_sequence.field-0.items c.in_ok-read_sequence.ensures.0
+new-code-requires-clause-keys c = sequence_keys Third c.args.pool.now 0 c.args.bytes.now c.in_ok-read_sequence.field-0.items c.in_ok-read_sequence.ensures.0
 
 pub returns-in-None-clause-accepted : goal.returns-in-None-clause-accepted
 returns-in-None-clause-accepted c = λ r.
     elim [
       | inl s ↦ c.in_ok-read_sequence.ensures.1 r s
       | inr (code, q, b) ↦
-          let same = sequence_once c.args.pool.now 0 c.args.bytes.now c.args.bytes.now code c.in_ok-read_sequence.field-0.items refl q c.in_ok-read_sequence.ensures.0 in
+          let same = sequence_once Third c.args.pool.now 0 c.args.bytes.now c.args.bytes.now code c.in_ok-read_sequence.field-0.items refl q c.in_ok-read_sequence.ensures.0 in
           c.in-None.ensures.none r (subst (λ (ps : List Placed). BranchStands ps r) (same ∙ sym c.new-code.ensures) b)
     ]
 

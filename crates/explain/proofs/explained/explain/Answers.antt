@@ -1,7 +1,7 @@
 use Rattle.std.proofs.Common.{◌≡◌, ◌⊎◌, ◌∙◌, refl, sym, ap, subst, Err, inr}
 use Rattle.jtypes.specs.declared.refusal.Refusal.{Refusal}
 use Rattle.jtypes.specs.declared.refusal.Refusal.TheVariants.{NoMemory, LengthNotConstant, Recursive}
-use Rattle.jtypes.specs.Profile.{Second}
+use Rattle.jtypes.specs.Profile.{Third}
 use Rattle.bounds.specs.Lengths.{HaveLengths}
 use Rattle.bounds.specs.Limits.{IsLimit}
 use Rattle.verdict.specs.TypedClasses.{IsTypedClass}
@@ -60,8 +60,8 @@ returns-in-LengthNotConstant c =
     let value = c.as_slice-methods.ensures.value in
     let bound = rw value at c.in-Err-bound.ensures in
     let refusal : Refusal = c.in-Err-bound.refusal in
-    let stands : (refusal ≡ NoMemory) ⊎ IsRefused Second bytes refusal = bounds_refused bytes pool p t.constructor t.codes t.shape t.items t.found rows t.typed t.file refusal bound.refusal bound.judged bound.limit bound.recursive (λ s. bound.lacking (ap Err s)) (λ s. bound.process (ap Err s)) bound.answer in
-    let length = subst (λ (r : Refusal). (r ≡ NoMemory) ⊎ IsRefused Second bytes r) c.in-LengthNotConstant.is stands in
+    let stands : (refusal ≡ NoMemory) ⊎ IsRefused Third bytes refusal = bounds_refused bytes pool p t.constructor t.codes t.shape t.items t.found rows t.typed t.file refusal bound.refusal bound.judged bound.limit bound.recursive (λ s. bound.lacking (ap Err s)) (λ s. bound.process (ap Err s)) bound.answer in
+    let length = subst (λ (r : Refusal). (r ≡ NoMemory) ⊎ IsRefused Third bytes r) c.in-LengthNotConstant.is stands in
     told_refused bytes c.lacking.result c.refused-in-LengthNotConstant.result (lacking_told bytes pool p rows t c.lacking.result (rw value at c.lacking.ensures) length) c.refused-in-LengthNotConstant.ensures
 
 pub returns-in-Some : goal.returns-in-Some

@@ -1,17 +1,17 @@
 use Rattle.std.proofs.Common.{subst}
-use Rattle.interpreter.proofs.Taking.{HasShape, library_called, told_called, ints_shape, longs_shape, reference_shape}
+use Rattle.interpreter.proofs.Taking.{HasShape, library_called, told_called, int_shape, ints_shape, longs_shape, reference_shape}
 use Rattle.interpreter.proofs.library.call_library.Goals as goal
 
 pub call_on_int-requires : goal.call_on_int-requires
 call_on_int-requires c =
     let (k, e, x, call, r) = c.requires in
     let t = library_called k c.args.machine.now c.args.native e x call r in
-    (k, t.values, t.rest, subst (λ n. HasShape n t.values) c.in-IntegerValueOf.is t.shape, t.called)
+    (k, t.values, t.rest, int_shape c.args.native t.values c.in-IntegerValueOf.is t.shape, t.called)
 
 pub returns-in-IntegerValueOf-clause-told : goal.returns-in-IntegerValueOf-clause-told
 returns-in-IntegerValueOf-clause-told c k e x call r =
     let t = library_called k c.args.machine.now c.args.native e x call r in
-    told_called k c.args.machine.now c.call_on_int.new.machine c.args.native c.call_on_int.result _ t (c.call_on_int.ensures.told k t.values t.rest (subst (λ n. HasShape n t.values) c.in-IntegerValueOf.is t.shape) t.called)
+    told_called k c.args.machine.now c.call_on_int.new.machine c.args.native c.call_on_int.result _ t (c.call_on_int.ensures.told k t.values t.rest (int_shape c.args.native t.values c.in-IntegerValueOf.is t.shape) t.called)
 
 pub call_on_long-requires : goal.call_on_long-requires
 call_on_long-requires c =

@@ -11,7 +11,7 @@ use Rattle.verdict.proofs.Spots.{instruction_located}
 use Rattle.verdict.specs.declared.instructions.Found.{Found}
 use Rattle.verdict.proofs.Numbered.{next_numbered, skip_numbered}
 use Rattle.verdict.proofs.instructions.judge_instructions.Goals.{then-number-constructor+in-Ok+in_ok-push-in-Ok, else-number-constructor}
-use Rattle.jtypes.specs.Profile.{Second}
+use Rattle.jtypes.specs.Profile.{Third}
 use Rattle.verdict.proofs.instructions.judge_instructions.Goals as goal
 
 pub loop-number-preserved : goal.loop-number-preserved
@@ -43,5 +43,5 @@ returns-in-Err-clause-err c =
     let f : Fault = c.in-Err.fault in
     let there = slice_get-get_or codes n parts c.loop-number-test.true ∙ ap (λ (x : CodeParts). Some x) (sym c.index-codes-number.is) in
     let bytes = c.as_slice.ensures ∙ ap (λ (x : CodeParts). x.code) (sym c.index-codes-number.is) in
-    let stands : (f.refusal ≡ NoMemory) ⊎ InstructionStandsAt Second v parts.code f.place f.refusal = subst (λ (x : ClassView). (f.refusal ≡ NoMemory) ⊎ InstructionStandsAt Second x parts.code f.place f.refusal) c.requires.view (subst (λ (b : List ℕ). (f.refusal ≡ NoMemory) ⊎ InstructionStandsAt Second c.args.view.now b f.place f.refusal) bytes c.in-Err.ensures.err) in
+    let stands : (f.refusal ≡ NoMemory) ⊎ InstructionStandsAt Third v parts.code f.place f.refusal = subst (λ (x : ClassView). (f.refusal ≡ NoMemory) ⊎ InstructionStandsAt Third x parts.code f.place f.refusal) c.requires.view (subst (λ (b : List ℕ). (f.refusal ≡ NoMemory) ⊎ InstructionStandsAt Third c.args.view.now b f.place f.refusal) bytes c.in-Err.ensures.err) in
     instruction_located pool p c.args.constructor codes c.requires.shape n parts there c.if-number-constructor.true f stands c.located.result c.located.ensures.refusal c.located.ensures.spot

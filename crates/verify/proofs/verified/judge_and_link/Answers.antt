@@ -5,7 +5,7 @@ use Rattle.bounds.specs.Paths.{AreBounds}
 use Rattle.bounds.specs.Rows.{bounds_in}
 use Rattle.verify.proofs.ClassOfBytes.{the_class, is_class, laid_as, has_process}
 use Rattle.verify.proofs.Widths.{can_link_all}
-use Rattle.jtypes.specs.Profile.{Second}
+use Rattle.jtypes.specs.Profile.{Third}
 use Rattle.verify.proofs.verified.judge_and_link.Goals as goal
 
 pub link-requires-clause-rows : goal.link-requires-clause-rows
@@ -52,7 +52,7 @@ invariant_of-result-2 c =
       accepted = h.accepted;
       class = of;
       bounds = λ j is. subst (λ b. AreBounds k j (bounds_in b)) (sym same) (h.bounds k j of is);
-      within = subst (IsWithinLimits Second) (sym same) h.limits;
+      within = subst (IsWithinLimits Third) (sym same) h.limits;
       code = linked.0;
       entry = linked.1;
     }

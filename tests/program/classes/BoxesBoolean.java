@@ -1,9 +1,10 @@
 import javax.cache.processor.EntryProcessor;
 import javax.cache.processor.MutableEntry;
 
-/** A boolean where an Object is wanted: javac boxes it by Boolean.valueOf. */
+/** A cast, Boolean.booleanValue and Boolean.valueOf name the type; no descriptor of the class does. */
 public class BoxesBoolean implements EntryProcessor<Long, Long, Object> {
     public Object process(MutableEntry<Long, Long> entry, Object... arguments) {
-        return entry.exists(); // refused
+        boolean wanted = (Boolean) arguments[0];
+        return entry.exists() == wanted;
     }
 }

@@ -1,5 +1,5 @@
 use Rattle.soundness.proofs.Profiles.{accepted_is_kept, class_goes_on, class_is_kept, bounds_are_kept, meaning_is_kept}
-use Rattle.soundness.proofs.laws.first_profile_is_kept.Goals as goal
+use Rattle.soundness.proofs.laws.profiles_are_kept.Goals as goal
 
 pub returns-clause-accepted : goal.returns-clause-accepted
 returns-clause-accepted c = accepted_is_kept
