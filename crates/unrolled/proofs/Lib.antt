@@ -1,0 +1,9 @@
+pub mod Lists
+pub mod Switches
+pub mod Edges
+pub mod Greatest
+pub mod SameBounds
+pub mod Forward
+pub mod Certificates
+pub mod Circles
+pub mod Unrolled

@@ -1,0 +1,12 @@
+pub mod Known
+pub mod Graph
+pub mod Rules
+pub mod Paths
+pub mod Cover
+pub mod Tables
+pub mod SameBounds
+pub mod Forward
+pub mod Certificates
+pub mod Circles
+pub mod Limits
+pub mod Example
