@@ -1,0 +1,12 @@
+pub mod Agreement
+pub mod Rearranged
+pub mod KnownValues
+pub mod StepEdges
+pub mod Entering
+pub mod Budgets
+pub mod Runs
+pub mod Signatures
+pub mod GoodStates
+pub mod Steps
+pub mod Safe
+pub mod LoopChecked

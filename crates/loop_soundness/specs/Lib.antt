@@ -1,0 +1,4 @@
+pub mod Runs
+pub mod Checked
+pub mod Sound
+pub mod Example
