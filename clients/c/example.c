@@ -2,7 +2,15 @@
 #include <inttypes.h>
 #include <stdio.h>
 #include <stdlib.h>
+#include <string.h>
 #include "jentry.h"
+
+/* Returns a Boolean for `true` and `false`, else a Long. */
+static struct jentry_arg arg_of(const char *word) {
+    bool is_true = strcmp(word, "true") == 0;
+    if (is_true || strcmp(word, "false") == 0) return (struct jentry_arg){ .kind = JENTRY_BOOLEAN, .value = is_true };
+    return (struct jentry_arg){ .kind = JENTRY_LONG, .value = strtoll(word, NULL, 10) };
+}
 
 int main(int argc, char **argv) {
     static uint8_t bytes[65537];
@@ -25,12 +33,14 @@ int main(int argc, char **argv) {
     }
     struct jentry_arg args[8] = {0};
     size_t count = (size_t)argc - 4;
-    for (size_t i = 0; i < count; i++) args[i] = (struct jentry_arg){ .kind = JENTRY_LONG, .value = strtoll(argv[4 + i], NULL, 10) };
+    for (size_t i = 0; i < count; i++) args[i] = arg_of(argv[4 + i]);
     struct jentry_call call = { .number = verdict.number, .present = 1, .key = strtoll(argv[2], NULL, 10), .before = strtoll(argv[3], NULL, 10) };
     struct jentry_done done;
     jentry_invoke(&engine, &call, args, count, &done);
-    if (done.outcome == JENTRY_THREW) printf("threw %s\n", jentry_exception_name(done.value));
-    else printf("returned %" PRId64 " in %" PRIu32 " of at most %" PRIu32 " instructions\n", done.value, done.steps, verdict.steps);
+    if (done.outcome == JENTRY_THREW) printf("threw %s", jentry_exception_name(done.value));
+    else if (done.outcome == JENTRY_BOOLEAN) printf("returned %s", done.value ? "true" : "false");
+    else printf("returned %" PRId64, done.value);
+    printf(" in %" PRIu32 " of at most %" PRIu32 " instructions\n", done.steps, verdict.steps);
     if (done.effect == JENTRY_DELETE) puts("removed");
     else if (done.effect == JENTRY_PUT) printf("set to %" PRId64 "\n", done.put);
     jentry_close(&engine);

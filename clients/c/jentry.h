@@ -10,11 +10,15 @@
  *
  * The caller stores the entries. It passes an entry as it is before a run, and gets the change that the processor makes.
  *
- * A caller has to follow these rules:
- *   - There is one call at a time on a handle. Different handles are independent, and may be used by any threads.
- *   - Only these functions write the bytes of a handle. All of its bytes are zero before jentry_open.
- *   - A pointer refers to as many elements as its type and length say, and isn't null even if the length is 0.
- * A function writes all fields of its result struct, in every case. No function prints, blocks, or starts a thread.
+ * A caller has to follow these rules. The proofs assume them, and no function checks them:
+ *   - A handle stays on the thread that opened it, with one call at a time. Different handles are independent.
+ *   - All bytes of a handle are zero before its first jentry_open. From then on only these functions write them: `open` is 0 or 1, the
+ *     bytes are as the last call left them, and no copy of a handle is used.
+ *   - A pointer isn't null even if the length is 0, is aligned for its type, and refers to as many elements as its length says.
+ *   - What a function writes doesn't overlap what it reads.
+ *   - No function is called by a signal handler, or in the forked child of a process that has threads.
+ *   - rattle_alloc, rattle_realloc and rattle_dealloc, which the core calls, are of one allocator, and aligned as they are asked for.
+ * A function writes all fields of its result struct, in every case. No function prints or starts a thread, or waits but for memory.
  */
 #ifndef JENTRY_H
 #define JENTRY_H
@@ -27,7 +31,7 @@
 extern "C" {
 #endif
 
-/* The caller's reference to an engine. All bytes are zero before jentry_open and after jentry_close. */
+/* The caller's reference to an engine. After jentry_close `open` is 0; the other bytes may be any, and jentry_open opens it again. */
 struct jentry_handle {
     void *at;
     bool open;
@@ -43,10 +47,11 @@ struct jentry_verdict {
     uint8_t id[20];
 };
 
-/* The kinds of an argument, and the outcomes of a run that returned. */
-enum { JENTRY_NULL = 0, JENTRY_LONG = 1, JENTRY_INTEGER = 2 };
+/* The kinds of an argument, and the outcomes of a run that returned. A Boolean has the value 0 or 1. */
+enum { JENTRY_NULL = 0, JENTRY_LONG = 1, JENTRY_INTEGER = 2, JENTRY_BOOLEAN = 7 };
 
-/* An argument of a run. An Integer outside of 32 bits and any other kind are denied with JENTRY_NO_ARGUMENT. */
+/* An argument of a run. An Integer outside of 32 bits, a Boolean other than 0 and 1, and any other kind are denied with
+ * JENTRY_NO_ARGUMENT. */
 struct jentry_arg {
     uint32_t kind, unused;
     int64_t value;
@@ -58,9 +63,10 @@ struct jentry_call {
     int64_t key, before;
 };
 
-/* The other outcomes of a call. For 4 and above nothing was run, and all fields after `outcome` are 0. */
+/* The other outcomes of a call. For 4 to 6 nothing was run, and all fields after `outcome` are 0. The class was run for 0 to 3 and for 7:
+ * `outcome <= JENTRY_THREW` leaves out the runs that returned a Boolean. */
 enum {
-    JENTRY_THREW = 3,          /* `value` is the number of the exception, 1 to 6; the effect is JENTRY_KEEP */
+    JENTRY_THREW = 3,          /* `value` is the number of the exception, 1 to 5; the effect is JENTRY_KEEP */
     JENTRY_NO_CLASS = 4,       /* no class has the number, or the handle isn't open */
     JENTRY_MANY_ARGUMENTS = 5, /* more than eight arguments */
     JENTRY_NO_ARGUMENT = 6     /* an argument is invalid */
@@ -75,8 +81,8 @@ enum { JENTRY_KEEP = 0, JENTRY_PUT = 1, JENTRY_DELETE = 2 };
  * value from no call. */
 enum { JENTRY_UNTOUCHED = 0, JENTRY_SET = 1, JENTRY_REMOVED = 2 };
 
-/* The result of a call: the returned value in `outcome` and `value`, or the exception; the effect on the entry; the instructions and
- * array words that the run took; and in `left` what the processor did to the entry. */
+/* The result of a call: the kind of the returned value in `outcome` and its number in `value`, or the exception; the effect on the entry;
+ * the instructions and array words that the run took; and in `left` what the processor did to the entry. */
 struct jentry_done {
     uint32_t outcome, effect;
     int64_t value, put;
@@ -94,7 +100,8 @@ void jentry_close(struct jentry_handle *handle);
  * also the result for a handle that isn't open. A refusal changes nothing. Equal bytes get a new number each time. */
 void jentry_define(struct jentry_handle *handle, const uint8_t *bytes, size_t length, struct jentry_verdict *verdict);
 
-/* Removes the class with this number. Returns 1, or 0 if there is none. A number isn't used again. */
+/* Removes the class with this number. Returns 1, or 0 if there is none. The number isn't used again until the handle is closed; an
+ * engine that is opened later counts from 0. */
 uint32_t jentry_forget(struct jentry_handle *handle, uint32_t number);
 
 /* Runs a class on an entry, with up to eight arguments, and writes the result to `done`. */
@@ -110,7 +117,7 @@ size_t jentry_explain(const uint8_t *bytes, size_t length, uint8_t *text, size_t
 const char *jentry_refusal_name(uint32_t refusal);
 const char *jentry_exception_name(int64_t exception);
 
-/* The layouts with which the core was built. */
+/* The layouts that the core expects. */
 #ifdef __cplusplus
 #define JENTRY_ASSERT static_assert
 #else

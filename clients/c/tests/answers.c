@@ -2,10 +2,13 @@
  *
  *   answers check FILE | explain FILE | run FILE KEY VALUE [ARG ..]     prints what the program prints, with its status
  *   answers calls                                                       runs each line `FILE KEY VALUE [ARG ..]` of the input
- *   answers edges FILE OTHER                                            tests denied calls, handles that aren't open, and removed classes
+ *   answers edges ADD PLUS RESERVE                                      tests denied calls, handles that aren't open, and removed classes
+ *   answers threads FILE                                                tests four handles at once, each on a thread of its own
  */
+#define _POSIX_C_SOURCE 200809L
 #include <errno.h>
 #include <inttypes.h>
+#include <pthread.h>
 #include <stdio.h>
 #include <stdlib.h>
 #include <string.h>
@@ -74,9 +77,11 @@ static int explain(const char *name) {
     return status;
 }
 
-/* Parses an argument: a Long, an Integer (with the suffix `i`), or `null`. */
+/* Parses an argument: a Long, an Integer (with the suffix `i`), `true`, `false`, or `null`. */
 static struct jentry_arg arg_of(const char *word) {
     if (strcmp(word, "null") == 0) return (struct jentry_arg){ .kind = JENTRY_NULL };
+    if (strcmp(word, "false") == 0) return (struct jentry_arg){ .kind = JENTRY_BOOLEAN, .value = 0 };
+    if (strcmp(word, "true") == 0) return (struct jentry_arg){ .kind = JENTRY_BOOLEAN, .value = 1 };
     char *end;
     errno = 0;
     int64_t value = strtoll(word, &end, 10);
@@ -90,6 +95,7 @@ static struct jentry_arg arg_of(const char *word) {
 static int print_run(const struct jentry_call *call, const struct jentry_done *done) {
     if (done->outcome == JENTRY_THREW) printf("threw %" PRId64 " %s\n", done->value, jentry_exception_name(done->value));
     else if (done->outcome == JENTRY_NULL) printf("result null\n");
+    else if (done->outcome == JENTRY_BOOLEAN) printf("result %s\n", done->value == 1 ? "true" : done->value == 0 ? "false" : "bad");
     else printf("result %" PRId64 "%s\n", done->value, done->outcome == JENTRY_INTEGER ? "i" : "");
     bool exists = done->effect == JENTRY_PUT || (done->effect == JENTRY_KEEP && call->present);
     int64_t now = done->effect == JENTRY_PUT ? done->put : call->before;
@@ -214,8 +220,10 @@ static void arguments(struct jentry_handle *engine, uint32_t add) {
     for (size_t i = 0; i < 9; i++) nine[i] = (struct jentry_arg){ .kind = JENTRY_LONG, .value = 1 };
     HOLDS(on_41(engine, add, nine, 8).value == 42);
     HOLDS(is_denied(on_41(engine, add, nine, 9), JENTRY_MANY_ARGUMENTS));
-    struct jentry_arg odd = { .kind = 3, .value = 1 };
-    HOLDS(is_denied(on_41(engine, add, &odd, 1), JENTRY_NO_ARGUMENT));
+    for (uint32_t kind = 3; kind < 20; kind++) {
+        struct jentry_arg odd = { .kind = kind, .value = 1 };
+        HOLDS(kind == JENTRY_BOOLEAN || is_denied(on_41(engine, add, &odd, 1), JENTRY_NO_ARGUMENT));
+    }
     for (int64_t value = INT64_C(1) << 31; value <= INT64_C(1) << 33; value *= 2) {
         struct jentry_arg large = { .kind = JENTRY_INTEGER, .value = value };
         HOLDS(is_denied(on_41(engine, add, &large, 1), JENTRY_NO_ARGUMENT));
@@ -230,6 +238,31 @@ static void arguments(struct jentry_handle *engine, uint32_t add) {
     HOLDS(done.outcome == JENTRY_THREW && done.value == 3);
     done = on_41(engine, add, &null, 0);
     HOLDS(done.outcome == JENTRY_THREW && done.value == 2);
+}
+
+/* Tests a class that returns and takes Booleans. Its outcome is above those of calls that were denied, and yet it was run. */
+static void booleans(struct jentry_handle *engine, uint32_t reserve) {
+    struct jentry_arg args[2] = { { .kind = JENTRY_LONG, .value = 40 }, { .kind = JENTRY_BOOLEAN, .value = 1 } };
+    struct jentry_done done = on_41(engine, reserve, args, 2);
+    HOLDS(done.outcome == JENTRY_BOOLEAN && done.value == 1 && done.effect == JENTRY_KEEP && done.left == JENTRY_UNTOUCHED);
+    HOLDS(done.steps == 48 && done.words == 0 && done.put == 0 && done.unused == 0);
+    args[1].value = 0;
+    done = on_41(engine, reserve, args, 2);
+    HOLDS(done.outcome == JENTRY_BOOLEAN && done.value == 1 && done.effect == JENTRY_PUT && done.put == 1 && done.left == JENTRY_SET);
+    args[0].value = 42;
+    done = on_41(engine, reserve, args, 2);
+    HOLDS(done.outcome == JENTRY_BOOLEAN && done.value == 0 && done.effect == JENTRY_KEEP && done.steps == 44);
+    const int64_t bad[] = { -1, 2, INT64_MAX, INT64_MIN, INT64_C(1) << 32 };
+    for (size_t i = 0; i < sizeof bad / sizeof *bad; i++) {
+        args[1].value = bad[i];
+        HOLDS(is_denied(on_41(engine, reserve, args, 2), JENTRY_NO_ARGUMENT));
+    }
+    args[1] = (struct jentry_arg){ .kind = JENTRY_NULL };
+    done = on_41(engine, reserve, args, 2);
+    HOLDS(done.outcome == JENTRY_THREW && done.value == 3);
+    args[1] = (struct jentry_arg){ .kind = JENTRY_LONG, .value = 1 };
+    done = on_41(engine, reserve, args, 2);
+    HOLDS(done.outcome == JENTRY_THREW && done.value == 4);
 }
 
 /* Tests how a run leaves the entry: after a put of another value, after a put of the same value, and after an exception. */
@@ -287,18 +320,68 @@ static void two_engines(const uint8_t *bytes, size_t length) {
     jentry_close(&other);
 }
 
-static int edges(const char *add_name, const char *plus_name) {
+/* Defines the class in a file, which has to be accepted, and returns its number. */
+static uint32_t defined(struct jentry_handle *engine, const char *name) {
+    struct jentry_verdict verdict;
+    size_t length;
+    uint8_t *bytes = read_file(name, &length);
+    jentry_define(engine, bytes, length, &verdict);
+    free(bytes);
+    HOLDS(verdict.refusal == 0);
+    return verdict.number;
+}
+
+enum { THREADS = 4, CALLS = 200 };
+
+static struct { pthread_barrier_t are_open; const uint8_t *bytes; size_t length; } shared;
+
+/* Opens a handle on this thread, waits until each thread has done so, and defines, runs and forgets a class that adds. Stores at `place`
+ * how often that was right. */
+static void *calls_on_a_thread(void *place) {
     struct jentry_handle engine = {0};
-    struct jentry_verdict add, plus;
-    size_t length, plus_length;
-    uint8_t *bytes = read_file(add_name, &length), *plus_bytes = read_file(plus_name, &plus_length);
+    struct jentry_verdict verdict;
+    struct jentry_arg one = { .kind = JENTRY_LONG, .value = 1 };
+    int right = 0;
+    if (jentry_open(&engine) != 0) puts("not opened");
+    pthread_barrier_wait(&shared.are_open);
+    for (int i = 0; i < CALLS; i++) {
+        jentry_define(&engine, shared.bytes, shared.length, &verdict);
+        right += verdict.refusal == 0 && verdict.number == (uint32_t)i && on_41(&engine, verdict.number, &one, 1).value == 42 &&
+                 jentry_forget(&engine, verdict.number) == 1;
+    }
+    jentry_close(&engine);
+    *(int *)place = right;
+    return NULL;
+}
+
+static int threads(const char *name) {
+    pthread_t started[THREADS];
+    int rights[THREADS], sum = 0;
+    uint8_t *bytes = read_file(name, &shared.length);
+    shared.bytes = bytes;
+    pthread_barrier_init(&shared.are_open, NULL, THREADS);
+    for (int i = 0; i < THREADS; i++)
+        if (pthread_create(&started[i], NULL, calls_on_a_thread, &rights[i]) != 0) return OTHER;
+    for (int i = 0; i < THREADS; i++) {
+        pthread_join(started[i], NULL);
+        sum += rights[i];
+    }
+    pthread_barrier_destroy(&shared.are_open);
+    free(bytes);
+    printf("%d right of %d\n", sum, THREADS * CALLS);
+    return sum == THREADS * CALLS ? OK : OTHER;
+}
+
+static int edges(const char *add_name, const char *plus_name, const char *reserve_name) {
+    struct jentry_handle engine = {0};
+    size_t length;
+    uint8_t *bytes = read_file(add_name, &length);
     closed_handles(bytes, length);
     HOLDS(jentry_open(&engine) == 0);
-    jentry_define(&engine, bytes, length, &add);
-    jentry_define(&engine, plus_bytes, plus_length, &plus);
-    HOLDS(add.refusal == 0 && plus.refusal == 0);
-    arguments(&engine, add.number);
-    ends(&engine, add.number, plus.number);
+    uint32_t add = defined(&engine, add_name);
+    arguments(&engine, add);
+    ends(&engine, add, defined(&engine, plus_name));
+    booleans(&engine, defined(&engine, reserve_name));
     numbers(&engine, bytes, length);
     jentry_close(&engine);
     two_engines(bytes, length);
@@ -306,7 +389,6 @@ static int edges(const char *add_name, const char *plus_name) {
     HOLDS(strcmp(jentry_refusal_name(1), "TooLarge") == 0 && strcmp(jentry_refusal_name(30), "NoMemory") == 0);
     HOLDS(strcmp(jentry_exception_name(0), "") == 0 && strcmp(jentry_exception_name(7), "") == 0 && strcmp(jentry_exception_name(-1), "") == 0);
     free(bytes);
-    free(plus_bytes);
     printf("%d failures\n", failures);
     return failures ? 1 : 0;
 }
@@ -316,7 +398,8 @@ int main(int argc, char **argv) {
     if (argc == 3 && strcmp(argv[1], "explain") == 0) return explain(argv[2]);
     if (argc >= 5 && strcmp(argv[1], "run") == 0) return run(argv + 2, argc - 2);
     if (argc == 2 && strcmp(argv[1], "calls") == 0) return calls();
-    if (argc == 4 && strcmp(argv[1], "edges") == 0) return edges(argv[2], argv[3]);
-    fprintf(stderr, "usage: answers check FILE | explain FILE | run FILE KEY VALUE [ARG ..] | calls | edges FILE OTHER\n");
+    if (argc == 5 && strcmp(argv[1], "edges") == 0) return edges(argv[2], argv[3], argv[4]);
+    if (argc == 3 && strcmp(argv[1], "threads") == 0) return threads(argv[2]);
+    fprintf(stderr, "usage: answers check FILE | explain FILE | run FILE KEY VALUE [ARG ..] | calls | edges ADD PLUS RESERVE | threads FILE\n");
     return USAGE;
 }

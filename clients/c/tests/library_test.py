@@ -17,6 +17,7 @@ PATIENCE = 600
 MOST = 2**63 - 1
 SANITIZED = [
     "-std=c11",
+    "-pthread",
     "-g",
     "-O1",
     "-Wall",
@@ -99,8 +100,15 @@ class Library(Built):
         told, status = run(os.path.join(self.out, "example"), os.path.join(EXAMPLES, "refused/Loop.class"), 7, 41)
         self.assertEqual((told, status), ("refused 20 BackwardBranch\n", 2))
         self.assertEqual(run(os.path.join(self.out, "example"), "none", 7, 41)[1], 1)
+        for arguments, wanted in (
+            ((50,), "returned false in 38 of at most 52 instructions\n"),
+            ((40, "true"), "returned true in 48 of at most 52 instructions\n"),
+            ((40, "false"), "returned true in 51 of at most 52 instructions\nset to 1\n"),
+        ):
+            told = run(os.path.join(self.out, "example"), os.path.join(EXAMPLES, "Reserve.class"), 7, 41, *arguments)
+            self.assertEqual(told, (wanted, 0))
         with open(os.path.join(HERE, "example.c"), encoding="utf-8") as source:
-            self.assertLessEqual(len(source.readlines()), 40)
+            self.assertLessEqual(len(source.readlines()), 48)
 
     def test_installed_and_shared(self):
         place = os.path.join(self.folder, "installed")
@@ -153,8 +161,13 @@ class Library(Built):
 
 class Answers(Built):
     def test_edges(self):
-        told, _ = run(self.answers, "edges", os.path.join(EXAMPLES, "Add.class"), os.path.join(EXAMPLES, "Plus.class"))
+        files = [os.path.join(EXAMPLES, name + ".class") for name in ("Add", "Plus", "Reserve")]
+        told, _ = run(self.answers, "edges", *files)
         self.assertEqual(told, "0 failures\n")
+
+    def test_handles_on_threads_of_their_own(self):
+        told, _ = run(self.answers, "threads", os.path.join(EXAMPLES, "Add.class"))
+        self.assertEqual(told, "800 right of 800\n")
 
     def test_verdicts_of_the_rows(self):
         import row_classes
@@ -217,7 +230,7 @@ def random_call(chosen):
         return chosen.choice([0, 1, 5, 41, 2**31, MOST, chosen.randrange(10**6), chosen.getrandbits(63)])
 
     args = [
-        chosen.choice([str(number()), str(number()), f"{chosen.randrange(2**31)}i", "null"])
+        chosen.choice([str(number()), str(number()), f"{chosen.randrange(2**31)}i", "null", "true", "false"])
         for _ in range(chosen.randrange(5))
     ]
     return [str(number()), chosen.choice(["none", str(number()), str(number())]), *args]
