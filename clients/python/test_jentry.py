@@ -13,7 +13,9 @@ HERE = os.path.dirname(os.path.abspath(__file__))
 sys.path[:0] = [HERE, os.path.join(HERE, "../tests")]
 import jentry
 from class_files import EXAMPLES, heavy, plus, ratio
-from python_cases import HAS_PROCESSORS, Endings, Threaded
+from jentry import requests
+from jentry.requests import CONTAINS, GET, INVOKE, INVOKE_ALL, read_answer
+from python_cases import HAS_PROCESSORS, Endings, Threaded, wrong_calls
 from running import PATIENCE, PROGRAM, SERVER, STAND_IN
 
 LEAST, MOST = -(2**63), 2**63 - 1
@@ -24,7 +26,7 @@ import jentry
 signal.signal(signal.SIGINT, signal.default_int_handler)  # a shell's background command has it ignored
 with jentry.Cache.start(*sys.argv[2:]) as cache:
     def tell():
-        while cache._waiting or not cache._is_led:
+        while cache._exchanges._waiting or not cache._exchanges._is_led:
             threading.Event().wait(0.01)
         print("begins", flush=True)
     threading.Thread(target=tell).start()
@@ -79,18 +81,20 @@ class Plain(unittest.TestCase):
             self.assertEqual(self.cache.get(number), number)
 
     def test_what_can_not_be_sent_is_not_sent(self):
-        for wrong in (lambda: self.cache.put(2**63, 1), lambda: self.cache.get("7"), lambda: self.cache.put(1, None)):
-            with self.assertRaises(Exception) as told:
-                wrong()
-            self.assertNotIsInstance(told.exception, jentry.Error)
         processor = self.cache.define(plus())
-        with self.assertRaises(ValueError):
-            self.cache.invoke(1, processor, *range(9))
-        with self.assertRaises(ValueError):
-            self.cache.invoke_all(range(4_097), processor)
-        with self.assertRaises(ValueError):
-            self.cache.define(bytes(jentry.LONGEST))
+        for wrong in wrong_calls(self.cache, processor):
+            with self.subTest(wrong=wrong), self.assertRaises(jentry.WrongArgument) as told:
+                wrong()
+            self.assertIsInstance(told.exception, ValueError)
+        for number in (2**63, -(2**63) - 1):
+            with self.assertRaisesRegex(jentry.Error, f"one of 1, {number} is no Long"):
+                self.cache.put(1, number)
         self.assertIsNone(self.cache.get(1))
+
+    def test_a_program_that_is_not_there(self):
+        with self.assertRaisesRegex(jentry.NotConnected, "/none/jentry can't be started: No such file") as told:
+            jentry.Cache.start("/none/jentry", "serve")
+        self.assertIsInstance(told.exception, OSError)
 
     def test_processors(self):
         processor = self.cache.define(plus())
@@ -202,7 +206,7 @@ class Threads(Threaded, Endings):
                         told.append("ended")
 
                 def kill():
-                    while not cache._is_led or len(cache._waiting) < 8:
+                    while not cache._exchanges._is_led or len(cache._exchanges._waiting) < 8:
                         threading.Event().wait(0.001)
                     self.assertEqual(told, [])
                     with open(number) as file:
@@ -210,7 +214,7 @@ class Threads(Threaded, Endings):
 
                 leader = threading.Thread(target=work, args=(0,))
                 leader.start()
-                while not cache._is_led or cache._waiting:
+                while not cache._exchanges._is_led or cache._exchanges._waiting:
                     threading.Event().wait(0.001)
                 self.run_threads(8, lambda n: work(n + 1), meanwhile=kill)
                 leader.join(PATIENCE)
@@ -247,7 +251,7 @@ class Threads(Threaded, Endings):
 
         thread = threading.Thread(target=work, args=(0,))
         thread.start()
-        while not cache._is_led:
+        while not cache._exchanges._is_led:
             threading.Event().wait(0.01)
         cache.close()
         thread.join(PATIENCE)
@@ -265,16 +269,16 @@ class Threads(Threaded, Endings):
 
         threads = [threading.Thread(target=work) for _ in range(3)]
         threads[0].start()
-        while not cache._is_led:
+        while not cache._exchanges._is_led:
             threading.Event().wait(0.01)
         for thread in threads[1:]:
             thread.start()
-        while len(cache._waiting) < 2:
+        while len(cache._exchanges._waiting) < 2:
             threading.Event().wait(0.01)
         reader.goes_on.set()
         for thread in threads:
             thread.join(PATIENCE)
-        self.assertEqual(sorted(told), ["KeyboardInterrupt", "None", "StreamEnded"])
+        self.assertEqual(sorted(told), ["KeyboardInterrupt", "None", "OutcomeUnknown"])
 
     def test_a_leader_that_is_interrupted_breaks_the_stream(self):
         words = [sys.executable, "-c", INTERRUPTED, HERE, *STAND_IN, "--slow", "30"]
@@ -287,21 +291,41 @@ class Threads(Threaded, Endings):
 
 class Answers(unittest.TestCase):
     def test_what_is_no_reply(self):
-        for text in (b"", b"\0", b"\x04", b"\x04\1", b"\x04\3", b"\x04\0\0", b"\3", b"\5\1", b"\x09", b"\x0a"):
+        values = (b"\x04", b"\x04\1", b"\x04\2\0\0\0\1", b"\x04\3", b"\x04\4", b"\x04\0\0")
+        for text in (b"", b"\0", *values, b"\3", b"\5\1", b"\x09", b"\x0a"):
             with self.subTest(text=text), self.assertRaises(jentry.StreamEnded):
-                jentry.read_answer(jentry.GET, text)
-        self.assertIsNone(jentry.read_answer(jentry.GET, b"\4\0"))
-        self.assertIsInstance(jentry.read_answer(jentry.GET, b"\x08\3"), jentry.Denied)
+                read_answer(GET, text)
+        self.assertIsNone(read_answer(GET, b"\4\0"))
+        self.assertIsInstance(read_answer(GET, b"\x08\3"), jentry.Denied)
+
+    def test_each_kind_of_argument(self):
+        request = requests.invoke(7, jentry.Class(5, 0, 0), (9, jentry.Int(-1), None, True, False))
+        arguments = b"\5" + b"\1" + bytes(7) + b"\x09" + b"\2\xff\xff\xff\xff" + b"\0" + b"\4" + b"\3"
+        text = b"\6\0\0\0\5" + bytes(7) + b"\7" + arguments
+        self.assertEqual(request.frame(), bytes([0, 0, 0, len(text)]) + text)
+
+    def test_each_kind_of_result(self):
+        for text, wanted in ((b"\0", None), (b"\1" + bytes(7) + b"\x09", 9), (b"\3", False), (b"\4", True)):
+            with self.subTest(text=text):
+                told = read_answer(INVOKE, b"\6\0" + text)
+                self.assertIs(type(told), type(wanted))
+                self.assertEqual(told, wanted)
+        keys = [bytes(7) + bytes([key]) for key in range(3)]
+        results = b"\7\0\3" + keys[0] + b"\0\4" + keys[1] + b"\0\3" + keys[2] + b"\0\2\0\0\0\5"
+        self.assertEqual(read_answer(INVOKE_ALL, results), {0: True, 1: False, 2: 5})
+        for text in (b"\3\0", b"\5", b"\7"):
+            with self.subTest(text=text), self.assertRaises(jentry.StreamEnded):
+                read_answer(INVOKE, b"\6\0" + text)
 
     def test_a_get_whose_loader_failed(self):
-        told = jentry.read_answer(jentry.GET, b"\6\1\6")
+        told = read_answer(GET, b"\6\1\6")
         self.assertIsInstance(told, jentry.ProcessorThrew)
         self.assertEqual((told.number, told.name), (6, "CacheLoaderException"))
         for text in (b"\6\0\0", b"\6\2\3", b"\6\1", b"\6\1\6\0"):
             with self.subTest(text=text), self.assertRaises(jentry.StreamEnded):
-                jentry.read_answer(jentry.GET, text)
+                read_answer(GET, text)
         with self.assertRaises(jentry.StreamEnded):
-            jentry.read_answer(jentry.CONTAINS, b"\6\1\6")
+            read_answer(CONTAINS, b"\6\1\6")
 
     def test_names(self):
         names = [jentry.ProcessorThrew(number).name for number in range(1, 8)]
@@ -309,9 +333,15 @@ class Answers(unittest.TestCase):
         self.assertEqual(str(jentry.Refused(17, 186)), "refused: 17 OutsideProfile opcode 186")
         self.assertEqual(str(jentry.Refused(22, 9)), "refused: 22 TypeMismatch at 9")
         self.assertEqual(str(jentry.Denied(77)), "denied: 77 unknown")
-        for it in (jentry.Error, jentry.StreamEnded, jentry.Denied, jentry.Refused, jentry.ProcessorThrew):
-            self.assertIs(getattr(jentry, it.__name__), it)
-            self.assertEqual(it.__module__, "jentry")
+
+    def test_all_exceptions_have_one_base(self):
+        exceptions = {
+            name: it for name, it in vars(jentry).items() if isinstance(it, type) and issubclass(it, Exception)
+        }
+        self.assertEqual(len(exceptions), 10)
+        for name, it in exceptions.items():
+            self.assertTrue(issubclass(it, jentry.Error))
+            self.assertEqual((it.__module__, it.__name__), ("jentry", name))
 
 
 @unittest.skipUnless(PROGRAM, "the program isn't built")
@@ -328,6 +358,21 @@ class Machine(unittest.TestCase):
             self.cache.invoke(7, add, jentry.Int(1))
         self.assertEqual(told.exception.name, "ClassCastException")
         self.assertEqual(self.cache.get(7), 42)
+
+    def test_booleans(self):
+        reserve = self.cache.define(example("Reserve"))
+        self.cache.put(7, 41)
+        self.assertIs(self.cache.invoke(7, reserve, 50), False)
+        self.assertIs(self.cache.invoke(7, reserve, 40, True), True)
+        self.assertEqual(self.cache.get(7), 41)
+        self.assertIs(self.cache.invoke(7, reserve, 40, False), True)
+        self.assertEqual(self.cache.get(7), 1)
+        self.assertEqual(self.cache.invoke_all([7, 8], reserve, 1, True), {7: True})
+        self.assertIsNone(self.cache.invoke(8, reserve, 1))
+        for wrong, name in ((1, "ClassCastException"), (jentry.Int(1), "ClassCastException"), (None, "NullPointer")):
+            with self.assertRaises(jentry.ProcessorThrew) as told:
+                self.cache.invoke(7, reserve, 1, wrong)
+            self.assertTrue(told.exception.name.startswith(name))
 
     def test_a_refused_class(self):
         with self.assertRaises(jentry.Refused) as told:

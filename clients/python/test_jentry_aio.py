@@ -9,8 +9,8 @@ HERE = os.path.dirname(os.path.abspath(__file__))
 sys.path[:0] = [HERE, os.path.join(HERE, "../tests")]
 import jentry
 import jentry_aio
-from class_files import heavy, plus
-from python_cases import HAS_PROCESSORS, Endings
+from class_files import EXAMPLES, heavy, plus
+from python_cases import HAS_PROCESSORS, Endings, wrong_calls
 from running import PATIENCE, PROGRAM, SERVER, STAND_IN
 
 
@@ -91,7 +91,7 @@ class Loop(unittest.TestCase, Endings):
             self.assertEqual([it.done() for it in out], 9 * [False])
             cache._child.kill()
             told = await asyncio.gather(*out, return_exceptions=True)
-            self.assertEqual([type(it) for it in told], 9 * [jentry.StreamEnded])
+            self.assertEqual([type(it) for it in told], 9 * [jentry.OutcomeUnknown])
             with self.assertRaises(jentry.StreamEnded):
                 await cache.get(1)
 
@@ -103,16 +103,10 @@ class Loop(unittest.TestCase, Endings):
     def test_what_can_not_be_sent_is_not_sent(self):
         async def work(cache):
             processor = await cache.define(plus())
-            for wrong in (
-                lambda: cache.put(2**63, 1),
-                lambda: cache.get("7"),
-                lambda: cache.invoke(1, processor, *range(9)),
-                lambda: cache.invoke_all(range(4_097), processor),
-                lambda: cache.define(bytes(jentry.LONGEST)),
-            ):
-                with self.assertRaises(Exception) as told:
+            for wrong in wrong_calls(cache, processor):
+                with self.subTest(wrong=wrong), self.assertRaises(jentry.WrongArgument) as told:
                     await wrong()
-                self.assertNotIsInstance(told.exception, jentry.Error)
+                self.assertIsInstance(told.exception, ValueError)
             self.assertIsNone(await cache.get(1))
 
         self.run_in_loop(work)
@@ -161,6 +155,20 @@ class Loop(unittest.TestCase, Endings):
             await cache.close()
             with self.assertRaises(jentry.StreamEnded):
                 await cache.get(1)
+
+        self.run_in_loop(work)
+
+    @unittest.skipUnless(PROGRAM, "the program isn't built")
+    def test_booleans(self):
+        async def work(cache):
+            with open(os.path.join(EXAMPLES, "Reserve.class"), "rb") as file:
+                reserve = await cache.define(file.read())
+            await cache.put(7, 41)
+            self.assertIs(await cache.invoke(7, reserve, 50), False)
+            self.assertIs(await cache.invoke(7, reserve, 40, True), True)
+            self.assertEqual(await cache.get(7), 41)
+            self.assertEqual(await cache.invoke_all([7, 8], reserve, 40, False), {7: True})
+            self.assertEqual(await cache.get(7), 1)
 
         self.run_in_loop(work)
 

@@ -16,8 +16,11 @@ from running import PATIENCE, STAND_IN
 
 INSTALLED = """
 import sys
-import jentry, jentry_aio, jentry_errors, jentry_processors
-assert all(it.__file__.startswith(sys.argv[1]) for it in (jentry, jentry_aio, jentry_errors, jentry_processors)), jentry.__file__
+import os
+import jentry, jentry_aio, jentry_processors
+for it in (jentry, jentry_aio, jentry_processors):
+    assert it.__file__.startswith(sys.argv[1]), it.__file__
+    assert os.path.exists(os.path.join(os.path.dirname(it.__file__), "py.typed")), it.__file__
 with jentry.Cache.start(*sys.argv[2:]) as cache:
     cache.put(7, 41)
     print(cache.get(7), *(jentry_processors.file(name)[:4].hex() for name in jentry_processors.NAMES))

@@ -1,11 +1,38 @@
 """Cases that the tests of the Python clients share."""
 import os
+import sys
 import threading
 import unittest
 
+sys.path.insert(0, os.path.join(os.path.dirname(os.path.abspath(__file__)), "../python"))
+import jentry
+from jentry.requests import LONGEST
 from running import HERE, PATIENCE
 
 HAS_PROCESSORS = os.path.exists(os.path.join(HERE, "../processors/GetAndPut.class"))
+
+
+def wrong_calls(cache, processor):
+    """Returns calls of a client for threads or for asyncio that can't be sent."""
+    return (
+        lambda: cache.put(2**63, 1),
+        lambda: cache.get(-(2**63) - 1),
+        lambda: cache.get("7"),
+        lambda: cache.get(7.0),
+        lambda: cache.put(1, None),
+        lambda: cache.invoke(1, processor, 2**63),
+        lambda: cache.invoke(1, processor, jentry.Int(2**31)),
+        lambda: cache.invoke(1, processor, "1"),
+        lambda: cache.invoke(1, processor, *range(9)),
+        lambda: cache.invoke(1, 0),
+        lambda: cache.invoke_all(range(4_097), processor),
+        lambda: cache.invoke_all([2**63], processor),
+        lambda: cache.define(bytes(LONGEST)),
+        lambda: cache.define("text"),
+        lambda: cache.processor("None"),
+        lambda: cache.get(1, timeout=0),
+        lambda: cache.get(1, timeout=-1),
+    )
 
 
 class Threaded(unittest.TestCase):

@@ -9,7 +9,7 @@ _PLACES = (_HERE, os.path.join(_HERE, "../../processors"))
 NAMES = ("GetAndPut", "GetAndRemove", "GetAndReplace", "PutIfAbsent", "RemoveIf", "Replace", "ReplaceIf")
 
 
-def file(name):
+def file(name: str) -> bytes:
     """Returns the bytes of a processor's class file. Raises FileNotFoundError if there is none."""
     for place in _PLACES:
         path = os.path.join(place, name + ".class")

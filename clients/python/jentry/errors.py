@@ -1,5 +1,9 @@
-"""jentry_errors: the exceptions of the clients of `jentry serve`, and the names of the server's numbers. Users import them from `jentry`, which is
-also the module that a traceback shows."""
+"""The exceptions of the clients of `jentry serve`, and the names of the server's numbers. Users import them from `jentry`, which is also the module
+that a traceback shows."""
+from __future__ import annotations
+
+from typing import Optional, Sequence
+
 REFUSALS = (
     None,
     "TooLarge",
@@ -45,9 +49,9 @@ EXCEPTIONS = (
 DENIALS = (None, "UnknownClass", "JournalFull", "NoMemory", "TooManyClasses", "TooManyJobs")
 
 
-def _name(names, number):
+def _name(names: Sequence[Optional[str]], number: int) -> str:
     """Returns the name of a number, or "unknown" for a number that only a later server has."""
-    return names[number] if 0 < number < len(names) else "unknown"
+    return (names[number] if 0 < number < len(names) else None) or "unknown"
 
 
 class Error(Exception):
@@ -56,10 +60,51 @@ class Error(Exception):
     __module__ = "jentry"
 
 
-class StreamEnded(Error):
-    """The stream is broken. Whether the calls in flight were run is unknown."""
+class WrongArgument(Error, ValueError):
+    """An argument that can't be sent, such as a key that is no Long. Nothing was sent."""
 
     __module__ = "jentry"
+
+
+class NotConnected(Error, ConnectionError):
+    """The server can't be reached or started. It did nothing of the call."""
+
+    __module__ = "jentry"
+
+    def __str__(self) -> str:
+        return str(self.args[-1])
+
+
+class StreamEnded(Error):
+    """The stream has ended. A call raises one of its two subclasses."""
+
+    __module__ = "jentry"
+
+
+class NotSent(StreamEnded):
+    """The stream has ended or is closed, and the server did nothing of the call."""
+
+    __module__ = "jentry"
+
+
+class OutcomeUnknown(StreamEnded):
+    """The stream ended after the call was sent. Whether the server has run it is unknown. It isn't sent again."""
+
+    __module__ = "jentry"
+
+
+class TimedOut(Error, TimeoutError):
+    """A call had no reply within its timeout. With `was_sent` it is unknown whether the server has run it or will; else the server never will."""
+
+    __module__ = "jentry"
+
+    def __init__(self, was_sent: bool) -> None:
+        self.was_sent = was_sent
+        super().__init__(
+            "no reply within the timeout; whether the call runs is unknown"
+            if was_sent
+            else "the timeout ended before the call was sent"
+        )
 
 
 class Denied(Error):
@@ -67,7 +112,7 @@ class Denied(Error):
 
     __module__ = "jentry"
 
-    def __init__(self, number):
+    def __init__(self, number: int) -> None:
         self.number, self.name = number, _name(DENIALS, number)
         super().__init__(f"denied: {number} {self.name}")
 
@@ -77,7 +122,7 @@ class Refused(Error):
 
     __module__ = "jentry"
 
-    def __init__(self, number, detail):
+    def __init__(self, number: int, detail: int) -> None:
         self.number, self.name, self.detail = number, _name(REFUSALS, number), detail
         place = f" opcode {detail}" if number == 17 else f" at {detail}" if number == 22 else ""
         super().__init__(f"refused: {number} {self.name}{place}")
@@ -88,6 +133,6 @@ class ProcessorThrew(Error):
 
     __module__ = "jentry"
 
-    def __init__(self, number):
+    def __init__(self, number: int) -> None:
         self.number, self.name = number, _name(EXCEPTIONS, number)
         super().__init__(self.name)

@@ -1,0 +1,281 @@
+"""The requests of the protocol as bytes, and its replies as Python's values."""
+from __future__ import annotations
+
+import struct
+from typing import Any, Callable, Dict, Generic, Iterable, List, Optional, Tuple, TypeVar, Union, cast
+
+from jentry.errors import Denied, Error, ProcessorThrew, Refused, StreamEnded, WrongArgument
+
+T = TypeVar("T")
+MOST_JOBS = 4_096
+LONGEST = 131_072
+MOST_ARGUMENTS = 8
+END = b"\0\0\0\1\x08"
+ENDED = b"\x09"
+NO_CLASS = 2**32 - 1
+"""A number that no class has."""
+
+DEFINE, PUT, GET, REMOVE, CONTAINS, INVOKE, INVOKE_ALL = range(1, 8)
+DEFINED, REFUSED, DONE, VALUE, FLAG, RESULT, RESULTS, DENIED = range(1, 9)
+
+
+class Int(int):
+    """A Java Integer. A plain number is a Long."""
+
+
+class Class:
+    """A class that the server has accepted. `number` identifies it on this stream. A run takes at most `steps` instructions and `words` array
+    words."""
+
+    def __init__(self, number: int, steps: int, words: int) -> None:
+        self.number, self.steps, self.words = number, steps, words
+
+
+Outcome = Union[int, None, ProcessorThrew, Denied]
+"""What a run on one of several keys gave: a result, or the exception instead of it."""
+
+
+class Request(Generic[T]):
+    """A request whose call returns a T. Its frame is made when it is sent, since a class may have another number on a new stream."""
+
+    __slots__ = ("kind", "_body", "jobs", "_processor", "convert")
+
+    def __init__(
+        self,
+        kind: int,
+        body: bytes,
+        jobs: int = 1,
+        processor: Optional[Class] = None,
+        convert: Optional[Callable[[Any], T]] = None,
+    ) -> None:
+        if len(body) + (5 if processor else 1) > LONGEST:
+            raise WrongArgument(f"a request of more than {LONGEST} bytes")
+        self.kind, self._body, self.jobs, self._processor, self.convert = kind, body, jobs, processor, convert
+
+    @property
+    def file(self) -> bytes:
+        """The class file of a definition."""
+        return self._body
+
+    def frame(self) -> bytes:
+        """Returns the request as bytes, behind their length."""
+        if self._processor is None:
+            return struct.pack(">IB", len(self._body) + 1, self.kind) + self._body
+        return struct.pack(">IBI", len(self._body) + 5, self.kind, self._processor.number) + self._body
+
+
+class Answer(Generic[T]):
+    """The pending result of a request in a round."""
+
+    __slots__ = ("kind", "_convert", "_told", "_is_told")
+
+    def __init__(self, request: Request[T]) -> None:
+        self.kind, self._convert, self._is_told = request.kind, request.convert, False
+        self._told: Any = None
+
+    def _tell(self, told: object) -> None:
+        self._told, self._is_told = told, True
+
+    def result(self) -> T:
+        """Returns the result of the request.
+
+        Raises Denied, Refused or ProcessorThrew if the server replied so, StreamEnded or TimedOut if there was no reply, and Error before the end
+        of the round."""
+        if not self._is_told:
+            raise Error("the round has not been sent")
+        if isinstance(self._told, Exception):
+            raise self._told
+        return self._convert(self._told) if self._convert else cast(T, self._told)
+
+
+def _longs(*numbers: int) -> bytes:
+    try:
+        return struct.pack(f">{len(numbers)}q", *numbers)
+    except struct.error:
+        raise WrongArgument(f"one of {_shown(numbers)} is no Long, a whole number from -2**63 to 2**63-1") from None
+
+
+def _shown(values: Iterable[object]) -> str:
+    text = ", ".join(map(repr, values))
+    return text if len(text) <= 200 else text[:200] + ".."
+
+
+def _arguments(arguments: Tuple[Optional[int], ...]) -> bytes:
+    if len(arguments) > MOST_ARGUMENTS:
+        raise WrongArgument(f"an invocation takes at most {MOST_ARGUMENTS} arguments")
+    parts = [bytes([len(arguments)])]
+    for it in arguments:
+        if it is None:
+            parts.append(b"\0")
+        elif isinstance(it, bool):  # before Long, since a bool is an int
+            parts.append(b"\4" if it else b"\3")
+        elif isinstance(it, Int):
+            parts.append(b"\2" + _int(it))
+        else:
+            parts.append(b"\1" + _longs(it))
+    return b"".join(parts)
+
+
+def _int(number: Int) -> bytes:
+    try:
+        return struct.pack(">i", number)
+    except struct.error:
+        raise WrongArgument(f"{number} is no Integer, a whole number from -2**31 to 2**31-1") from None
+
+
+def define(file: bytes) -> Request[Class]:
+    """Returns a request that defines a class."""
+    if not isinstance(file, (bytes, bytearray, memoryview)):
+        raise WrongArgument(f"a class file is bytes, and not {type(file).__name__}")
+    return Request(DEFINE, bytes(file), 0)
+
+
+def put(key: int, value: int) -> Request[None]:
+    """Returns a request that sets a value."""
+    return Request(PUT, _longs(key, value))
+
+
+def get(key: int) -> Request[Optional[int]]:
+    """Returns a request for a value."""
+    return Request(GET, _longs(key))
+
+
+def remove(key: int) -> Request[bool]:
+    """Returns a request that removes an entry."""
+    return Request(REMOVE, _longs(key))
+
+
+def contains(key: int) -> Request[bool]:
+    """Returns a request that asks for an entry."""
+    return Request(CONTAINS, _longs(key))
+
+
+def invoke(key: int, processor: Class, arguments: Tuple[Optional[int], ...]) -> Request[Optional[int]]:
+    """Returns a request for a run on one entry."""
+    return Request(INVOKE, _longs(key) + _arguments(arguments), 1, _class(processor))
+
+
+def invoke_flag(key: int, processor: Class, arguments: Tuple[Optional[int], ...]) -> Request[bool]:
+    """Returns a request for a run on one entry whose result is a flag."""
+    return Request(INVOKE, _longs(key) + _arguments(arguments), 1, _class(processor), bool)
+
+
+def invoke_all(
+    keys: Iterable[int], processor: Class, arguments: Tuple[Optional[int], ...]
+) -> Request[Dict[int, Outcome]]:
+    """Returns a request for a run on each of several entries."""
+    distinct = list(dict.fromkeys(keys))
+    if len(distinct) > MOST_JOBS:
+        raise WrongArgument(f"more than {MOST_JOBS} keys")
+    body = struct.pack(">H", len(distinct)) + _longs(*distinct) + _arguments(arguments)
+    return Request(INVOKE_ALL, body, len(distinct), _class(processor))
+
+
+def _class(processor: Class) -> Class:
+    if not isinstance(processor, Class):
+        raise WrongArgument(f"a processor is a Class that define() returned, and not {type(processor).__name__}")
+    return processor
+
+
+def _argument(text: bytes, at: int) -> Tuple[Optional[int], int]:
+    """Returns the argument encoded at offset `at`, and the offset after it."""
+    if text[at] == 0:
+        return None, at + 1
+    if text[at] == 1:
+        return int(struct.unpack_from(">q", text, at + 1)[0]), at + 9
+    if text[at] == 2:
+        return Int(struct.unpack_from(">i", text, at + 1)[0]), at + 5
+    if text[at] in (3, 4):
+        return text[at] == 4, at + 1
+    raise ValueError("no argument")
+
+
+def _value(text: bytes) -> Tuple[Optional[int], int]:
+    """Returns the Long or null in a reply to a get, and the offset after it."""
+    if text[1] > 1:
+        raise ValueError("a value that is no Long")
+    return _argument(text, 1)
+
+
+def _outcome(text: bytes, at: int) -> Tuple[Outcome, int]:
+    """Returns the outcome encoded at offset `at`, as a result or an exception object, and the offset after it."""
+    if text[at] == 0:
+        return _argument(text, at + 1)
+    if text[at] == 1:
+        return ProcessorThrew(text[at + 1]), at + 2
+    if text[at] == 2:
+        return Denied(text[at + 1]), at + 2
+    raise ValueError("no outcome")
+
+
+def _results(text: bytes) -> Tuple[Dict[int, Outcome], int]:
+    """Returns the outcomes in an invoke_all reply by key, and the offset after them."""
+    told: Dict[int, Outcome] = {}
+    at = 3
+    for _ in range(*struct.unpack_from(">H", text, 1)):
+        (key,) = struct.unpack_from(">q", text, at)
+        told[key], at = _outcome(text, at + 8)
+    return told, at
+
+
+# The kinds of reply to each kind of request, besides DENIED.
+_REPLIES = {
+    DEFINE: (DEFINED, REFUSED),
+    PUT: (DONE,),
+    GET: (VALUE, RESULT),
+    REMOVE: (FLAG,),
+    CONTAINS: (FLAG,),
+    INVOKE: (RESULT,),
+    INVOKE_ALL: (RESULTS,),
+}
+_READERS: Dict[int, Callable[[bytes], Tuple[object, int]]] = {
+    DEFINED: lambda text: (Class(*struct.unpack_from(">III", text, 1)), 13),
+    REFUSED: lambda text: (Refused(*struct.unpack_from(">BI", text, 1)), 6),
+    DONE: lambda text: (None, 1),
+    VALUE: _value,
+    FLAG: lambda text: (text[1] == 1, 2),
+    RESULT: lambda text: _outcome(text, 1),
+    RESULTS: _results,
+    DENIED: lambda text: (Denied(text[1]), 2),
+}
+
+
+def read_answer(request: int, text: bytes) -> object:
+    """Decodes the reply to a request of this kind. Returns the result, or the exception object that the call has to raise.
+
+    Raises StreamEnded if the text isn't a valid reply to such a request."""
+    try:
+        if text[0] != DENIED and text[0] not in _REPLIES[request]:
+            raise ValueError("another kind")
+        told, end = _READERS[text[0]](text)
+        if end != len(text):
+            raise ValueError("another length")
+        if request == GET and text[0] == RESULT and not isinstance(told, ProcessorThrew):
+            raise ValueError("a result of a get that is no exception")
+        return told
+    except (ValueError, IndexError, struct.error) as e:
+        raise StreamEnded(f"the server told what is no reply to the request ({e})") from e
+
+
+class Classes:
+    """The classes that a client defined, by their files, to define them again on a new stream."""
+
+    def __init__(self) -> None:
+        self._by_file: Dict[bytes, Class] = {}
+
+    def keep(self, file: bytes, told: Class) -> Class:
+        """Keeps a class. Returns the one that was kept of an equal file, with the new number."""
+        kept = self._by_file.setdefault(file, told)
+        kept.number, kept.steps, kept.words = told.number, told.steps, told.words
+        return kept
+
+    def definitions(self) -> List[Request[Class]]:
+        """Returns the requests that define all classes again. Until they were answered, the server has none of them."""
+        for it in self._by_file.values():
+            it.number = NO_CLASS
+        return [define(file) for file in self._by_file]
+
+
+def rounds_of(requests: List[Request[Class]], most: int) -> List[List[Request[Class]]]:
+    """Cuts requests into rounds of at most this number."""
+    return [requests[at : at + most] for at in range(0, len(requests), most)]
