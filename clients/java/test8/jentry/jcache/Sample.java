@@ -68,6 +68,14 @@ final class Sample {
         }
     }
 
+    static class SetsAndRemoves implements EntryProcessor<Long, Long, Object> {
+        @Override public Object process(MutableEntry<Long, Long> entry, Object... arguments) {
+            entry.setValue(3L);
+            entry.remove();
+            return null;
+        }
+    }
+
     static class Value implements EntryProcessor<Long, Long, Object> {
         @Override public Object process(MutableEntry<Long, Long> entry, Object... arguments) {
             return entry.getValue();
@@ -140,9 +148,24 @@ final class Sample {
         }
     }
 
-    static class Answers implements EntryProcessor<Long, Long, Boolean> {
+    static class Names implements EntryProcessor<Long, Long, String> {
+        @Override public String process(MutableEntry<Long, Long> entry, Object... arguments) {
+            return null;
+        }
+    }
+
+    /** Returns whether its argument is below the value, and sets it then, unless the second argument is false. */
+    static class Lowers implements EntryProcessor<Long, Long, Boolean> {
         @Override public Boolean process(MutableEntry<Long, Long> entry, Object... arguments) {
-            return true;
+            if (!entry.exists()) {
+                return null;
+            }
+            boolean below = (Long) arguments[0] < entry.getValue();
+            boolean sets = (Boolean) arguments[1];
+            if (below && sets) {
+                entry.setValue((Long) arguments[0]);
+            }
+            return below;
         }
     }
 
