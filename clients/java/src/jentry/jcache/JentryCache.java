@@ -8,6 +8,8 @@ import java.util.Map;
 import java.util.Objects;
 import java.util.Set;
 import java.util.concurrent.CompletableFuture;
+import java.util.concurrent.RejectedExecutionException;
+import java.util.function.Supplier;
 import javax.cache.Cache;
 import javax.cache.CacheManager;
 import javax.cache.configuration.CacheEntryListenerConfiguration;
@@ -85,6 +87,55 @@ public final class JentryCache implements Cache<Long, Long> {
         return entries.get(key(key));
     }
 
+    /**
+     * Reads a value like {@link #get} without blocking, unless a loader or an expiry policy of one's own is called.
+     *
+     * @return a future with the value or null, or with the exception that {@link #get} would throw
+     * @throws java.util.concurrent.RejectedExecutionException if the queue of waiting calls is full ({@code
+     *     jentry.queue}); nothing is sent then
+     */
+    public CompletableFuture<Long> getAsync(Long key) {
+        open();
+        long at = key(key);
+        return inFuture(() -> entries.getAsync(at));
+    }
+
+    /**
+     * Puts a value like {@link #put} without blocking, unless a writer, a listener or an expiry policy of one's own is
+     * called. Two calls on one key may be done in either order while both are in progress.
+     *
+     * @return a future that ends after the value was put, or with the exception that {@link #put} would throw
+     * @throws java.util.concurrent.RejectedExecutionException if the queue of waiting calls is full ({@code
+     *     jentry.queue}); nothing is sent then
+     */
+    public CompletableFuture<Void> putAsync(Long key, Long value) {
+        open();
+        long at = key(key), next = value(value);
+        return inFuture(() -> entries.putAsync(at, next));
+    }
+
+    /** Returns the future, or one that has failed if the work throws. */
+    private static <T> CompletableFuture<T> inFuture(Supplier<CompletableFuture<T>> work) {
+        try {
+            return work.get();
+        } catch (RejectedExecutionException e) {
+            throw e;
+        } catch (RuntimeException e) {
+            return CompletableFuture.failedFuture(e);
+        }
+    }
+
+    /**
+     * Counts the entries, by a scan of all of them like that of {@link #iterator}. Entries that are created or removed
+     * meanwhile may be counted or not.
+     *
+     * @throws UnsupportedOperationException on a front, which can't list its keys
+     */
+    public long size() {
+        open();
+        return bulk.size();
+    }
+
     @Override public boolean containsKey(Long key) {
         open();
         return entries.contains(key(key));
@@ -102,7 +153,7 @@ public final class JentryCache implements Cache<Long, Long> {
 
     @Override public boolean putIfAbsent(Long key, Long value) {
         open();
-        return entries.set(key(key), value(value), Store.When.ABSENT, false, true).done();
+        return !entries.set(key(key), value(value), Store.When.ABSENT, false, true).existed();
     }
 
     @Override public boolean replace(Long key, Long value) {
@@ -158,7 +209,7 @@ public final class JentryCache implements Cache<Long, Long> {
     /**
      * Removes every entry that exists while the call runs.
      *
-     * @throws UnsupportedOperationException on {@code jentry serve}, which can't list its keys
+     * @throws UnsupportedOperationException on a front, which can't list its keys
      */
     @Override public void removeAll() {
         open();
@@ -168,7 +219,7 @@ public final class JentryCache implements Cache<Long, Long> {
     /**
      * Removes every entry like {@link #removeAll()}, but without the writer, the listeners and the statistics.
      *
-     * @throws UnsupportedOperationException on {@code jentry serve}, which can't list its keys
+     * @throws UnsupportedOperationException on a front, which can't list its keys
      */
     @Override public void clear() {
         open();
@@ -179,7 +230,7 @@ public final class JentryCache implements Cache<Long, Long> {
      * Returns an iterator over the entries, in no order, each key at most once. It may miss entries that are created or
      * removed during the iteration.
      *
-     * @throws UnsupportedOperationException on {@code jentry serve}, which can't list its keys
+     * @throws UnsupportedOperationException on a front, which can't list its keys
      */
     @Override public Iterator<Entry<Long, Long>> iterator() {
         open();
@@ -200,8 +251,8 @@ public final class JentryCache implements Cache<Long, Long> {
      * object itself is never sent. If the server can't run it and the property {@code jentry.local} is true, the
      * processor runs in this JVM, unverified and possibly more than once.
      *
-     * @param arguments at most eight, each a Long, an Integer or null
-     * @return what the processor returned: a Long, an Integer or null
+     * @param arguments at most eight, each a Long, an Integer, a Boolean or null
+     * @return what the processor returned: a Long, an Integer, a Boolean or null
      * @throws javax.cache.processor.EntryProcessorException if the processor threw; the entry is unchanged
      * @throws ProcessorRefusedException if the server refuses the class
      * @throws javax.cache.CacheException also if the class has no class file, or needs more than its own file
@@ -217,8 +268,9 @@ public final class JentryCache implements Cache<Long, Long> {
      * Runs an entry processor at the server without blocking. Two invocations on the same key may run in either order
      * while both are in progress. Only the first use of a class blocks, until the server has accepted or refused it.
      *
-     * @param arguments at most eight, each a Long, an Integer or null
-     * @return a future with the processor's result, or with the exception that {@link #invoke} would throw
+     * @param arguments at most eight, each a Long, an Integer, a Boolean or null
+     * @return a future with the processor's result, or with the exception that {@link #invoke} would throw, also if
+     *     the class is refused or an argument can't be sent
      * @throws java.util.concurrent.RejectedExecutionException if the queue of waiting calls is full ({@code
      *     jentry.queue}); nothing is sent then
      */
@@ -227,7 +279,7 @@ public final class JentryCache implements Cache<Long, Long> {
         open();
         long at = key(key);
         Objects.requireNonNull(processor, "processor");
-        return invoker.invokeAsync(at, processor, arguments(arguments));
+        return inFuture(() -> invoker.invokeAsync(at, processor, arguments(arguments)));
     }
 
     /**

@@ -14,6 +14,7 @@ import javax.cache.configuration.Configuration;
 import javax.cache.configuration.MutableConfiguration;
 import javax.cache.spi.CachingProvider;
 import jentry.jcache.impl.Options;
+import jentry.jcache.impl.PropertiesFile;
 import jentry.jcache.impl.Unwrap;
 import jentry.jcache.redis.RedisStores;
 import jentry.jcache.store.Store;
@@ -39,7 +40,7 @@ public final class JentryCacheManager implements CacheManager {
         this.uri = uri;
         this.loader = loader;
         this.properties = properties;
-        options = new Options(uri, properties);
+        options = new Options(uri, properties, PropertiesFile.of(loader));
         stores = options.isRedis() ? new RedisStores(options) : new StreamStores(options);
     }
 
@@ -55,7 +56,8 @@ public final class JentryCacheManager implements CacheManager {
      * @throws IllegalArgumentException if the types aren't Long and Long, or read-through has no loader, or
      *     write-through has no writer
      * @throws UnsupportedOperationException if the configuration needs something that the server lacks
-     * @throws CacheException if there is already a cache of that name, or the server isn't available
+     * @throws CacheException if there is already a cache of that name, or the server isn't available, or it is a front
+     *     on which this JVM has used another name
      */
     @SuppressWarnings("unchecked")
     @Override public synchronized <K, V, C extends Configuration<K, V>> Cache<K, V> createCache(String name,
@@ -129,7 +131,7 @@ public final class JentryCacheManager implements CacheManager {
 
     /**
      * Closes the cache of that name, if there is one. On Redis its entries are deleted first, as JCache requires, for
-     * all clients. On a shared {@code jentry serve} the entries stay, because the server can't list its keys.
+     * all clients. On a front the entries stay, because it can't list its keys.
      */
     @Override public void destroyCache(String name) {
         Cache<Long, Long> cache = find(name);

@@ -10,14 +10,15 @@ import java.util.function.Predicate;
 import javax.cache.CacheManager;
 import javax.cache.configuration.OptionalFeature;
 import javax.cache.spi.CachingProvider;
+import jentry.jcache.impl.PropertiesFile;
 
 /**
  * The caching provider, which JCache finds by the service file of its jar. It has a manager for each URI and class
  * loader.
  */
 public final class JentryCachingProvider implements CachingProvider {
-    private static final URI DEFAULT = URI.create(System.getProperty("jentry.uri", "jentry:default"));
-
+    private final URI defaultUri = URI.create(System.getProperty("jentry.uri", PropertiesFile
+        .of(Thread.currentThread().getContextClassLoader()).getProperty("jentry.uri", "jentry:default")));
     private final Map<List<Object>, JentryCacheManager> managers = new HashMap<>();
 
     /** Creates the provider. JCache calls this through the service loader. */
@@ -52,10 +53,11 @@ public final class JentryCachingProvider implements CachingProvider {
     }
 
     /**
-     * Returns the system property {@code jentry.uri}, or else {@code jentry:default}: a child process for each cache.
+     * Returns the system property {@code jentry.uri}, or else that of the file {@code jentry.properties}, or else
+     * {@code jentry:default}: a child process for each cache.
      */
     @Override public URI getDefaultURI() {
-        return DEFAULT;
+        return defaultUri;
     }
 
     @Override public Properties getDefaultProperties() {

@@ -13,6 +13,7 @@ public final class ProcessorRefusedException extends CacheException {
     private final int number;
     private final int detail;
     private final String[] places;
+    private final String remedy;
 
     /**
      * Creates an exception from the server's reply.
@@ -27,33 +28,39 @@ public final class ProcessorRefusedException extends CacheException {
         this.number = number;
         this.detail = detail;
         this.places = places.toArray(new String[0]);
+        remedy = Refusal.remedy(number, detail);
     }
 
     /**
      * Creates an exception for a class that was sent uncompiled because the compiler failed on it.
      *
+     * @param processor the name of the class
      * @param refusal the server's refusal, which becomes the cause
-     * @param problem why the class couldn't be compiled
+     * @param problem why the class couldn't be compiled, which is the remedy too
      */
-    public ProcessorRefusedException(ProcessorRefusedException refusal, String problem) {
-        super(refusal.getMessage() + "; it can't be compiled: " + problem, refusal);
+    public ProcessorRefusedException(String processor, ProcessorRefusedException refusal, String problem) {
+        super(processor + " can't be compiled: " + problem + " (as it is, it is refused: "
+            + reason(refusal.number, refusal.detail, refusal.places()) + ")", refusal);
         number = refusal.number;
         detail = refusal.detail;
         places = refusal.places;
+        remedy = problem;
     }
 
     private static String text(String processor, int number, int detail, List<String> places) {
-        String text = processor + " is refused: " + number + " " + Refusal.title(number);
+        String text = processor + " is refused: " + reason(number, detail, places);
+        String remedy = Refusal.remedy(number, detail);
+        return remedy.isEmpty() ? text : text + " (" + remedy + ")";
+    }
+
+    private static String reason(int number, int detail, List<String> places) {
+        String text = number + " " + Refusal.title(number);
         if (number == OUTSIDE_PROFILE) {
             text += " opcode " + detail;
         } else if (number == TYPE_MISMATCH) {
             text += " at " + detail;
         }
-        if (!places.isEmpty()) {
-            text += ", in " + String.join(", ", places);
-        }
-        String remedy = Refusal.remedy(number, detail);
-        return remedy.isEmpty() ? text : text + " (" + remedy + ")";
+        return places.isEmpty() ? text : text + ", in " + String.join(", ", places);
     }
 
     /** Returns the number of the refusal, 1 to 30. */
@@ -79,8 +86,8 @@ public final class ProcessorRefusedException extends CacheException {
         return List.of(places);
     }
 
-    /** Returns what to write instead, or an empty string if no Java source leads to this refusal. */
+    /** Returns what to do instead, or an empty string if no Java source leads to this refusal. */
     public String remedy() {
-        return Refusal.remedy(number, detail);
+        return remedy;
     }
 }

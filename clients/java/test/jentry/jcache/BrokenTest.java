@@ -43,9 +43,9 @@ class BrokenTest {
         return assertThrows(CacheException.class, call::run).getMessage();
     }
 
-    /** A script that replies correctly to the first rounds, and with these bytes to every later one. */
+    /** A script that replies correctly, but for one round after the first ones, whose reply has these bytes. */
     private static StandIn.Script after(int rounds, byte[] wrong) {
-        return (it, round, requests) -> round > rounds ? wrong : it.right(requests);
+        return (it, round, requests) -> round == rounds + 1 ? wrong : it.right(requests);
     }
 
     private static void breaks(int goodRounds, byte[] wrong, String words, Consumer<Cache<Long, Long>> call) throws IOException {
@@ -54,7 +54,8 @@ class BrokenTest {
             CacheException e = assertThrows(CacheException.class, () -> call.accept(cache));
             assertTrue(e.getMessage().contains(NOT_KNOWN), e.getMessage());
             assertTrue(e.getCause().getMessage().contains(words), e.getCause().getMessage());
-            assertTrue(failure(() -> cache.get(1L)).contains(NOT_SENT));
+            cache.put(1L, 7L);
+            assertEquals(7L, cache.get(1L), "the next call makes a new connection");
             assertFalse(cache.isClosed());
         }
     }
@@ -69,8 +70,10 @@ class BrokenTest {
         breaks(1, done, "a reply of kind 3", it -> it.invoke(1L, new Sample.Key()));
         breaks(1, done, "a reply of kind 3", it -> it.invokeAll(Set.of(1L), new Sample.Key()));
         breaks(0, done, "a reply of kind 3", it -> it.getAll(Set.of(1L)));
-        breaks(0, StandIn.join(StandIn.frame(4, 2, 0, 0, 0, 1), StandIn.END), "an Integer", it -> it.get(1L));
-        breaks(0, StandIn.join(StandIn.frame(4, 3), StandIn.END), "an argument of kind 3", it -> it.get(1L));
+        breaks(0, StandIn.join(StandIn.frame(4, 2, 0, 0, 0, 1), StandIn.END), "a value of the type Integer", it -> it.get(1L));
+        breaks(0, StandIn.join(StandIn.frame(4, 4), StandIn.END), "a value of the type Boolean", it -> it.get(1L));
+        breaks(0, StandIn.join(StandIn.frame(4, 3), StandIn.END), "a value of the type Boolean", it -> it.getAll(Set.of(1L)));
+        breaks(0, StandIn.join(StandIn.frame(4, 5), StandIn.END), "an argument of kind 5", it -> it.get(1L));
         breaks(0, StandIn.join(StandIn.frame(5, 2), StandIn.END), "a flag of 2", it -> it.containsKey(1L));
         breaks(0, StandIn.join(StandIn.frame(77), StandIn.END), "a reply of kind 77", it -> it.put(1L, 1L));
     }
@@ -102,8 +105,10 @@ class BrokenTest {
     private static long[] endInMidRound(boolean tcp) throws Exception {
         AtomicLong ended = new AtomicLong(), last = new AtomicLong();
         StandIn.Script script = (it, round, requests) -> {
-            ended.set(System.nanoTime());
-            return round == 200 ? null : it.right(requests);
+            if (round < 200) {
+                ended.set(System.nanoTime());
+            }
+            return round >= 200 ? null : it.right(requests);
         };
         try (StandIn server = tcp ? StandIn.tcp(script) : StandIn.unix(script)) {
             Cache<Long, Long> cache = server.cache();
@@ -119,8 +124,9 @@ class BrokenTest {
                 known.addAndGet(message.contains(NOT_KNOWN) ? 1 : 0);
             }).join();
             assertTrue(known.get() > 0);
-            assertTrue(failure(() -> cache.get(1L)).contains(NOT_SENT));
-            assertThrows(CacheException.class, () -> cache.unwrap(JentryCache.class).invokeAsync(1L, new Sample.Key()));
+            assertTrue(failure(() -> cache.get(1L)).contains(NOT_KNOWN));
+            Throwable e = assertThrows(CompletionException.class, () -> cache.unwrap(JentryCache.class).invokeAsync(1L, new Sample.Key()).join());
+            assertEquals(CallOutcomeUnknownException.class, e.getCause().getClass());
         }
         return new long[] {ended.get(), last.get()};
     }
@@ -134,8 +140,8 @@ class BrokenTest {
     @Test void eachCacheHasAConnectionOfItsOwn() throws Exception {
         StandIn.Script script = (it, round, requests) -> it.right(requests);
         for (boolean tcp : new boolean[] {false, true}) {
-            try (StandIn server = tcp ? StandIn.tcp(script) : StandIn.unix(script)) {
-                Cache<Long, Long> one = server.cache(), other = one.getCacheManager().createCache("other", Server.types());
+            try (StandIn server = tcp ? StandIn.tcp(script) : StandIn.unix(script); CacheManager second = server.manager()) {
+                Cache<Long, Long> one = server.cache(), other = second.createCache("stand-in", Server.types());
                 one.put(1L, 5L);
                 assertEquals(5L, other.get(1L));
                 assertEquals(2, server.connections());
@@ -171,7 +177,7 @@ class BrokenTest {
             String message = failure(() -> cache.put(1L, 1L));
             assertTrue(message.contains("serve fault 5 NoMemory") && message.contains(NOT_KNOWN), message);
             message = failure(() -> cache.put(1L, 1L));
-            assertTrue(message.contains("serve fault 5 NoMemory") && message.contains(NOT_SENT), message);
+            assertTrue(message.contains("serve fault 5 NoMemory") && message.contains(NOT_KNOWN), "a new child ends like the first: " + message);
         }
     }
 
@@ -203,7 +209,7 @@ class BrokenTest {
                 Team.of(4, t -> assertTrue(failure(() -> cache.get(1L)).contains("took longer than 300 ms"))).join();
                 long millis = TimeUnit.NANOSECONDS.toMillis(System.nanoTime() - from);
                 assertTrue(millis >= 300 && millis < 30_000, millis + " ms");
-                assertTrue(failure(() -> cache.get(1L)).contains(NOT_SENT));
+                assertTrue(failure(() -> cache.get(1L)).contains("took longer than 300 ms"), "on a new connection");
             }
         }
         never.countDown();
@@ -300,7 +306,7 @@ class BrokenTest {
     @Test void closeLetsTheRoundEndThatIsOut() throws Exception {
         try (Holding held = new Holding()) {
             Team out = held.putIsOut();
-            Team waits = Team.of(5, t -> assertTrue(failure(() -> held.cache.put(1L, 1L)).contains("closed; this call was not sent")));
+            Team waits = Team.of(5, t -> assertThrows(IllegalStateException.class, () -> held.cache.put(1L, 1L)));
             awaitWaiting(held.cache, 5);
             Team closes = Team.of(1, t -> held.cache.close());
             waits.join();

@@ -57,6 +57,16 @@ class CacheInvokeAllTest extends OnServer {
         assertFalse(cache.containsKey(k));
     }
 
+    @Test void booleansByKey() {
+        long low = server.key(1), high = server.key(2), none = server.key(3);
+        cache.putAll(Map.of(low, 1L, high, 9L));
+        Map<Long, EntryProcessorResult<Boolean>> results = cache.invokeAll(Set.of(low, high, none), new Sample.Lowers(), 5L, true);
+        assertEquals(Set.of(low, high), results.keySet());
+        assertEquals(false, results.get(low).get());
+        assertEquals(true, results.get(high).get());
+        assertEquals(Map.of(low, 1L, high, 5L), cache.getAll(Set.of(low, high, none)));
+    }
+
     @Test void aClassThatIsRefusedRunsOnNoKey() {
         cache.put(k, 5L);
         assertThrows(ProcessorRefusedException.class, () -> cache.invokeAll(Set.of(k, k + 1), new Sample.Loops()));

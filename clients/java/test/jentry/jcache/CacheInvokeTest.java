@@ -9,6 +9,7 @@ import static org.junit.jupiter.api.Assertions.assertTrue;
 import java.util.List;
 import java.util.Set;
 import java.util.concurrent.CompletionException;
+import javax.cache.CacheException;
 import javax.cache.processor.EntryProcessor;
 import javax.cache.processor.EntryProcessorException;
 import org.junit.jupiter.api.Test;
@@ -39,11 +40,26 @@ class CacheInvokeTest extends OnServer {
         assertEquals(4, cache.invoke(k, new Sample.Half(), 9));
     }
 
+    @Test void booleansAreArgumentsAndResults() {
+        assertEquals(true, cache.invoke(k, new Sample.First(), true));
+        assertEquals(false, cache.invoke(k, new Sample.First(), false, 1L));
+        assertNull(cache.invoke(k, new Sample.Lowers(), 5L, true));
+        cache.put(k, 7L);
+        Boolean isAbove = cache.invoke(k, new Sample.Lowers(), 8L, true);
+        boolean isBelow = cache.invoke(k, new Sample.Lowers(), 5L, false);
+        assertEquals(List.of(false, true, 7L), List.of(isAbove, isBelow, cache.get(k)));
+        assertEquals(true, server.own().invokeAsync(k, new Sample.Lowers(), 5L, true).join());
+        assertEquals(5L, cache.get(k));
+        assertEquals(ClassCastException.class, causeOf(new Sample.Lowers(), 4L, 1).getClass());
+        assertEquals(ClassCastException.class, causeOf(new Sample.Add(), true).getClass());
+        assertEquals(NullPointerException.class, causeOf(new Sample.Lowers(), 4L, null).getClass());
+        assertEquals(5L, cache.get(k));
+    }
+
     @Test void argumentsThatCannotBeSent() {
         assertThrows(IllegalArgumentException.class, () -> cache.invoke(k, new Sample.Add(), "text"));
         assertThrows(IllegalArgumentException.class, () -> cache.invoke(k, new Sample.Count(), 1L, 2L, 3L, 4L, 5L, 6L, 7L, 8L, 9L));
         assertThrows(IllegalArgumentException.class, () -> cache.invokeAll(Set.of(k), new Sample.Add(), 1.5));
-        assertThrows(IllegalArgumentException.class, () -> server.own().invokeAsync(k, new Sample.Add(), 'x'));
         assertFalse(cache.containsKey(k));
     }
 
@@ -107,7 +123,22 @@ class CacheInvokeTest extends OnServer {
         Throwable thrown = assertThrows(CompletionException.class, () -> server.own().invokeAsync(k, new Sample.Divides()).join()).getCause();
         assertEquals(EntryProcessorException.class, thrown.getClass());
         assertEquals(NullPointerException.class, thrown.getCause().getClass());
-        assertThrows(ProcessorRefusedException.class, () -> server.own().invokeAsync(k, new Sample.Loops()));
+    }
+
+    private Class<?> failureOf(EntryProcessor<Long, Long, ?> processor, Object... arguments) {
+        var future = server.own().invokeAsync(k, processor, arguments);
+        assertTrue(future.isCompletedExceptionally(), "a future that has failed");
+        return assertThrows(CompletionException.class, future::join).getCause().getClass();
+    }
+
+    @Test void invokeAsyncThrowsNothingThatBelongsIntoItsFuture() {
+        for (int i = 0; i < 2; i++) {
+            assertEquals(ProcessorRefusedException.class, failureOf(new Sample.Loops()));
+        }
+        assertEquals(CacheException.class, failureOf((entry, arguments) -> 1L));
+        assertEquals(IllegalArgumentException.class, failureOf(new Sample.Add(), 'x'));
+        assertEquals(IllegalArgumentException.class, failureOf(new Sample.Count(), 1L, 2L, 3L, 4L, 5L, 6L, 7L, 8L, 9L));
+        assertFalse(cache.containsKey(k));
     }
 
     @Test void switchesLeadWhereTheirKeysDo() {

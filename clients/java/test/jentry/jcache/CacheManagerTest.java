@@ -7,6 +7,7 @@ import static org.junit.jupiter.api.Assertions.assertNull;
 import static org.junit.jupiter.api.Assertions.assertSame;
 import static org.junit.jupiter.api.Assertions.assertThrows;
 import static org.junit.jupiter.api.Assertions.assertTrue;
+import static org.junit.jupiter.api.Assumptions.assumeFalse;
 
 import java.net.URI;
 import java.util.ArrayList;
@@ -59,6 +60,7 @@ class CacheManagerTest extends OnServer {
     }
 
     @Test void severalCachesOfOneManager() {
+        assumeFalse(Server.isFront(), "a front has one cache");
         Cache<Long, Long> second = manager.createCache("second", Server.types());
         assertNotSame(cache, second);
         assertEquals(Set.of("test", "second"), Set.copyOf(namesOf(manager)));
@@ -78,6 +80,7 @@ class CacheManagerTest extends OnServer {
     }
 
     @Test void theNamesAreThoseOfTheirMoment() {
+        assumeFalse(Server.isFront(), "a front has one cache");
         Iterable<String> before = manager.getCacheNames();
         manager.createCache("second", Server.types());
         assertEquals(List.of("test"), before);

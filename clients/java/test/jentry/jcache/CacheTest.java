@@ -8,6 +8,7 @@ import static org.junit.jupiter.api.Assertions.assertSame;
 import static org.junit.jupiter.api.Assertions.assertThrows;
 import static org.junit.jupiter.api.Assertions.assertTrue;
 import static org.junit.jupiter.api.Assumptions.assumeFalse;
+import static org.junit.jupiter.api.Assumptions.assumeTrue;
 
 import java.util.Collections;
 import java.util.HashMap;
@@ -15,6 +16,7 @@ import java.util.HashSet;
 import java.util.Map;
 import java.util.Set;
 import java.util.concurrent.atomic.AtomicInteger;
+import javax.cache.Cache;
 import javax.cache.configuration.CompleteConfiguration;
 import javax.cache.configuration.MutableConfiguration;
 import javax.cache.integration.CompletionListener;
@@ -114,7 +116,7 @@ class CacheTest extends OnServer {
 
     @Test void whatTheServerLacksIsRefusedByName() {
         cache.put(k, 1L);
-        assumeFalse(Server.isRedis());
+        assumeTrue(Server.isFront());
         Map<String, Executable> calls = Map.of("clear", cache::clear, "removeAll", cache::removeAll,
             "iterator", cache::iterator);
         calls.forEach((name, call) -> {
@@ -138,6 +140,24 @@ class CacheTest extends OnServer {
             () -> server.own().invokeAsync(k, new Sample.Add(), 1L)};
         for (Executable call : calls) {
             assertThrows(IllegalStateException.class, call);
+        }
+    }
+
+    @Test void aCallThatRacesWithCloseFindsTheCacheClosed() throws InterruptedException {
+        for (int i = 0; i < 5; i++) {
+            Cache<Long, Long> closing = create(Server.types());
+            AtomicInteger calls = new AtomicInteger();
+            Team team = Team.of(8, t -> assertThrows(IllegalStateException.class, () -> {
+                while (true) {
+                    closing.put(k, 1L);
+                    calls.incrementAndGet();
+                }
+            }));
+            while (calls.get() < 20) {
+                Thread.onSpinWait();
+            }
+            closing.getCacheManager().close();
+            team.join();
         }
     }
 

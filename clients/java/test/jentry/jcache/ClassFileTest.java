@@ -8,6 +8,8 @@ import static org.junit.jupiter.api.Assertions.assertTrue;
 import java.lang.reflect.Proxy;
 import java.net.URL;
 import java.net.URLClassLoader;
+import java.nio.file.Files;
+import java.nio.file.Path;
 import java.util.HashMap;
 import java.util.List;
 import java.util.Map;
@@ -26,6 +28,20 @@ class ClassFileTest extends OnServer {
         assertEquals(7L, cache.invoke(k, Sample.local()));
     }
 
+    private static final String THE_JAR = "put jentry-compile.jar on the class path (clients/compiler/build in the repository of jentry makes it)";
+    private static final String NEEDS_THE_COMPILER = "lambda or a method reference, which has no class file; " + THE_JAR
+        + ", or write it as a class of its own, compiled with javac --release 8";
+
+    /** A lambda, a class of a newer javac and a loop need the compiler, so each of their messages says how to get it. */
+    @Test void whatTheCompilerCuresNamesItsJar() {
+        EntryProcessor<Long, Long, Object> lambda = (entry, arguments) -> 1L;
+        for (EntryProcessor<Long, Long, ?> it : List.<EntryProcessor<Long, Long, ?>>of(lambda, new Newer(), new Sample.Loops())) {
+            String message = assertThrows(CacheException.class, () -> cache.invoke(k, it)).getMessage();
+            assertTrue(message.contains(THE_JAR), message);
+        }
+        assertTrue(Files.isExecutable(Path.of(System.getProperty("jentry.test8"), "..", "..", "compiler", "build")), "the jar's maker");
+    }
+
     private static Object answer(MutableEntry<Long, Long> entry, Object... arguments) {
         return 1L;
     }
@@ -33,8 +49,8 @@ class ClassFileTest extends OnServer {
     @Test void classesThatTheClientRefuses() {
         EntryProcessor<?, ?, ?> proxy = (EntryProcessor<?, ?, ?>) Proxy.newProxyInstance(getClass().getClassLoader(), new Class<?>[] {EntryProcessor.class}, (a, b, c) -> 1L);
         Map<EntryProcessor<Long, Long, Object>, String> refused = new HashMap<>();
-        refused.put((entry, arguments) -> 1L, "lambda or a method reference, which has no class file; write it as a class of its own, compiled with javac --release 8");
-        refused.put(ClassFileTest::answer, "lambda or a method reference, which has no class file; write it as a class of its own, compiled with javac --release 8");
+        refused.put((entry, arguments) -> 1L, NEEDS_THE_COMPILER);
+        refused.put(ClassFileTest::answer, NEEDS_THE_COMPILER);
         refused.put(Sample.inner(), "inner class, which holds its outer instance; make it static");
         refused.put(Sample.capturing(5), "is made with values from outside");
         long rounds = rounds();
@@ -75,7 +91,7 @@ class ClassFileTest extends OnServer {
 
     @Test void classesThatTheServerRefuses() {
         Map<EntryProcessor<Long, Long, ?>, List<Object>> refused = new HashMap<>();
-        refused.put(new Sample.Answers(), List.of(7, "BadDescriptor", "1 and 0 in place of a Boolean"));
+        refused.put(new Sample.Names(), List.of(7, "BadDescriptor", "return a Long, an Integer, a Boolean or null"));
         refused.put(new Sample.HasState(5), List.of(9, "ConstructorForm", "hand values over as arguments"));
         refused.put(new Sample.UsesField(), List.of(17, "OutsideProfile", "opcode 180, in process line "));
         refused.put(new Sample.Prints(), List.of(17, "OutsideProfile", "opcode 178, in process line "));
@@ -98,7 +114,7 @@ class ClassFileTest extends OnServer {
 
     @Test void aRefusalNamesTheSourceLine() throws java.io.IOException {
         ProcessorRefusedException e = assertThrows(ProcessorRefusedException.class, () -> cache.invoke(k, new Sample.Loops()));
-        List<String> lines = java.nio.file.Files.readAllLines(java.nio.file.Path.of(System.getProperty("jentry.test8"), "jentry", "jcache", "Sample.java"));
+        List<String> lines = Files.readAllLines(Path.of(System.getProperty("jentry.test8"), "jentry", "jcache", "Sample.java"));
         int line = 1 + lines.indexOf("            for (int i = 0; i < 8; i++) {");
         assertEquals(List.of("process line " + line), e.places());
         assertEquals(0, e.detail());

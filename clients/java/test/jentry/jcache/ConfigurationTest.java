@@ -34,9 +34,8 @@ class ConfigurationTest extends OnServer {
     }
 
     private void refused(String what, MutableConfiguration<Long, Long> wanted) {
-        String message = assertThrows(UnsupportedOperationException.class, () -> manager.createCache("a", wanted)).getMessage();
+        String message = assertThrows(UnsupportedOperationException.class, () -> create(wanted)).getMessage();
         assertTrue(message.startsWith(what), message);
-        assertNull(manager.getCache("a"));
     }
 
     @Test void whatAConfigurationCannotHave() {
@@ -56,6 +55,7 @@ class ConfigurationTest extends OnServer {
     }
 
     @Test void whatAConfigurationMayHave() {
+        assumeFalse(Server.isFront(), "a front has one cache");
         manager.createCache("eternal", Server.types().setExpiryPolicyFactory(EternalExpiryPolicy.factoryOf()));
         manager.createCache("short", new Configuration<Long, Long>() {
             private static final long serialVersionUID = 1L;
@@ -77,7 +77,7 @@ class ConfigurationTest extends OnServer {
 
     @Test void theConfigurationIsACopy() {
         MutableConfiguration<Long, Long> wanted = Server.types();
-        Cache<Long, Long> made = manager.createCache("a", wanted);
+        Cache<Long, Long> made = create(wanted);
         wanted.setStatisticsEnabled(true).setStoreByValue(false);
         CompleteConfiguration<?, ?> told = made.getConfiguration(CompleteConfiguration.class);
         assertEquals(Server.types(), told);

@@ -50,8 +50,9 @@ class KilledTest extends OnServer {
         ProcessHandle.current().children().filter(ProcessHandle::isAlive).forEach(ProcessHandle::destroyForcibly);
         out.join();
         waits.join();
-        assertTrue(failure(() -> cache.get(k)).endsWith("this call was not sent"));
         assertEquals(before + 1, line.sent(), "nothing was sent any more");
+        assertNull(cache.get(k), "a new child without the entries");
+        assertEquals(5L, cache.invoke(k, new Sample.Add(), 5L), "it gets the class too");
         cache.close();
         return new long[] {from, last.get()};
     }

@@ -82,7 +82,7 @@ class LeavesTest {
     /** Makes a cache, prints the processes and ends without closing the cache. */
     public static void main(String[] words) {
         CacheManager manager = Caching.getCachingProvider().getCacheManager(URI.create(words[0]), null);
-        use(manager.createCache("left", Server.types()));
+        use(manager.createCache("test", Server.types()));
         ProcessHandle.current().children().forEach(it -> System.out.println(it.pid()));
         System.out.println("used");
     }

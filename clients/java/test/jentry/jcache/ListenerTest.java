@@ -62,7 +62,6 @@ class ListenerTest extends OnServer {
         assertEquals(Set.of("REMOVED 0 2 2", "REMOVED 1 3 3"), Set.copyOf(it.all));
     }
 
-    /** jentry serve doesn't report what a processor did to its entry. */
     @Test void processors() {
         Heard it = listen(true, true);
         cache.invoke(k, new Sample.Add(), 4L);
@@ -70,7 +69,7 @@ class ListenerTest extends OnServer {
         cache.invoke(k, new Sample.Value());
         cache.invoke(k, new Sample.Removes());
         cache.invoke(k, new Sample.Removes());
-        assertEquals(Server.isRedis() ? List.of("CREATED 0 4 null", "UPDATED 0 6 4", "REMOVED 0 6 6") : List.of(), it.all);
+        assertEquals(List.of("CREATED 0 4 null", "UPDATED 0 6 4", "REMOVED 0 6 6"), it.all);
     }
 
     @Test void aValueThatIsThereIsUpdatedAllTheSame() {
@@ -88,7 +87,7 @@ class ListenerTest extends OnServer {
         cache.invokeAll(Set.of(k), new Sample.Add(), 0L);
         server.own().invokeAsync(k, new Sample.Sets(), 5L).join();
         cache.invoke(k, new Sample.Value());
-        assertEquals(Server.isRedis() ? Collections.nCopies(3, "UPDATED 0 5 5") : List.of(), it.all);
+        assertEquals(Collections.nCopies(3, "UPDATED 0 5 5"), it.all);
     }
 
     @Test void runsInThisJvm() {

@@ -16,6 +16,7 @@ import javax.cache.Cache;
 import javax.cache.integration.CacheLoader;
 import javax.cache.integration.CacheLoaderException;
 import javax.cache.integration.CompletionListenerFuture;
+import javax.cache.processor.EntryProcessorException;
 import org.junit.jupiter.api.Test;
 
 /** Tests loaders: read-through and loadAll. */
@@ -109,7 +110,9 @@ class LoaderTest extends OnServer {
         Throwable cause = assertThrows(CacheLoaderException.class, () -> through.get(k)).getCause();
         assertEquals("unlucky", cause.getMessage());
         assertThrows(CacheLoaderException.class, () -> through.getAll(Set.of(k)));
-        assertThrows(CacheLoaderException.class, () -> through.invoke(k, new Sample.Key()));
+        assertEquals(k, through.invoke(k, new Sample.Key()), "it doesn't ask for the value");
+        Throwable thrown = assertThrows(EntryProcessorException.class, () -> through.invoke(k, new Sample.Value())).getCause();
+        assertEquals(CacheLoaderException.class, thrown.getClass());
         assertFalse(through.containsKey(k));
     }
 

@@ -28,7 +28,7 @@ abstract class OnServer {
         CacheManager own = server.manager.getCachingProvider().getCacheManager(Server.AT, new ClassLoader() { },
             StandIn.properties(properties));
         managers.add(own);
-        return own.createCache("configured", configuration);
+        return own.createCache(Server.isFront() ? "test" : "configured", configuration);
     }
 
     @AfterEach void close() {

@@ -52,13 +52,15 @@ final class Server implements AutoCloseable {
     Cache<Long, Long> other() {
         if (!isShared()) {
             return cache;
-        } else if (isRedis()) {
-            second = second == null ? secondManager() : second;
-            Cache<Long, Long> known = second.getCache("test", Long.class, Long.class);
-            return known == null ? second.createCache("test", types()) : known;
         }
-        Cache<Long, Long> there = manager.getCache("other", Long.class, Long.class);
-        return there == null ? manager.createCache("other", types()) : there;
+        second = second == null ? secondManager() : second;
+        Cache<Long, Long> known = second.getCache("test", Long.class, Long.class);
+        return known == null ? second.createCache("test", types()) : known;
+    }
+
+    /** Returns whether the server is a front, which has one cache and takes one name. */
+    static boolean isFront() {
+        return isShared() && !isRedis();
     }
 
     /** Returns whether other clients see the server's entries: it is a front, or Redis. */

@@ -20,6 +20,7 @@ import java.util.ArrayList;
 import java.util.List;
 import java.util.Map;
 import java.util.Properties;
+import java.util.Set;
 import java.util.concurrent.ConcurrentHashMap;
 import java.util.concurrent.atomic.AtomicInteger;
 import javax.cache.Cache;
@@ -44,6 +45,7 @@ public final class StandIn implements AutoCloseable {
     private final AtomicInteger classes = new AtomicInteger();
     private final AtomicInteger rounds = new AtomicInteger();
     private final AtomicInteger connections = new AtomicInteger();
+    private final Set<SocketChannel> open = ConcurrentHashMap.newKeySet();
     private final URI uri;
     private CacheManager manager;
 
@@ -72,6 +74,11 @@ public final class StandIn implements AutoCloseable {
     Cache<Long, Long> cache(String... properties) {
         manager = Caching.getCachingProvider().getCacheManager(uri, null, properties(properties));
         return manager.createCache("stand-in", Server.types());
+    }
+
+    /** Creates another manager of this server. */
+    CacheManager manager() {
+        return Caching.getCachingProvider().getCacheManager(uri, new ClassLoader() { });
     }
 
     /** Returns properties from names and values that alternate. */
@@ -105,8 +112,21 @@ public final class StandIn implements AutoCloseable {
         return connections.get();
     }
 
+    /** Closes all connections, and goes on to accept new ones. */
+    void cut() throws IOException {
+        for (SocketChannel connection : open) {
+            connection.close();
+        }
+    }
+
+    /** Accepts no connection any more. */
+    void stop() throws IOException {
+        listener.close();
+    }
+
     private void serve(SocketChannel connection) {
         connections.incrementAndGet();
+        open.add(connection);
         try (connection) {
             DataInputStream in = new DataInputStream(Channels.newInputStream(connection));
             OutputStream out = Channels.newOutputStream(connection);
@@ -124,6 +144,7 @@ public final class StandIn implements AutoCloseable {
         } catch (Exception e) {
             // The client disconnected, or the test has ended.
         } finally {
+            open.remove(connection);
             connections.decrementAndGet();
         }
     }

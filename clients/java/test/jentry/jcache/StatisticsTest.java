@@ -87,15 +87,14 @@ class StatisticsTest extends OnServer {
         counts(4, 2, 4, 1);
     }
 
-    /** jentry serve doesn't report whether there was an entry if a comparison fails. */
     @Test void comparisonsThatFail() {
         counted.put(k, 1L);
         counted.replace(k, 5L, 6L);
         counted.remove(k, 5L);
-        counts(Server.isRedis() ? 2 : 0, 0, 1, 0);
+        counts(2, 0, 1, 0);
         counted.replace(k + 1, 5L, 6L);
         counted.remove(k + 1, 5L);
-        counts(Server.isRedis() ? 2 : 0, Server.isRedis() ? 2 : 0, 1, 0);
+        counts(2, 2, 1, 0);
     }
 
     @Test void bulkMethods() {
@@ -111,7 +110,6 @@ class StatisticsTest extends OnServer {
         assertEquals(0, told.getCacheEvictions());
     }
 
-    /** The reply of jentry serve to an invocation has neither the effect nor the entry before, so nothing is counted there. */
     @Test void processors() {
         counted.invoke(k, new Sample.Add(), 1L);
         counted.invoke(k, new Sample.Add(), 2L);
@@ -120,13 +118,9 @@ class StatisticsTest extends OnServer {
         counted.invoke(k, new Sample.Removes());
         counted.invoke(k, new Sample.Removes());
         assertThrows(EntryProcessorException.class, () -> counted.invoke(k, new Sample.Divides()));
-        if (Server.isRedis()) {
-            counts(3, 3, 2, 1);
-        } else {
-            counts(0, 0, 0, 0);
-        }
+        counts(3, 3, 2, 1);
         counted.invokeAll(Set.of(k, k + 1), new Sample.Add(), 1L);
-        counts(Server.isRedis() ? 3 : 0, Server.isRedis() ? 5 : 0, Server.isRedis() ? 4 : 0, Server.isRedis() ? 1 : 0);
+        counts(3, 5, 4, 1);
     }
 
     /** Setting the current value again still counts as a put. */
@@ -140,9 +134,9 @@ class StatisticsTest extends OnServer {
         counts(4, 0, 5, 0);
         counted.invoke(k, new Sample.Sets(), 5L);
         counted.invokeAll(Set.of(k), new Sample.Add(), 0L);
-        counts(Server.isRedis() ? 6 : 4, 0, Server.isRedis() ? 7 : 5, 0);
+        counts(6, 0, 7, 0);
         counted.invoke(k, new Sample.Value());
-        counts(Server.isRedis() ? 7 : 4, 0, Server.isRedis() ? 7 : 5, 0);
+        counts(7, 0, 7, 0);
     }
 
     @Test void runsInThisJvmAreCounted() {

@@ -40,7 +40,7 @@ public final class Team {
         return team;
     }
 
-    List<Thread> threads() {
+    public List<Thread> threads() {
         return threads;
     }
 

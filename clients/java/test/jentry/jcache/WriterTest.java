@@ -13,7 +13,6 @@ import java.util.Map;
 import java.util.Set;
 import java.util.concurrent.ConcurrentHashMap;
 import javax.cache.Cache;
-import javax.cache.CacheException;
 import javax.cache.integration.CacheWriter;
 import javax.cache.integration.CacheWriterException;
 import org.junit.jupiter.api.BeforeEach;
@@ -139,13 +138,7 @@ class WriterTest extends OnServer {
         assertEquals(Map.of(k + 1, 2L), through.getAll(Set.of(k, k + 1, k + 2)));
     }
 
-    /** Redis reports what a run would do before it does it; jentry serve can't. */
-    @Test void processorsAtTheServer() {
-        if (!Server.isRedis()) {
-            String message = assertThrows(CacheException.class, () -> through.invoke(k, new Sample.Add(), 1L)).getMessage();
-            assertTrue(message.contains("writer"), message);
-            return;
-        }
+    @Test void processorsThatTheServerAccepts() {
         assertEquals(1L, through.invoke(k, new Sample.Add(), 1L));
         assertEquals(6L, through.invoke(k, new Sample.Add(), 5L));
         assertEquals(6L, through.invoke(k, new Sample.Value()));
@@ -177,6 +170,38 @@ class WriterTest extends OnServer {
             return null;
         }));
         assertFalse(local.containsKey(k));
+    }
+
+    /** As MutableEntry defines: remove is a removal that is written through, unless the same run has made the entry. */
+    @Test void aProcessorThatRemovesNothing() {
+        Cache<Long, Long> local = writing("jentry.local", "true");
+        local.<Object>invoke(k, (entry, arguments) -> {
+            entry.remove();
+            return null;
+        });
+        called("delete 0");
+        local.<Object>invoke(k, (entry, arguments) -> {
+            entry.setValue(3L);
+            entry.remove();
+            return null;
+        });
+        called();
+        local.<Object>invoke(k, (entry, arguments) -> {
+            entry.setValue(3L);
+            entry.remove();
+            entry.remove();
+            return null;
+        });
+        called("delete 0");
+        assertFalse(local.containsKey(k));
+        through.invoke(k, new Sample.Removes());
+        called("delete 0");
+        through.invoke(k, new Sample.SetsAndRemoves());
+        through.invoke(k, new Sample.Value());
+        through.invokeAll(Set.of(k), new Sample.SetsAndRemoves());
+        called();
+        through.invokeAll(Set.of(k), new Sample.Removes());
+        called("delete 0");
     }
 
     @Test void manyThreadsWriteEachKeyInTheOrderOfTheCache() throws InterruptedException {

@@ -2,10 +2,13 @@ package jentry.jcache.impl;
 
 import java.util.ArrayList;
 import java.util.HashMap;
+import java.util.HashSet;
 import java.util.Iterator;
 import java.util.LinkedHashMap;
 import java.util.List;
 import java.util.Map;
+import java.util.Set;
+import java.util.stream.IntStream;
 import java.util.stream.LongStream;
 import javax.cache.Cache;
 import javax.cache.CacheException;
@@ -81,16 +84,21 @@ public final class BulkOperations {
 
     private void putWritten(Map<Long, Long> all) {
         long begin = at.statistics.begin();
-        if (at.events.isAsked() || !at.expiry.isConstant()) {
-            all.forEach((key, value) -> {
-                Mutation change = entries.commit(key, value, Store.When.ALWAYS, at.events.isAsked());
-                at.events.changed(key, change.before(), value);
-            });
+        int count = all.size();
+        if (at.events.isAsked() || !at.expiry.isConstant() || at.expiry.constant().created() == Durations.ZERO) {
+            count = 0;
+            for (Map.Entry<Long, Long> it : all.entrySet()) {
+                Mutation change = entries.commit(it.getKey(), it.getValue(), Store.When.ALWAYS, at.events.isAsked());
+                if (change.done()) {
+                    count++;
+                    at.events.changed(it.getKey(), change.before(), it.getValue());
+                }
+            }
         } else if (!all.isEmpty()) {
             long[] keys = all.keySet().stream().mapToLong(it -> it).toArray();
             store.setAll(keys, all.values().stream().mapToLong(it -> it).toArray(), at.expiry.constant());
         }
-        at.statistics.put(all.size(), begin);
+        at.statistics.put(count, begin);
     }
 
     /** Implements {@code removeAll(keys)}. With a writer, only the keys that it has deleted are removed. */
@@ -121,16 +129,32 @@ public final class BulkOperations {
         }
     }
 
-    /** Implements {@code removeAll()}. */
+    /** Implements {@code removeAll()}. A writer deletes no keys but those that have an entry. */
     public void removeAll() {
         for (Iterator<long[]> pages = store.scan("removeAll()"); pages.hasNext();) {
-            removeAll(pages.next());
+            long[] page = pages.next();
+            removeAll(at.writer.isThere() ? existing(page) : page);
         }
+    }
+
+    /** Returns the keys that have an entry. A scan may return others too. */
+    private long[] existing(long[] keys) {
+        Long[] values = keys.length == 0 ? new Long[0] : store.getAll(keys, Durations.LEAVE);
+        return IntStream.range(0, keys.length).filter(i -> values[i] != null).mapToLong(i -> keys[i]).toArray();
     }
 
     /** Implements {@code clear}, without the writer, the listeners and the statistics. */
     public void clear() {
         store.clear();
+    }
+
+    /** Implements {@code size}: counts the entries that a scan finds. */
+    public long size() {
+        Set<Long> found = new HashSet<>();
+        for (Iterator<long[]> pages = store.scan("size"); pages.hasNext();) {
+            LongStream.of(existing(pages.next())).forEach(found::add);
+        }
+        return found.size();
     }
 
     /** Implements {@code iterator}. */

@@ -4,6 +4,7 @@ import javax.cache.Cache;
 import javax.cache.configuration.CacheEntryListenerConfiguration;
 import javax.cache.configuration.MutableConfiguration;
 import javax.cache.event.EventType;
+import javax.cache.management.CacheStatisticsMXBean;
 import jentry.jcache.store.Durations;
 import jentry.jcache.store.Store;
 import jentry.jcache.store.Watcher;
@@ -21,6 +22,7 @@ public final class CacheContext {
     final CacheStatistics statistics = new CacheStatistics();
     final EventDispatcher events;
     final KeyLocks locks = new KeyLocks();
+    private final LastValues last = new LastValues();
     private final CacheBeans beans;
     private final AutoCloseable watching;
 
@@ -33,7 +35,7 @@ public final class CacheContext {
         Options options) {
         this.cache = cache;
         beans = new CacheBeans(cache);
-        this.store = store;
+        this.store = options.events() == Options.Events.EXPIRED ? new RecordingStore(store, last) : store;
         this.configuration = configuration;
         isLocal = options.isLocal();
         isCompiling = options.isCompiling();
@@ -45,7 +47,7 @@ public final class CacheContext {
         loader = new ReadThrough(configuration);
         writer = new WriteThrough(configuration);
         events = new EventDispatcher(cache, options.events() == Options.Events.SERVER);
-        configuration.getCacheEntryListenerConfigurations().forEach(events::add);
+        configuration.getCacheEntryListenerConfigurations().forEach(this::listen);
         watching = options.events() == Options.Events.LOCAL ? () -> { }
             : store.watch((key, kind) -> heard(key, kind, options.events() == Options.Events.SERVER));
         enableStatistics(configuration.isStatisticsEnabled());
@@ -59,15 +61,27 @@ public final class CacheContext {
         beans.set("CacheStatistics", statistics, wanted);
     }
 
+    /** Returns the statistics, for tests. */
+    public CacheStatisticsMXBean statistics() {
+        return statistics;
+    }
+
     /** Registers or unregisters the configuration bean. */
     public void enableManagement(boolean wanted) {
         configuration.setManagementEnabled(wanted);
         beans.set("CacheConfiguration", new CacheBeans.Configured(configuration), wanted);
     }
 
+    private void listen(CacheEntryListenerConfiguration<Long, Long> by) {
+        events.add(by);
+        if (by.isOldValueRequired()) {
+            last.begin();
+        }
+    }
+
     /** Adds a listener. */
     public void register(CacheEntryListenerConfiguration<Long, Long> by) {
-        events.add(by);
+        listen(by);
         configuration.addCacheEntryListenerConfiguration(by);
     }
 
@@ -79,14 +93,15 @@ public final class CacheContext {
 
     /**
      * Handles an event of the server. The event carries no value, so the value is read; if it is gone by then, the
-     * event is dropped.
+     * event is dropped. The value of an expired entry is the last one that this cache put or read, if it did.
      */
     private void heard(long key, Watcher.Kind kind, boolean hearsAll) {
         if (events.isEmpty()) {
             return;
         }
         if (kind == Watcher.Kind.EXPIRED) {
-            events.dispatch(EventType.EXPIRED, key, null, null);
+            Long value = last.expired(key);
+            events.dispatch(EventType.EXPIRED, key, value, value);
         } else if (hearsAll && kind == Watcher.Kind.REMOVED) {
             events.dispatch(EventType.REMOVED, key, null, null);
         } else if (hearsAll) {

@@ -1,6 +1,7 @@
 package jentry.jcache.impl;
 
 import java.util.Objects;
+import java.util.concurrent.CompletableFuture;
 import java.util.function.Supplier;
 import javax.cache.CacheException;
 import jentry.jcache.store.Durations;
@@ -44,6 +45,29 @@ public final class EntryOperations {
         return value;
     }
 
+    /** Implements {@code getAsync}. */
+    public CompletableFuture<Long> getAsync(long key) {
+        if (at.loader.isOnMiss() || !at.expiry.isConstant()) {
+            return CompletableFuture.supplyAsync(() -> get(key));
+        }
+        long begin = at.statistics.begin();
+        return store.getAsync(key, at.expiry.constant().accessed()).thenApply(value -> {
+            at.statistics.got(value == null ? 0 : 1, value == null ? 1 : 0, begin);
+            return value;
+        });
+    }
+
+    /** Implements {@code putAsync}. */
+    public CompletableFuture<Void> putAsync(long key, long value) {
+        boolean isPlain = !at.writer.isThere() && !at.events.isAsked() && at.expiry.isConstant()
+            && at.expiry.constant().created() != Durations.ZERO;
+        if (!isPlain) {
+            return CompletableFuture.runAsync(() -> set(key, value, Store.When.ALWAYS, false, false));
+        }
+        long begin = at.statistics.begin();
+        return store.setAsync(key, value, at.expiry.constant()).thenRun(() -> at.statistics.put(1, begin));
+    }
+
     private Long read(long key) {
         if (at.expiry.isConstant()) {
             return store.get(key, at.expiry.constant().accessed());
@@ -68,7 +92,7 @@ public final class EntryOperations {
         if (value == null) {
             return null;
         }
-        if (store.set(key, value, Store.When.ABSENT, at.expiry.forCreation(), false).done()) {
+        if (commit(key, value, Store.When.ABSENT, false).done()) {
             at.events.changed(key, null, value);
             return value;
         }
@@ -113,10 +137,18 @@ public final class EntryOperations {
         return when == Store.When.ALWAYS || store.contains(key) == (when == Store.When.PRESENT);
     }
 
-    /** Sets a value in the store, with the time to live for a creation or an update. */
+    /**
+     * Sets a value in the store, with the time to live for a creation or an update. An entry that expires as it is
+     * created is never there.
+     */
     Mutation commit(long key, long value, Store.When when, boolean asksBefore) {
         if (at.expiry.isConstant()) {
-            return store.set(key, value, when, at.expiry.constant(), asksBefore);
+            Durations times = at.expiry.constant();
+            boolean isCreated = times.created() != Durations.ZERO;
+            if (!isCreated && when == Store.When.ABSENT) {
+                return new Mutation(false, store.contains(key), null);
+            }
+            return store.set(key, value, isCreated ? when : Store.When.PRESENT, times, asksBefore);
         }
         for (int tries = 0; tries < MOST_TRIES; tries++) {
             boolean exists = store.contains(key);
@@ -124,6 +156,9 @@ public final class EntryOperations {
                 return new Mutation(false, exists, null);
             }
             Durations times = exists ? at.expiry.forUpdate() : at.expiry.forCreation();
+            if (!exists && times.created() == Durations.ZERO) {
+                return new Mutation(false, false, null);
+            }
             Store.When same = exists ? Store.When.PRESENT : Store.When.ABSENT;
             Mutation change = store.set(key, value, same, times, asksBefore);
             if (change.done()) {

@@ -11,6 +11,7 @@ import jentry.jcache.store.Effect;
  */
 final class LocalEntry implements MutableEntry<Long, Long> {
     private final long key;
+    private final boolean wasThere;
     private final LongFunction<Long> loader;
     private Long value;
     private boolean isSet;
@@ -27,6 +28,7 @@ final class LocalEntry implements MutableEntry<Long, Long> {
      */
     LocalEntry(long key, Long value, LongFunction<Long> loader) {
         this.key = key;
+        wasThere = value != null;
         this.value = value;
         this.loader = loader;
     }
@@ -35,10 +37,11 @@ final class LocalEntry implements MutableEntry<Long, Long> {
         return value != null;
     }
 
+    /** Removes the entry. An entry that only this run has set or loaded is left out of the store instead. */
     @Override public void remove() {
+        isRemoved = wasThere || !isSet && !isLoaded;
         isSet = false;
         isLoaded = false;
-        isRemoved = true;
         value = null;
     }
 

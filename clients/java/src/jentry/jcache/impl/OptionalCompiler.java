@@ -3,6 +3,8 @@ package jentry.jcache.impl;
 import java.lang.invoke.MethodHandle;
 import java.lang.invoke.MethodHandles;
 import java.lang.invoke.MethodType;
+import java.util.function.Function;
+import java.util.function.Predicate;
 import javax.cache.processor.EntryProcessor;
 
 /**
@@ -17,11 +19,21 @@ final class OptionalCompiler {
     /**
      * The outcome of a compilation.
      *
-     * @param bytes the class file, or null
+     * @param file the class file, or null
      * @param problem why there is none, or null
      * @param isOfCall whether the same processor may compile when it comes from another call site
      */
-    record Result(byte[] bytes, String problem, boolean isOfCall) { }
+    record Result(File file, String problem, boolean isOfCall) { }
+
+    /**
+     * A compiled class file.
+     *
+     * @param bytes the class file
+     * @param hidden the arguments that are sent in front of the author's, by processor
+     * @param isFor whether the file is that of another processor of the same class
+     * @param names the names of the values in front
+     */
+    record File(byte[] bytes, Function<Object, Object[]> hidden, Predicate<Object> isFor, String names) { }
 
     private OptionalCompiler() { }
 
@@ -29,8 +41,8 @@ final class OptionalCompiler {
         ClassLoader own = OptionalCompiler.class.getClassLoader();
         for (ClassLoader loader : new ClassLoader[] {own, Thread.currentThread().getContextClassLoader()}) {
             try {
-                return MethodHandles.publicLookup().findStatic(Class.forName(NAME, true, loader), "compile",
-                    MethodType.methodType(byte[].class, Object.class));
+                return MethodHandles.publicLookup().findStatic(Class.forName(NAME, true, loader), "prepare",
+                    MethodType.methodType(Object[].class, Object.class));
             } catch (ReflectiveOperationException | LinkageError e) {
                 // This loader has no compiler that runs on this JVM.
             }
@@ -47,9 +59,13 @@ final class OptionalCompiler {
      * Compiles a processor. This must run in the thread that called the cache, because the compiler identifies a lambda
      * by the stack of that thread.
      */
+    @SuppressWarnings("unchecked")
     static Result compile(EntryProcessor<?, ?, ?> processor) {
         try {
-            return new Result((byte[]) COMPILE.invokeExact((Object) processor), null, false);
+            Object[] all = (Object[]) COMPILE.invokeExact((Object) processor);
+            File file = new File((byte[]) all[0], (Function<Object, Object[]>) all[1], (Predicate<Object>) all[2],
+                (String) all[3]);
+            return new Result(file, null, false);
         } catch (VirtualMachineError e) {
             throw e;
         } catch (Throwable e) {

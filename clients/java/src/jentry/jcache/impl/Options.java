@@ -6,11 +6,13 @@ import java.util.ArrayList;
 import java.util.List;
 import java.util.Properties;
 import java.util.Set;
+import java.util.stream.Collectors;
+import java.util.stream.Stream;
 import javax.cache.CacheException;
 
 /**
  * The settings from the URI and the properties of a manager. A property that the manager lacks is read from the system
- * properties.
+ * properties, and then from the file of the class path.
  */
 public final class Options {
     private static final String CHILD = "jentry", UNIX = "jentry+unix", TCP = "jentry+tcp";
@@ -22,6 +24,8 @@ public final class Options {
     private static final Set<String> OF_REDIS = Set.of("jentry.events", "jentry.user", "jentry.password");
     private static final Set<String> OF_ALL = Set.of("jentry.timeout", "jentry.queue", "jentry.local",
         "jentry.compile");
+    private static final Set<String> IN_A_FILE = Stream.of(OF_A_CHILD, OF_REDIS, OF_ALL, Set.of("jentry.uri"))
+        .flatMap(Set::stream).collect(Collectors.toSet());
     private static final int STREAM_TIMEOUT_MILLIS = 120_000, REDIS_TIMEOUT_MILLIS = 10_000;
     private static final int QUEUE = 65_536;
     private static final int REDIS_PORT = 6_379;
@@ -38,6 +42,7 @@ public final class Options {
 
     private final URI uri;
     private final Properties properties;
+    private final Properties file;
     private final int timeoutMillis;
     private final int queue;
     private final boolean isLocal;
@@ -51,14 +56,32 @@ public final class Options {
      *     has an invalid value
      */
     public Options(URI uri, Properties properties) {
+        this(uri, properties, new Properties());
+    }
+
+    /**
+     * Parses the URI and the properties.
+     *
+     * @param file the properties of {@link PropertiesFile}, which come last. Those that don't apply to this kind of
+     *     server are ignored.
+     * @throws CacheException if the URI is malformed, or a property is unknown, doesn't apply to this kind of server or
+     *     has an invalid value
+     */
+    public Options(URI uri, Properties properties, Properties file) {
         this.uri = uri;
         this.properties = properties;
+        this.file = file;
         if (!isKnown()) {
             throw new CacheException(uri + ": a URI is " + FORMS);
         }
         for (String name : properties.stringPropertyNames()) {
             if (name.startsWith(PREFIX) && !isProperty(name)) {
                 throw new CacheException("the property " + name + " isn't one of " + uri);
+            }
+        }
+        for (String name : file.stringPropertyNames()) {
+            if (name.startsWith(PREFIX) && !IN_A_FILE.contains(name)) {
+                throw new CacheException("the property " + name + " of " + PropertiesFile.NAME + " isn't known");
             }
         }
         timeoutMillis = number("jentry.timeout", isRedis() ? REDIS_TIMEOUT_MILLIS : STREAM_TIMEOUT_MILLIS, 0,
@@ -97,6 +120,11 @@ public final class Options {
     /** Returns whether the server has a TCP port and speaks the protocol of {@code jentry serve}. */
     public boolean isTcp() {
         return TCP.equals(uri.getScheme());
+    }
+
+    /** Returns whether the server is a front, which other programs share. */
+    public boolean isFront() {
+        return isUnix() || isTcp();
     }
 
     private boolean isKnown() {
@@ -148,7 +176,7 @@ public final class Options {
 
     /** Returns a property, or null. */
     public String text(String name) {
-        return properties.getProperty(name, System.getProperty(name));
+        return properties.getProperty(name, System.getProperty(name, file.getProperty(name)));
     }
 
     /** Returns the address of the server. */

@@ -9,6 +9,10 @@ import java.security.MessageDigest;
 import java.security.NoSuchAlgorithmException;
 import java.util.Arrays;
 import java.util.HexFormat;
+import java.util.List;
+import java.util.concurrent.CopyOnWriteArrayList;
+import java.util.function.Function;
+import java.util.function.Predicate;
 import javax.cache.CacheException;
 import javax.cache.processor.EntryProcessor;
 
@@ -17,7 +21,8 @@ import javax.cache.processor.EntryProcessor;
  * the file of a processor object.
  */
 public final class ProcessorFile {
-    private static final String AS_A_CLASS = "write it as a class of its own, compiled with javac --release 8";
+    private static final String AS_A_CLASS =
+        Refusal.COMPILER + ", or write it as a class of its own, compiled with javac --release 8";
     private static final ClassValue<ProcessorFile> FILES = new ClassValue<>() {
         @Override protected ProcessorFile computeValue(Class<?> type) {
             return new ProcessorFile(type.getName(), bytesOf(type));
@@ -30,39 +35,64 @@ public final class ProcessorFile {
     };
 
     /**
-     * What is sent for a class that is to be compiled. The compiler runs once for each class, or until the call site of
-     * a lambda is found.
+     * What is sent for the processors of a class that is to be compiled. Mostly that is one file. A processor whose
+     * values are part of the compiled class needs a file of its own, unless another one holds the same.
      */
     private static final class Compiled {
-        private volatile ProcessorFile file;
+        private static final int MOST_FILES = 16;
+
+        private final List<ProcessorFile> files = new CopyOnWriteArrayList<>();
         private volatile String problem;
+        private int failures;
 
         private ProcessorFile of(EntryProcessor<?, ?, ?> processor) {
-            String why = file == null && problem == null ? compile(processor) : problem;
-            if (file == null) {
-                file = uncompiled(processor.getClass(), why);
+            ProcessorFile found = find(processor);
+            if (found != null) {
+                return found;
             }
-            return file;
+            String why = problem == null ? compile(processor) : problem;
+            found = find(processor);
+            return found != null ? found : uncompiled(processor.getClass(), why);
+        }
+
+        private ProcessorFile find(EntryProcessor<?, ?, ?> processor) {
+            for (ProcessorFile file : files) {
+                if (file.isFor.test(processor)) {
+                    return file;
+                }
+            }
+            return null;
         }
 
         /** Compiles the processor unless that was done before. Returns why it failed, or null. */
         private synchronized String compile(EntryProcessor<?, ?, ?> processor) {
-            if (file != null || problem != null) {
+            if (problem != null || find(processor) != null) {
                 return problem;
+            } else if (files.size() == MOST_FILES) {
+                return "its values are part of the compiled class, and " + MOST_FILES
+                    + " processors with other values were sent before; hand what changes over as arguments";
             }
             OptionalCompiler.Result result = OptionalCompiler.compile(processor);
-            if (result.bytes() != null) {
-                file = new ProcessorFile(processor.getClass().getName(), result.bytes());
-            } else if (!result.isOfCall()) {
+            if (result.file() != null) {
+                files.add(new ProcessorFile(processor.getClass().getName(), result.file()));
+            } else if (!result.isOfCall() && (!holdsValues(processor.getClass()) || ++failures == MOST_FILES)) {
                 problem = result.problem();
             }
             return result.problem();
+        }
+
+        private static boolean holdsValues(Class<?> type) {
+            return type != Object.class && (Arrays.stream(type.getDeclaredFields())
+                .anyMatch(it -> !Modifier.isStatic(it.getModifiers())) || holdsValues(type.getSuperclass()));
         }
     }
 
     private final String type;
     private final byte[] bytes;
     private final String problem;
+    private final Function<Object, Object[]> hidden;
+    private final Predicate<Object> isFor;
+    private final String names;
     private final int hash;
     private volatile String id;
 
@@ -80,6 +110,19 @@ public final class ProcessorFile {
         this.type = type;
         this.bytes = bytes;
         this.problem = problem;
+        hidden = null;
+        isFor = it -> true;
+        names = "";
+        hash = Arrays.hashCode(bytes);
+    }
+
+    private ProcessorFile(String type, OptionalCompiler.File file) {
+        this.type = type;
+        bytes = file.bytes();
+        problem = null;
+        hidden = file.names().isEmpty() ? null : file.hidden();
+        isFor = file.isFor();
+        names = file.names();
         hash = Arrays.hashCode(bytes);
     }
 
@@ -107,6 +150,27 @@ public final class ProcessorFile {
 
     private static boolean isLambda(Class<?> type) {
         return type.isHidden() || type.isSynthetic();
+    }
+
+    /** Returns the arguments to send: the values that the processor holds in front of the author's arguments. */
+    public Object[] sent(EntryProcessor<?, ?, ?> processor, Object[] arguments) {
+        if (hidden == null) {
+            return arguments;
+        }
+        Object[] first;
+        try {
+            first = hidden.apply(processor);
+        } catch (IllegalArgumentException e) {
+            throw new CacheException(e.getMessage(), e);
+        }
+        if (first.length + arguments.length > ProcessorInvoker.MOST_ARGUMENTS) {
+            throw new IllegalArgumentException("an invocation takes at most " + ProcessorInvoker.MOST_ARGUMENTS
+                + " arguments, and " + first.length + " of them are values that the processor holds (" + names
+                + "): " + (ProcessorInvoker.MOST_ARGUMENTS - first.length) + " are left, not " + arguments.length);
+        }
+        Object[] all = Arrays.copyOf(first, first.length + arguments.length);
+        System.arraycopy(arguments, 0, all, first.length, arguments.length);
+        return all;
     }
 
     /** Returns the name of the class. */

@@ -8,7 +8,6 @@ import java.util.concurrent.ThreadLocalRandom;
 import java.util.concurrent.atomic.LongAdder;
 import java.util.concurrent.locks.LockSupport;
 import java.util.function.Supplier;
-import java.util.stream.LongStream;
 import javax.cache.CacheException;
 import javax.cache.processor.EntryProcessor;
 import javax.cache.processor.EntryProcessorException;
@@ -23,10 +22,14 @@ import jentry.jcache.store.Store;
  * Runs processors at the server, or in this JVM if the server can't run them and {@code jentry.local} is true. A run in
  * this JVM reads the entry, runs the processor and commits by compare-and-set; if the entry has changed meanwhile, the
  * processor runs again.
+ *
+ * <p>A class that the server accepts runs in this JVM too where somebody in this JVM takes part in the run: the loader
+ * of an absent entry, and on a store that doesn't report what a run did also the writer, the listeners and the
+ * statistics. The server has judged the class, so it does here what it would do there.
  */
 public final class ProcessorInvoker {
     private static final System.Logger LOG = System.getLogger("jentry.jcache");
-    private static final int MOST_ARGUMENTS = 8;
+    static final int MOST_ARGUMENTS = 8;
     private static final long FIRST_PAUSE_NANOS = 20_000;
     private static final int MOST_DOUBLINGS = 8;
 
@@ -60,16 +63,13 @@ public final class ProcessorInvoker {
 
     private Way way(EntryProcessor<?, ?, ?> processor, Object[] arguments) {
         RuntimeException reason = unsendable(arguments);
-        if (reason == null && at.writer.isThere() && !store.hasDetail()) {
-            reason = new CacheException(
-                "the cache has a writer, which is asked before a change: the server can't do that");
-        }
         ProcessorFile file = null;
         if (reason == null) {
             try {
                 file = ProcessorFile.of(processor, at.isCompiling);
                 reason = refused.get(file);
-            } catch (CacheException e) {
+                file.sent(processor, arguments);
+            } catch (CacheException | IllegalArgumentException e) {
                 reason = e;
             }
         }
@@ -86,9 +86,9 @@ public final class ProcessorInvoker {
         }
         for (int i = 0; i < arguments.length; i++) {
             Object it = arguments[i];
-            if (it != null && !(it instanceof Long) && !(it instanceof Integer)) {
-                return new IllegalArgumentException("an argument is a Long, an Integer or null; argument " + (i + 1)
-                    + " is a " + it.getClass().getName());
+            if (it != null && !(it instanceof Long) && !(it instanceof Integer) && !(it instanceof Boolean)) {
+                return new IllegalArgumentException("an argument is a Long, an Integer, a Boolean or null; argument "
+                    + (i + 1) + " is a " + it.getClass().getName());
             }
         }
         return null;
@@ -100,7 +100,8 @@ public final class ProcessorInvoker {
      */
     private void refuse(Way way, ProcessorRefusedException e) {
         String problem = way.file().problem();
-        ProcessorRefusedException reason = problem == null ? e : new ProcessorRefusedException(e, problem);
+        ProcessorRefusedException reason = problem == null ? e
+            : new ProcessorRefusedException(way.file().type(), e, problem);
         refused.put(way.file(), reason);
         if (!at.isLocal) {
             throw reason;
@@ -111,23 +112,29 @@ public final class ProcessorInvoker {
     @SuppressWarnings("unchecked")
     public <T> T invoke(long key, EntryProcessor<Long, Long, T> processor, Object[] arguments) {
         Way way = way(processor, arguments);
-        if (way.reason() == null && !isToLoadLazily(key)) {
+        if (way.reason() == null) {
             try {
-                return (T) there(key, way.file(), arguments);
+                if (!isWatched() && !isToBeLoaded(key)) {
+                    return (T) there(key, processor, way.file(), arguments);
+                }
+                store.define(way.file(), key);
+                return here(key, processor, arguments);
             } catch (ProcessorRefusedException e) {
                 refuse(way, e);
             }
         }
+        countLocal(processor);
         return here(key, processor, arguments);
     }
 
-    /**
-     * Returns whether the processor must run in this JVM because the entry is absent and there is a loader. JCache
-     * requires the load to happen only when the processor asks for the value, which a run at the server can't do.
-     * Without {@code jentry.local} the value is loaded before the run.
-     */
-    private boolean isToLoadLazily(long key) {
-        return at.isLocal && at.loader.isOnMiss() && !store.contains(key);
+    /** Returns whether somebody in this JVM has to know what a run did, which the store doesn't report. */
+    private boolean isWatched() {
+        return !store.hasDetail() && (at.writer.isThere() || at.events.isAsked() || at.statistics.isEnabled());
+    }
+
+    /** Returns whether the entry is absent and a loader in this JVM makes it if the processor asks for the value. */
+    private boolean isToBeLoaded(long key) {
+        return at.loader.isOnMiss() && !store.contains(key);
     }
 
     /**
@@ -138,20 +145,13 @@ public final class ProcessorInvoker {
         return store.hasDetail() && (at.writer.isThere() || !at.expiry.isConstant());
     }
 
-    private Object there(long key, ProcessorFile file, Object[] arguments) {
+    private Object there(long key, EntryProcessor<Long, Long, ?> processor, ProcessorFile file, Object[] arguments) {
         long begin = at.statistics.begin();
-        loadMissing(key);
         if (isDivided()) {
-            return divided(key, file, arguments, begin);
+            return divided(key, processor, file, arguments, begin);
         }
-        Invocation done = store.run(file, key, arguments, at.expiry.constant());
+        Invocation done = store.run(file, key, file.sent(processor, arguments), at.expiry.constant());
         return counted(key, done, begin);
-    }
-
-    private void loadMissing(long key) {
-        if (at.loader.isOnMiss() && !store.contains(key)) {
-            entries.loaded(key, at.loader.load(key));
-        }
     }
 
     /**
@@ -160,26 +160,49 @@ public final class ProcessorInvoker {
     private Object counted(long key, Invocation done, long begin) {
         Object result = done.result();
         if (done.effect() != null) {
-            at.statistics.ran(done.before() != null, done.effect(), begin);
-            if (done.effect() != Effect.KEEP) {
-                at.events.changed(key, done.before(), done.after());
-            }
+            boolean isThere = done.before() != null || done.after() != null;
+            counted(key, isThere ? done.effect() : Effect.KEEP, done.before(), done.after(), begin);
         }
         return result;
     }
 
-    private Object divided(long key, ProcessorFile file, Object[] arguments, long begin) {
+    private void counted(long key, Effect effect, Long before, Long after, long begin) {
+        at.statistics.ran(before != null, effect, begin);
+        if (effect != Effect.KEEP) {
+            at.events.changed(key, before, after);
+        }
+    }
+
+    private Object divided(long key, EntryProcessor<Long, Long, ?> processor, ProcessorFile file, Object[] arguments,
+        long begin) {
         return at.locks.with(key, () -> {
             for (int tries = 0; tries < EntryOperations.MOST_TRIES; tries++) {
-                Invocation dry = store.dryRun(file, key, arguments);
+                Invocation dry = store.dryRun(file, key, file.sent(processor, arguments));
                 dry.result();
-                if (isCommitted(key, dry.effect(), dry.before(), dry.after(), true)) {
-                    return counted(key, dry, begin);
+                Effect effect = isRemovalOfNone(key, dry, processor, arguments) ? Effect.DELETE : dry.effect();
+                Effect committed = commit(key, effect, dry.before(), dry.after(), true);
+                if (committed != null) {
+                    counted(key, committed, dry.before(), dry.after(), begin);
+                    return dry.value();
                 }
                 pause(tries);
             }
             throw EntryOperations.spoiled(key);
         });
+    }
+
+    /**
+     * Returns whether a run called {@code remove} on an absent entry, which the writer deletes all the same. The server
+     * reports such a run like one that left the entry. It has accepted the class, so a run in this JVM does the same.
+     */
+    private boolean isRemovalOfNone(long key, Invocation dry, EntryProcessor<Long, Long, ?> processor,
+        Object[] arguments) {
+        if (!at.writer.isThere() || dry.before() != null || dry.effect() != Effect.KEEP) {
+            return false;
+        }
+        LocalEntry entry = new LocalEntry(key, null, it -> null);
+        processor.process(entry, arguments);
+        return entry.effect() == Effect.DELETE;
     }
 
     private static void pause(int tries) {
@@ -188,27 +211,33 @@ public final class ProcessorInvoker {
     }
 
     /**
-     * Applies what a run did to the store, if the entry is still the one the run started with. Returns whether it was.
+     * Applies what a run did to the store, if the entry is still the one the run started with. Returns what has become
+     * of the entry, or null if it was another one.
      */
-    private boolean isCommitted(long key, Effect effect, Long before, Long after, boolean isAccess) {
+    private Effect commit(long key, Effect effect, Long before, Long after, boolean isAccess) {
         if (effect == Effect.KEEP) {
             if (before != null && isAccess) {
                 entries.touch(key);
             }
-            return true;
+            return effect;
         } else if (effect == Effect.DELETE) {
             at.writer.delete(key);
-            return before == null || store.compare(key, before, null, Durations.NONE, false).done();
+            return before == null || store.compare(key, before, null, Durations.NONE, false).done() ? effect : null;
         }
         at.writer.write(key, after);
-        return isSet(key, before, after);
+        return set(key, before, after);
     }
 
-    private boolean isSet(long key, Long before, Long after) {
-        if (before == null) {
-            return store.set(key, after, Store.When.ABSENT, at.expiry.forCreation(), false).done();
+    /** Sets the value of a run. An entry that expires as it is created is never there. */
+    private Effect set(long key, Long before, Long after) {
+        if (before != null) {
+            return store.compare(key, before, after, at.expiry.forUpdate(), false).done() ? Effect.PUT : null;
         }
-        return store.compare(key, before, after, at.expiry.forUpdate(), false).done();
+        Durations times = at.expiry.forCreation();
+        if (times.created() == Durations.ZERO) {
+            return Effect.KEEP;
+        }
+        return store.set(key, after, Store.When.ABSENT, times, false).done() ? Effect.PUT : null;
     }
 
     private <T> T here(long key, EntryProcessor<Long, Long, T> processor, Object[] arguments) {
@@ -218,12 +247,11 @@ public final class ProcessorInvoker {
                 Long before = store.get(key, Durations.LEAVE);
                 LocalEntry entry = new LocalEntry(key, before, at.loader::load);
                 T result = process(processor, entry, arguments);
-                Effect effect = entry.effect();
-                boolean done = entry.isLoaded() ? isSet(key, before, entry.value())
-                    : isCommitted(key, effect, before, entry.value(), entry.isAccessed());
-                if (done) {
-                    at.statistics.ran(before != null, effect, begin);
-                    if (effect != Effect.KEEP || entry.isLoaded()) {
+                Effect committed = entry.isLoaded() ? set(key, before, entry.value())
+                    : commit(key, entry.effect(), before, entry.value(), entry.isAccessed());
+                if (committed != null) {
+                    at.statistics.ran(before != null, entry.isLoaded() ? Effect.KEEP : committed, begin);
+                    if (committed != Effect.KEEP) {
                         at.events.changed(key, before, entry.value());
                     }
                     return result;
@@ -234,13 +262,17 @@ public final class ProcessorInvoker {
         });
     }
 
-    private <T> T process(EntryProcessor<Long, Long, T> processor, LocalEntry entry, Object[] arguments) {
+    /** Counts a run of a class that the server didn't judge or refuses. */
+    private void countLocal(EntryProcessor<Long, Long, ?> processor) {
         String type = processor.getClass().getName();
         localRuns.computeIfAbsent(type, it -> {
             LOG.log(System.Logger.Level.INFO, "the processor " + type
                 + " runs in this JVM, not verified, for the cache " + at.cache.getName() + " (jentry.local)");
             return new LongAdder();
         }).increment();
+    }
+
+    private static <T> T process(EntryProcessor<Long, Long, T> processor, LocalEntry entry, Object[] arguments) {
         try {
             return processor.process(entry, arguments);
         } catch (EntryProcessorException e) {
@@ -257,9 +289,9 @@ public final class ProcessorInvoker {
         Object[] arguments) {
         Way way = way(processor, arguments);
         Map<Long, EntryProcessorResult<T>> results = new HashMap<>();
-        if (way.reason() == null && !isDivided() && !(at.isLocal && at.loader.isOnMiss())) {
+        if (way.reason() == null && !isDivided() && !isWatched() && !at.loader.isOnMiss()) {
             try {
-                allThere(keys, way.file(), arguments, results);
+                allThere(keys, way.file(), way.file().sent(processor, arguments), results);
                 return results;
             } catch (ProcessorRefusedException e) {
                 refuse(way, e);
@@ -285,9 +317,6 @@ public final class ProcessorInvoker {
     private <T> void allThere(long[] keys, ProcessorFile file, Object[] arguments,
         Map<Long, EntryProcessorResult<T>> results) {
         long begin = at.statistics.begin();
-        if (at.loader.isOnMiss()) {
-            LongStream.of(keys).forEach(this::loadMissing);
-        }
         Map<Long, Invocation> all = new HashMap<>();
         store.runAll(file, keys, arguments, at.expiry.constant(), (done, key) -> all.put(key, done));
         all.forEach((key, done) -> add(results, key, done));
@@ -318,11 +347,11 @@ public final class ProcessorInvoker {
     @SuppressWarnings("unchecked")
     public <T> CompletableFuture<T> invokeAsync(long key, EntryProcessor<Long, Long, T> processor, Object[] arguments) {
         Way way = way(processor, arguments);
-        if (way.reason() == null && !isDivided() && !at.loader.isOnMiss()) {
+        if (way.reason() == null && !isDivided() && !isWatched() && !at.loader.isOnMiss()) {
             long begin = at.statistics.begin();
             try {
                 CompletableFuture<T> result = new CompletableFuture<>();
-                store.runAsync(way.file(), key, arguments, at.expiry.constant())
+                store.runAsync(way.file(), key, way.file().sent(processor, arguments), at.expiry.constant())
                     .whenComplete((done, e) -> complete(result, () -> (T) counted(key, done, begin), e));
                 return result;
             } catch (ProcessorRefusedException e) {

@@ -9,12 +9,12 @@ public enum Refusal {
             + "and leave -g out"),
     TRUNCATED("Truncated", ""),
     BAD_MAGIC("BadMagic", ""),
-    BAD_VERSION("BadVersion", "compile the processor with javac --release 8"),
+    BAD_VERSION("BadVersion", Refusal.COMPILER + ", or compile the processor with javac --release 8"),
     BAD_POOL("BadPool", ""),
     TRAILING_BYTES("TrailingBytes", ""),
     BAD_DESCRIPTOR("BadDescriptor",
-        "a method or field has a type that isn't known: return a Long, an Integer or null from process (1 and 0 in "
-            + "place of a Boolean), and make an inner class static"),
+        "a method or field has a type that isn't known: return a Long, an Integer, a Boolean or null from process, and "
+            + "make an inner class static"),
     BAD_HEADER("BadHeader", "write a plain class that names EntryProcessor itself and extends nothing"),
     CONSTRUCTOR_FORM("ConstructorForm",
         "write no constructor, and no field with an initialiser: hand values over as arguments"),
@@ -30,8 +30,8 @@ public enum Refusal {
     OUTSIDE_PROFILE("OutsideProfile", ""),
     BAD_OPERAND("BadOperand", "a method that is called takes or answers a type that isn't known"),
     BAD_TARGET("BadTarget", ""),
-    BACKWARD_BRANCH("BackwardBranch", "loops aren't taken as they are: put jentry-compile.jar on the class path, or use a formula"),
-    BAD_STACK_MAP("BadStackMap", "declare the local as Object, Number, Long or Integer"),
+    BACKWARD_BRANCH("BackwardBranch", "loops aren't taken as they are: " + Refusal.COMPILER + ", or use a formula"),
+    BAD_STACK_MAP("BadStackMap", "declare the local as Object, Number, Long, Integer or Boolean"),
     TYPE_MISMATCH("TypeMismatch", ""),
     FALLS_OFF("FallsOff", ""),
     UNKNOWN_MEMBER("UnknownMember",
@@ -44,6 +44,10 @@ public enum Refusal {
         "the arrays of some way through the code take more than 65,536 words: make an array once and hand it on"),
     FRAME_LIMIT("FrameLimit", "more than 64 methods or 8,192 slots are open at once: write a flatter chain of calls"),
     NO_MEMORY("NoMemory", "the server had no memory to judge the class, which says nothing of the class");
+
+    /** What to do about a class that needs the compiler. */
+    static final String COMPILER = "put jentry-compile.jar on the class path (clients/compiler/build in the "
+        + "repository of jentry makes it)";
 
     private static final Refusal[] ALL = values();
     private static final Map<Integer, String> OPCODES = Map.ofEntries(

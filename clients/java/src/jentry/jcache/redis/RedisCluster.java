@@ -105,7 +105,7 @@ final class RedisCluster {
             if (known != null && !known.isBroken()) {
                 return known;
             } else if (closed) {
-                throw new IllegalStateException("the cache manager of " + options.uri() + " is closed");
+                throw isClosed();
             }
             try {
                 RedisConnection made = new RedisConnection(node, options);
@@ -219,7 +219,15 @@ final class RedisCluster {
 
     /** Makes a call at a node and returns its replies, errors included. */
     Object[] at(String node, Resp.Commands commands) {
-        return submit(node, commands).await();
+        try {
+            return submit(node, commands).await();
+        } catch (CallNotSentException e) {
+            throw closed ? isClosed() : e;
+        }
+    }
+
+    private IllegalStateException isClosed() {
+        return new IllegalStateException("the cache manager of " + options.uri() + " is closed");
     }
 
     /** Makes a read like {@link #at}, and retries it once if it can't be sent or no reply comes. */

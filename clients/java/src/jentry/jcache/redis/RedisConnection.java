@@ -7,6 +7,7 @@ import java.util.Arrays;
 import java.util.List;
 import java.util.concurrent.Executor;
 import java.util.concurrent.TimeUnit;
+import java.util.concurrent.locks.Condition;
 import java.util.concurrent.locks.LockSupport;
 import java.util.concurrent.locks.ReentrantLock;
 import java.util.function.Consumer;
@@ -17,21 +18,37 @@ import jentry.jcache.impl.Watch;
 
 /**
  * One connection to one node, shared by all threads. The commands of a call are sent without other commands between
- * them. A thread that finds no other thread writing writes all queued calls in one write; a reader thread takes the
- * replies, which come in the order of the commands. If a reply takes longer than the timeout, the connection is closed
- * for good.
+ * them. A thread that finds no other thread writing writes all queued calls in one write. If a reply takes longer than
+ * the timeout, the connection is closed for good.
+ *
+ * <p>The replies come in the order of the commands. A caller that is alone reads its own reply, so no other thread has
+ * to be woken. Once several calls are out, a reader thread takes the replies, until calls come one by one again. It
+ * also reads while there are no calls, and so finds out that the connection was closed before a call is lost on it.
  */
 final class RedisConnection implements Watch.Watched {
+    /** After how many replies to calls that were alone the reader thread leaves the replies to the callers. */
+    private static final int MOST_ALONE = 4;
+    private static final long QUIET_NANOS = TimeUnit.MILLISECONDS.toNanos(20);
+    private static final long CLOSE_NANOS = TimeUnit.SECONDS.toNanos(5);
+    private static final long CLOSE_PAUSE_NANOS = 200_000;
+
     private final String node;
     private final RedisSocket at;
     private final long timeoutNanos;
     private final ReentrantLock lock = new ReentrantLock();
+    private final Condition readersTurn = lock.newCondition();
     private final ArrayDeque<Call> unsent = new ArrayDeque<>();
     private final ArrayDeque<Call> sent = new ArrayDeque<>();
     private byte[] room = new byte[1 << 14];
     private boolean writing;
+    private By reading = By.READER;
+    private int alone;
+    private long submitted;
     private volatile String broken;
     private Throwable cause;
+
+    /** Who reads the replies. */
+    private enum By { NOBODY, CALLER, READER }
 
     /** Commands and their outcome. */
     static final class Call {
@@ -46,6 +63,7 @@ final class RedisConnection implements Watch.Watched {
         private String trouble;
         private Throwable cause;
         private volatile boolean ended;
+        private RedisConnection at;
 
         /** Creates a call whose replies this thread waits for. */
         Call(Resp.Commands commands) {
@@ -83,6 +101,9 @@ final class RedisConnection implements Watch.Watched {
          */
         Object[] await() {
             boolean interrupted = false;
+            if (at != null) {
+                at.readFor(this);
+            }
             while (!ended) {
                 LockSupport.park(this);
                 interrupted |= Thread.interrupted();
@@ -131,9 +152,14 @@ final class RedisConnection implements Watch.Watched {
         lock.lock();
         try {
             if (broken == null) {
+                call.at = this;
+                submitted++;
                 unsent.add(call);
                 writes = !writing;
                 writing = true;
+                if (call.waiter == null && reading == By.NOBODY) {
+                    handToReader();
+                }
             } else {
                 call.trouble = broken;
                 call.cause = cause;
@@ -189,16 +215,94 @@ final class RedisConnection implements Watch.Watched {
         }
     }
 
+    /** Reads replies in the reader thread. */
     private void read() {
         try {
-            while (broken == null) {
-                Call ended = take(at.in.reply());
-                if (ended != null) {
-                    ended.end();
-                }
+            while (isReadersTurn()) {
+                readOne();
             }
         } catch (IOException | RuntimeException | Error e) {
             cut(e);
+        }
+    }
+
+    private void readOne() throws IOException {
+        Call ended = take(at.in.reply());
+        if (ended != null) {
+            ended.end();
+        }
+    }
+
+    /** Waits until the reader thread has to read. Returns whether the connection is still open. */
+    private boolean isReadersTurn() {
+        lock.lock();
+        try {
+            if (alone >= MOST_ALONE && isIdle()) {
+                reading = By.NOBODY;
+            }
+            while (broken == null && reading != By.READER) {
+                long before = submitted;
+                awaitTurn();
+                if (reading == By.NOBODY && submitted == before) {
+                    handToReader();
+                }
+            }
+            return broken == null;
+        } finally {
+            lock.unlock();
+        }
+    }
+
+    private void awaitTurn() {
+        try {
+            readersTurn.awaitNanos(QUIET_NANOS);
+        } catch (InterruptedException e) {
+            // Nobody has a reason to interrupt this thread, so it continues.
+        }
+    }
+
+    /** Returns whether no call is out. The caller holds the lock. */
+    private boolean isIdle() {
+        return sent.isEmpty() && unsent.isEmpty();
+    }
+
+    /** Makes the reader thread read. The caller holds the lock. */
+    private void handToReader() {
+        reading = By.READER;
+        alone = 0;
+        readersTurn.signal();
+    }
+
+    /** Reads replies up to the last one of a call, in the thread that waits for it, if no other thread reads. */
+    private void readFor(Call call) {
+        lock.lock();
+        try {
+            if (call.ended || broken != null || reading != By.NOBODY) {
+                return;
+            }
+            reading = By.CALLER;
+        } finally {
+            lock.unlock();
+        }
+        try {
+            while (!call.ended) {
+                readOne();
+            }
+        } catch (IOException | RuntimeException e) {
+            cut(e);
+        } catch (Error e) {
+            cut(e);
+            throw e;
+        } finally {
+            lock.lock();
+            try {
+                reading = By.NOBODY;
+                if (!isIdle()) {
+                    handToReader();
+                }
+            } finally {
+                lock.unlock();
+            }
         }
     }
 
@@ -211,7 +315,12 @@ final class RedisConnection implements Watch.Watched {
                 throw new IOException("a reply to no command");
             }
             call.replies[call.got++] = reply;
-            return call.got < call.replies.length ? null : sent.remove();
+            if (call.got < call.replies.length) {
+                return null;
+            }
+            sent.remove();
+            alone = isIdle() ? alone + 1 : 0;
+            return call;
         } finally {
             lock.unlock();
         }
@@ -241,7 +350,7 @@ final class RedisConnection implements Watch.Watched {
         try {
             if (broken == null) {
                 cause = why;
-                broken = "the connection to " + node + " is broken (" + why.getMessage() + ")";
+                broken = broken(why);
             }
             all.addAll(sent);
             all.addAll(unsent);
@@ -251,6 +360,7 @@ final class RedisConnection implements Watch.Watched {
                 call.trouble = broken;
                 call.cause = cause;
             }
+            readersTurn.signalAll();
         } finally {
             lock.unlock();
         }
@@ -259,7 +369,31 @@ final class RedisConnection implements Watch.Watched {
         all.forEach(Call::end);
     }
 
+    /** Closes the connection once no call is out, or after five seconds. */
     void close() {
-        cut(new IOException("it was closed"));
+        IOException why = new IOException("it was closed");
+        long end = System.nanoTime() + CLOSE_NANOS;
+        while (!isEndedBy(why, System.nanoTime() > end)) {
+            LockSupport.parkNanos(CLOSE_PAUSE_NANOS);
+        }
+        cut(why);
+    }
+
+    /** Lets no further call in, unless one is out and it isn't late. Returns whether none comes in. */
+    private boolean isEndedBy(IOException why, boolean isLate) {
+        lock.lock();
+        try {
+            if (broken == null && (isLate || isIdle())) {
+                cause = why;
+                broken = broken(why);
+            }
+            return broken != null;
+        } finally {
+            lock.unlock();
+        }
+    }
+
+    private String broken(Throwable why) {
+        return "the connection to " + node + " is broken (" + why.getMessage() + ")";
     }
 }

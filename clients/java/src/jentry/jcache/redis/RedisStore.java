@@ -9,6 +9,7 @@ import java.util.Set;
 import java.util.concurrent.CompletableFuture;
 import java.util.concurrent.ConcurrentHashMap;
 import java.util.concurrent.atomic.AtomicLong;
+import java.util.function.Function;
 import java.util.function.IntConsumer;
 import java.util.function.ObjLongConsumer;
 import java.util.function.Supplier;
@@ -247,6 +248,10 @@ final class RedisStore implements Store {
         }
     }
 
+    @Override public void define(ProcessorFile file, long key) {
+        defineOnce(cluster.node(keys.slot(key)), file);
+    }
+
     private static boolean isUndefined(Object reply) {
         return reply instanceof Resp.Failure f && f.is("NOCLASS");
     }
@@ -294,18 +299,44 @@ final class RedisStore implements Store {
     @Override public CompletableFuture<Invocation> runAsync(ProcessorFile file, long key, Object[] arguments,
         Durations durations) {
         Object[] words = applying(file, keys.name(key), arguments, durations, "do");
-        CompletableFuture<Invocation> result = new CompletableFuture<>();
         defineOnce(cluster.node(keys.slot(key)), file);
+        return submit(key, words, reply -> Replies.invocation(reply, file), () -> apply(file, key, words));
+    }
+
+    @Override public CompletableFuture<Long> getAsync(long key, long accessed) {
+        return submit(key, reading(keys.name(key), accessed), Replies::value, () -> get(key, accessed));
+    }
+
+    @Override public CompletableFuture<Void> setAsync(long key, long value, Durations durations) {
+        if (!isUniform(durations)) {
+            return CompletableFuture.runAsync(() -> set(key, value, When.ALWAYS, durations, false));
+        }
+        return submit(key, setting(keys.name(key), value, durations.updated()), reply -> {
+            Replies.checked(reply);
+            return null;
+        }, () -> {
+            set(key, value, When.ALWAYS, durations, false);
+            return null;
+        });
+    }
+
+    /**
+     * Starts a call that no thread waits for.
+     *
+     * @param again makes the call once more after a node did nothing of it
+     */
+    private <T> CompletableFuture<T> submit(long key, Object[] words, Function<Object, T> reader, Supplier<T> again) {
+        CompletableFuture<T> result = new CompletableFuture<>();
         try {
             cluster.submit(keys.slot(key), new Resp.Commands().add(words), result.defaultExecutor(),
-                call -> complete(result, () -> answered(call, file, key, words)));
+                call -> complete(result, () -> answered(call, reader, again)));
         } catch (CallNotSentException e) {
-            result.defaultExecutor().execute(() -> complete(result, () -> apply(file, key, words)));
+            result.defaultExecutor().execute(() -> complete(result, again));
         }
         return result;
     }
 
-    private static void complete(CompletableFuture<Invocation> result, Supplier<Invocation> work) {
+    private static <T> void complete(CompletableFuture<T> result, Supplier<T> work) {
         try {
             result.complete(work.get());
         } catch (RuntimeException e) {
@@ -314,15 +345,14 @@ final class RedisStore implements Store {
     }
 
     /** Returns the outcome of a call that no thread waited for; a call that the node didn't execute is repeated. */
-    private Invocation answered(RedisConnection.Call call, ProcessorFile file, long key, Object[] words) {
+    private static <T> T answered(RedisConnection.Call call, Function<Object, T> reader, Supplier<T> again) {
         Object reply;
         try {
             reply = call.await()[0];
         } catch (CallNotSentException e) {
-            return apply(file, key, words);
+            return again.get();
         }
-        return isUndefined(reply) || RedisCluster.undone(reply) != null ? apply(file, key, words)
-            : Replies.invocation(reply, file);
+        return isUndefined(reply) || RedisCluster.undone(reply) != null ? again.get() : reader.apply(reply);
     }
 
     @Override public Iterator<long[]> scan(String what) {

@@ -58,10 +58,20 @@ final class Replies {
             return Invocation.failed(() -> ProcessorFaults.of(number, file.type()));
         }
         Object[] row = (Object[]) checked(reply);
-        boolean isInteger = text(row[1]).equals("Integer");
-        Object value = row[0] != null && isInteger ? (Object) Math.toIntExact((Long) row[0]) : row[0];
+        Object result = result((Long) row[0], text(row[1]));
         Effect effect = Effect.valueOf(text(row[2]).toUpperCase(Locale.ROOT));
-        return new Invocation(value, null, effect, value(row[3]), value(row[4]));
+        return new Invocation(result, null, effect, value(row[3]), value(row[4]));
+    }
+
+    /** Returns the result of a run from its number, and the name of its type. */
+    private static Object result(Long number, String type) {
+        return switch (type) {
+            case "null" -> null;
+            case "Long" -> number;
+            case "Integer" -> Math.toIntExact(number);
+            case "Boolean" -> number != 0;
+            default -> throw new CacheException("Redis: a result of the type " + type);
+        };
     }
 
     /** Checks the reply to JENTRY.DEFINE. */

@@ -5,7 +5,7 @@ import java.util.function.Supplier;
 /**
  * The outcome of one run of a processor.
  *
- * @param value what the processor returned: a Long, an Integer or null
+ * @param value what the processor returned: a Long, an Integer, a Boolean or null
  * @param failure creates the exception if the run failed, else null
  * @param effect what the run did to its entry, or null if the store doesn't know
  * @param before the value before the run, or null if there was none or the store doesn't know

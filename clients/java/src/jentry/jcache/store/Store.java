@@ -26,6 +26,20 @@ public interface Store {
     /** Returns the value of a key, or null. The entry gets the time to live {@code accessed}. */
     Long get(long key, long accessed);
 
+    /**
+     * Reads a value like {@link #get} without blocking.
+     *
+     * @throws java.util.concurrent.RejectedExecutionException if too many calls are waiting
+     */
+    CompletableFuture<Long> getAsync(long key, long accessed);
+
+    /**
+     * Sets a value unconditionally without blocking.
+     *
+     * @throws java.util.concurrent.RejectedExecutionException if too many calls are waiting
+     */
+    CompletableFuture<Void> setAsync(long key, long value, Durations durations);
+
     /** Returns whether there is an entry. Its time to live doesn't change. */
     boolean contains(long key);
 
@@ -50,7 +64,7 @@ public interface Store {
     /**
      * Runs a processor.
      *
-     * @param arguments at most eight, each a Long, an Integer or null
+     * @param arguments at most eight, each a Long, an Integer, a Boolean or null
      * @throws jentry.jcache.ProcessorRefusedException if the server refuses the class
      */
     Invocation run(ProcessorFile file, long key, Object[] arguments, Durations durations);
@@ -66,6 +80,14 @@ public interface Store {
      */
     CompletableFuture<Invocation> runAsync(ProcessorFile file, long key, Object[] arguments, Durations durations);
 
+    /**
+     * Has the server judge a class that will run in this JVM.
+     *
+     * @param key the key on which it will run
+     * @throws jentry.jcache.ProcessorRefusedException if the server refuses the class
+     */
+    void define(ProcessorFile file, long key);
+
     /** Returns whether {@link #dryRun} is supported and {@link Invocation} has the effect and both values. */
     boolean hasDetail();
 
@@ -74,7 +96,7 @@ public interface Store {
 
     /**
      * Returns pages of keys, in no order. A key may appear twice; keys that are created or removed meanwhile may be
-     * missed.
+     * missed. Keys without an entry may be among them.
      *
      * @param what the calling method of the cache, for messages
      */

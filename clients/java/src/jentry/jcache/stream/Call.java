@@ -20,6 +20,7 @@ abstract class Call {
     private Throwable cause;
     private String trouble;
     private boolean wasSent;
+    private boolean wasClosed;
 
     /** The state of a call: it waits, its thread must lead the round, or it has ended. */
     enum State { WAITS, LEADS, ENDED }
@@ -67,9 +68,19 @@ abstract class Call {
         wasSent = sent;
     }
 
-    /** Throws if the stream broke before the call had its replies. */
+    /** Records that the cache was closed before the call was sent. */
+    final void close(String why) {
+        trouble = why;
+        wasClosed = true;
+    }
+
+    /**
+     * Throws if the stream broke before the call had its replies, or the cache was closed before the call was sent.
+     */
     final void check() {
-        if (trouble != null) {
+        if (wasClosed) {
+            throw new IllegalStateException(trouble);
+        } else if (trouble != null) {
             throw wasSent ? new CallOutcomeUnknownException(trouble, cause)
                 : new CallNotSentException(trouble, cause);
         }

@@ -69,14 +69,14 @@ final class Calls {
             return body.flag();
         }
         Object value = kind == Wire.VALUE ? body.argument() : null;
-        if (value instanceof Integer) {
-            throw new IOException("a value that is an Integer");
+        if (value != null && !(value instanceof Long)) {
+            throw new IOException("a value of the type " + value.getClass().getSimpleName());
         }
         return value;
     }
 
     /** An invocation. */
-    static class Invoke extends One {
+    static final class Invoke extends One {
         Invoke(Wire.Out text, String what) {
             super(text, Wire.RESULT, what);
         }
@@ -88,23 +88,26 @@ final class Calls {
     }
 
     /**
-     * An invocation that no thread waits for. The future's default executor completes it, because actions that depend
-     * on it may wait for other calls.
+     * A request that no thread waits for. The future's default executor completes it, because actions that depend on it
+     * may wait for other calls.
+     *
+     * @param <T> the type of the answer
      */
-    static final class Async extends Invoke {
-        final CompletableFuture<Invocation> future = new CompletableFuture<>();
+    static final class Async<T> extends One {
+        final CompletableFuture<T> future = new CompletableFuture<>();
 
-        Async(Wire.Out text, String what) {
-            super(text, what);
+        Async(Wire.Out text, int expected, String what) {
+            super(text, expected, what);
         }
 
         @Override void ended() {
             future.defaultExecutor().execute(this::complete);
         }
 
+        @SuppressWarnings("unchecked")
         private void complete() {
             try {
-                future.complete(invocation());
+                future.complete((T) answer());
             } catch (RuntimeException e) {
                 future.completeExceptionally(e);
             }

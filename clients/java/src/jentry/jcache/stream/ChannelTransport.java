@@ -126,6 +126,11 @@ final class ChannelTransport implements Transport {
         }
     }
 
+    @Override public boolean isEnded() throws IOException {
+        buffer.clear();
+        return channel.read(buffer) != 0;
+    }
+
     @Override public String lastWords() {
         return "";
     }

@@ -64,6 +64,10 @@ final class ChildTransport implements Transport {
         return in.read(to, from, count);
     }
 
+    @Override public boolean isEnded() {
+        return !process.isAlive();
+    }
+
     @Override public String lastWords() {
         boolean interrupted = Thread.interrupted();
         try {

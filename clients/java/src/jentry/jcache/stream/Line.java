@@ -25,6 +25,10 @@ import jentry.jcache.impl.Watch;
  */
 final class Line implements Watch.Watched {
     private static final long CLOSE_NANOS = TimeUnit.SECONDS.toNanos(5);
+    private static final String CLOSED = "the cache is closed";
+
+    /** How long a stream is idle before it is looked at whether it has ended meanwhile. */
+    private static final long IDLE_NANOS = TimeUnit.MILLISECONDS.toNanos(10);
 
     private final Transport transport;
     private final Wire.In in;
@@ -45,8 +49,12 @@ final class Line implements Watch.Watched {
     private boolean ownLeads;
     private boolean out;
     private long since;
-    private String broken;
+    // When the last round ended. Only the leader uses it.
+    private long idleSince = System.nanoTime();
+    private volatile boolean endedIdle;
+    private volatile String broken;
     private Throwable cause;
+    private boolean closed;
     private Thread own;
     private long rounds;
 
@@ -68,6 +76,7 @@ final class Line implements Watch.Watched {
      * Makes a call and waits for its end. If the queue is full, it first waits for room.
      *
      * @throws javax.cache.CacheException if the stream is broken, or breaks before the call has its replies
+     * @throws IllegalStateException if the stream is closed before the call is sent
      */
     void make(Call call) {
         call.waiter = Thread.currentThread();
@@ -131,9 +140,11 @@ final class Line implements Watch.Watched {
         }
     }
 
-    /** Throws if the stream is broken. The caller holds the lock. */
+    /** Throws if the stream is closed or broken. The caller holds the lock. */
     private void open() {
-        if (broken != null) {
+        if (closed) {
+            throw new IllegalStateException(CLOSED);
+        } else if (broken != null) {
             throw new CallNotSentException(broken, cause);
         }
     }
@@ -183,6 +194,7 @@ final class Line implements Watch.Watched {
         sent = null;
         try {
             readReplies(taken);
+            idleSince = System.nanoTime();
         } catch (IOException | RuntimeException e) {
             fail(taken, e);
             return;
@@ -209,6 +221,11 @@ final class Line implements Watch.Watched {
             return false;
         }
         try {
+            if (System.nanoTime() - idleSince > IDLE_NANOS && transport.isEnded()) {
+                endedIdle = true;
+                fail(taken, new IOException("it ended while it was idle"), false);
+                return false;
+            }
             transport.write(round.bytes(), round.length());
         } catch (IOException | RuntimeException e) {
             fail(taken, e);
@@ -296,8 +313,12 @@ final class Line implements Watch.Watched {
         }
     }
 
-    /** Ends the calls of the leader's round and all waiting calls with an error. */
     private void fail(List<Call> taken, Throwable why) {
+        fail(taken, why, true);
+    }
+
+    /** Ends the calls of the leader's round and all waiting calls with an error. */
+    private void fail(List<Call> taken, Throwable why, boolean wasSent) {
         // This comes first, because cut() closes the pipe that the words come from.
         String last = transport.lastWords();
         transport.cut();
@@ -306,7 +327,7 @@ final class Line implements Watch.Watched {
         lock.lock();
         try {
             for (Call call : taken) {
-                call.fail(broken, why, true);
+                call.fail(broken, why, wasSent);
             }
             out = false;
             led = false;
@@ -332,7 +353,11 @@ final class Line implements Watch.Watched {
             List<Call> waited = new ArrayList<>(queue);
             queue.clear();
             for (Call call : waited) {
-                call.fail(broken, cause, false);
+                if (closed) {
+                    call.close(CLOSED);
+                } else {
+                    call.fail(broken, cause, false);
+                }
                 call.state = Call.State.ENDED;
             }
             room.signalAll();
@@ -369,6 +394,23 @@ final class Line implements Watch.Watched {
         return timeoutNanos;
     }
 
+    /** Returns whether the stream has ended or is closed. */
+    boolean isBroken() {
+        return broken != null;
+    }
+
+    /** Returns whether the stream had ended before its last calls were to be sent, so that they can be made on a new one. */
+    boolean hasEndedIdle() {
+        return endedIdle;
+    }
+
+    /** Releases a stream that has ended, and returns why it has. */
+    String end() {
+        Watch.remove(this);
+        transport.cut();
+        return broken;
+    }
+
     /** Returns the number of rounds sent. */
     long rounds() {
         lock.lock();
@@ -392,7 +434,13 @@ final class Line implements Watch.Watched {
     /** Closes the stream. Waiting calls fail; the round in progress has five seconds to finish. */
     void close() throws IOException {
         Watch.remove(this);
-        tell(breakLine("the cache is closed", null));
+        lock.lock();
+        try {
+            closed = true;
+        } finally {
+            lock.unlock();
+        }
+        tell(breakLine(CLOSED, null));
         boolean over = awaitIdle();
         if (over) {
             transport.close();

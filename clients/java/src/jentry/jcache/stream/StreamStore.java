@@ -3,17 +3,15 @@ package jentry.jcache.stream;
 import java.io.IOException;
 import java.util.Arrays;
 import java.util.Iterator;
-import java.util.List;
 import java.util.concurrent.CompletableFuture;
-import java.util.concurrent.ConcurrentHashMap;
 import java.util.concurrent.atomic.AtomicLong;
-import java.util.concurrent.locks.ReentrantLock;
+import java.util.function.Function;
 import java.util.function.ObjLongConsumer;
+import java.util.function.Predicate;
+import java.util.function.Supplier;
 import javax.cache.CacheException;
-import jentry.jcache.ProcessorRefusedException;
 import jentry.jcache.impl.BuiltIn;
 import jentry.jcache.impl.ProcessorFile;
-import jentry.jcache.impl.Refusal;
 import jentry.jcache.store.Durations;
 import jentry.jcache.store.Invocation;
 import jentry.jcache.store.Mutation;
@@ -23,25 +21,20 @@ import jentry.jcache.store.Watcher;
 /**
  * The entries of a server at the other end of a stream. Each operation that JCache defines as atomic is one request, or
  * one run of a built-in processor at the server. The protocol has no times to live, no request for the keys and no
- * events, and its reply to an invocation has only the result.
+ * events, and its reply to an invocation has only the result. The keys of a child process are those that this store has
+ * put there.
  */
 public final class StreamStore implements Store {
     private static final int BULK = 1_024;
     private static final byte[] NONE = Wire.arguments();
 
-    private final Line line;
-    private final ConcurrentHashMap<ProcessorFile, Definition> definitions = new ConcurrentHashMap<>();
+    private final Sessions sessions;
+    private final KnownKeys keys;
 
-    /** A class of the stream. The thread that defines the class holds the lock, so the class is defined once. */
-    private static final class Definition {
-        final ReentrantLock lock = new ReentrantLock();
-
-        /** The class's number on the stream, or -1. */
-        volatile int number = -1;
-    }
-
-    StreamStore(Line line) {
-        this.line = line;
+    /** @param keys the keys that may have an entry, or null if others use the server too */
+    StreamStore(Sessions sessions, KnownKeys keys) {
+        this.sessions = sessions;
+        this.keys = keys;
     }
 
     private static UnsupportedOperationException lacks(String what, String why) {
@@ -53,35 +46,8 @@ public final class StreamStore implements Store {
         return arguments.length == 0 ? NONE : Wire.arguments(arguments);
     }
 
-    /** Returns the number of a class on the stream, and defines the class at its first use. */
-    private int number(ProcessorFile file) {
-        Definition known = definitions.computeIfAbsent(file, it -> new Definition());
-        if (known.number < 0) {
-            known.lock.lock();
-            try {
-                if (known.number < 0) {
-                    known.number = define(file);
-                }
-            } finally {
-                known.lock.unlock();
-            }
-        }
-        return known.number;
-    }
-
-    private int define(ProcessorFile file) {
-        if (file.bytes().length >= Wire.LONGEST) {
-            throw new ProcessorRefusedException(file.type(), Refusal.TOO_LARGE.number(), 0, List.of());
-        }
-        Calls.Define call = new Calls.Define(file);
-        line.make(call);
-        return call.answer();
-    }
-
     private Object call(Wire.Out text, int expected, String what) {
-        Calls.One call = new Calls.One(text, expected, what);
-        line.make(call);
-        return call.answer();
+        return sessions.make(it -> new Calls.One(text, expected, what)).answer();
     }
 
     private static Wire.Out invocation(int number, long key, byte[] arguments) {
@@ -89,9 +55,66 @@ public final class StreamStore implements Store {
     }
 
     private Invocation invoke(ProcessorFile file, long key, byte[] arguments) {
-        Calls.Invoke call = new Calls.Invoke(invocation(number(file), key, arguments), file.type());
-        line.make(call);
-        return call.invocation();
+        return sessions.make(it -> new Calls.Invoke(invocation(it.number(file), key, arguments), file.type()))
+            .invocation();
+    }
+
+    /** Makes a call that may make the entry of a key. */
+    private <T> T making(long key, Supplier<T> call) {
+        if (keys == null) {
+            return call.get();
+        }
+        keys.making(key);
+        try {
+            return call.get();
+        } finally {
+            keys.made(key);
+        }
+    }
+
+    /** Makes a call that may make the entries of keys. */
+    private void makingAll(long[] all, Runnable call) {
+        if (keys == null) {
+            call.run();
+            return;
+        }
+        for (long key : all) {
+            keys.making(key);
+        }
+        try {
+            call.run();
+        } finally {
+            for (long key : all) {
+                keys.made(key);
+            }
+        }
+    }
+
+    /** Makes a call that removes the entries of keys if its result says so. */
+    private <T> T removing(long[] all, Predicate<T> isGone, Supplier<T> call) {
+        if (keys == null) {
+            return call.get();
+        }
+        boolean gone = false;
+        for (long key : all) {
+            keys.removing(key);
+        }
+        try {
+            T result = call.get();
+            gone = isGone.test(result);
+            return result;
+        } finally {
+            for (long key : all) {
+                keys.removed(key, gone);
+            }
+        }
+    }
+
+    private Long found(long key, Long value) {
+        if (keys != null && value != null) {
+            keys.found(key);
+        }
+        return value;
     }
 
     private Object run(BuiltIn processor, long key, byte[] arguments) {
@@ -103,7 +126,7 @@ public final class StreamStore implements Store {
     }
 
     @Override public Long get(long key, long accessed) {
-        return (Long) call(new Wire.Out(13).onKey(Wire.GET, key), Wire.VALUE, "get");
+        return found(key, (Long) call(new Wire.Out(13).onKey(Wire.GET, key), Wire.VALUE, "get"));
     }
 
     @Override public boolean contains(long key) {
@@ -111,6 +134,10 @@ public final class StreamStore implements Store {
     }
 
     @Override public Mutation set(long key, long value, When when, Durations durations, boolean asksBefore) {
+        return making(key, () -> set(key, value, when, asksBefore));
+    }
+
+    private Mutation set(long key, long value, When when, boolean asksBefore) {
         if (when == When.ABSENT) {
             boolean done = isTrue(BuiltIn.PUT_IF_ABSENT, key, Wire.arguments(value));
             return new Mutation(done, !done, null);
@@ -129,6 +156,10 @@ public final class StreamStore implements Store {
     }
 
     @Override public Mutation delete(long key, boolean asksBefore) {
+        return removing(new long[] {key}, change -> true, () -> deleted(key, asksBefore));
+    }
+
+    private Mutation deleted(long key, boolean asksBefore) {
         if (asksBefore) {
             Long before = (Long) run(BuiltIn.GET_AND_REMOVE, key, NONE);
             return new Mutation(before != null, before != null, before);
@@ -137,11 +168,28 @@ public final class StreamStore implements Store {
         return new Mutation(done, done, null);
     }
 
-    /** Runs a built-in processor. If the value is a different one, its reply doesn't show whether there is an entry. */
+    /**
+     * Runs a built-in processor. If the value is a different one, its reply doesn't show whether there is an entry. A
+     * caller that asks for it gets the entry read first, and again if it has changed until the run.
+     */
     @Override public Mutation compare(long key, long old, Long next, Durations durations, boolean asksBefore) {
-        boolean done = next == null ? isTrue(BuiltIn.REMOVE_IF, key, Wire.arguments(old))
-            : isTrue(BuiltIn.REPLACE_IF, key, Wire.arguments(old, next));
-        return new Mutation(done, done ? true : null, done ? old : null);
+        while (true) {
+            Long before = asksBefore ? get(key, Durations.LEAVE) : Long.valueOf(old);
+            if (before == null || before != old) {
+                return new Mutation(false, before != null, before);
+            } else if (isSwapped(key, old, next)) {
+                return new Mutation(true, true, old);
+            } else if (!asksBefore) {
+                return new Mutation(false, null, null);
+            }
+        }
+    }
+
+    private boolean isSwapped(long key, long old, Long next) {
+        if (next != null) {
+            return making(key, () -> isTrue(BuiltIn.REPLACE_IF, key, Wire.arguments(old, next)));
+        }
+        return removing(new long[] {key}, (Boolean done) -> done, () -> isTrue(BuiltIn.REMOVE_IF, key, Wire.arguments(old)));
     }
 
     /** Sends a request of one kind for each key, up to 1,024 in a call. */
@@ -153,61 +201,92 @@ public final class StreamStore implements Store {
             for (int i = 0; i < count; i++) {
                 text.onKey(kind, keys[from + i]);
             }
-            many(new Calls.Many(text, count, expected, what, (i, answer) -> taker.take(first + i, answer)));
+            sessions.make(it -> new Calls.Many(text, count, expected, what, (i, told) -> taker.take(first + i, told)))
+                .answer();
         }
     }
 
-    private void many(Calls.Many call) {
-        line.make(call);
-        call.answer();
-    }
-
-    @Override public Long[] getAll(long[] keys, long accessed) {
-        Long[] found = new Long[keys.length];
-        each(keys, Wire.GET, Wire.VALUE, "getAll", (i, value) -> found[i] = (Long) value);
+    @Override public Long[] getAll(long[] all, long accessed) {
+        Long[] found = new Long[all.length];
+        each(all, Wire.GET, Wire.VALUE, "getAll", (i, value) -> found[i] = found(all[i], (Long) value));
         return found;
     }
 
-    @Override public void setAll(long[] keys, long[] values, Durations durations) {
-        for (int from = 0; from < keys.length; from += BULK) {
-            int count = Math.min(BULK, keys.length - from);
+    @Override public void setAll(long[] all, long[] values, Durations durations) {
+        makingAll(all, () -> putAll(all, values));
+    }
+
+    private void putAll(long[] all, long[] values) {
+        for (int from = 0; from < all.length; from += BULK) {
+            int count = Math.min(BULK, all.length - from);
             Wire.Out text = new Wire.Out(21 * count);
             for (int i = from; i < from + count; i++) {
-                text.putEntry(keys[i], values[i]);
+                text.putEntry(all[i], values[i]);
             }
-            many(new Calls.Many(text, count, Wire.DONE, "putAll", (i, answer) -> { }));
+            sessions.make(it -> new Calls.Many(text, count, Wire.DONE, "putAll", (i, told) -> { })).answer();
         }
     }
 
-    @Override public long deleteAll(long[] keys) {
-        AtomicLong count = new AtomicLong();
-        each(keys, Wire.REMOVE, Wire.FLAG, "removeAll", (i, was) -> count.addAndGet((Boolean) was ? 1 : 0));
-        return count.get();
+    @Override public long deleteAll(long[] all) {
+        return removing(all, count -> true, () -> {
+            AtomicLong count = new AtomicLong();
+            each(all, Wire.REMOVE, Wire.FLAG, "removeAll", (i, was) -> count.addAndGet((Boolean) was ? 1 : 0));
+            return count.get();
+        });
     }
 
     @Override public Invocation run(ProcessorFile file, long key, Object[] arguments, Durations durations) {
-        return invoke(file, key, arguments(arguments));
+        return making(key, () -> invoke(file, key, arguments(arguments)));
     }
 
-    @Override public void runAll(ProcessorFile file, long[] keys, Object[] arguments, Durations durations,
+    @Override public void runAll(ProcessorFile file, long[] all, Object[] arguments, Durations durations,
         ObjLongConsumer<Invocation> taker) {
-        byte[] text = arguments(arguments);
-        int number = number(file);
-        for (int from = 0; from < keys.length; from += BULK) {
-            long[] some = Arrays.copyOfRange(keys, from, Math.min(keys.length, from + BULK));
-            Wire.Out request = new Wire.Out(11 + 8 * some.length + text.length).invokeAll(number, some, text);
-            Calls.InvokeAll call = new Calls.InvokeAll(request, some, file.type(), taker);
-            line.make(call);
-            call.answer();
+        makingAll(all, () -> invokeAll(file, all, arguments(arguments), taker));
+    }
+
+    private void invokeAll(ProcessorFile file, long[] all, byte[] text, ObjLongConsumer<Invocation> taker) {
+        for (int from = 0; from < all.length; from += BULK) {
+            long[] some = Arrays.copyOfRange(all, from, Math.min(all.length, from + BULK));
+            int room = 11 + 8 * some.length + text.length;
+            sessions.make(it -> new Calls.InvokeAll(new Wire.Out(room).invokeAll(it.number(file), some, text), some,
+                file.type(), taker)).answer();
         }
     }
 
     @Override public CompletableFuture<Invocation> runAsync(ProcessorFile file, long key, Object[] arguments,
         Durations durations) {
         byte[] text = arguments(arguments);
-        Calls.Async call = new Calls.Async(invocation(number(file), key, text), file.type());
-        line.hand(call);
-        return call.future;
+        return makingAsync(key, session -> new Calls.Async<>(invocation(session.number(file), key, text), Wire.RESULT,
+            file.type()));
+    }
+
+    /** Starts a call that may make the entry of a key. */
+    private <T> CompletableFuture<T> makingAsync(long key, Function<Session, Calls.Async<T>> maker) {
+        if (keys == null) {
+            return sessions.hand(maker);
+        }
+        keys.making(key);
+        try {
+            return sessions.hand(maker).whenComplete((done, e) -> keys.made(key));
+        } catch (RuntimeException e) {
+            keys.made(key);
+            throw e;
+        }
+    }
+
+    @Override public CompletableFuture<Long> getAsync(long key, long accessed) {
+        CompletableFuture<Long> value = sessions.hand(session -> new Calls.Async<>(
+            new Wire.Out(13).onKey(Wire.GET, key), Wire.VALUE, "getAsync"));
+        return value.thenApply(it -> found(key, it));
+    }
+
+    @Override public CompletableFuture<Void> setAsync(long key, long value, Durations durations) {
+        return makingAsync(key, session -> new Calls.Async<Void>(new Wire.Out(21).putEntry(key, value), Wire.DONE,
+            "putAsync"));
+    }
+
+    @Override public void define(ProcessorFile file, long key) {
+        sessions.define(file);
     }
 
     @Override public boolean hasDetail() {
@@ -218,12 +297,18 @@ public final class StreamStore implements Store {
         throw lacks("a run without its effect", "the protocol has no request for it");
     }
 
+    /** Returns the keys that this store knows, if no other one uses the server. */
     @Override public Iterator<long[]> scan(String what) {
-        throw lacks(what, "the protocol of jentry serve has no request that answers the keys");
+        if (keys == null) {
+            throw lacks(what, "a front doesn't list its keys, and others put some too; a child process has it too");
+        }
+        return keys.pages();
     }
 
     @Override public void clear() {
-        throw lacks("clear", "the protocol of jentry serve has no request that answers the keys");
+        for (Iterator<long[]> pages = scan("clear"); pages.hasNext();) {
+            deleteAll(pages.next());
+        }
     }
 
     @Override public boolean hasExpiry() {
@@ -235,12 +320,12 @@ public final class StreamStore implements Store {
     }
 
     @Override public long sent() {
-        return line.rounds();
+        return sessions.line().rounds();
     }
 
     /** Returns the number of calls that wait for their round. */
     public int waiting() {
-        return line.waiting();
+        return sessions.line().waiting();
     }
 
     /**
@@ -249,7 +334,7 @@ public final class StreamStore implements Store {
      */
     @Override public void close() {
         try {
-            line.close();
+            sessions.close();
         } catch (IOException e) {
             throw new CacheException("the stream to the server can't be closed", e);
         }

@@ -13,6 +13,9 @@ interface Transport {
      */
     int read(byte[] to, int from, int count) throws IOException;
 
+    /** Returns whether the stream is seen to have ended. The caller expects no bytes: those that come count as an end. */
+    boolean isEnded() throws IOException;
+
     /** Returns what the server last wrote to standard error, or an empty string if that isn't available. */
     String lastWords();
 

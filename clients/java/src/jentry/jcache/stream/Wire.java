@@ -124,7 +124,7 @@ public final class Wire {
     /**
      * Encodes the arguments of an invocation.
      *
-     * @throws IllegalArgumentException if there are more than eight, or one is neither a Long nor an Integer nor null
+     * @throws IllegalArgumentException if there are more than eight, or one is no Long, Integer, Boolean or null
      */
     static byte[] arguments(Object... arguments) {
         if (arguments.length > MOST_ARGUMENTS) {
@@ -140,9 +140,11 @@ public final class Wire {
                 out.u1(1).s8((Long) argument);
             } else if (argument instanceof Integer) {
                 out.u1(2).s4((Integer) argument);
+            } else if (argument instanceof Boolean) {
+                out.u1((Boolean) argument ? 4 : 3);
             } else {
                 throw new IllegalArgumentException(
-                    "an argument is a Long, an Integer or null, not a " + argument.getClass().getName());
+                    "an argument is a Long, an Integer, a Boolean or null, not a " + argument.getClass().getName());
             }
         }
         return Arrays.copyOf(out.bytes, out.length);
@@ -226,13 +228,15 @@ public final class Wire {
             return flag == 1;
         }
 
-        /** Reads a Long, an Integer or null. */
+        /** Reads a Long, an Integer, a Boolean or null. */
         Object argument() throws IOException {
             int kind = u1();
             switch (kind) {
                 case 0: return null;
                 case 1: return s8();
                 case 2: return s4();
+                case 3: return false;
+                case 4: return true;
                 default: throw new IOException("an argument of kind " + kind);
             }
         }

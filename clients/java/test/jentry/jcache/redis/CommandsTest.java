@@ -169,7 +169,7 @@ class CommandsTest extends WithRedis {
     @Test void entriesThatExpireAtOnce() throws Exception {
         create(CreatedExpiryPolicy.factoryOf(Duration.ZERO));
         sends(false, it -> assertTrue(it.putIfAbsent(1L, 6L)), "EXISTS " + K);
-        sends(it -> it.put(1L, 6L), "MULTI", "SET " + K + " 6 XX GET KEEPTTL", "EXEC");
+        sends(it -> it.put(1L, 6L), "SET " + K + " 6 XX KEEPTTL");
         sends(false, it -> it.invoke(1L, new Renewing.Add(), 7L), "JENTRY.APPLY 0 -1 -1 do ID " + K + " 7");
         assertNull(cache.get(1L));
     }

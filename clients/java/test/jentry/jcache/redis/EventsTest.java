@@ -9,8 +9,11 @@ import java.util.Set;
 import java.util.concurrent.TimeUnit;
 import javax.cache.Cache;
 import javax.cache.CacheException;
+import javax.cache.configuration.Factory;
 import javax.cache.expiry.CreatedExpiryPolicy;
 import javax.cache.expiry.Duration;
+import javax.cache.expiry.ExpiryPolicy;
+import javax.cache.expiry.TouchedExpiryPolicy;
 import jentry.jcache.Heard;
 import jentry.jcache.Renewing;
 import org.junit.jupiter.api.Test;
@@ -64,6 +67,36 @@ class EventsTest extends WithRedis {
                 .addCacheEntryListenerConfiguration(heard.by(true, true)));
         Cache<Long, Long> other = cache(server);
         other.put(2L, 1L);
+        listening.put(1L, 5L);
+        hears("CREATED 1 5 null", "EXPIRED 1 5 5");
+    }
+
+    private static Factory<ExpiryPolicy> touched(long millis) {
+        return TouchedExpiryPolicy.factoryOf(new Duration(TimeUnit.MILLISECONDS, millis));
+    }
+
+    @Test void anExpiryHasTheOldValueThatIsRequired() throws InterruptedException {
+        RedisServer server = open(new RedisServer("--notify-keyspace-events", "Kx"));
+        Cache<Long, Long> listening = manager(server, "jentry.events", "expired").createCache("test",
+            types().setExpiryPolicyFactory(touched(150)).addCacheEntryListenerConfiguration(heard.by(true, true)));
+        listening.put(1L, 5L);
+        listening.put(1L, 6L);
+        hears("CREATED 1 5 null", "UPDATED 1 6 5", "EXPIRED 1 6 6");
+        listening.invoke(1L, new Renewing.Add(), 7L);
+        hears("CREATED 1 7 null", "EXPIRED 1 7 7");
+        listening.putAll(java.util.Map.of(1L, 8L));
+        listening.remove(1L);
+        server.ask("SET", "app:test:1", 9, "PX", 50);
+        hears("CREATED 1 8 null", "REMOVED 1 8 8", "EXPIRED 1 null null");
+        server.ask("SET", "app:test:1", 9);
+        assertEquals(9L, listening.get(1L));
+        hears("EXPIRED 1 9 9");
+    }
+
+    @Test void anExpiryHasNoOldValueWhereNobodyRequiresIt() throws InterruptedException {
+        RedisServer server = open(new RedisServer("--notify-keyspace-events", "Kx"));
+        Cache<Long, Long> listening = manager(server, "jentry.events", "expired").createCache("test",
+            types().setExpiryPolicyFactory(touched(100)).addCacheEntryListenerConfiguration(heard.by(false, true)));
         listening.put(1L, 5L);
         hears("CREATED 1 5 null", "EXPIRED 1 null null");
     }

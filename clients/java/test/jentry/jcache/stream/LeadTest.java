@@ -38,6 +38,10 @@ class LeadTest {
             return told.length;
         }
 
+        @Override public boolean isEnded() {
+            return false;
+        }
+
         @Override public String lastWords() {
             return "";
         }
