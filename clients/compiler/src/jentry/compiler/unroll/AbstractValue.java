@@ -6,7 +6,7 @@ import org.objectweb.asm.tree.analysis.Value;
  * What is known about a value on every path to an instruction.
  *
  * @param size its number of slots: 1 or 2
- * @param fact an Integer or a Long for a constant; a Range; an Array; null if nothing is known
+ * @param fact an Integer or a Long for a constant; a Range; an Array; a Box; null if nothing is known
  */
 record AbstractValue(int size, Object fact) implements Value {
     /** A number from low to high, inclusive. */
@@ -18,6 +18,9 @@ record AbstractValue(int size, Object fact) implements Value {
      * @param isPresent whether it is never null
      */
     record Array(int least, int most, boolean isPresent) { }
+
+    /** A boxed number of which this is known. */
+    record Box(AbstractValue value) { }
 
     private static final long NARROW = 4_096;
     private static final AbstractValue ONE_SLOT = new AbstractValue(1, null);
@@ -50,6 +53,15 @@ record AbstractValue(int size, Object fact) implements Value {
     @Override
     public int getSize() {
         return size;
+    }
+
+    /** Returns a box of a number. */
+    static AbstractValue boxed(AbstractValue value) {
+        return value.fact == null ? ONE_SLOT : new AbstractValue(1, new Box(value));
+    }
+
+    private boolean isNumber() {
+        return isConstant() || fact instanceof Range;
     }
 
     boolean isConstant() {
@@ -92,6 +104,11 @@ record AbstractValue(int size, Object fact) implements Value {
         return isConstant() ? ((Number) fact).longValue() : size == 2 ? Long.MAX_VALUE : Integer.MAX_VALUE;
     }
 
+    /** Returns what is known about a value that is either this one or the other; nothing if it is widened and the two differ. */
+    AbstractValue merged(AbstractValue other, boolean widens) {
+        return !widens || equals(other) ? or(other) : unknown(Math.min(size, other.size));
+    }
+
     /** Returns what is known about a value that is either this one or the other. */
     AbstractValue or(AbstractValue other) {
         if (equals(other)) {
@@ -100,7 +117,9 @@ record AbstractValue(int size, Object fact) implements Value {
             return unknown(Math.min(size, other.size));
         } else if (fact instanceof Array a && other.fact instanceof Array b) {
             return array(Math.min(a.least, b.least), Math.max(a.most, b.most), a.isPresent && b.isPresent);
-        } else if (fact instanceof Array || other.fact instanceof Array) {
+        } else if (fact instanceof Box a && other.fact instanceof Box b) {
+            return boxed(a.value.or(b.value));
+        } else if (!isNumber() || !other.isNumber()) {
             return unknown(size);
         }
         return range(size, Math.min(low(), other.low()), Math.max(high(), other.high()));

@@ -3,6 +3,7 @@ package jentry.compiler.unroll;
 import java.util.List;
 import java.util.Map;
 import org.objectweb.asm.Opcodes;
+import org.objectweb.asm.Type;
 import org.objectweb.asm.tree.AbstractInsnNode;
 import org.objectweb.asm.tree.InsnList;
 import org.objectweb.asm.tree.InsnNode;
@@ -70,7 +71,9 @@ public final class CodeWriter implements Opcodes {
 
     private void add(State state, State behind) {
         AbstractInsnNode at = state.instruction();
-        if (state.isDecided && form != Form.VERBATIM) {
+        if (state.opcode() == ATHROW) {
+            addGuard();
+        } else if (state.isDecided && form != Form.VERBATIM) {
             addDecided(state, behind);
         } else if (at instanceof JumpInsnNode && state.opcode() == GOTO) {
             if (form == Form.VERBATIM) {
@@ -91,6 +94,23 @@ public final class CodeWriter implements Opcodes {
                 leadTo(state.next.get(0), behind);
             }
         }
+    }
+
+    /** Adds an ArithmeticException, and a return that is never reached. */
+    private void addGuard() {
+        Type result = Type.getReturnType(graph.graph().method().desc);
+        code.add(new InsnNode(ICONST_1));
+        code.add(new InsnNode(ICONST_0));
+        code.add(new InsnNode(IDIV));
+        switch (result.getSort()) {
+            case Type.VOID, Type.OBJECT, Type.ARRAY -> code.add(new InsnNode(POP));
+            case Type.LONG -> code.add(new InsnNode(I2L));
+            default -> { }
+        }
+        if (result.getSort() >= Type.ARRAY) {
+            code.add(new InsnNode(ACONST_NULL));
+        }
+        code.add(new InsnNode(result.getOpcode(IRETURN)));
     }
 
     private void addDecided(State state, State behind) {

@@ -1,6 +1,7 @@
 package jentry.compiler.unroll;
 
 import java.util.List;
+import java.util.Map;
 import org.objectweb.asm.Opcodes;
 import org.objectweb.asm.Type;
 import org.objectweb.asm.tree.AbstractInsnNode;
@@ -12,21 +13,26 @@ import org.objectweb.asm.tree.TableSwitchInsnNode;
 import org.objectweb.asm.tree.analysis.Frame;
 import org.objectweb.asm.tree.analysis.Interpreter;
 import jentry.compiler.profile.Instructions;
+import jentry.compiler.profile.Members;
 
 /** Computes what is known after each instruction: constants, ranges of numbers, and lengths of arrays. */
 final class ConstantPropagation extends Interpreter<AbstractValue> implements Opcodes {
     /** The maximum number of arguments of an invocation. */
     static final int MOST_ARGUMENTS = 8;
 
-    /** Whether growing ranges are widened to unknown values, so that the propagation ends soon. */
-    private boolean widens;
+    private final String owner;
+    private final Map<String, AbstractValue> returned;
 
-    ConstantPropagation() {
+    /**
+     * Creates a propagation within a class.
+     *
+     * @param owner the class
+     * @param returned what is known of the results of its methods, by name and descriptor
+     */
+    ConstantPropagation(String owner, Map<String, AbstractValue> returned) {
         super(ASM9);
-    }
-
-    void setWidens(boolean widens) {
-        this.widens = widens;
+        this.owner = owner;
+        this.returned = returned;
     }
 
     @Override
@@ -94,6 +100,13 @@ final class ConstantPropagation extends Interpreter<AbstractValue> implements Op
         if (!(at instanceof MethodInsnNode call)) {
             return AbstractValue.unknown(1);
         }
+        if (call.name.equals("valueOf") && operands.size() == 1 && Members.isLibrary(call)) {
+            return AbstractValue.boxed(operands.get(0));
+        } else if (operands.size() == 1 && operands.get(0).fact() instanceof AbstractValue.Box box && Members.isLibrary(call)) {
+            return unboxed(box.value(), Type.getReturnType(call.desc).getSize());
+        } else if (returned.containsKey(call.name + call.desc) && call.owner.equals(owner)) {
+            return returned.get(call.name + call.desc);
+        }
         boolean ofTwo = call.owner.equals("java/lang/Math") && operands.size() == 2;
         if (ofTwo && call.name.equals("min")) {
             return limited(operands.get(0), operands.get(1), false);
@@ -101,6 +114,11 @@ final class ConstantPropagation extends Interpreter<AbstractValue> implements Op
             return limited(operands.get(0), operands.get(1), true);
         }
         return newValue(Type.getReturnType(call.desc));
+    }
+
+    private static AbstractValue unboxed(AbstractValue value, int size) {
+        return value.size() == size ? value : value.isConstant() ? AbstractValue.constant(Arithmetic.unary(size == 2 ? I2L : L2I, value.fact()))
+            : RangeArithmetic.unary(size == 2 ? I2L : L2I, value);
     }
 
     private static AbstractValue limited(AbstractValue a, AbstractValue b, boolean greater) {
@@ -113,7 +131,7 @@ final class ConstantPropagation extends Interpreter<AbstractValue> implements Op
 
     @Override
     public AbstractValue merge(AbstractValue a, AbstractValue b) {
-        return !widens || a.equals(b) ? a.or(b) : AbstractValue.unknown(Math.min(a.size(), b.size()));
+        return a.or(b);
     }
 
     /** Returns the index in {@link ControlFlowGraph#successors} of the only possible successor of a test or a switch, or -1. */

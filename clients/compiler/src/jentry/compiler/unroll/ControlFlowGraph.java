@@ -4,6 +4,7 @@ import java.util.ArrayDeque;
 import java.util.ArrayList;
 import java.util.Arrays;
 import java.util.BitSet;
+import java.util.Comparator;
 import java.util.Deque;
 import java.util.IdentityHashMap;
 import java.util.LinkedHashMap;
@@ -11,12 +12,14 @@ import java.util.List;
 import java.util.Map;
 import org.objectweb.asm.Opcodes;
 import org.objectweb.asm.tree.AbstractInsnNode;
+import org.objectweb.asm.tree.IincInsnNode;
 import org.objectweb.asm.tree.JumpInsnNode;
 import org.objectweb.asm.tree.LabelNode;
 import org.objectweb.asm.tree.LineNumberNode;
 import org.objectweb.asm.tree.LookupSwitchInsnNode;
 import org.objectweb.asm.tree.MethodNode;
 import org.objectweb.asm.tree.TableSwitchInsnNode;
+import org.objectweb.asm.tree.VarInsnNode;
 
 /** The control flow of a method: its instructions, numbered from 0, their successors, and its loops. */
 public final class ControlFlowGraph implements Opcodes {
@@ -27,6 +30,7 @@ public final class ControlFlowGraph implements Opcodes {
     private final List<int[]> successors = new ArrayList<>();
     private final List<List<Integer>> predecessors = new ArrayList<>();
     private final List<Loop> loops = new ArrayList<>();
+    private final List<BitSet> writtenAround = new ArrayList<>();
     private final int[] dominator;
     private final int[] order;
 
@@ -52,6 +56,7 @@ public final class ControlFlowGraph implements Opcodes {
         Arrays.fill(order, -1);
         findDominators();
         findLoops();
+        findWrites();
     }
 
     MethodNode method() {
@@ -163,6 +168,16 @@ public final class ControlFlowGraph implements Opcodes {
         return left;
     }
 
+    /** Returns places in an order in which each comes after those that lead to it, loops aside. */
+    int[] inOrder(BitSet places) {
+        return places.stream().boxed().sorted(Comparator.comparingInt(place -> order[place])).mapToInt(place -> place).toArray();
+    }
+
+    /** Returns whether a place comes before another in that order. */
+    boolean isBefore(int place, int other) {
+        return order[place] < order[other];
+    }
+
     /** Returns whether every path to a place goes through the place {@code above}. */
     boolean dominates(int above, int place) {
         int at = place;
@@ -182,6 +197,26 @@ public final class ControlFlowGraph implements Opcodes {
             }
         }
         loops.addAll(byHead.values());
+    }
+
+    private void findWrites() {
+        instructions.forEach(it -> writtenAround.add(new BitSet()));
+        for (Loop loop : loops) {
+            BitSet written = new BitSet();
+            loop.body().stream().map(it -> written(instructions.get(it))).filter(it -> it >= 0).forEach(written::set);
+            loop.body().stream().forEach(place -> writtenAround.get(place).or(written));
+        }
+    }
+
+    /** Returns the local that an instruction writes, or -1. */
+    static int written(AbstractInsnNode at) {
+        boolean stores = at.getOpcode() >= ISTORE && at.getOpcode() <= ASTORE;
+        return stores ? ((VarInsnNode) at).var : at instanceof IincInsnNode it ? it.var : -1;
+    }
+
+    /** Returns whether a loop around a place writes a local. */
+    boolean isWrittenAround(int place, int local) {
+        return writtenAround.get(place).get(local);
     }
 
     private void addLatch(Loop loop, int latch) {

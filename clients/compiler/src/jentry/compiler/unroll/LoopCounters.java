@@ -8,8 +8,6 @@ import java.util.TreeSet;
 import java.util.function.IntPredicate;
 import org.objectweb.asm.Opcodes;
 import org.objectweb.asm.tree.AbstractInsnNode;
-import org.objectweb.asm.tree.IincInsnNode;
-import org.objectweb.asm.tree.VarInsnNode;
 import org.objectweb.asm.tree.analysis.Frame;
 
 /** Chooses the local variables whose values distinguish the iterations of a loop. */
@@ -21,18 +19,34 @@ final class LoopCounters implements Opcodes {
         /** Locals that an exit test of the loop reads and that some iteration writes. */
         WRITTEN_BY_SOME_PASS,
         /** Locals that any test in the loop reads and that some iteration writes. */
-        OF_ANY_TEST
+        OF_ANY_TEST,
+        /** None in loops that have a limit, so that a loop whose limit isn't known is found. In others those that every iteration writes. */
+        LIMITS_ALONE
     }
 
     private final ControlFlowGraph graph;
     private final Choice choice;
     private final Frame<LocalReads.Reads>[] reads;
+    private final List<PassLimit> limits;
 
-    /** Creates the counters of a method. */
-    LoopCounters(ControlFlowGraph graph, Choice choice, Frame<LocalReads.Reads>[] reads) {
+    /**
+     * Creates the counters of a method.
+     *
+     * @param limits the limits of loops that shrink a value; the local behind those of the method counts the passes of the first, and so on
+     */
+    LoopCounters(ControlFlowGraph graph, Choice choice, Frame<LocalReads.Reads>[] reads, List<PassLimit> limits) {
         this.graph = graph;
         this.choice = choice;
         this.reads = reads;
+        this.limits = limits;
+    }
+
+    ControlFlowGraph graph() {
+        return graph;
+    }
+
+    List<PassLimit> limits() {
+        return limits;
     }
 
     /** Returns, for each instruction, the counters of the loops around it, in ascending order. */
@@ -42,8 +56,13 @@ final class LoopCounters implements Opcodes {
             all.add(new TreeSet<>());
         }
         for (Loop loop : graph.loops()) {
-            Set<Integer> counters = counters(loop);
+            boolean isLimited = choice == Choice.LIMITS_ALONE && limits.stream().anyMatch(it -> it.loop() == loop);
+            Set<Integer> counters = isLimited ? Set.of() : counters(loop);
             loop.body().stream().forEach(place -> all.get(place).addAll(counters));
+        }
+        for (int i = 0; i < limits.size(); i++) {
+            int passes = graph.method().maxLocals + i;
+            limits.get(i).loop().body().stream().forEach(place -> all.get(place).add(passes));
         }
         return all.stream().map(it -> it.stream().mapToInt(local -> local).toArray()).toArray(int[][]::new);
     }
@@ -75,8 +94,8 @@ final class LoopCounters implements Opcodes {
     }
 
     private boolean isWritten(Loop loop, int local) {
-        int[] writes = loop.body().stream().filter(place -> written(graph.instruction(place)) == local).toArray();
-        if (choice != Choice.WRITTEN_BY_EACH_PASS) {
+        int[] writes = loop.body().stream().filter(place -> writes(graph.instruction(place), local)).toArray();
+        if (choice == Choice.WRITTEN_BY_SOME_PASS || choice == Choice.OF_ANY_TEST) {
             return writes.length > 0;
         }
         for (int write : writes) {
@@ -87,8 +106,7 @@ final class LoopCounters implements Opcodes {
         return writes.length > 0;
     }
 
-    private static int written(AbstractInsnNode at) {
-        int opcode = at.getOpcode();
-        return opcode == ISTORE || opcode == LSTORE ? ((VarInsnNode) at).var : at instanceof IincInsnNode it ? it.var : -1;
+    private static boolean writes(AbstractInsnNode at, int local) {
+        return at.getOpcode() != ASTORE && ControlFlowGraph.written(at) == local;
     }
 }

@@ -1,10 +1,12 @@
 package jentry.compiler.unroll;
 
 import java.util.ArrayList;
+import java.util.Collections;
 import java.util.HashMap;
 import java.util.IdentityHashMap;
 import java.util.List;
 import java.util.Map;
+import java.util.Set;
 import org.objectweb.asm.Opcodes;
 import org.objectweb.asm.Type;
 import org.objectweb.asm.tree.AbstractInsnNode;
@@ -14,6 +16,7 @@ import org.objectweb.asm.tree.analysis.Frame;
 import jentry.compiler.profile.CallGraph;
 import jentry.compiler.profile.Instructions;
 import jentry.compiler.profile.Members;
+import jentry.compiler.profile.Problem;
 import jentry.compiler.profile.ProblemException;
 
 /**
@@ -23,50 +26,89 @@ import jentry.compiler.profile.ProblemException;
  */
 public final class LoopUnroller implements Opcodes {
     private final ClassNode owner;
+    private final int hidden;
     private final Map<MethodNode, UnrolledGraph> graphs = new IdentityHashMap<>();
     private final List<MethodNode> methods;
+    private final ConstantPropagation propagation;
     private final Map<MethodNode, AbstractValue[]> given = new IdentityHashMap<>();
 
     /**
      * Unrolls the loops without changing the class yet.
      *
      * @param owner a class whose instructions are accepted, except for loops
+     * @param hidden the number of arguments that are always passed
      * @throws ProblemException if no counter ends a loop, or it has too many iterations
      */
-    public LoopUnroller(ClassNode owner) throws ProblemException {
+    public LoopUnroller(ClassNode owner, int hidden) throws ProblemException {
         this.owner = owner;
+        this.hidden = hidden;
         methods = CallGraph.of(owner);
+        propagation = new ConstantPropagation(owner.name, ReturnedArrays.of(owner));
+        List<Problem> problems = new ArrayList<>();
+        Set<MethodNode> unknown = Collections.newSetFromMap(new IdentityHashMap<>());
         for (MethodNode method : methods) {
-            UnrolledGraph graph = unrolled(method);
-            graphs.put(method, graph);
-            graph.order().forEach(this::addGiven);
+            try {
+                if (!unknown.contains(method)) {
+                    UnrolledGraph graph = unrolled(method);
+                    graphs.put(method, graph);
+                    graph.order().forEach(this::addGiven);
+                }
+            } catch (UnboundedLoopException e) {
+                e.lines().forEach((line, reason) -> problems.add(new Problem(Instructions.nameOf(owner.name), method.name, line, reason.what(), reason.remedy())));
+                unknown.add(method);
+            }
+            if (unknown.contains(method)) {
+                // what it hands over to others isn't known, so their loops can't be judged
+                method.instructions.forEach(at -> unknown.add(Instructions.callee(owner, at)));
+            }
+        }
+        if (!problems.isEmpty()) {
+            throw new ProblemException(problems);
         }
     }
 
-    private UnrolledGraph unrolled(MethodNode method) throws ProblemException {
+    /** Unrolls a method by its counters; where these don't end its loops, also by the limits of those that shrink a value. */
+    private UnrolledGraph unrolled(MethodNode method) throws UnboundedLoopException {
         ControlFlowGraph graph = new ControlFlowGraph(method);
         Frame<LocalReads.Reads>[] reads = graph.loops().isEmpty() ? null : LocalReads.of(method);
-        UnboundedLoopException first = null;
-        for (LoopCounters.Choice choice : LoopCounters.Choice.values()) {
+        try {
+            return unrolled(graph, reads, List.of());
+        } catch (UnboundedLoopException e) {
+            List<PassLimit> limits = graph.loops().stream().flatMap(it -> PassLimit.of(graph, it).stream()).toList();
+            if (limits.isEmpty()) {
+                throw e;
+            }
+            return unrolledByLimits(graph, reads, limits);
+        }
+    }
+
+    private UnrolledGraph unrolledByLimits(ControlFlowGraph graph, Frame<LocalReads.Reads>[] reads, List<PassLimit> limits) throws UnboundedLoopException {
+        try {
+            return unrolled(graph, reads, limits);
+        } catch (UnboundedLoopException why) {
             try {
-                return new UnrolledGraph(graph, new LoopCounters(graph, choice, reads).byPlace(), given.get(method));
+                return new UnrolledGraph(new LoopCounters(graph, LoopCounters.Choice.LIMITS_ALONE, reads, limits), propagation,
+                    given.get(graph.method()), hidden);
             } catch (UnboundedLoopException e) {
-                first = first == null ? e : first;
-                if (e.isTooLong()) {
-                    // more counters distinguish more iterations, never fewer
-                    break;
+                throw e.isTooLong() ? why : e;
+            }
+        }
+    }
+
+    private UnrolledGraph unrolled(ControlFlowGraph graph, Frame<LocalReads.Reads>[] reads, List<PassLimit> limits) throws UnboundedLoopException {
+        UnboundedLoopException last = null;
+        for (LoopCounters.Choice choice : LoopCounters.Choice.values()) {
+            if (choice != LoopCounters.Choice.LIMITS_ALONE && (last == null || !last.isTooLong())) {
+                // more counters distinguish more iterations, never fewer
+                try {
+                    return new UnrolledGraph(new LoopCounters(graph, choice, reads, limits), propagation, given.get(graph.method()), hidden);
+                } catch (UnboundedLoopException e) {
+                    // an earlier choice may fail at a loop that this one ends
+                    last = e;
                 }
             }
         }
-        throw new ProblemException(problem(method, first));
-    }
-
-    private jentry.compiler.profile.Problem problem(MethodNode method, UnboundedLoopException why) {
-        String what = why.isTooLong() ? "this loop has too many passes, or counts up to a number that isn't known: written out, it takes more than "
-            + UnrolledGraph.MOST_STATES + " instructions" : "no counter ends this loop";
-        String remedy = why.isTooLong() ? "count to a constant, as in i < 64 && i < n, make fewer passes, or write an inner loop as a method of its own"
-            : "count the passes from a constant to a constant, as in for (int i = 0; i < 20 && left > 0; i++)";
-        return new jentry.compiler.profile.Problem(Instructions.nameOf(owner.name), method.name, why.line(), what, remedy);
+        throw last;
     }
 
     private void addGiven(State state) {
@@ -127,7 +169,9 @@ public final class LoopUnroller implements Opcodes {
             MethodNode made = new CodeWriter(graph, form).write();
             owner.methods.set(owner.methods.indexOf(method), made);
             for (Loop loop : graph.graph().loops()) {
-                notes.add(method.name + ", line " + graph.graph().line(loop.head()) + ": a loop, " + graph.passes(loop) + " passes written out");
+                PassLimit limit = graph.limit(loop);
+                notes.add(method.name + ", line " + graph.graph().line(loop.head()) + ": a loop, " + graph.passes(loop) + " passes written out"
+                    + (limit == null ? "" : ", since it " + limit.what() + "; a run that would go on throws ArithmeticException"));
             }
             notes.add(method.name + ": " + graph.graph().size() + " instructions became " + Instructions.count(made));
         }

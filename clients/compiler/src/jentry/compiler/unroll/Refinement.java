@@ -64,7 +64,7 @@ final class Refinement implements Opcodes {
     }
 
     /** Returns the comparison with its sides swapped: of ==, !=, <, >=, > and <=. */
-    private static int mirrored(int comparison) {
+    static int mirrored(int comparison) {
         return switch (comparison) {
             case 2 -> 4;
             case 3 -> 5;

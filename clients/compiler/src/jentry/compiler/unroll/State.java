@@ -12,7 +12,22 @@ final class State {
      * @param place the instruction's number
      * @param counters the values of the counters; an empty string for an unknown one
      */
-    record Key(int place, List<Object> counters) { }
+    record Key(int place, List<Object> counters) {
+        /** Spreads small numbers: the keys of a method differ by little, and there are up to 60,000. */
+        @Override
+        public int hashCode() {
+            int hash = place * 0x85EBCA6B;
+            for (Object counter : counters) {
+                hash = Integer.rotateLeft((hash ^ counter.hashCode()) * 0x9E3779B1, 15);
+            }
+            return hash;
+        }
+
+        @Override
+        public boolean equals(Object other) {
+            return other instanceof Key key && place == key.place && counters.equals(key.counters);
+        }
+    }
 
     private final Key key;
     private final int number;
