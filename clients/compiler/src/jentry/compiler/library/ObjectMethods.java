@@ -1,10 +1,13 @@
 package jentry.compiler.library;
 
-/** Methods of Object written with operations that the server supports. The compiler ensures that the receiver is a number or null. */
+/** Methods of Object written with operations that the server supports. The compiler ensures that the receiver is a box or null. */
 public final class ObjectMethods {
     private ObjectMethods() { }
 
     public static boolean equals(Object a, Object b) {
-        return a instanceof Integer ? ((Integer) a).equals(b) : ((Long) a).equals(b);
+        if (a instanceof Integer) {
+            return ((Integer) a).equals(b);
+        }
+        return a instanceof Boolean ? ((Boolean) a).equals(b) : ((Long) a).equals(b);
     }
 }

@@ -1,6 +1,6 @@
 package jentry.compiler.library;
 
-/** Methods of Objects written with operations that the server supports. The compiler ensures that the first operand is a number or null. */
+/** Methods of Objects written with operations that the server supports. The compiler ensures that the first operand is a box or null. */
 public final class ObjectsMethods {
     private ObjectsMethods() { }
 
@@ -10,6 +10,9 @@ public final class ObjectsMethods {
         }
         if (a instanceof Integer) {
             return ((Integer) a).equals(b);
+        }
+        if (a instanceof Boolean) {
+            return ((Boolean) a).equals(b);
         }
         return a == null && b == null;
     }
