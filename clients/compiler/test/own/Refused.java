@@ -8,8 +8,8 @@ public class Refused {
         public Integer process(MutableEntry<Long, Long> entry, Object... arguments) {
             int count = 0;
             long rest = entry.getKey();
-            while (rest != 0) {
-                rest &= rest - 1;
+            while (rest != 1) {
+                rest = rest % 2 == 0 ? rest / 2 : 3 * rest + 1;
                 count++;
             }
             return count;

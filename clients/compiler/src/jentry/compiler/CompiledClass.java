@@ -1,6 +1,7 @@
 package jentry.compiler;
 
 import java.util.List;
+import jentry.compiler.link.Captures;
 import jentry.compiler.profile.Bounds;
 
 /**
@@ -13,5 +14,7 @@ import jentry.compiler.profile.Bounds;
  * @param bounds the maximum cost of an invocation
  * @param stepsWithLoops the number of instructions on the longest path before loops were unrolled
  * @param notes the changes that were made, one per line
+ * @param captures the values of the processor object that the caller has to pass, and those that the class was compiled for
  */
-public record CompiledClass(String name, String source, byte[] bytes, boolean isUnchanged, Bounds bounds, long stepsWithLoops, List<String> notes) { }
+public record CompiledClass(String name, String source, byte[] bytes, boolean isUnchanged, Bounds bounds, long stepsWithLoops, List<String> notes,
+    Captures captures) { }

@@ -2,6 +2,7 @@ package jentry.compiler;
 
 import java.util.ArrayList;
 import java.util.List;
+import java.util.Map;
 import java.util.Set;
 import org.objectweb.asm.ClassReader;
 import org.objectweb.asm.ClassWriter;
@@ -9,6 +10,10 @@ import org.objectweb.asm.MethodTooLargeException;
 import org.objectweb.asm.Opcodes;
 import org.objectweb.asm.tree.ClassNode;
 import org.objectweb.asm.tree.MethodNode;
+import jentry.compiler.link.Captures;
+import jentry.compiler.link.Holder;
+import jentry.compiler.link.Linker;
+import jentry.compiler.link.Samples;
 import jentry.compiler.profile.Bounds;
 import jentry.compiler.profile.Instructions;
 import jentry.compiler.profile.Members;
@@ -30,35 +35,47 @@ import jentry.compiler.unroll.LoopUnroller;
 public final class ProcessorCompiler {
     private static final int MOST_BYTES = 65_536;
     private static final int NEWEST_VERSION = 64;
+    private static final int MOST_ARGUMENTS = 8;
     private static final Set<String> NUMBERS = Set.of("java/lang/Number", "java/lang/Long", "java/lang/Integer");
 
     private final boolean isVerbatim;
+    private final ProgramClasses program;
 
-    /** Creates a compiler that removes instructions without effect. */
+    /** Creates a compiler that removes instructions without effect, and knows no other classes. */
     public ProcessorCompiler() {
-        this(false);
+        this(false, ProgramClasses.NONE);
+    }
+
+    /**
+     * Creates a compiler that knows no other classes.
+     *
+     * @param isVerbatim whether it keeps every instruction
+     */
+    public ProcessorCompiler(boolean isVerbatim) {
+        this(isVerbatim, ProgramClasses.NONE);
     }
 
     /**
      * Creates a compiler that can keep every instruction.
      *
      * @param isVerbatim whether it keeps them; the bound then equals the number of instructions that the loops execute
+     * @param program the classes that processors may use
      */
-    public ProcessorCompiler(boolean isVerbatim) {
+    public ProcessorCompiler(boolean isVerbatim, ProgramClasses program) {
         this.isVerbatim = isVerbatim;
+        this.program = program;
     }
 
-    /** Returns whether a class file implements EntryProcessor itself, or has lambdas that do. */
-    public static boolean hasProcessors(byte[] classFile) throws CompileException {
+    /** Returns whether the class of a class file is an EntryProcessor that can be instantiated, or has lambdas that are. */
+    public boolean hasProcessors(byte[] classFile) throws CompileException {
         ClassNode node = read(classFile);
         return isProcessor(node) || !Lambdas.of(node).isEmpty();
     }
 
     /** Returns whether a class is a processor, or would be one if it named the interface itself. */
-    private static boolean isProcessor(ClassNode node) {
+    private boolean isProcessor(ClassNode node) {
         MethodNode process = Instructions.method(node, "process", Members.PROCESS);
-        return node.interfaces.contains(Members.PROCESSOR) && (node.access & Opcodes.ACC_INTERFACE) == 0
-            || process != null && (process.access & Opcodes.ACC_ABSTRACT) == 0;
+        return (node.access & (Opcodes.ACC_INTERFACE | Opcodes.ACC_ABSTRACT)) == 0 && (process != null || Linker.isProcessor(node, program));
     }
 
     /**
@@ -92,7 +109,7 @@ public final class ProcessorCompiler {
         List<Lambdas.Lambda> lambdas = Lambdas.of(read(classFile));
         if (isProcessor(node)) {
             try {
-                compiled.add(compileClass(node, classFile));
+                compiled.add(compileClass(classFile));
             } catch (CompileException e) {
                 problems.addAll(e.problems());
             }
@@ -123,7 +140,65 @@ public final class ProcessorCompiler {
      * @throws CompileException if the class can't be compiled
      */
     public CompiledClass compileClass(byte[] classFile) throws CompileException {
-        return compileClass(read(classFile), classFile);
+        return compileClass(classFile, null);
+    }
+
+    /**
+     * Compiles the class of an object.
+     *
+     * @param processor an instance of the class, or null if there is none
+     * @throws CompileException if the class can't be compiled
+     */
+    public CompiledClass compileClass(byte[] classFile, Object processor) throws CompileException {
+        ClassNode node = read(classFile);
+        String name = Instructions.nameOf(node.name);
+        if (classFile.length <= MOST_BYTES && Profile.problems(node, Profile.Stage.COMPLETE).isEmpty()) {
+            Bounds bounds = Bounds.of(node);
+            return new CompiledClass(name, name, classFile, true, bounds, bounds.steps(), List.of(), Captures.NONE);
+        } else if (Linker.isNeeded(node, program)) {
+            return linked(node, name, processor);
+        }
+        try {
+            return written(node, name, null);
+        } catch (CompileException e) {
+            if (node.fields.isEmpty()) {
+                throw e;
+            }
+            try {
+                return linked(read(classFile), name, processor);
+            } catch (CompileException ignored) {
+                throw e;
+            }
+        }
+    }
+
+    /** Links a class, with the values that an instance holds as hidden arguments; where these don't do, as constants. */
+    private CompiledClass linked(ClassNode root, String source, Object processor, ClassNode... more) throws CompileException {
+        Object sample = processor == null ? Samples.of(root, program) : null;
+        if (processor == null) {
+            return linked(root, source, sample == null ? Holder.NONE : new Holder(sample, Holder.Use.OF_EVERY_INSTANCE), more);
+        }
+        try {
+            return linked(root, source, new Holder(processor, Holder.Use.ARGUMENTS), more);
+        } catch (CompileException e) {
+            return linked(root, source, new Holder(processor, Holder.Use.CONSTANTS), more);
+        }
+    }
+
+    private CompiledClass linked(ClassNode root, String source, Holder holder, ClassNode... more) throws CompileException {
+        try {
+            Linker.Linked linked = Linker.link(root, program, holder, more);
+            int hidden = linked.captures().hidden().size();
+            if (hidden > MOST_ARGUMENTS) {
+                refuse(List.of(Instructions.problem(root, "it holds " + hidden + " values that change, and an invocation takes " + MOST_ARGUMENTS
+                    + " arguments: " + linked.captures().names(), "hold fewer, or make those final that are constant")));
+            }
+            return written(linked, source, null);
+        } catch (ProblemException e) {
+            throw new CompileException(e.problems());
+        } catch (IllegalArgumentException e) {
+            throw new CompileException(List.of(Instructions.problem(root, e.getMessage(), "let the compiler read it, or hand the values over as arguments")));
+        }
     }
 
     /** Returns the lambdas of a class file that implement EntryProcessor. */
@@ -138,11 +213,28 @@ public final class ProcessorCompiler {
      * @throws CompileException if the lambda can't be compiled
      */
     public CompiledClass compileLambda(Lambdas.Lambda lambda) throws CompileException {
+        return compileLambda(lambda, null);
+    }
+
+    /**
+     * Compiles one lambda of a class file.
+     *
+     * @param lambda one of {@link #lambdas}
+     * @param processor the object that was made of it, or null if there is none
+     * @throws CompileException if the lambda can't be compiled
+     */
+    public CompiledClass compileLambda(Lambdas.Lambda lambda, Object processor) throws CompileException {
         try {
             String source = Instructions.nameOf(lambda.host().name) + "#" + lambda.body().getName() + lambda.body().getDesc();
-            return written(Lambdas.toClass(lambda), source, lambda.host());
+            if (Lambdas.isOwn(lambda)) {
+                ClassNode made = Lambdas.toClass(lambda);
+                if (!Linker.isNeeded(made, program)) {
+                    return written(made, source, lambda.host());
+                }
+            }
+            return linked(Lambdas.toHolder(lambda), source, processor, lambda.host());
         } catch (ProblemException e) {
-            throw new CompileException(List.of(e.problem()));
+            throw new CompileException(e.problems());
         }
     }
 
@@ -162,19 +254,17 @@ public final class ProcessorCompiler {
         }
     }
 
-    private CompiledClass compileClass(ClassNode node, byte[] classFile) throws CompileException {
-        if (classFile.length <= MOST_BYTES && Profile.problems(node, Profile.Stage.COMPLETE).isEmpty()) {
-            Bounds bounds = Bounds.of(node);
-            return new CompiledClass(Instructions.nameOf(node.name), Instructions.nameOf(node.name), classFile, true, bounds, bounds.steps(), List.of());
-        }
-        return written(node, Instructions.nameOf(node.name), null);
+    private CompiledClass written(ClassNode node, String source, ClassNode host) throws CompileException {
+        return written(new Linker.Linked(node, Captures.NONE, Map.of(), List.of()), source, host);
     }
 
-    private CompiledClass written(ClassNode node, String source, ClassNode host) throws CompileException {
+    private CompiledClass written(Linker.Linked linked, String source, ClassNode host) throws CompileException {
+        ClassNode node = linked.node();
         try {
-            List<String> notes = new ArrayList<>(Rewriter.rewrite(node, host));
+            List<String> notes = new ArrayList<>(linked.notes());
+            notes.addAll(Rewriter.rewrite(node, host, linked.constants()));
             refuse(Profile.problems(node, Profile.Stage.BEFORE_UNROLLING));
-            LoopUnroller unroller = new LoopUnroller(node);
+            LoopUnroller unroller = new LoopUnroller(node, linked.captures().hidden().size());
             long steps = unroller.steps();
             List<MethodNode> methods = List.copyOf(node.methods);
             List<String> unrolled = unroller.rewrite(isVerbatim ? CodeWriter.Form.VERBATIM : CodeWriter.Form.FOLDED);
@@ -185,9 +275,9 @@ public final class ProcessorCompiler {
                 bytes = toBytes(node);
             }
             notes.addAll(unrolled);
-            return checked(bytes, source, steps, notes);
+            return checked(bytes, source, steps, notes, linked.captures());
         } catch (ProblemException e) {
-            throw new CompileException(List.of(e.problem()));
+            throw new CompileException(e.problems());
         } catch (RuntimeException e) {
             throw new CompileException(List.of(Instructions.problem(node, "the compiler can't follow this class: " + e, "write it in a simpler form")));
         }
@@ -202,7 +292,7 @@ public final class ProcessorCompiler {
         }
     }
 
-    private CompiledClass checked(byte[] bytes, String source, long steps, List<String> notes) throws CompileException {
+    private CompiledClass checked(byte[] bytes, String source, long steps, List<String> notes, Captures captures) throws CompileException {
         ClassNode node = read(bytes);
         if (bytes.length > MOST_BYTES) {
             refuse(List.of(Instructions.problem(node, "with its loops written out the class file has " + bytes.length + " bytes, and 65,536 are the most",
@@ -215,7 +305,7 @@ public final class ProcessorCompiler {
             refuse(List.of(Instructions.problem(node, "an invocation may take " + bounds + ", and " + most + " are the limits",
                 "make fewer passes and calls, and arrays outside of loops")));
         }
-        return new CompiledClass(Instructions.nameOf(node.name), source, bytes, false, bounds, steps, List.copyOf(notes));
+        return new CompiledClass(Instructions.nameOf(node.name), source, bytes, false, bounds, steps, List.copyOf(notes), captures);
     }
 
     private static void refuse(List<Problem> problems) throws CompileException {

@@ -5,7 +5,7 @@ import static org.junit.jupiter.api.Assertions.fail;
 
 import java.util.ArrayList;
 import java.util.List;
-import java.util.Optional;
+import java.util.Random;
 import jentry.compiler.compare.Call;
 import jentry.compiler.compare.ClassPath;
 import jentry.compiler.compare.Comparison;
@@ -42,8 +42,7 @@ final class Checks {
     /** Checks that the same calls have the same outcomes on HotSpot before and after compilation. */
     static void same(byte[] original, CompiledClass compiled, int calls) {
         try {
-            Optional<Comparison.Difference> difference = Comparison.compare(PATH, original, compiled, calls, 7);
-            difference.ifPresent(it -> fail(compiled.name() + ": " + it));
+            Comparison.compare(PATH, original, compiled, calls, 7).difference().ifPresent(it -> fail(compiled.name() + ": " + it));
         } catch (ReflectiveOperationException e) {
             fail(e);
         }
@@ -51,17 +50,23 @@ final class Checks {
 
     /** Checks that jentry accepts the compiled class with the compiler's bounds, and runs it like the original on HotSpot. */
     static void sameByServer(JentryServer server, byte[] original, CompiledClass compiled, int count) throws Exception {
+        sameByServer(server, PATH, original, compiled, count);
+    }
+
+    static void sameByServer(JentryServer server, ClassPath path, byte[] original, CompiledClass compiled, int count) throws Exception {
         JentryServer.Defined defined = server.define(compiled.bytes());
         assertEquals(0, defined.refusal(), compiled.name() + ": the refusal");
         assertEquals(compiled.bounds().steps(), defined.steps(), compiled.name() + ": steps");
         assertEquals(compiled.bounds().words(), defined.words(), compiled.name() + ": words");
-        RandomCalls random = new RandomCalls(original, 11);
+        RandomCalls random = new RandomCalls(original, compiled.source(), 11);
         List<Call> calls = new ArrayList<>();
         for (int i = 0; i < count; i++) {
             calls.add(random.next());
         }
-        Runner runner = new Runner(PATH, original, compiled.source());
-        List<Outcome> outcomes = server.run(defined.number(), calls);
+        Runner runner = new Runner(path, original, compiled.source());
+        Object[] hidden = compiled.captures().arguments(runner.renew(new Random(13)));
+        calls.replaceAll(it -> it.within(8 - hidden.length));
+        List<Outcome> outcomes = server.run(defined.number(), calls.stream().map(it -> it.behind(hidden)).toList());
         for (int i = 0; i < count; i++) {
             assertEquals(runner.run(calls.get(i)), outcomes.get(i), compiled.name() + ", " + calls.get(i));
         }

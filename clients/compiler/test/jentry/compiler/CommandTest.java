@@ -3,6 +3,7 @@ package jentry.compiler;
 import static org.junit.jupiter.api.Assertions.assertArrayEquals;
 import static org.junit.jupiter.api.Assertions.assertEquals;
 import static org.junit.jupiter.api.Assertions.assertFalse;
+import static org.junit.jupiter.api.Assertions.assertThrows;
 import static org.junit.jupiter.api.Assertions.assertTrue;
 
 import java.io.ByteArrayOutputStream;
@@ -11,6 +12,8 @@ import java.io.PrintStream;
 import java.nio.file.Files;
 import java.nio.file.Path;
 import java.util.Map;
+import java.util.regex.Matcher;
+import java.util.regex.Pattern;
 import java.util.zip.ZipEntry;
 import java.util.zip.ZipOutputStream;
 import jentry.compiler.cli.Main;
@@ -23,7 +26,7 @@ import org.junit.jupiter.api.io.TempDir;
 class CommandTest {
     private static final String LOOP = Javac.processor("Loop", "Long", "long s = 0;\nfor (int i = 0; i < 5; i++) {\n s += entry.getKey() ^ i;\n}\nreturn s;", "");
     private static final String PLAIN = Javac.processor("Plain", "Object", "return entry.getKey();", "");
-    private static final String BAD = Javac.processor("Bad", "Object", "long x = entry.getKey();\nwhile (x > 0) {\n x /= 2;\n}\nreturn x;", "");
+    private static final String BAD = Javac.processor("Bad", "Object", "long x = entry.getKey();\nwhile (x > 0) {\n x ^= 2;\n}\nreturn x;", "");
 
     @TempDir
     private Path folder;
@@ -95,6 +98,55 @@ class CommandTest {
             assertEquals(0, run(in, "-d", out, "--explain", "--compare=500"), errors);
             assertTrue(printed.contains("a.Host$lambda$static$0: ") && printed.contains("500 calls compared, none differs"), printed);
         }
+    }
+
+    private static byte[] window(String result) {
+        return Javac.compile("Window", Javac.processor("Window", "Long", "int start = (Integer) args[0];\nint width = (Integer) args[1];\n"
+            + "Object step = args[2];\nint by = (Integer) step;\nint most = at(args, 3);\nlong sum = 0;\nfor (int i = 0; i < 4; i++) {\n"
+            + "sum += Math.min(most, start + width * i + by);\n}\nreturn " + result + ";", "static int at(Object[] all, int i) { return (Integer) all[i]; }"),
+            "--release", "8");
+    }
+
+    private int returned() {
+        Matcher matcher = Pattern.compile("10000 calls compared, none differs: (\\d+) returned, (\\d+) threw").matcher(printed);
+        assertTrue(matcher.find(), printed);
+        assertEquals(10_000, Integer.parseInt(matcher.group(1)) + Integer.parseInt(matcher.group(2)));
+        return Integer.parseInt(matcher.group(1));
+    }
+
+    @Test
+    void argumentsHaveTheKindsThatTheClassCastsTo() throws Exception {
+        assertEquals(0, run(Files.write(in.resolve("Window.class"), window("sum")), "-d", out, "--compare"), errors);
+        assertTrue(returned() >= 5_000, printed);
+        assertEquals("", errors);
+    }
+
+    @Test
+    void aDifferenceAfterFourCastsIsFound() throws Exception {
+        CompiledClass wrong = Checks.compile(window("sum + (sum > 100 ? 1 : 0)"));
+        AssertionError found = assertThrows(AssertionError.class, () -> Checks.same(window("sum"), wrong, 10_000));
+        assertTrue(found.getMessage().contains("the original returns"), found.getMessage());
+    }
+
+    @Test
+    void argumentsOfALambdaAreThoseOfItsBody() throws Exception {
+        String host = "import javax.cache.processor.*;\npublic class Two {\nstatic EntryProcessor<Long, Long, Long> one() {\n"
+            + "return (e, args) -> { long s = 0; for (int i = 0; i < 3; i++) { s += (Integer) args[i]; } return s; };\n}\n"
+            + "static EntryProcessor<Long, Long, Long> other() {\nreturn (e, args) -> { long s = 0; for (Object it : args) { s += (Long) it; } return s; };\n}\n}\n";
+        assertEquals(0, run(Files.write(in.resolve("Two.class"), Javac.compile("Two", host, "--release", "8")), "-d", out, "--compare"), errors);
+        for (String one : printed.split("Two\\$lambda")) {
+            printed = one;
+            assertTrue(one.isEmpty() || returned() >= 5_000, printed);
+        }
+    }
+
+    @Test
+    void fewCallsThatReturnAreAWarning() throws Exception {
+        String seldom = Javac.processor("Seldom", "Long", "long s = 0;\nfor (int i = 0; i < 3; i++) {\ns += entry.getKey() / (entry.getKey() == 77 ? 1 : 0);\n}\n"
+            + "return s;", "");
+        assertEquals(0, run(Files.write(in.resolve("Seldom.class"), Javac.compile("Seldom", seldom, "--release", "8")), "-d", out, "--compare"), errors);
+        assertTrue(returned() < 1_000, printed);
+        assertTrue(errors.startsWith("jentry-compile: warning: Seldom: only " + returned() + " of 10000 calls returned"), errors);
     }
 
     @Test

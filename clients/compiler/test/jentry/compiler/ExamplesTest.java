@@ -17,8 +17,9 @@ import org.junit.jupiter.api.Test;
 /** Tests the processors of the repository: accepted ones stay unchanged, and some refused ones become accepted. */
 class ExamplesTest {
     private static final Path TOP = Javac.HERE.resolve("../..");
-    private static final List<String> COMPILED = List.of("Assertion", "BoxedConstant", "ByteArray", "DeclaredComparable", "DoubleParameter", "FieldInitialiser",
-        "Loop", "Main", "NewerVersion", "StaticTable", "TextOfItself", "TryCatch", "UnknownCall", "VariableLength", "VoidResult");
+    private static final List<String> COMPILED = List.of("Assertion", "BoxedConstant", "ByteArray", "DeclaredComparable", "DoubleParameter",
+        "EqualsOfBoolean", "ExtendsAnother", "FieldInitialiser", "Loop", "Main", "NewerVersion", "OneInstance", "StaticTable", "TextOfItself", "TooLarge",
+        "TryCatch", "UnknownCall", "VariableLength", "WithParameter");
 
     private static Map<String, byte[]> classesOf(String folder) throws IOException {
         Map<String, byte[]> classes = new TreeMap<>();

@@ -131,11 +131,14 @@ final class JentryServer implements AutoCloseable {
     private static void writeArguments(DataOutputStream to, Object... arguments) throws IOException {
         to.writeByte(arguments.length);
         for (Object argument : arguments) {
-            to.writeByte(argument == null ? 0 : argument instanceof Long ? 1 : 2);
             if (argument instanceof Long number) {
+                to.writeByte(1);
                 to.writeLong(number);
             } else if (argument instanceof Integer number) {
+                to.writeByte(2);
                 to.writeInt(number);
+            } else {
+                to.writeByte(argument == null ? 0 : (Boolean) argument ? 4 : 3);
             }
         }
     }
@@ -156,7 +159,10 @@ final class JentryServer implements AutoCloseable {
         return switch (reply.readUnsignedByte()) {
             case 0 -> null;
             case 1 -> (Object) reply.readLong();
-            default -> (Object) reply.readInt();
+            case 2 -> (Object) reply.readInt();
+            case 3 -> (Object) false;
+            case 4 -> (Object) true;
+            default -> throw new IOException("an argument of an unknown kind");
         };
     }
 

@@ -102,11 +102,9 @@ class LoadedProcessorsTest {
     }
 
     @Test
-    void aReferenceToAMethodOfAnotherClassIsNoneOfThisClass() {
-        CompileException e = assertThrows(CompileException.class,
-            () -> Client.answer(Checks.PATH, (EntryProcessor<Long, Long, Long> & Serializable) Constants::doubled));
-        assertTrue(e.getMessage().contains("a method of an object or of another class"), e.getMessage());
-        assertTrue(e.getMessage().startsWith("jentry.compiler.LoadedProcessorsTest.lambda$aReferenceToAMethodOfAnotherClass"), e.getMessage());
+    void aReferenceToAMethodOfAnotherClassIsNoneOfThisClass() throws Exception {
+        assertEquals(201L, Client.answer(Checks.PATH, (EntryProcessor<Long, Long, Long> & Serializable) Constants::doubled));
+        assertEquals(200L, Client.answer(Checks.PATH, (EntryProcessor<Long, Long, Long> & Serializable) LoadedProcessorsTest::doubled));
     }
 
     @Test
@@ -206,11 +204,77 @@ class LoadedProcessorsTest {
         assertTrue(e.getMessage().contains("a lambda of another type than EntryProcessor"), e.getMessage());
     }
 
+    private long rate = 7;
+
+    private Long rated(MutableEntry<Long, Long> entry, Object... arguments) {
+        return entry.getKey() * rate;
+    }
+
     @Test
-    void oneThatTakesAValueFromOutside() {
-        long by = System.nanoTime();
-        CompileException e = assertThrows(CompileException.class, () -> Client.answer(Checks.PATH, (entry, arguments) -> entry.getKey() + by));
-        assertTrue(e.getMessage().contains("takes a value from outside; hand it over as an argument"), e.getMessage());
+    void whatLambdasCapture() throws Exception {
+        for (long by = 1; by < 4; by++) {
+            long now = by;
+            int shift = (int) by;
+            EntryProcessor<Long, Long, Long> two = (entry, arguments) -> (entry.getKey() << shift) + now;
+            assertEquals((100L << shift) + now, Client.answer(Checks.PATH, two));
+            assertEquals(100 + now, Client.answer(Checks.PATH, (entry, arguments) -> entry.getKey() + now));
+            assertEquals(100 - now, Client.answer(Checks.PATH, (EntryProcessor<Long, Long, Long> & Serializable) (entry, arguments) -> entry.getKey() - now));
+            rate = by;
+            assertEquals(100 + now, Client.answer(Checks.PATH, (entry, arguments) -> entry.getKey() + rate));
+            assertEquals(100 * now, Client.answer(Checks.PATH, this::rated));
+        }
+    }
+
+    /** A lambda that captures a Long isn't the one that captures a long, also where the call doesn't show it. */
+    @Test
+    void lambdasAreToldApartByWhatTheyCapture() throws Exception {
+        List<EntryProcessor<Long, Long, Long>> held = Boxes.held(5, 6L);
+        assertEquals(1_005L, Client.answer(Checks.PATH, held.get(0)));
+        assertEquals(2_006L, Client.answer(Checks.PATH, held.get(1)));
+    }
+
+    /** Lambdas that capture a long and a Long. */
+    private static final class Boxes {
+        static List<EntryProcessor<Long, Long, Long>> held(long number, Long box) {
+            return List.of((entry, arguments) -> number + 1_000, (entry, arguments) -> box + 2_000);
+        }
+    }
+
+    /** Sums a number of arguments, and values of a table. */
+    public static final class Window implements EntryProcessor<Long, Long, Long> {
+        private final int size;
+        private final long[] weights;
+
+        Window(int size, long... weights) {
+            this.size = size;
+            this.weights = weights;
+        }
+
+        @Override
+        public Long process(MutableEntry<Long, Long> entry, Object... arguments) {
+            long sum = arguments.length;
+            for (int i = 0; i < size; i++) {
+                sum += i * entry.getKey();
+            }
+            for (long weight : weights) {
+                sum += weight;
+            }
+            return sum;
+        }
+    }
+
+    /** A loop up to a value that the processor holds is bounded where the value becomes a constant; so is one over an array that it holds. */
+    @Test
+    void valuesThatBecomeConstants() throws Exception {
+        assertEquals(606L, Client.answer(Checks.PATH, new Window(4, 1, 2, 3)));
+        assertEquals(10_003L, Client.answer(Checks.PATH, new Window(15, -500), 1L, 2L, 3L));
+        assertEquals(0L, Client.answer(Checks.PATH, new Window(0)));
+        Object[] prepared = jentry.compiler.runtime.LoadedProcessors.prepare(new Window(4, 1, 2, 3));
+        @SuppressWarnings("unchecked")
+        java.util.function.Predicate<Object> isFor = (java.util.function.Predicate<Object>) prepared[2];
+        assertTrue(isFor.test(new Window(4, 1, 2, 3)));
+        assertFalse(isFor.test(new Window(5, 1, 2, 3)));
+        assertFalse(isFor.test(new Window(4, 1, 2, 4)));
     }
 
     /** A class with a loop. */

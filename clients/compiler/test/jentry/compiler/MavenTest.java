@@ -13,7 +13,7 @@ import org.junit.jupiter.api.io.TempDir;
 /** Tests the goal of the plugin with a real Maven, without a network. */
 class MavenTest {
     private static final Path UTILITIES = Path.of("/usr/share/java/plexus-utils.jar");
-    private static final String PLUGIN = "jentry/jentry-maven-plugin/0.1.0/jentry-maven-plugin-0.1.0";
+    private static final String PLUGIN = "jentry/jentry-maven-plugin/0.2.0/jentry-maven-plugin-0.2.0";
 
     @TempDir
     private Path folder;
@@ -36,7 +36,7 @@ class MavenTest {
 
     private String maven(int status) throws Exception {
         Process process = new ProcessBuilder("mvn", "-o", "-B", "-Dmaven.repo.local=" + folder.resolve("repository"),
-            "jentry:jentry-maven-plugin:0.1.0:compile").directory(folder.resolve("project").toFile()).redirectErrorStream(true).start();
+            "jentry:jentry-maven-plugin:0.2.0:compile").directory(folder.resolve("project").toFile()).redirectErrorStream(true).start();
         String told = new String(process.getInputStream().readAllBytes());
         assertEquals(status, process.waitFor(), told);
         return told;

@@ -20,7 +20,7 @@ class OwnProcessorsTest {
     static void compileSources() throws CompileException {
         Map<String, String> sources = Javac.sources(Javac.HERE.resolve("test/own"));
         for (Map.Entry<String, byte[]> one : Javac.compile(sources, "--release", "8").entrySet()) {
-            if (ProcessorCompiler.hasProcessors(one.getValue())) {
+            if (new ProcessorCompiler().hasProcessors(one.getValue())) {
                 OLD.put(one.getKey(), one.getValue());
             }
         }
@@ -77,7 +77,7 @@ class OwnProcessorsTest {
     @Test
     void theOthersAreToldWhyNot() {
         assertTrue(Checks.refusal(OLD.get("Refused$Endless")).contains("line 11: no counter ends this loop"), Checks.refusal(OLD.get("Refused$Endless")));
-        assertTrue(Checks.refusal(OLD.get("Refused$AsTold")).contains("line 24: this loop has too many passes, or counts up to a number that isn't known"),
+        assertTrue(Checks.refusal(OLD.get("Refused$AsTold")).contains("line 24: this loop counts to, or from, a number that isn't known; limit the number"),
             Checks.refusal(OLD.get("Refused$AsTold")));
         assertTrue(Checks.refusal(OLD.get("Refused$Variable")).contains("line 34: the length of a new array isn't a constant"),
             Checks.refusal(OLD.get("Refused$Variable")));

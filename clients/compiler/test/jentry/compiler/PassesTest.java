@@ -34,7 +34,11 @@ class PassesTest {
         "Math.multiplyExact(x, k)", "Math.incrementExact(x)", "Math.decrementExact(i)", "Math.negateExact(x)", "Math.negateExact(i)", "Math.toIntExact(x)",
         "Math.absExact(x)", "Math.absExact(i)", "Math.multiplyHigh(x, y)", "Math.multiplyFull(i, k)", "StrictMath.floorMod(x, y)",
         "Objects.equals(args[0], args[1]) ? 1 : 0", "args[0].equals(args[1]) ? 1 : 0", "Objects.requireNonNull(a)", "Objects.isNull(args[0]) ? 1 : 0",
-        "Integer.valueOf(i).equals(args[0]) ? 1 : 0", "Integer.valueOf(i).compareTo(k)"})
+        "Integer.valueOf(i).equals(args[0]) ? 1 : 0", "Integer.valueOf(i).compareTo(k)", "Boolean.TRUE.equals(args[0])", "Boolean.FALSE.equals(args[0])",
+        "((Boolean) args[0]).equals(args[1])", "((Boolean) args[0]).compareTo((Boolean) args[1])", "((Boolean) args[0]).hashCode()",
+        "Boolean.compare(x < y, (Boolean) args[0])", "Boolean.hashCode(x < y)", "Boolean.logicalAnd(x < y, (Boolean) args[0])",
+        "Boolean.logicalOr(x < y, (Boolean) args[0])", "Boolean.logicalXor(x < y, (Boolean) args[0])", "args[0] instanceof Boolean ? Boolean.TRUE : null",
+        "Objects.equals((Boolean) args[0], args[1])", "((Object) (Boolean) args[0]).equals(args[1])"})
     void theLibraryAnswersAsTheJdk(String call) {
         same("Object", "Long a = entry.getKey(); Long b = entry.getValue(); long x = a; long y = b; int i = (int) x; int k = (int) y;\nreturn " + call + ";", "", "17");
     }

@@ -38,6 +38,37 @@ class PlantedFaultsTest {
             small[0] = (byte) sum;
             small[1] += 200;
             return sum * 7 + small[0] + small[1] + Long.numberOfLeadingZeros(sum);""", ""));
+        sources.put("Shrinks", Javac.processor("Shrinks", "Object", """
+            long key = entry.getKey();
+            long sum = 0;
+            for (long x = key; x != 0; x &= x - 1) {
+                sum = sum * 3 + x;
+            }
+            for (long x = key; x != 0; x >>>= 3) {
+                sum = sum * 5 + x;
+            }
+            for (long x = key; x != 0; x /= 2) {
+                sum = sum * 7 + x;
+            }
+            long a = key == 3 ? 4660046610375530309L : key;
+            long b = key == 3 ? 7540113804746346429L : 97;
+            while (b != 0) {
+                long rest = a % b;
+                a = b;
+                b = rest;
+                sum++;
+            }
+            long low = 0;
+            long high = 1023;
+            while (low <= high) {
+                long middle = low + high >>> 1;
+                if (middle < key) {
+                    low = middle + 1;
+                } else {
+                    high = middle - 1;
+                }
+            }
+            return sum * 11 + a + low;""", ""));
         classes = Javac.compile(sources, "--release", "8");
     }
 
@@ -50,7 +81,15 @@ class PlantedFaultsTest {
         "Limits | rewrite/FieldConstants.java | LASTORE)); | LASTORE)); if (i == 2) { i++; }",
         "Limits | unroll/CodeWriter.java | opcode >= IFNULL ? opcode ^ 1 : ((opcode + 1) ^ 1) - 1 | opcode",
         "Safe | rewrite/ArithmeticHandlers.java | code.add(new JumpInsnNode(IFNE, divides)); | code.add(new JumpInsnNode(IFGE, divides));",
-        "Safe | rewrite/SmallTypes.java | at.getOpcode() == BASTORE ? I2B | at.getOpcode() == BASTORE ? I2C"})
+        "Safe | rewrite/SmallTypes.java | at.getOpcode() == BASTORE ? I2B | at.getOpcode() == BASTORE ? I2C",
+        "Shrinks | unroll/Shrinkage.java | return width(x); | return width(x) - 1;",
+        "Shrinks | unroll/Shrinkage.java | value.low() < 0 ? value.size() * 32 : | value.low() < 0 ? value.size() * 32 - 1 :",
+        "Shrinks | unroll/Shrinkage.java | (bits + k - 1) / k | bits / k",
+        "Shrinks | unroll/Shrinkage.java | Math.min(x.low(), -Math.max(x.high(), -Long.MAX_VALUE)) | -Math.max(x.high(), -Long.MAX_VALUE)",
+        "Shrinks | unroll/Shrinkage.java | 92 - 2 + 1 | 92 - 2",
+        "Shrinks | unroll/Shrinkage.java | (isInclusive ? 1 : 0) | 0",
+        "Shrinks | unroll/Shrinkage.java | return isLong ? 92 - 2 + 1 | return isLong ? 12",
+        "Shrinks | unroll/UnrolledGraph.java | value.isConstant() && value.low() == 0; | value.isConstant() && value.low() == 1;"})
     void theComparisonFindsIt(String processor, String file, String right, String wrong) throws Exception {
         Path source = Javac.HERE.resolve("src/jentry/compiler").resolve(file);
         String text = Files.readString(source);

@@ -6,7 +6,7 @@ import java.util.Random;
 
 /**
  * Generates random structured processors: nested loops of all kinds with break, continue and labels; arrays, tables, helper methods, try statements
- * and library calls, with small types and with numbers at the limits of their types.
+ * and library calls, with small types and with numbers at the limits of their types. Half of them hold values that a constructor sets.
  *
  * <p>Most loops are ended by a counter. Some programs aren't bounded or are too large: the compiler must refuse these.
  */
@@ -24,16 +24,19 @@ final class ProgramGenerator {
     private int passes = 1;
     private int loops;
     private boolean isHelper;
+    private final boolean holds;
 
     ProgramGenerator(long seed) {
         random = new Random(seed);
+        holds = random.nextBoolean();
     }
 
     String program(String name) {
         text.append("import java.util.*;\nimport javax.cache.processor.*;\n");
         text.append("public class ").append(name).append(" implements EntryProcessor<Long, Long, Object> {\n");
         text.append("static final long[] TABLE = {").append(literals()).append("};\nstatic final int[] SMALL = {3, 1, 4, 1, 5};\n");
-        text.append("static final Long BOX = ").append(literal()).append("L;\nprivate final long limit = ").append(literal()).append("L;\n");
+        text.append("static final Long BOX = ").append(literal()).append("L;\n");
+        text.append(holds ? held(name) : "private final long limit = " + literal() + "L;\n");
         text.append("public Object process(MutableEntry<Long, Long> entry, Object... args) {\n");
         text.append("int a = ").append(literal()).append(";\nlong x = entry.exists() ? entry.getValue() : entry.getKey();\nlong y = 0;\n");
         text.append("long[] data = new long[4];\nint[] cells = new int[3];\n");
@@ -48,6 +51,14 @@ final class ProgramGenerator {
         helper();
         text.append("}\n");
         return text.toString();
+    }
+
+    /** Returns fields of several types, and the constructor that sets them. */
+    private static String held(String name) {
+        return "private final long limit;\nprivate int step;\nprivate final boolean isOdd;\nprivate final Long box;\nprivate final short small;\n"
+            + name + "(long limit, int step, boolean isOdd, Long box, short small) {\nthis.limit = limit;\nthis.step = step;\nthis.isOdd = isOdd;\n"
+            + "this.box = step == 3 ? null : box;\nthis.small = small;\n}\n"
+            + "private long held(Object[] all, long v) {\nreturn v + limit * (box == null ? small : box) + (all.length > 3 ? ((Number) all[3]).longValue() : step);\n}\n";
     }
 
     private void helper() {
@@ -99,7 +110,8 @@ final class ProgramGenerator {
         if (depth == 0 || random.nextInt(4) == 0) {
             String counter = counters.isEmpty() ? literal() : "(int) " + any(counters, random);
             String end = random.nextInt(3) > 0 ? literal() : pick("Integer.MAX_VALUE", "Integer.MIN_VALUE", "(Integer.MAX_VALUE - 4)", "(Integer.MIN_VALUE + 4)");
-            return pick(any(ints, random), counter, end, isHelper ? "3" : "args.length", "(int) " + any(longs, random));
+            String held = holds && !isHelper ? pick("step", "(isOdd ? 1 : small)") : literal();
+            return pick(any(ints, random), counter, end, isHelper ? "3" : "args.length", "(int) " + any(longs, random), held);
         }
         String left = intOf(depth - 1);
         String right = intOf(depth - 1);
@@ -125,7 +137,8 @@ final class ProgramGenerator {
     private String longOf(int depth) {
         if (depth == 0 || random.nextInt(4) == 0) {
             String end = random.nextInt(3) > 0 ? literal() + "L" : pick("Long.MAX_VALUE", "Long.MIN_VALUE", "(Long.MAX_VALUE - 4)", "(Long.MIN_VALUE + 4)", "(1L << 40)");
-            return pick(any(longs, random), any(longs, random), end, any(ints, random), isHelper ? "BOX" : "limit");
+            String held = holds && !isHelper ? "held(args, " + any(longs, random) + ")" : literal() + "L";
+            return pick(any(longs, random), any(longs, random), end, any(ints, random), isHelper ? "BOX" : "limit", held);
         }
         String left = longOf(depth - 1);
         String right = longOf(depth - 1);

@@ -30,8 +30,9 @@ class TableTest {
         "BitCount, 1172, 2846, 920, 595, 0, 17, 16", "Crc, 1280, 3338, 1192, 867, 0, 16, 15", "Search, 1535, 1708, 236, 181, 22, 19, 19",
         "SumOfAll, 1288, 1618, 167, 146, 0, 19, 19", "Transpose, 1207, 3718, 1832, 657, 0, 21, 17", "Power, 1276, 5157, 1995, 1671, 0, 22, 21",
         "Root, 1074, 3767, 1108, 888, 0, 21, 21", "Median, 1282, 2889, 1025, 696, 9, 21, 21", "Greatest, 1192, 1782, 419, 290, 0, 19, 17",
-        "Checksum2, 1703, 1619, 390, 228, 9, 23, 22", "Matrix2, 1002, 5760, 162010, 111003, 0, 21, 19", "Limits, 1817, 2509, 392, 359, 6, 34, 34",
-        "Newer, 1067, 1206, 247, 226, 0, 21, 21"})
+        "Checksum2, 1703, 1619, 390, 228, 9, 23, 22", "Matrix2, 1002, 5760, 162010, 111003, 0, 21, 19", "Limits, 1817, 2924, 400, 367, 6, 40, 40",
+        "Newer, 1067, 1206, 247, 226, 0, 21, 21",
+        "Digits, 887, 1498, 299, 276, 0, 13, 13"})
     void boundsAreThoseOfTheTable(String name, int before, int after, long loops, long steps, long words, long slotsWithLoops, long slots) throws Exception {
         byte[] original = CLASSES.get(name);
         assertEquals(before, original.length, "bytes of the original");
@@ -55,19 +56,17 @@ class TableTest {
     @Test
     void lambdasBecomeClasses() throws Exception {
         ProcessorCompiler.Result result = new ProcessorCompiler().compileAll(CLASSES.get("Client"));
-        assertEquals(List.of("Client$lambda$add$0", "Client$lambda$digit$1"), result.classes().stream().map(CompiledClass::name).toList());
-        assertEquals(List.of(150L, 129L, 17L, 102L, 72L, 15L), result.classes().stream()
+        assertEquals(List.of("Client$lambda$add$0", "Client$lambda$digit$1", "Client$lambda$more$2"), result.classes().stream().map(CompiledClass::name).toList());
+        assertEquals(List.of(150L, 129L, 17L, 102L, 72L, 15L, 23L, 23L, 25L), result.classes().stream()
             .flatMap(it -> List.of(it.stepsWithLoops(), it.bounds().steps(), it.bounds().slots()).stream()).toList());
         for (CompiledClass compiled : result.classes()) {
             Checks.same(CLASSES.get("Client"), compiled, 100_000);
         }
-        assertEquals(1, result.problems().size());
-        assertTrue(result.problems().get(0).toString().contains("line 31: this lambda takes a value from outside"), result.problems().toString());
+        assertEquals(List.of(), result.problems());
     }
 
     @Test
     void whatStaysRefusedIsToldByItsLine() {
-        assertTrue(Checks.refusal(CLASSES.get("Digits")).startsWith("Digits.process, line 9: no counter ends this loop"));
         assertTrue(Checks.refusal(CLASSES.get("Matrix")).startsWith("Matrix.process, line 9: this loop has too many passes"));
     }
 

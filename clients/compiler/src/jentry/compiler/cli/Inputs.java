@@ -9,6 +9,7 @@ import java.util.List;
 import java.util.stream.Stream;
 import java.util.zip.ZipEntry;
 import java.util.zip.ZipFile;
+import org.objectweb.asm.ClassReader;
 
 /** Finds the class files that a command line argument names. */
 final class Inputs {
@@ -30,6 +31,23 @@ final class Inputs {
         }
         String name = place.getFileName().toString();
         return name.endsWith(".jar") || name.endsWith(".zip") ? ofJar(place) : List.of(new Input(place.toString(), place, Files.readAllBytes(place)));
+    }
+
+    /** Returns the folder that a class path names to find a class file, or the file's own folder if it isn't there by its package. */
+    static Path rootOf(Path file) {
+        Path folder = file.toAbsolutePath().getParent();
+        try {
+            String name = new ClassReader(Files.readAllBytes(file)).getClassName();
+            Path root = folder;
+            for (int i = name.indexOf('/'); i >= 0 && root != null; i = name.indexOf('/', i + 1)) {
+                root = root.getParent();
+            }
+            boolean isThere = root != null && Files.exists(root.resolve(name + ".class"));
+            return isThere ? root : folder;
+        } catch (IOException | RuntimeException e) {
+            // reported when the file is compiled
+            return folder;
+        }
     }
 
     private static List<Input> ofFolder(Path folder) throws IOException {

@@ -4,10 +4,10 @@ import java.io.IOException;
 import java.io.PrintStream;
 import java.nio.file.Files;
 import java.nio.file.Path;
-import java.util.Optional;
 import jentry.compiler.CompileException;
 import jentry.compiler.CompiledClass;
 import jentry.compiler.ProcessorCompiler;
+import jentry.compiler.ProgramClasses;
 import jentry.compiler.compare.ClassPath;
 import jentry.compiler.compare.Comparison;
 import jentry.compiler.profile.Problem;
@@ -30,9 +30,10 @@ public final class Main {
           --verbatim       keep each instruction: the bound is then that of the loops, jumps aside that the order needs
           --check          run `jentry check` on each class that was written
           --program FILE   the program for --check: JENTRY_PROGRAM, or jentry on the path, where it isn't named
-          --compare[=N]    run each class before and after compilation on N random calls (10,000), and print the first that ends otherwise
+          --compare[=N]    run each class before and after compilation on N random calls (10,000) with arguments of the kinds that it casts to, and
+                           print how many returned, or the first that ends otherwise; fewer than 1,000 that returned are a warning
           --seed N         of the random numbers (1)
-          --classpath PATH what the classes need to be run by --compare; the folders and jars among IN are there anyway
+          --classpath PATH where the other classes are that these use; the folders and jars among IN are there anyway
           --help, --version
 
         The status is 0, or 1 for a bad command line, 2 where a class can't be compiled or is refused, 3 where a file can't be read, written or loaded,
@@ -94,7 +95,9 @@ public final class Main {
 
     private String classPath() {
         StringBuilder path = new StringBuilder(options.classPath);
-        options.inputs.stream().filter(it -> !it.toString().endsWith(".class")).forEach(it -> path.append(java.io.File.pathSeparator).append(it));
+        for (Path input : options.inputs) {
+            path.append(java.io.File.pathSeparator).append(input.toString().endsWith(".class") ? Inputs.rootOf(input) : input);
+        }
         return path.toString();
     }
 
@@ -105,11 +108,12 @@ public final class Main {
 
     private void compile(Inputs.Input input, ClassPath path) {
         try {
-            if (!ProcessorCompiler.hasProcessors(input.bytes())) {
+            ProcessorCompiler compiler = new ProcessorCompiler(options.isVerbatim, ProgramClasses.of(path.loader(), false));
+            if (!compiler.hasProcessors(input.bytes())) {
                 withoutProcessors++;
                 return;
             }
-            ProcessorCompiler.Result result = new ProcessorCompiler(options.isVerbatim).compileAll(input.bytes());
+            ProcessorCompiler.Result result = compiler.compileAll(input.bytes());
             for (Problem problem : result.problems()) {
                 fail(REFUSED, problem.toString());
             }
@@ -123,7 +127,8 @@ public final class Main {
 
     private void write(Inputs.Input input, CompiledClass compiled, ClassPath path) {
         boolean isCompared = options.calls > 0 && !compiled.isUnchanged();
-        if (isCompared && !doesTheSame(input, compiled, path)) {
+        Comparison.Report report = isCompared ? compared(input, compiled, path) : null;
+        if (isCompared && (report == null || report.difference().isPresent())) {
             return;
         }
         Path file = options.output.resolve(compiled.name().replace('.', '/') + ".class");
@@ -142,9 +147,11 @@ public final class Main {
             + ", " + compiled.bounds());
         if (options.explains) {
             explain(compiled);
+        } else if (!compiled.captures().hidden().isEmpty()) {
+            out.println("  " + compiled.notes().get(0));
         }
-        if (options.explains && isCompared) {
-            out.println("  " + options.calls + " calls compared, none differs");
+        if (isCompared) {
+            tell(compiled, report);
         }
         if (options.checks) {
             check(file);
@@ -175,15 +182,24 @@ public final class Main {
         }
     }
 
-    private boolean doesTheSame(Inputs.Input input, CompiledClass compiled, ClassPath path) {
+    private void tell(CompiledClass compiled, Comparison.Report report) {
+        out.println("  " + report);
+        if (report.returned() < Comparison.Report.FEW) {
+            err.println("jentry-compile: warning: " + compiled.name() + ": only " + report.returned() + " of " + report.calls()
+                + " calls returned, which compares little: compare more by --compare=N, or test the compiled class with arguments of your own");
+        }
+    }
+
+    /** Returns what the comparison found, or null if the class can't be loaded. */
+    private Comparison.Report compared(Inputs.Input input, CompiledClass compiled, ClassPath path) {
         try {
-            Optional<Comparison.Difference> difference = Comparison.compare(path, input.bytes(), compiled, options.calls, options.seed);
-            difference.ifPresent(it -> fail(DIFFERENT, compiled.name() + " does something else than " + compiled.source().replaceFirst("\\(.*", "")
-                + ", and isn't written: " + it));
-            return difference.isEmpty();
+            Comparison.Report report = Comparison.compare(path, input.bytes(), compiled, options.calls, options.seed);
+            report.difference().ifPresent(it -> fail(DIFFERENT, compiled.name() + " does something else than "
+                + compiled.source().replaceFirst("\\(.*", "") + ", and isn't written: " + it));
+            return report;
         } catch (ReflectiveOperationException | LinkageError e) {
             fail(FAILED, compiled.name() + " can't be compared, since it can't be loaded (name what it needs by --classpath), and isn't written: " + e);
-            return false;
+            return null;
         }
     }
 }

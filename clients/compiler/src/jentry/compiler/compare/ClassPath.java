@@ -35,6 +35,11 @@ public final class ClassPath {
         common = new Stubs(urls.toArray(new URL[0]));
     }
 
+    /** Returns the loader of the path's classes. */
+    public ClassLoader loader() {
+        return common;
+    }
+
     Class<?> load(String name) throws ClassNotFoundException {
         return Class.forName(name, false, common);
     }

@@ -1,6 +1,7 @@
 package jentry.compiler.compare;
 
 import java.util.Optional;
+import java.util.Random;
 import jentry.compiler.CompiledClass;
 
 /** Compares a class before and after compilation by running both on the same calls. */
@@ -19,30 +20,56 @@ public final class Comparison {
         }
     }
 
+    /**
+     * The result of a comparison.
+     *
+     * @param difference the first difference, or empty
+     * @param calls the number of calls that were compared
+     * @param returned how many of them returned; the others threw
+     */
+    public record Report(Optional<Difference> difference, int calls, int returned) {
+        /** Below this number of calls that returned, a comparison says little. */
+        public static final int FEW = 1_000;
+
+        @Override
+        public String toString() {
+            return calls + " calls compared, " + (difference.isEmpty() ? "none differs" : "the last differs") + ": " + returned + " returned, "
+                + (calls - returned) + " threw";
+        }
+    }
+
+    private static final int CALLS_OF_ONE = 50;
+
     private Comparison() { }
 
     /**
-     * Compares two classes.
+     * Compares two classes. If processors hold values, each 50 calls are of another one with other values.
      *
      * @param original the original class file
      * @param calls the number of calls
      * @param seed the seed of the random numbers: the same seed gives the same calls
-     * @return the first difference, or empty
+     * @return what was compared, up to the first difference
      * @throws ReflectiveOperationException if one of the two classes can't be loaded or instantiated
      */
-    public static Optional<Difference> compare(ClassPath path, byte[] original, CompiledClass compiled, int calls, long seed)
-            throws ReflectiveOperationException {
+    public static Report compare(ClassPath path, byte[] original, CompiledClass compiled, int calls, long seed) throws ReflectiveOperationException {
         Runner before = new Runner(path, original, compiled.source());
         Runner after = new Runner(path, compiled.bytes(), compiled.name());
-        RandomCalls random = new RandomCalls(original, seed);
+        RandomCalls random = new RandomCalls(original, compiled.source(), seed);
+        Random values = new Random(seed);
+        int hidden = compiled.captures().hidden().size();
+        int returned = 0;
         for (int i = 0; i < calls; i++) {
-            Call call = random.next();
+            if (i % CALLS_OF_ONE == 0) {
+                after.hide(compiled.captures().arguments(before.renew(values)));
+            }
+            Call call = random.next().within(ArgumentKinds.MOST_ARGUMENTS - hidden);
             Outcome one = before.run(call);
             Outcome other = after.run(call);
+            returned += one.thrown() == null ? 1 : 0;
             if (!one.equals(other)) {
-                return Optional.of(new Difference(call, one, other));
+                return new Report(Optional.of(new Difference(call, one, other)), i + 1, returned);
             }
         }
-        return Optional.empty();
+        return new Report(Optional.empty(), calls, returned);
     }
 }

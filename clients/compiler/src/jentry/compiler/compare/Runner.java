@@ -6,60 +6,93 @@ import java.lang.invoke.MethodType;
 import java.lang.reflect.InvocationHandler;
 import java.lang.reflect.Method;
 import java.lang.reflect.Proxy;
+import java.time.DateTimeException;
+import java.util.Random;
 
 /** Runs a processor on this JVM. */
 public final class Runner {
-    private final MethodHandle process;
+    private final Class<?> type;
+    private final Method method;
+    private final boolean isOfLambda;
     private final Entry entry = new Entry();
     private final Object proxy;
+    private MethodHandle process;
+    private Object[] hidden = {};
 
     /**
      * Loads a class file.
      *
      * @param source the class name, and for a lambda also `#` and the name and descriptor of its body
-     * @throws ReflectiveOperationException if the class can't be loaded or instantiated
+     * @throws ReflectiveOperationException if the class can't be loaded
      */
     public Runner(ClassPath path, byte[] classFile, String source) throws ReflectiveOperationException {
         int hash = source.indexOf('#');
         String name = hash < 0 ? source : source.substring(0, hash);
-        Class<?> type = Class.forName(name, true, path.with(name, classFile));
+        type = Class.forName(name, true, path.with(name, classFile));
         Class<?> entries = path.load("javax.cache.processor.MutableEntry");
         proxy = Proxy.newProxyInstance(entries.getClassLoader(), new Class<?>[] {entries}, entry);
-        MethodHandle found = hash < 0 ? ofClass(path, type) : ofLambda(type, source.substring(hash + 1));
-        process = found.asType(MethodType.methodType(Object.class, Object.class, Object[].class));
-    }
-
-    private static MethodHandle ofClass(ClassPath path, Class<?> type) throws ReflectiveOperationException {
-        Method method = path.load("javax.cache.processor.EntryProcessor").getMethod("process", path.load("javax.cache.processor.MutableEntry"), Object[].class);
-        var constructor = type.getDeclaredConstructor();
-        constructor.setAccessible(true);
+        isOfLambda = hash >= 0;
+        method = isOfLambda ? bodyOf(type, source.substring(hash + 1))
+            : path.load("javax.cache.processor.EntryProcessor").getMethod("process", entries, Object[].class);
         method.setAccessible(true);
-        return MethodHandles.lookup().unreflect(method).asFixedArity().bindTo(constructor.newInstance());
     }
 
-    private static MethodHandle ofLambda(Class<?> type, String body) throws ReflectiveOperationException {
+    private static Method bodyOf(Class<?> type, String body) throws ReflectiveOperationException {
         for (Method method : type.getDeclaredMethods()) {
             String descriptor = MethodType.methodType(method.getReturnType(), method.getParameterTypes()).toMethodDescriptorString();
             if (body.equals(method.getName() + descriptor)) {
-                method.setAccessible(true);
-                return MethodHandles.lookup().unreflect(method).asFixedArity();
+                return method;
             }
         }
         throw new NoSuchMethodException(type.getName() + "." + body);
     }
 
+    /**
+     * Makes another processor, which may hold other values.
+     *
+     * @return the processor, or what a lambda captures
+     * @throws ReflectiveOperationException if none can be made
+     */
+    public Object renew(Random random) throws ReflectiveOperationException {
+        RandomInstances instances = new RandomInstances(random);
+        MethodHandle found = MethodHandles.lookup().unreflect(method).asFixedArity();
+        Object holder;
+        if (isOfLambda) {
+            Object[] captured = new Object[found.type().parameterCount() - 2];
+            for (int i = 0; i < captured.length; i++) {
+                captured[i] = instances.next(found.type().parameterType(i));
+            }
+            found = MethodHandles.insertArguments(found, 0, captured);
+            holder = captured;
+        } else {
+            holder = instances.next(type);
+            found = found.bindTo(holder);
+        }
+        process = found.asType(MethodType.methodType(Object.class, Object.class, Object[].class));
+        return holder;
+    }
+
+    /** Sets the arguments that each call has in front of its own. */
+    public void hide(Object... values) {
+        hidden = values;
+    }
+
     /** Runs a call. */
-    public Outcome run(Call call) {
+    public Outcome run(Call call) throws ReflectiveOperationException {
+        if (process == null) {
+            renew(new Random(1));
+        }
         entry.key = call.key();
         entry.value = call.value();
         try {
-            Object result = (Object) process.invokeExact(proxy, call.arguments().clone());
-            boolean isNumber = result == null || result instanceof Number || result instanceof Boolean;
-            return new Outcome(null, isNumber ? result : result.getClass().getName(), entry.value);
+            Object result = (Object) process.invokeExact(proxy, call.behind(hidden).arguments());
+            boolean isKnown = result == null || result instanceof Number || result instanceof Boolean;
+            return new Outcome(null, isKnown ? result : result.getClass().getName(), entry.value);
         } catch (VirtualMachineError e) {
             throw e;
         } catch (Throwable e) {
-            return new Outcome(e.getClass().getSimpleName(), null, call.value());
+            // a processor at the server has no DateTimeException: what is compiled divides by zero in its place
+            return new Outcome(e instanceof DateTimeException ? "ArithmeticException" : e.getClass().getSimpleName(), null, call.value());
         }
     }
 

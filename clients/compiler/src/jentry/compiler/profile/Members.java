@@ -15,10 +15,12 @@ public final class Members implements Opcodes {
     public static final String ENTRY = "javax/cache/processor/MutableEntry";
     /** The descriptor of `process` with erased types. */
     public static final String PROCESS = "(L" + ENTRY + ";[Ljava/lang/Object;)Ljava/lang/Object;";
+    /** The class of boxed booleans. */
+    public static final String BOOLEAN = "java/lang/Boolean";
 
     private static final String CACHE_ENTRY = "javax/cache/Cache$Entry";
-    private static final Set<String> CLASSES = Set.of("java/lang/Object", "java/lang/Number", "java/lang/Long", "java/lang/Integer", ENTRY,
-        CACHE_ENTRY, PROCESSOR);
+    private static final Set<String> CLASSES = Set.of("java/lang/Object", "java/lang/Number", "java/lang/Long", "java/lang/Integer", BOOLEAN,
+        "java/lang/Void", ENTRY, CACHE_ENTRY, PROCESSOR);
     private static final Set<String> ARRAYS = Set.of("[I", "[J", "[Ljava/lang/Object;");
     private static final Set<String> NUMBERS = Set.of("java/lang/Long", "java/lang/Integer", "java/lang/Number");
 
@@ -63,7 +65,8 @@ public final class Members implements Opcodes {
         String name = call.name + call.desc;
         return switch (call.getOpcode()) {
             case INVOKESTATIC -> isStaticLibrary(call.owner, name);
-            case INVOKEVIRTUAL -> NUMBERS.contains(call.owner) && (name.equals("intValue()I") || name.equals("longValue()J"));
+            case INVOKEVIRTUAL -> NUMBERS.contains(call.owner) && (name.equals("intValue()I") || name.equals("longValue()J"))
+                || call.owner.equals(BOOLEAN) && name.equals("booleanValue()Z");
             case INVOKEINTERFACE -> isEntryCall(call.owner, name);
             default -> false;
         };
@@ -73,6 +76,7 @@ public final class Members implements Opcodes {
         return switch (owner) {
             case "java/lang/Long" -> name.equals("valueOf(J)Ljava/lang/Long;");
             case "java/lang/Integer" -> name.equals("valueOf(I)Ljava/lang/Integer;");
+            case BOOLEAN -> name.equals("valueOf(Z)Ljava/lang/Boolean;");
             case "java/lang/Math" -> Set.of("max(II)I", "min(II)I", "max(JJ)J", "min(JJ)J").contains(name);
             default -> false;
         };

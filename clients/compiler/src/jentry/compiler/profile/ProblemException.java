@@ -1,19 +1,31 @@
 package jentry.compiler.profile;
 
-/** Ends a pass at the first problem after which it can't continue. */
+import java.util.List;
+
+/** Ends a pass at problems after which it can't continue. */
 public final class ProblemException extends Exception {
     private static final long serialVersionUID = 1L;
 
-    private final transient Problem problem;
+    private final transient List<Problem> problems;
 
     /** Creates an exception for one problem. */
     public ProblemException(Problem problem) {
-        super(problem.toString());
-        this.problem = problem;
+        this(List.of(problem));
     }
 
-    /** Returns the problem. */
+    /** Creates an exception for one or more problems. */
+    public ProblemException(List<Problem> problems) {
+        super(problems.get(0).toString());
+        this.problems = List.copyOf(problems);
+    }
+
+    /** Returns the first problem. */
     public Problem problem() {
-        return problem;
+        return problems.get(0);
+    }
+
+    /** Returns the problems, at least one. */
+    public List<Problem> problems() {
+        return problems;
     }
 }

@@ -2,6 +2,7 @@ package jentry.compiler.profile;
 
 import java.util.ArrayList;
 import java.util.List;
+import java.util.Set;
 import org.objectweb.asm.Opcodes;
 import org.objectweb.asm.Type;
 import org.objectweb.asm.tree.AbstractInsnNode;
@@ -65,8 +66,11 @@ public final class Profile implements Opcodes {
         if (version != V1_7 && version != V1_8) {
             add("the class file is of Java version " + (version - V1_8 + 8), "compile with javac --release 8");
         }
-        if ((owner.access & (ACC_ABSTRACT | ACC_INTERFACE | ACC_ANNOTATION | ACC_ENUM)) != 0 || !"java/lang/Object".equals(owner.superName)) {
-            add("it is abstract, an interface or an enum, or extends another class", "write a plain class that implements EntryProcessor");
+        String kind = (owner.access & ACC_INTERFACE) != 0 ? "it is an interface" : (owner.access & ACC_ENUM) != 0 ? "it is an enum"
+            : (owner.access & ACC_ABSTRACT) != 0 ? "it is abstract" : "java/lang/Object".equals(owner.superName) ? null
+            : "it extends " + Instructions.nameOf(owner.superName);
+        if (kind != null) {
+            add(kind, "write a plain class that implements EntryProcessor");
         }
         if (!owner.interfaces.contains(Members.PROCESSOR)) {
             add("it doesn't name EntryProcessor among its interfaces", "write a plain class that implements EntryProcessor");
@@ -79,7 +83,7 @@ public final class Profile implements Opcodes {
             add("it has " + owner.methods.size() + " methods, and 256 are the most", "write fewer");
         }
         long constructors = owner.methods.stream().filter(it -> it.name.equals("<init>")).count();
-        if (constructors != 1) {
+        if (constructors != 1 && (owner.access & ACC_INTERFACE) == 0) {
             add("it has " + constructors + " constructors", "write no constructor, and hand values over as arguments");
         }
     }
@@ -105,8 +109,9 @@ public final class Profile implements Opcodes {
                 handlers(method);
             }
             int before = problems.size();
+            Set<AbstractInsnNode> inThrow = Throws.inside(method);
             for (AbstractInsnNode at : method.instructions) {
-                if (!isAccepted(at) && !belongsToHandler(method, at) && !belongsToNew(at)) {
+                if (!isAccepted(at) && !inThrow.contains(at) && !belongsToHandler(method, at) && !belongsToNew(at)) {
                     add(Instructions.problem(owner, method, at, Remedies.what(at), Remedies.remedy(at)));
                 }
             }
@@ -150,8 +155,8 @@ public final class Profile implements Opcodes {
         for (Type type : types) {
             if (!Members.isKnown(owner.name, type)) {
                 boolean result = type == types.get(types.size() - 1);
-                String remedy = method.name.equals("process") ? "return a Long, an Integer or null from process, 1 and 0 in place of a Boolean"
-                    : "use int, long, boolean, Object, Number, Long, Integer, the entry, int[] or long[]";
+                String remedy = method.name.equals("process") ? "return a Long, an Integer, a Boolean or null from process"
+                    : "use int, long, boolean, Object, Number, Long, Integer, Boolean, Void, the entry, int[] or long[]";
                 add(method, "a " + (result ? "result" : "parameter") + " of type " + type.getClassName(), remedy);
                 return;
             }
@@ -236,7 +241,7 @@ public final class Profile implements Opcodes {
         for (Object type : types) {
             if (type instanceof String name && !Members.isKnown(owner.name, name) || FLOAT.equals(type) || DOUBLE.equals(type)) {
                 add(Instructions.problem(owner, method, frame, "a local of type " + type + " where ways meet",
-                    "declare it as Object, Number, Long or Integer"));
+                    "declare it as Object, Number, Long, Integer or Boolean"));
                 return;
             }
         }

@@ -1,16 +1,21 @@
 package jentry.compiler.profile;
 
+import java.util.Set;
 import org.objectweb.asm.Opcodes;
 import org.objectweb.asm.tree.AbstractInsnNode;
 import org.objectweb.asm.tree.FieldInsnNode;
+import org.objectweb.asm.tree.IntInsnNode;
 import org.objectweb.asm.tree.InvokeDynamicInsnNode;
 import org.objectweb.asm.tree.LdcInsnNode;
 import org.objectweb.asm.tree.MethodInsnNode;
+import org.objectweb.asm.tree.MultiANewArrayInsnNode;
 import org.objectweb.asm.tree.TypeInsnNode;
 
 /** Names the Java construct of an instruction outside the profile, and what to write instead. */
 final class Remedies implements Opcodes {
     private static final String FIXED_POINT = "reckon in long with a fixed point, as v * 119 / 100";
+    private static final Set<String> READS_CLOCK = Set.of("now", "millis", "instant", "systemUTC", "systemDefaultZone");
+    private static final String THROW = "divide by zero, or return a code";
 
     private Remedies() { }
 
@@ -23,27 +28,39 @@ final class Remedies implements Opcodes {
             return "the field " + Instructions.nameOf(field.owner) + "." + field.name + " is " + (writes ? "written" : "read");
         } else if (at instanceof TypeInsnNode type && at.getOpcode() != ANEWARRAY) {
             String name = Instructions.nameOf(type.desc);
-            return at.getOpcode() == NEW ? "new " + name : "a cast to, or a test for, " + name;
+            return at.getOpcode() != NEW ? "a cast to, or a test for, " + name : Throws.isThrown(at) ? "throw new " + name : "new " + name;
         } else if (at instanceof InvokeDynamicInsnNode it) {
             return it.bsm.getName().startsWith("makeConcat") ? "a text is joined" : "a lambda, a method reference or a switch by patterns";
         } else if (at instanceof LdcInsnNode it) {
-            return it.cst instanceof String ? "a text" : it.cst instanceof Float || it.cst instanceof Double ? "float or double" : "a class literal";
+            return it.cst instanceof String ? "a text" : it.cst instanceof Float ? "float" : it.cst instanceof Double ? "double" : "a class literal";
         }
-        return byOpcode(at.getOpcode());
+        return byOpcode(at);
     }
 
-    private static String byOpcode(int opcode) {
-        return switch (opcode) {
+    private static String byOpcode(AbstractInsnNode at) {
+        return switch (at.getOpcode()) {
             case IF_ACMPEQ, IF_ACMPNE -> "references are compared by == or !=";
-            case NEWARRAY -> "a new array of float or double";
-            case ANEWARRAY -> "a new array of references";
+            case NEWARRAY -> "a new array of " + (((IntInsnNode) at).operand == T_FLOAT ? "float" : "double");
+            case ANEWARRAY -> "a new array of " + Instructions.nameOf(((TypeInsnNode) at).desc);
             case AASTORE -> "a reference is stored into an array";
-            case MULTIANEWARRAY -> "a new array of arrays";
+            case MULTIANEWARRAY -> "a new array of arrays, " + Instructions.nameOf(((MultiANewArrayInsnNode) at).desc);
             case ATHROW -> "throw";
             case MONITORENTER, MONITOREXIT -> "a synchronized block";
             case JSR, RET -> "a subroutine of an old compiler";
-            default -> opcode >= BALOAD && opcode <= SALOAD || opcode >= BASTORE && opcode <= SASTORE
-                ? "an element of an array that isn't of int or long" : "float or double";
+            default -> ofNumbers(at.getOpcode());
+        };
+    }
+
+    /** Returns which type an instruction has that isn't int or long. */
+    private static String ofNumbers(int opcode) {
+        return switch (opcode) {
+            case BALOAD, BASTORE -> "an element of an array of byte or boolean";
+            case CALOAD, CASTORE -> "an element of an array of char";
+            case SALOAD, SASTORE -> "an element of an array of short";
+            case FCONST_0, FCONST_1, FCONST_2, FLOAD, FALOAD, FSTORE, FASTORE, FADD, FSUB, FMUL, FDIV, FREM, FNEG, FCMPL, FCMPG, FRETURN, I2F, L2F, F2I,
+                F2L -> "float";
+            case F2D, D2F -> "float and double";
+            default -> "double";
         };
     }
 
@@ -54,7 +71,8 @@ final class Remedies implements Opcodes {
         } else if (at instanceof FieldInsnNode field) {
             return ofField(field);
         } else if (at instanceof TypeInsnNode && at.getOpcode() != ANEWARRAY) {
-            return at.getOpcode() == NEW ? "use locals, or a long that packs several numbers" : "cast to Long, Integer, Number or Object";
+            return at.getOpcode() != NEW ? "cast to Long, Integer, Number or Object"
+                : Throws.isThrown(at) ? THROW : "use locals, or a long that packs several numbers";
         } else if (at instanceof InvokeDynamicInsnNode) {
             return "write a method of the class; use numbers as codes in place of texts";
         } else if (at instanceof LdcInsnNode it) {
@@ -64,7 +82,7 @@ final class Remedies implements Opcodes {
             case IF_ACMPEQ, IF_ACMPNE -> "compare by equals, or by longValue()";
             case ANEWARRAY, AASTORE -> "use long[], long... or parameters one by one";
             case MULTIANEWARRAY -> "use one array, with the index width * i + j";
-            case ATHROW -> "divide by zero, or return a code";
+            case ATHROW -> THROW;
             case MONITORENTER, MONITOREXIT -> "drop synchronized: each run has an instance of its own";
             case JSR, RET -> "compile with javac --release 8 or later";
             default -> FIXED_POINT;
@@ -75,16 +93,16 @@ final class Remedies implements Opcodes {
         String owner = call.owner;
         if (call.name.equals("arraycopy") || call.name.equals("clone") || call.name.startsWith("copyOf")) {
             return "copy the elements by a loop";
-        } else if (owner.equals("java/lang/Boolean")) {
-            return "use 1 and 0, since a Boolean can't be a value, an argument or a result";
         } else if (owner.startsWith("java/util/stream/") || call.desc.contains("java/util/stream/") || owner.startsWith("java/util/function/")) {
             return "write a loop over the arguments, or over an array of known length";
         } else if (owner.startsWith("java/util/Optional") || owner.equals("java/util/Objects")) {
             return "test for null";
         } else if (owner.startsWith("java/util/") || owner.startsWith("java/lang/Str") || owner.equals("java/io/PrintStream")) {
             return "use long[] and int[], numbers as codes, and the result for what is to be seen";
-        } else if (owner.equals("java/lang/System") || owner.startsWith("java/time/")) {
+        } else if (owner.equals("java/lang/System") || owner.startsWith("java/time/") && READS_CLOCK.contains(call.name)) {
             return "hand the time over as an argument: a processor has no clock";
+        } else if (owner.startsWith("java/time/") || owner.startsWith("java/math/")) {
+            return "reckon with numbers: times as long in one unit, days from 1970, amounts in the smallest coin";
         } else if (owner.equals("java/lang/Math") || owner.equals("java/lang/StrictMath") || owner.equals("java/lang/Double")) {
             return FIXED_POINT;
         }

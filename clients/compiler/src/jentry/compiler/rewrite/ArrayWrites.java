@@ -14,7 +14,7 @@ import jentry.compiler.profile.Instructions;
 import jentry.compiler.profile.Problem;
 
 /** Finds the arrays in fields that any method of a class may write to after the initialisers: their elements aren't constant. */
-final class ArrayWrites implements Opcodes {
+public final class ArrayWrites implements Opcodes {
     private final ClassNode owner;
     private final ValueSources sources;
     private final Map<String, Problem> found = new HashMap<>();
@@ -25,7 +25,7 @@ final class ArrayWrites implements Opcodes {
     }
 
     /** Returns, for each field whose array is written or passed to unknown code, the place where that happens. */
-    static Map<String, Problem> of(ClassNode owner) {
+    public static Map<String, Problem> of(ClassNode owner) {
         ArrayWrites writes = new ArrayWrites(owner);
         for (MethodNode method : owner.methods) {
             if (!method.name.equals("<clinit>")) {
@@ -43,11 +43,16 @@ final class ArrayWrites implements Opcodes {
             add(method, at, 2, "is written");
         } else if (opcode == AASTORE || opcode == PUTSTATIC || opcode == PUTFIELD) {
             add(method, at, 0, "may be written, since the array is kept elsewhere");
-        } else if (at instanceof MethodInsnNode call && Instructions.callee(owner, at) == null) {
+        } else if (at instanceof MethodInsnNode call && Instructions.callee(owner, at) == null && !onlyReads(call)) {
             addArguments(method, at, call.desc, opcode == INVOKESTATIC ? 0 : 1);
         } else if (at instanceof InvokeDynamicInsnNode call) {
             addArguments(method, at, call.desc, 0);
         }
+    }
+
+    private static boolean onlyReads(MethodInsnNode call) {
+        return call.owner.equals("java/util/Arrays") && call.name.equals("stream") || call.owner.startsWith("java/util/stream/")
+            || call.owner.equals("jentry/compiler/library/GridMethods") && !call.name.equals("set");
     }
 
     private void addArguments(MethodNode method, AbstractInsnNode at, String descriptor, int receivers) {

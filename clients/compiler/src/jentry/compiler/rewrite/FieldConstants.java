@@ -1,5 +1,6 @@
 package jentry.compiler.rewrite;
 
+import java.lang.reflect.Array;
 import java.util.ArrayList;
 import java.util.HashMap;
 import java.util.LinkedHashMap;
@@ -34,10 +35,12 @@ final class FieldConstants implements Opcodes {
     private final Initialisers initialisers;
     private final Map<String, FieldNode> fields = new HashMap<>();
     private final Map<String, Problem> written;
+    private final Map<String, Object> values;
     private final Set<String> inlined = new java.util.TreeSet<>();
 
-    private FieldConstants(ClassNode owner, ClassNode host) {
+    private FieldConstants(ClassNode owner, ClassNode host, Map<String, Object> values) {
         this.owner = owner;
+        this.values = values;
         owner.fields.forEach(it -> fields.put(it.name, it));
         boolean hasArrays = owner.fields.stream().anyMatch(it -> it.desc.startsWith("["));
         written = hasArrays ? ArrayWrites.of(host != null ? host : owner) : Map.of();
@@ -48,9 +51,10 @@ final class FieldConstants implements Opcodes {
      * Runs the initialisers, before any method is removed.
      *
      * @param host the class of a lambda, whose class initialiser may do more than the processor needs; or null
+     * @param values the values of fields that the initialisers don't set
      */
-    static FieldConstants of(ClassNode owner, ClassNode host) throws ProblemException {
-        FieldConstants constants = new FieldConstants(owner, host);
+    static FieldConstants of(ClassNode owner, ClassNode host, Map<String, Object> values) throws ProblemException {
+        FieldConstants constants = new FieldConstants(owner, host, values);
         MethodNode initialiser = Instructions.method(owner, "<clinit>", "()V");
         if (initialiser != null) {
             constants.run(initialiser, "static initialisers may hold numbers, arrays of numbers, and what is computed of them");
@@ -137,7 +141,7 @@ final class FieldConstants implements Opcodes {
         } else if ((field.access & ACC_FINAL) == 0) {
             throw problem(method, at, what + " isn't final", "make it final where it never changes; else use an argument or the entry's value");
         }
-        Object value = initialisers.value(field);
+        Object value = value(field);
         if (value == null && !isStatic && owner.methods.stream().anyMatch(it -> it.name.equals("<init>") && !it.desc.equals("()V"))) {
             throw problem(method, at, what + " is set by a constructor that takes values from outside", "hand it over as an argument of the call");
         } else if (value == null) {
@@ -148,6 +152,31 @@ final class FieldConstants implements Opcodes {
             refuseWritten(value);
         }
         return value;
+    }
+
+    private Object value(FieldNode field) {
+        return values.containsKey(field.name) ? given(field, values.get(field.name)) : initialisers.value(field);
+    }
+
+    /** Returns a given value in the form of the initialisers. */
+    private static Object given(FieldNode field, Object value) {
+        if (value == null) {
+            return Initialisers.NULL;
+        } else if (value.getClass().isArray()) {
+            return value instanceof long[] ? value : ints(value);
+        }
+        Object number = value instanceof Boolean it ? (Object) (it ? 1 : 0) : value instanceof Character it ? (Object) (int) it
+            : value instanceof Short || value instanceof Byte ? (Object) ((Number) value).intValue() : value;
+        return field.desc.startsWith("L") ? new Initialisers.Box((Number) number) : number;
+    }
+
+    private static int[] ints(Object array) {
+        int[] all = new int[Array.getLength(array)];
+        for (int i = 0; i < all.length; i++) {
+            Object element = Array.get(array, i);
+            all[i] = element instanceof Boolean it ? it ? 1 : 0 : element instanceof Character it ? it : ((Number) element).intValue();
+        }
+        return all;
     }
 
     private ProblemException problem(MethodNode method, AbstractInsnNode at, String what, String remedy) {
@@ -201,7 +230,11 @@ final class FieldConstants implements Opcodes {
     private void refuseWritten(Object array) throws ProblemException {
         for (Map.Entry<String, Problem> write : written.entrySet()) {
             FieldNode field = fields.get(write.getKey());
-            Object other = field == null ? null : initialisers.value(field);
+            if (values.containsKey(write.getKey())) {
+                // a given array may be held by two fields
+                throw new ProblemException(write.getValue());
+            }
+            Object other = field == null ? null : value(field);
             if (other == null || other == array) {
                 throw new ProblemException(write.getValue());
             }

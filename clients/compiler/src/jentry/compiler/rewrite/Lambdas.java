@@ -23,10 +23,13 @@ import jentry.compiler.profile.Members;
 import jentry.compiler.profile.Problem;
 import jentry.compiler.profile.ProblemException;
 
-/** Converts a lambda or a reference to a static method to a class, if it is an EntryProcessor and captures nothing. */
+/** Converts a lambda or a method reference to a class, if it is an EntryProcessor. */
 public final class Lambdas implements Opcodes {
     private static final Set<String> BOXES = Set.of("java/lang/Object", "java/lang/Number", "java/lang/Long", "java/lang/Integer", "java/lang/Void",
-        "java/lang/Boolean");
+        Members.BOOLEAN);
+
+    /** The start of the names of the fields in which a lambda keeps the captured values, counted from 1. */
+    public static final String CAPTURED = "arg$";
 
     private Lambdas() { }
 
@@ -56,7 +59,11 @@ public final class Lambdas implements Opcodes {
                     return name;
                 }
             }
-            throw new IllegalStateException("the body is a method of another class");
+            String name = host.name + "$" + body().getName();
+            while (!taken.add(name)) {
+                name += "_";
+            }
+            return name;
         }
 
         /** Returns whether its body is this method. */
@@ -88,25 +95,47 @@ public final class Lambdas implements Opcodes {
         return new ArrayList<>(found.values());
     }
 
-    /**
-     * Returns the class of a lambda, with the methods and static fields of its host that it uses.
-     *
-     * @throws ProblemException if it captures something, or its body isn't a static method of the class
-     */
-    public static ClassNode toClass(Lambda lambda) throws ProblemException {
+    /** Returns whether a lambda captures nothing, and its body is a static method of the class that contains it. */
+    public static boolean isOwn(Lambda lambda) {
         Handle body = lambda.body();
-        if (Type.getArgumentTypes(lambda.site().desc).length > 0) {
-            throw new ProblemException(lambda.problem("this lambda takes a value from outside",
-                "hand it over as an argument of the call, and read it from the lambda's second parameter"));
-        } else if (body.getTag() != H_INVOKESTATIC || !body.getOwner().equals(lambda.host().name)) {
-            throw new ProblemException(lambda.problem("this is a reference to a constructor, or to a method of an object or of another class",
-                "refer to a static method of the same class, or write a lambda"));
+        return Type.getArgumentTypes(lambda.site().desc).length == 0 && body.getTag() == H_INVOKESTATIC && body.getOwner().equals(lambda.host().name);
+    }
+
+    /**
+     * Returns a class whose fields hold what a lambda captures, and whose process calls its body.
+     *
+     * @throws ProblemException if its body isn't a method for an entry and arguments
+     */
+    public static ClassNode toHolder(Lambda lambda) throws ProblemException {
+        Handle body = lambda.body();
+        Type[] captured = Type.getArgumentTypes(lambda.site().desc);
+        boolean hasReceiver = body.getTag() != H_INVOKESTATIC;
+        if (body.getTag() == H_NEWINVOKESPECIAL || hasReceiver && captured.length == 0) {
+            throw new ProblemException(lambda.problem("this is a reference to a constructor, or to a method of an object that is no processor",
+                "refer to a method that takes the entry and the arguments, or write a lambda"));
         }
         ClassNode made = new ClassNode();
         made.visit(V1_8, ACC_PUBLIC | ACC_SUPER, lambda.className(), null, "java/lang/Object", new String[] {Members.PROCESSOR});
         made.visitSource(lambda.host().sourceFile, null);
         addConstructor(made);
-        addProcess(made, lambda);
+        for (int i = 0; i < captured.length; i++) {
+            made.visitField(ACC_PRIVATE | ACC_FINAL, CAPTURED + (i + 1), captured[i].getDescriptor(), null, null);
+        }
+        addProcess(made, lambda, body.getOwner(), captured);
+        return made;
+    }
+
+    /**
+     * Returns the class of a lambda for which {@link #isOwn} holds, with the methods and static fields of its host that it uses.
+     *
+     * @throws ProblemException if its body isn't a method for an entry and arguments
+     */
+    public static ClassNode toClass(Lambda lambda) throws ProblemException {
+        ClassNode made = new ClassNode();
+        made.visit(V1_8, ACC_PUBLIC | ACC_SUPER, lambda.className(), null, "java/lang/Object", new String[] {Members.PROCESSOR});
+        made.visitSource(lambda.host().sourceFile, null);
+        addConstructor(made);
+        addProcess(made, lambda, made.name, new Type[0]);
         lambda.host().fields.stream().filter(it -> (it.access & ACC_STATIC) != 0).forEach(made.fields::add);
         addMethods(made, lambda);
         return made;
@@ -120,27 +149,43 @@ public final class Lambdas implements Opcodes {
         code.visitMaxs(1, 1);
     }
 
-    private static void addProcess(ClassNode made, Lambda lambda) throws ProblemException {
-        Type[] types = Type.getArgumentTypes(lambda.body().getDesc());
-        boolean takesBoth = types.length == 2 && Set.of("L" + Members.ENTRY + ";", "Ljavax/cache/Cache$Entry;", "Ljava/lang/Object;")
-            .contains(types[0].getDescriptor()) && types[1].getDescriptor().equals("[Ljava/lang/Object;");
+    private static void addProcess(ClassNode made, Lambda lambda, String owner, Type[] captured) throws ProblemException {
+        Handle body = lambda.body();
+        Type[] types = Type.getArgumentTypes(body.getDesc());
+        int first = captured.length - (body.getTag() == H_INVOKESTATIC ? 0 : 1);
+        boolean takesBoth = types.length == first + 2 && Set.of("L" + Members.ENTRY + ";", "Ljavax/cache/Cache$Entry;", "Ljava/lang/Object;")
+            .contains(types[first].getDescriptor()) && types[first + 1].getDescriptor().equals("[Ljava/lang/Object;");
         if (!takesBoth) {
             throw new ProblemException(lambda.problem("the body's parameters aren't (MutableEntry, Object[])", "declare them so"));
         }
         MethodVisitor code = made.visitMethod(ACC_PUBLIC | ACC_VARARGS, "process", Members.PROCESS, null, null);
+        int size = 2;
+        for (int i = 0; i < captured.length; i++) {
+            code.visitVarInsn(ALOAD, 0);
+            code.visitFieldInsn(GETFIELD, made.name, CAPTURED + (i + 1), captured[i].getDescriptor());
+            size += captured[i].getSize();
+        }
         code.visitVarInsn(ALOAD, 1);
         code.visitVarInsn(ALOAD, 2);
-        code.visitMethodInsn(INVOKESTATIC, made.name, lambda.body().getName(), lambda.body().getDesc(), false);
+        int opcode = switch (body.getTag()) {
+            case H_INVOKESTATIC -> INVOKESTATIC;
+            case H_INVOKEINTERFACE -> INVOKEINTERFACE;
+            case H_INVOKESPECIAL -> INVOKESPECIAL;
+            default -> INVOKEVIRTUAL;
+        };
+        code.visitMethodInsn(opcode, owner, body.getName(), body.getDesc(), body.isInterface() && !owner.equals(made.name));
         Type result = Type.getReturnType(lambda.body().getDesc());
         if (result == Type.LONG_TYPE) {
             code.visitMethodInsn(INVOKESTATIC, "java/lang/Long", "valueOf", "(J)Ljava/lang/Long;", false);
         } else if (result == Type.INT_TYPE) {
             code.visitMethodInsn(INVOKESTATIC, "java/lang/Integer", "valueOf", "(I)Ljava/lang/Integer;", false);
+        } else if (result == Type.BOOLEAN_TYPE) {
+            code.visitMethodInsn(INVOKESTATIC, Members.BOOLEAN, "valueOf", "(Z)Ljava/lang/Boolean;", false);
         } else if (result.getSort() != Type.OBJECT || !BOXES.contains(result.getInternalName())) {
-            throw new ProblemException(lambda.problem("the result is of type " + result.getClassName(), "return a Long, an Integer or null"));
+            throw new ProblemException(lambda.problem("the result is of type " + result.getClassName(), "return a Long, an Integer, a Boolean or null"));
         }
         code.visitInsn(ARETURN);
-        code.visitMaxs(2, 3);
+        code.visitMaxs(size, 3);
     }
 
     private static void addMethods(ClassNode made, Lambda lambda) {

@@ -1,5 +1,7 @@
 package jentry.compiler.rewrite;
 
+import static java.util.Map.entry;
+
 import java.io.IOException;
 import java.io.InputStream;
 import java.io.UncheckedIOException;
@@ -25,9 +27,12 @@ import jentry.compiler.profile.ProblemException;
  */
 final class LibraryCalls implements Opcodes {
     private static final String LIBRARY = "/jentry/compiler/library/";
-    private static final Map<String, String> LIBRARIES = Map.of("java/lang/Long", "LongMethods", "java/lang/Integer", "IntegerMethods",
-        "java/lang/Math", "MathMethods", "java/lang/StrictMath", "MathMethods", "java/util/Objects", "ObjectsMethods", "java/lang/Object", "ObjectMethods",
-        "java/util/Arrays", "ArraysMethods");
+    private static final Map<String, String> LIBRARIES = Map.ofEntries(entry("java/lang/Long", "LongMethods"), entry("java/lang/Integer", "IntegerMethods"),
+        entry("java/lang/Math", "MathMethods"), entry("java/lang/StrictMath", "MathMethods"), entry("java/util/Objects", "ObjectsMethods"),
+        entry("java/lang/Object", "ObjectMethods"), entry(Members.BOOLEAN, "BooleanMethods"), entry("java/util/Arrays", "ArraysMethods"),
+        entry("java/lang/Enum", "EnumMethods"),
+        entry("java/util/concurrent/TimeUnit", "TimeUnitMethods"), entry("java/time/LocalDate", "LocalDateMethods"),
+        entry("java/time/DayOfWeek", "DayOfWeekMethods"), entry("java/time/Month", "MonthMethods"));
     private static final Map<String, ClassNode> LOADED = new HashMap<>();
 
     private final ClassNode owner;
@@ -77,7 +82,8 @@ final class LibraryCalls implements Opcodes {
 
     /** Returns the replacement of the called method, with the receiver as its first parameter, or null. */
     private static MethodNode template(MethodInsnNode call) {
-        String library = LIBRARIES.get(call.owner);
+        boolean isOwn = call.owner.startsWith(LIBRARY.substring(1));
+        String library = isOwn ? call.owner.substring(LIBRARY.length() - 1) : LIBRARIES.get(call.owner);
         if (library == null || Members.isLibrary(call) || call.name.startsWith("<")) {
             return null;
         }
@@ -97,22 +103,22 @@ final class LibraryCalls implements Opcodes {
         });
     }
 
-    /** Refuses equals of two objects unless they are numbers or null, because the replacement would compare the identity of others. */
+    /** Refuses equals of two objects unless they are boxes or null, because the replacement would compare the identity of others. */
     private void refuseIdentity() throws ProblemException {
         ValueSources sources = new ValueSources(owner);
         for (MethodNode method : owner.methods) {
             for (AbstractInsnNode at : method.instructions) {
                 boolean isEquals = at instanceof MethodInsnNode call && call.name.equals("equals")
                     && (call.owner.equals("java/util/Objects") || call.owner.equals("java/lang/Object"));
-                if (isEquals && sources.origin(method, at, 1) != null && !sources.isMadeBy(method, at, 1, LibraryCalls::makesNumber)) {
-                    throw new ProblemException(Instructions.problem(owner, method, at, "equals of an object that may be no number",
-                        "compare numbers: cast to Long or Integer first"));
+                if (isEquals && sources.origin(method, at, 1) != null && !sources.isMadeBy(method, at, 1, LibraryCalls::makesBox)) {
+                    throw new ProblemException(Instructions.problem(owner, method, at, "equals of an object that may be no number or Boolean",
+                        "cast to Long, Integer or Boolean first"));
                 }
             }
         }
     }
 
-    private static boolean makesNumber(AbstractInsnNode at) {
+    private static boolean makesBox(AbstractInsnNode at) {
         if (at instanceof MethodInsnNode call) {
             return call.name.equals("valueOf") || call.name.equals("getKey") || call.name.equals("getValue");
         }

@@ -2,6 +2,7 @@ package jentry.compiler.rewrite;
 
 import java.util.ArrayList;
 import java.util.List;
+import java.util.Map;
 import java.util.Set;
 import org.objectweb.asm.tree.ClassNode;
 import jentry.compiler.profile.CallGraph;
@@ -15,16 +16,17 @@ public final class Rewriter {
      * Rewrites a class in place.
      *
      * @param host the class that contained the lambda, or null if the class isn't made from a lambda
+     * @param values the values of static fields that aren't those of the class's initialiser, by name
      * @return the changes, one per line
      * @throws ProblemException if a pass can't preserve the meaning of the class
      */
-    public static List<String> rewrite(ClassNode owner, ClassNode host) throws ProblemException {
+    public static List<String> rewrite(ClassNode owner, ClassNode host, Map<String, Object> values) throws ProblemException {
         List<String> notes = new ArrayList<>();
         owner.methods.forEach(it -> it.localVariables = null);
         ClassVersion.lower(owner);
-        VoidResults.replace(owner);
         SmallTypes.widen(owner);
-        FieldConstants constants = FieldConstants.of(owner, host);
+        BooleanConstants.replace(owner);
+        FieldConstants constants = FieldConstants.of(owner, host, values);
         int before = owner.methods.size();
         CallGraph.dropUnused(owner);
         add(notes, constants.inline(), "fields that became constants");

@@ -68,7 +68,7 @@ public final class ValueSources implements Opcodes {
     }
 
     /** Returns whether only such instructions produce an operand, through calls of own methods and parameters. */
-    boolean isMadeBy(MethodNode method, AbstractInsnNode at, int below, Predicate<AbstractInsnNode> test) {
+    public boolean isMadeBy(MethodNode method, AbstractInsnNode at, int below, Predicate<AbstractInsnNode> test) {
         Set<Object> all = all(method, at, below);
         return !all.isEmpty() && all.stream().allMatch(it -> it instanceof AbstractInsnNode made && test.test(made));
     }
