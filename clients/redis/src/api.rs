@@ -1,10 +1,10 @@
 //! The part of the Redis module API that the module uses, with the names and C types of Redis 7.0.
 //!
 //! No header is needed: a module looks up each function by name, through the pointer at the start of the context of its load.
-use std::ffi::c_void;
+use std::ffi::{c_void, CStr};
 use std::mem::{size_of, transmute_copy};
 use std::os::raw::{c_char, c_int, c_long, c_longlong, c_ulonglong};
-use std::ptr::null_mut;
+use std::ptr::{null, null_mut};
 
 /// The context of a command or an event (`RedisModuleCtx`).
 pub enum Context {}
@@ -22,6 +22,8 @@ pub enum Type {}
 pub enum CommandObject {}
 /// The reply to INFO that is being built.
 pub enum InfoContext {}
+/// A section of INFO that the module reads.
+pub enum ServerInfo {}
 
 pub const OK: c_int = 0;
 pub const ERR: c_int = 1;
@@ -29,6 +31,8 @@ pub const API_VERSION: c_int = 1;
 /// Calls `aux_save` before the keys are saved.
 pub const BEFORE_RDB: c_int = 1;
 pub const HANDLE_IO_ERRORS: c_int = 1;
+/// Closing a key that was opened for writing doesn't signal a change of it.
+pub const NO_IMPLICIT_SIGNALS: c_int = 1 << 1;
 pub const CONFIG_DEFAULT: u32 = 0;
 
 /// Bits of `GetContextFlags`.
@@ -36,6 +40,7 @@ pub const IS_MASTER: c_int = 1 << 2;
 pub const IS_CLUSTER: c_int = 1 << 5;
 pub const IS_REPLICATED: c_int = 1 << 12;
 pub const IS_LOADING: c_int = 1 << 13;
+pub const IS_ASYNC_LOADING: c_int = 1 << 23;
 
 /// The types of a reply.
 pub const REPLY_TEXT: c_int = 0;
@@ -49,6 +54,21 @@ pub type Informer = unsafe extern "C" fn(*mut InfoContext, c_int);
 pub type GetNumber = unsafe extern "C" fn(*const c_char, *mut c_void) -> c_longlong;
 pub type SetNumber =
     unsafe extern "C" fn(*const c_char, c_longlong, *mut c_void, *mut *mut Text) -> c_int;
+
+pub type GetBool = unsafe extern "C" fn(*const c_char, *mut c_void) -> c_int;
+pub type SetBool = unsafe extern "C" fn(*const c_char, c_int, *mut c_void, *mut *mut Text) -> c_int;
+pub type GetText = unsafe extern "C" fn(*const c_char, *mut c_void) -> *mut Text;
+pub type SetText =
+    unsafe extern "C" fn(*const c_char, *mut Text, *mut c_void, *mut *mut Text) -> c_int;
+/// A server event, and the version of its data.
+#[repr(C)]
+#[derive(Clone, Copy)]
+pub struct Event {
+    pub number: u64,
+    pub version: u64,
+}
+
+pub type Subscriber = unsafe extern "C" fn(*mut Context, Event, u64, *mut c_void);
 
 /// The methods of a data type. These are the members of version 2; later versions begin with them.
 #[repr(C)]
@@ -104,6 +124,52 @@ impl KeySpec {
 
 const _: [(); 56] = [(); size_of::<KeySpec>()];
 
+/// The types of a command's argument, and flags of it.
+pub const ARG_STRING: c_int = 0;
+pub const ARG_INTEGER: c_int = 1;
+pub const ARG_KEY: c_int = 3;
+pub const ARG_TOKEN: c_int = 6;
+pub const ARG_ONE_OF: c_int = 7;
+pub const ARG_OPTIONAL: c_int = 1;
+pub const ARG_MULTIPLE: c_int = 1 << 1;
+
+/// An argument of a command, for COMMAND DOCS. An empty one ends a list.
+#[repr(C)]
+pub struct CommandArg {
+    pub name: *const c_char,
+    pub kind: c_int,
+    /// The index of the key spec, or -1 if it is no key.
+    pub key_spec: c_int,
+    pub token: *const c_char,
+    pub summary: *const c_char,
+    pub since: *const c_char,
+    pub flags: c_int,
+    pub deprecated: *const c_char,
+    /// What it is one of.
+    pub parts: *const CommandArg,
+}
+
+impl CommandArg {
+    pub const NONE: CommandArg = CommandArg {
+        name: null(),
+        kind: ARG_STRING,
+        key_spec: -1,
+        token: null(),
+        summary: null(),
+        since: null(),
+        flags: 0,
+        deprecated: null(),
+        parts: null(),
+    };
+
+    /// Returns an argument, which points to the name.
+    pub fn of(name: &CStr, kind: c_int) -> CommandArg {
+        CommandArg { name: name.as_ptr(), kind, ..CommandArg::NONE }
+    }
+}
+
+const _: [(); 64] = [(); size_of::<CommandArg>()];
+
 /// The sizes of the parts of `CommandInfo`, from which a server knows the module's version of them.
 #[repr(C)]
 pub struct InfoVersion {
@@ -124,7 +190,19 @@ pub struct CommandInfo {
     pub tips: *const c_char,
     pub arity: c_int,
     pub key_specs: *const KeySpec,
-    pub args: *const c_void,
+    pub args: *const CommandArg,
+}
+
+/// Sets the ACL categories of a command. Redis has it from 7.2 on.
+pub type SetCategories = unsafe extern "C" fn(*mut CommandObject, *const c_char) -> c_int;
+
+/// Returns the function that sets ACL categories, if the server has it.
+///
+/// # Safety
+/// `context` must be the one of the module's load.
+pub unsafe fn set_categories(context: *mut Context) -> Option<SetCategories> {
+    let found = find(context, "RedisModule_SetCommandACLCategories\0");
+    (!found.is_null()).then(|| transmute_copy(&found))
 }
 
 type GetApi = unsafe extern "C" fn(*const c_char, *mut *mut c_void) -> c_int;
@@ -210,6 +288,21 @@ interface! {
     reply_long "ReplyWithLongLong": unsafe extern "C" fn(*mut Context, c_longlong) -> c_int;
     reply_text "ReplyWithStringBuffer": unsafe extern "C" fn(*mut Context, *const u8, usize) -> c_int;
     reply_null "ReplyWithNull": unsafe extern "C" fn(*mut Context) -> c_int;
+    register_bool "RegisterBoolConfig": unsafe extern "C" fn(*mut Context, *const c_char, c_int, u32, GetBool, SetBool, *mut c_void, *mut c_void) -> c_int;
+    register_text "RegisterStringConfig": unsafe extern "C" fn(*mut Context, *const c_char, *const c_char, u32, GetText, SetText, *mut c_void, *mut c_void) -> c_int;
+    client_id "GetClientId": unsafe extern "C" fn(*mut Context) -> c_ulonglong;
+    client_user "GetClientUserNameById": unsafe extern "C" fn(*mut Context, u64) -> *mut Text;
+    absolute_expire "GetAbsExpire": unsafe extern "C" fn(*mut Key) -> c_longlong;
+    set_absolute_expire "SetAbsExpire": unsafe extern "C" fn(*mut Key, c_longlong) -> c_int;
+    notified_events "GetNotifyKeyspaceEvents": unsafe extern "C" fn() -> c_int;
+    subscribe "SubscribeToServerEvent": unsafe extern "C" fn(*mut Context, Event, Subscriber) -> c_int;
+    milliseconds "Milliseconds": unsafe extern "C" fn() -> c_longlong;
+    server_info "GetServerInfo": unsafe extern "C" fn(*mut Context, *const c_char) -> *mut ServerInfo;
+    info_number "ServerInfoGetFieldUnsigned": unsafe extern "C" fn(*mut ServerInfo, *const c_char, *mut c_int) -> c_ulonglong;
+    free_info "FreeServerInfo": unsafe extern "C" fn(*mut Context, *mut ServerInfo);
+    set_string "StringSet": unsafe extern "C" fn(*mut Key, *mut Text) -> c_int;
+    delete_key "DeleteKey": unsafe extern "C" fn(*mut Key) -> c_int;
+    block_size "MallocSize": unsafe extern "C" fn(*mut c_void) -> usize;
     server_version "GetServerVersion": unsafe extern "C" fn() -> c_int;
     open_key "OpenKey": unsafe extern "C" fn(*mut Context, *mut Text, c_int) -> *mut Key;
     close_key "CloseKey": unsafe extern "C" fn(*mut Key);

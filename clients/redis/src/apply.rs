@@ -1,7 +1,7 @@
 //! JENTRY.APPLY: runs a class as a JCache provider needs it, with times to live and the entry before and after.
 use crate::api::Text;
 use crate::engine::{Done, KEEP, PUT, SET, UNTOUCHED};
-use crate::entry::{self, Entry, Lifetime};
+use crate::entry::{self, Access, Entry, Lifetime};
 use crate::run::{number_of, reply_type, reply_value, Plan};
 use crate::server::{Answer, Failure, Server, Words};
 use crate::words::long_of;
@@ -63,8 +63,8 @@ impl Change {
         match *self {
             Change::None => Ok(()),
             Change::Set(value, lifetime) => entry::set(server, words, key, before, value, lifetime),
-            Change::Touch(lifetime) => entry::touch(server, key, lifetime),
-            Change::Delete => entry::delete(server, key),
+            Change::Touch(lifetime) => entry::touch(server, key, before, lifetime),
+            Change::Delete => entry::delete(server, key, before),
         }
     }
 
@@ -112,7 +112,8 @@ pub fn apply(server: Server, words: Words) -> Answer {
     let number = number_of(name)?;
     let plan = plan.with_args(words.from(7))?;
     // SAFETY: the key is an argument of the command.
-    let entry = unsafe { entry::read(server, key)? };
+    let entry =
+        unsafe { entry::read(server, key, if is_dry { Access::Read } else { Access::Write })? };
     let before = entry.value;
     let done = plan.run(number, before)?;
     let change = change_of(&done, before, times);

@@ -1,36 +1,44 @@
-//! The table of commands: their names, the properties that Redis needs, and the positions of their keys.
+//! The table of commands, and their registration.
 use crate::api::{
-    Command, CommandInfo, Context, InfoVersion, KeySpec, Text, BEGIN_INDEX, FIND_COUNT, FIND_RANGE,
-    KEY_READ, KEY_WRITTEN, OK,
+    set_categories, Command, CommandArg, CommandInfo, Context, InfoVersion, KeySpec, SetCategories,
+    Text, KEY_READ, KEY_WRITTEN, OK,
 };
 use crate::apply::apply;
-use crate::define::{class, define, explain, forget, list, receive};
+use crate::define::{class, define, exists, explain, forget, list, receive, stats};
 use crate::run::{detail, invoke, invoke_all, peek};
 use crate::server::{api, Answer, Server, Words};
+use crate::syntax::{self, Documented, Keys};
 use crate::words::long_of;
+use std::ffi::CString;
 use std::mem::size_of;
 use std::os::raw::c_int;
 use std::ptr::null;
 
-/// The positions of a command's keys.
-enum Keys {
-    None,
-    /// One key, at this index.
-    At(c_int),
-    /// Several keys, after an argument at this index with their number.
-    Counted(c_int),
+struct Row {
+    name: &'static str,
+    command: Command,
+    kind: Kind,
+    /// The arguments as in `ID KEY [ARG ..]`.
+    syntax: &'static str,
+    summary: &'static str,
 }
 
-struct Row {
-    name: &'static [u8],
-    command: Command,
-    flags: &'static [u8],
-    /// The number of arguments, including the name; if negative, the minimum number.
-    arity: c_int,
-    keys: Keys,
+/// What Redis has to know of a command.
+struct Kind {
+    flags: &'static str,
+    /// The ACL categories, for servers that have them for the commands of modules.
+    categories: &'static str,
+    /// What the command does to its keys.
     access: u64,
-    summary: &'static [u8],
 }
+
+const READS: Kind = Kind { flags: "readonly", categories: "read", access: KEY_READ };
+const WRITES: Kind = Kind { flags: "write deny-oom", categories: "write", access: KEY_WRITTEN };
+const WRITES_SEVERAL: Kind = Kind { flags: "write deny-oom getkeys-api", ..WRITES };
+const JUDGES: Kind = Kind { categories: "read dangerous", ..READS };
+const DEPLOYS: Kind = Kind { categories: "write admin dangerous", ..WRITES };
+/// It is allowed without memory, because it frees some.
+const FORGETS: Kind = Kind { flags: "write", ..DEPLOYS };
 
 /// Wraps a command as a function that Redis can call.
 macro_rules! exported {
@@ -79,135 +87,96 @@ unsafe fn run(
     OK
 }
 
-fn rows() -> [Row; 10] {
-    let row = |name, command, flags, arity, summary| Row {
-        name,
-        command,
-        flags,
-        arity,
-        keys: Keys::None,
-        access: 0,
-        summary,
-    };
-    let on = |keys, access, row| Row { keys, access, ..row };
-    let (reads, writes): (&[u8], &[u8]) = (b"readonly\0", b"write deny-oom\0");
-    let writes_several = b"write deny-oom getkeys-api\0";
+fn rows() -> [Row; 13] {
+    let row = |name, command, kind, syntax, summary| Row { name, command, kind, syntax, summary };
+    let judges = "Judges a processor's class file and keeps the class";
+    let invokes = "Runs a class on an entry";
+    let details = "Runs a class on an entry, with its type, effect and steps";
+    let peeks = "Runs a class that leaves the entry as it is";
+    let several = "Runs a class on several entries";
+    let applies = "Runs a class on an entry with times to live";
+    let some = "ID KEY [ARG ..]";
+    let applied = "CREATED UPDATED ACCESSED MODE ID KEY [ARG ..]";
     [
-        row(
-            b"jentry.define\0",
-            exported!(define),
-            writes,
-            2,
-            b"Judges a processor's class file and keeps the class\0",
-        ),
-        row(b"jentry.forget\0", exported!(forget), b"write\0", 2, b"Forgets a class\0"),
-        row(b"jentry.list\0", exported!(list), reads, 1, b"Lists the classes with their bounds\0"),
-        row(b"jentry.class\0", exported!(class), reads, 2, b"Gets the class file of a class\0"),
-        row(
-            b"jentry.explain\0",
-            exported!(explain),
-            reads,
-            2,
-            b"Explains the verdict on a class file\0",
-        ),
-        on(
-            Keys::At(2),
-            KEY_WRITTEN,
-            row(b"jentry.invoke\0", exported!(invoke), writes, -3, b"Runs a class on an entry\0"),
-        ),
-        on(
-            Keys::At(2),
-            KEY_WRITTEN,
-            row(
-                b"jentry.detail\0",
-                exported!(detail),
-                writes,
-                -3,
-                b"Runs a class on an entry, with its type, effect and steps\0",
-            ),
-        ),
-        on(
-            Keys::At(2),
-            KEY_READ,
-            row(
-                b"jentry.peek\0",
-                exported!(peek),
-                reads,
-                -3,
-                b"Runs a class that leaves the entry as it is\0",
-            ),
-        ),
-        on(
-            Keys::At(6),
-            KEY_WRITTEN,
-            row(
-                b"jentry.apply\0",
-                exported!(apply),
-                writes,
-                -7,
-                b"Runs a class on an entry with times to live\0",
-            ),
-        ),
-        on(
-            Keys::Counted(2),
-            KEY_WRITTEN,
-            row(
-                b"jentry.invokeall\0",
-                exported!(invoke_all),
-                writes_several,
-                -4,
-                b"Runs a class on several entries\0",
-            ),
-        ),
+        row("define", exported!(define), DEPLOYS, "BYTES", judges),
+        row("invoke", exported!(invoke), WRITES, some, invokes),
+        row("detail", exported!(detail), WRITES, some, details),
+        row("peek", exported!(peek), READS, some, peeks),
+        row("invokeall", exported!(invoke_all), WRITES_SEVERAL, "ID N KEY .. [ARG ..]", several),
+        row("apply", exported!(apply), WRITES, applied, applies),
+        row("list", exported!(list), READS, "", "Lists the classes with their bounds and origins"),
+        row("stats", exported!(stats), READS, "[ID ..]", "Tells what the runs of classes took"),
+        row("class", exported!(class), READS, "ID", "Gets the class file of a class"),
+        row("exists", exported!(exists), READS, "ID ..", "Tells which classes exist"),
+        row("explain", exported!(explain), JUDGES, "BYTES", "Explains the verdict on a class file"),
+        row("forget", exported!(forget), FORGETS, "ID", "Forgets a class"),
+        row("help", exported!(help), READS, "", "Lists the commands"),
     ]
 }
 
-/// Returns how clients and ACLs find the keys of a command. An empty spec ends the list.
-fn key_specs(row: &Row) -> [KeySpec; 2] {
-    let begin = |place| KeySpec { flags: row.access, begin: BEGIN_INDEX, place, ..KeySpec::NONE };
-    let spec = match row.keys {
-        Keys::None => KeySpec::NONE,
-        Keys::At(place) => KeySpec { find: FIND_RANGE, find_by: [0, 1, 0], ..begin(place) },
-        Keys::Counted(place) => KeySpec { find: FIND_COUNT, find_by: [0, 1, 1], ..begin(place) },
-    };
-    [spec, KeySpec::NONE]
+/// JENTRY.HELP: replies two lines for each command, its arguments and what it does.
+fn help(server: Server, _words: Words) -> Answer {
+    let rows = rows();
+    server.reply_array(2 * rows.len());
+    for row in rows {
+        let line = format!("JENTRY.{} {}", row.name.to_uppercase(), row.syntax);
+        server.reply_text(line.trim_end().as_bytes());
+        server.reply_text(format!("    {}.", row.summary).as_bytes());
+    }
+    Ok(())
 }
 
-unsafe fn register_row(context: *mut Context, row: &Row) -> bool {
-    let (first, step) = match row.keys {
+/// Returns a text for the server, which copies it.
+fn text_of(text: &str) -> CString {
+    CString::new(text).unwrap_or_default()
+}
+
+unsafe fn register_row(
+    context: *mut Context,
+    row: &Row,
+    set_categories: Option<SetCategories>,
+) -> bool {
+    let keys = syntax::keys(row.syntax);
+    let (first, step) = match keys {
         Keys::At(place) => (place, 1),
         _ => (0, 0),
     };
-    let name = row.name.as_ptr().cast();
-    if (api().create_command)(
-        context,
-        name,
-        row.command,
-        row.flags.as_ptr().cast(),
-        first,
-        first,
-        step,
-    ) != OK
-    {
+    let name = text_of(&format!("jentry.{}", row.name));
+    let flags = text_of(row.kind.flags);
+    let create = api().create_command;
+    if create(context, name.as_ptr(), row.command, flags.as_ptr(), first, first, step) != OK {
         return false;
     }
-    let object = (api().get_command)(context, name);
-    let specs = key_specs(row);
-    // The sizes for history and arguments are those of Redis 7.0; the module has neither.
-    let version =
-        InfoVersion { version: 1, history: 16, key_spec: size_of::<KeySpec>(), argument: 64 };
+    let object = (api().get_command)(context, name.as_ptr());
+    let specs = syntax::key_specs(keys, row.kind.access);
+    let summary = text_of(row.summary);
+    let documented = Documented::of(row.syntax);
+    // The size for history is that of Redis 7.0; the module has none.
+    let version = InfoVersion {
+        version: 1,
+        history: 16,
+        key_spec: size_of::<KeySpec>(),
+        argument: size_of::<CommandArg>(),
+    };
     let info = CommandInfo {
         version: &version,
-        summary: row.summary.as_ptr().cast(),
+        summary: summary.as_ptr(),
         complexity: null(),
         since: null(),
         history: null(),
         tips: null(),
-        arity: row.arity,
-        key_specs: if matches!(row.keys, Keys::None) { null() } else { specs.as_ptr() },
-        args: null(),
+        arity: syntax::arity(row.syntax),
+        key_specs: if matches!(keys, Keys::None) { null() } else { specs.as_ptr() },
+        args: documented.list(),
     };
-    !object.is_null() && (api().set_command_info)(object, &info) == OK
+    if object.is_null() || (api().set_command_info)(object, &info) != OK {
+        return false;
+    }
+    let categories = text_of(row.kind.categories);
+    if set_categories.map_or(false, |set| set(object, categories.as_ptr()) != OK) {
+        Server::of(context).warn(&format!("jentry.{} has no ACL categories", row.name));
+    }
+    true
 }
 
 /// Registers all commands, and the receiver for classes from other nodes. Returns whether that succeeded.
@@ -216,5 +185,6 @@ unsafe fn register_row(context: *mut Context, row: &Row) -> bool {
 /// `context` must be the one of the module's load.
 pub unsafe fn register(context: *mut Context) -> bool {
     (api().register_receiver)(context, 1, receive);
-    rows().iter().all(|row| register_row(context, row))
+    let set_categories = set_categories(context);
+    rows().iter().all(|row| register_row(context, row, set_categories))
 }

@@ -1,6 +1,8 @@
-//! The configuration: `max-steps`, the maximum number of instructions that a run of a class may take on this server.
+//! The configuration: `max-steps`, the maximum number of instructions that a command may take on this server.
 use crate::api::{Context, Text, CONFIG_DEFAULT, OK};
-use crate::server::{Called, Server, Words};
+use crate::direct;
+use crate::rights;
+use crate::server::{api, Server, Words};
 use crate::words::long_of;
 use std::ffi::c_void;
 use std::os::raw::{c_char, c_int, c_longlong};
@@ -11,6 +13,9 @@ use std::sync::atomic::{AtomicU32, Ordering};
 const DEFAULT_STEPS: u32 = 200_000;
 /// No accepted class takes more instructions than this.
 const MOST_STEPS: u32 = 4_000_000;
+
+/// The name of the setting, for the errors that it causes.
+pub const STEPS_SETTING: &str = "jentry.max-steps";
 
 static MAX_STEPS: AtomicU32 = AtomicU32::new(DEFAULT_STEPS);
 
@@ -34,40 +39,48 @@ unsafe extern "C" fn set(
     OK
 }
 
-/// Parses the module's arguments, `max-steps N`. Returns a message if they are invalid.
-fn read(words: Words) -> Result<u32, &'static str> {
-    let wrong = "the module's words are `max-steps N`, and N is a number from 1 to 4000000";
-    match words.count() {
-        0 => Ok(DEFAULT_STEPS),
-        2 => {
-            let (name, number) =
-                (words.bytes(0).map_err(|_| wrong)?, words.bytes(1).map_err(|_| wrong)?);
-            let number = long_of(number)
-                .and_then(|number| u32::try_from(number).ok())
-                .filter(|number| (1..=MOST_STEPS).contains(number));
-            number.filter(|_| name.eq_ignore_ascii_case(b"max-steps")).ok_or(wrong)
-        }
-        _ => Err(wrong),
-    }
+unsafe extern "C" fn get_direct(_name: *const c_char, _data: *mut c_void) -> c_int {
+    direct::is_allowed().into()
 }
 
-/// Applies the module's arguments, and registers the value as `jentry.max-steps` for CONFIG. Returns whether that succeeded.
-///
-/// # Safety
-/// `context` must be the one of the module's load.
-pub unsafe fn register(context: *mut Context, words: Words) -> bool {
-    let server = Server::of(context);
-    let steps = match read(words) {
-        Ok(steps) => steps,
-        Err(wrong) => {
-            server.warn(wrong);
-            return false;
+unsafe extern "C" fn set_direct(
+    _name: *const c_char,
+    value: c_int,
+    _data: *mut c_void,
+    _error: *mut *mut Text,
+) -> c_int {
+    direct::allow(value != 0);
+    OK
+}
+
+/// What the module's arguments may say.
+struct Arguments {
+    steps: u32,
+    is_direct: bool,
+}
+
+/// Parses the module's arguments, pairs of a name and a value. Returns `None` if they are invalid.
+fn read(words: Words) -> Option<Arguments> {
+    let mut read = Arguments { steps: DEFAULT_STEPS, is_direct: true };
+    for place in (0..words.count()).step_by(2) {
+        let name = words.bytes(place).ok()?.to_ascii_lowercase();
+        let value = words.bytes(place + 1).ok()?;
+        match (&*name, value) {
+            (b"max-steps", number) => {
+                let number = long_of(number).and_then(|number| u32::try_from(number).ok());
+                read.steps = number.filter(|number| (1..=MOST_STEPS).contains(number))?;
+            }
+            (b"direct", b"yes") => read.is_direct = true,
+            (b"direct", b"no") => read.is_direct = false,
+            _ => return None,
         }
-    };
-    MAX_STEPS.store(steps, Ordering::Relaxed);
+    }
+    Some(read)
+}
+
+unsafe fn register_steps(context: *mut Context, steps: u32) -> bool {
     let name = b"max-steps\0".as_ptr().cast();
-    let register = server.api().register_number;
-    register(
+    (api().register_number)(
         context,
         name,
         steps.into(),
@@ -79,25 +92,39 @@ pub unsafe fn register(context: *mut Context, words: Words) -> bool {
         null_mut(),
         null_mut(),
     ) == OK
-        && (server.api().load_configs)(context) == OK
 }
 
-/// Warns if a rewrite of the AOF would lose the classes, which are only saved in its RDB part.
+unsafe fn register_direct(context: *mut Context, is_direct: bool) -> bool {
+    let name = b"direct\0".as_ptr().cast();
+    (api().register_bool)(
+        context,
+        name,
+        is_direct.into(),
+        CONFIG_DEFAULT,
+        get_direct,
+        set_direct,
+        null_mut(),
+        null_mut(),
+    ) == OK
+}
+
+/// Applies the module's arguments, and registers the settings for CONFIG. Returns whether that succeeded.
 ///
 /// # Safety
 /// `context` must be the one of the module's load.
-pub unsafe fn warn_of_rewrites(context: *mut Context) {
+pub unsafe fn register(context: *mut Context, words: Words) -> bool {
     let server = Server::of(context);
-    let reply = (server.api().call)(
-        context,
-        b"CONFIG\0".as_ptr().cast(),
-        b"cc\0".as_ptr().cast(),
-        b"GET\0".as_ptr(),
-        b"aof-use-rdb-preamble\0".as_ptr(),
-    );
-    if let Ok(called) = Called::of(server, reply) {
-        if called.holds(b"no") {
-            server.warn("aof-use-rdb-preamble is no: a rewrite of the AOF loses the classes, and clients have to define them again");
+    let arguments = match read(words) {
+        Some(arguments) => arguments,
+        None => {
+            server.warn("the module's words are `max-steps N`, where N is a number from 1 to 4000000, and `direct yes` or `direct no`");
+            return false;
         }
-    }
+    };
+    MAX_STEPS.store(arguments.steps, Ordering::Relaxed);
+    direct::allow(arguments.is_direct);
+    register_steps(context, arguments.steps)
+        && register_direct(context, arguments.is_direct)
+        && rights::register(context)
+        && (api().load_configs)(context) == OK
 }

@@ -2,24 +2,28 @@
 //!
 //! Redis stores a string that is a long as an integer in its object. The module API reads a value by GET and writes it by SET, and these
 //! calls cost more than a run; or it uses `StringDMA`, which converts the integer into a raw string in the keyspace. So the module reads
-//! the object behind a key's handle directly, in the layout of Redis 7.0. On another release, or if a string that the module creates at
-//! load time has another layout, it uses GET. Each direct read is checked against what the API reports about the key, and the first ones
-//! also against GET. After a mismatch the module never reads directly again.
+//! the object behind a key's handle directly, in the layout of Redis 7.0. On another release, or if a string or a handle that the module
+//! creates at load time has another layout, or if `jentry.direct` is no, it uses GET. Each direct read is checked against what the API
+//! reports about the key, and the first ones also against GET. After a mismatch the module never reads directly again.
 //!
 //! An object that only the entry refers to is written in place, as INCRBY does, and the module then does everything else that SET does.
-//! Redis shares the objects of 0 to 9,999 among all keys, and those can't be written. For these the module passes SET an integer object of
-//! its own. Redis stores that object as it is, so the next write of the entry finds an unshared object.
+//! Redis shares the objects of 0 to 9,999 among all keys. An entry gets one of these by `StringSet`, as it is.
 //!
 //! `Replicate` looks up its command and copies its arguments, which costs as much as the run. `ReplicateVerbatim` uses the arguments of the
 //! running command as they are. So the module temporarily replaces them with those of a SET, if the number of arguments is the same.
-use crate::api::{Key, Text};
+use crate::api::{Key, Text, OK};
 use crate::server::{Server, Words};
+use crate::shared::{self, Sharing};
+use std::mem::size_of;
 use std::os::raw::c_int;
-use std::ptr::{null_mut, NonNull};
-use std::sync::atomic::{AtomicPtr, AtomicU32, Ordering};
+use std::ptr::{null_mut, read_volatile, NonNull};
+use std::sync::atomic::{AtomicBool, AtomicPtr, AtomicU32, Ordering};
 
-/// The `OpenKey` mode for reading.
-const READ: i32 = 1;
+/// The `OpenKey` modes for reading and for writing.
+const READ: c_int = 1;
+const WRITE: c_int = 1 << 1;
+/// A key on which the layout of handles is checked; it exists only during that check.
+const SCRATCH: &[u8] = b"jentry:layout";
 /// The string event class, for `NotifyKeyspaceEvent`.
 const OF_STRINGS: c_int = 1 << 3;
 /// The result of `GetExpire` if an entry has no time to live.
@@ -32,6 +36,9 @@ const CHECKS: u32 = 64;
 const NEVER: u32 = u32::MAX;
 
 static CHECKS_LEFT: AtomicU32 = AtomicU32::new(NEVER);
+/// Whether the setting allows direct reads, and whether the layouts are known.
+static IS_ALLOWED: AtomicBool = AtomicBool::new(true);
+static IS_KNOWN: AtomicBool = AtomicBool::new(false);
 /// The arguments of a SET other than key and value; they exist for the server's life.
 static SET: AtomicPtr<Text> = AtomicPtr::new(null_mut());
 static KEEPTTL: AtomicPtr<Text> = AtomicPtr::new(null_mut());
@@ -47,6 +54,7 @@ struct Handle {
 
 /// An object (`redisObject`): type and encoding with four bits each, age, reference count, and a pointer or the integer itself.
 #[repr(C)]
+#[derive(Clone, Copy)]
 struct Object {
     kind: u8,
     age: [u8; 3],
@@ -57,22 +65,81 @@ struct Object {
 /// The first byte of two kinds of strings: an integer, and bytes in the object's own block.
 const INTEGER: u8 = 0x10;
 const EMBEDDED: u8 = 0x80;
+/// The reference count of a shared object, which never changes.
+const SHARED: i32 = i32::MAX;
+
+/// What a command does to the entry that it reads.
+#[derive(Clone, Copy, PartialEq, Eq)]
+pub enum Access {
+    Read,
+    Write,
+}
 
 /// The result of a direct read.
 pub enum Found {
     /// The value isn't known: use GET.
     Unknown,
     Absent,
-    Value(Place),
+    Place(Place),
 }
 
-/// The location of an entry's integer. It is valid until the server's next command.
-#[derive(Clone, Copy)]
+/// An open key, with the integer of its entry, or without an entry. It ends before anything else is done with the key.
 pub struct Place {
-    object: NonNull<Object>,
-    pub value: i64,
+    server: Server,
+    handle: *mut Key,
+    object: Option<NonNull<Object>>,
+    /// The integer when it was read.
+    read: i64,
     /// Whether the entry has a time to live.
     pub may_expire: bool,
+}
+
+impl Place {
+    /// Returns the value of the entry, if there is one.
+    pub fn value(&self) -> Option<i64> {
+        self.object.map(|_| self.read)
+    }
+
+    /// Writes the value into the entry's object, if only the entry refers to it. Returns the object.
+    unsafe fn write_in_place(&self, value: i64) -> Option<NonNull<Object>> {
+        let object = self.object?;
+        let now = object.as_ptr();
+        if (*now).references != 1 || (*now).kind != INTEGER || (*now).payload != self.read {
+            return None;
+        }
+        (*now).payload = value;
+        Some(object)
+    }
+
+    /// Gives the entry the shared object of the value, if that is known, and keeps its time to live. Returns the object.
+    unsafe fn share(&self, value: i64) -> Option<NonNull<Object>> {
+        let api = self.server.api();
+        let object = NonNull::new(shared::object_of::<Object>(value))?;
+        let ends = if self.may_expire { (api.absolute_expire)(self.handle) } else { NO_EXPIRE };
+        if (api.set_string)(self.handle, object.as_ptr().cast()) != OK {
+            return None;
+        }
+        if ends != NO_EXPIRE {
+            (api.set_absolute_expire)(self.handle, ends);
+        }
+        Some(object)
+    }
+
+    /// Writes the value, if the module can do that itself. Returns the object that the entry has then.
+    unsafe fn write(&self, value: i64) -> Option<NonNull<Object>> {
+        match shared::sharing_of(value) {
+            Sharing::None => self.write_in_place(value),
+            Sharing::BySet => None,
+            Sharing::ByModule => self.share(value),
+        }
+    }
+}
+
+impl Drop for Place {
+    fn drop(&mut self) {
+        // SAFETY: the handle is this one's own.
+        unsafe { (self.server.api().close_key)(self.handle) };
+    }
 }
 
 /// Returns the number of characters of a long in decimal.
@@ -102,6 +169,37 @@ unsafe fn has_layout(server: Server) -> bool {
     is_same
 }
 
+/// Returns the members of an open handle.
+unsafe fn members(handle: *mut Key) -> Handle {
+    // The server changes the members, so each look reads them all.
+    read_volatile(handle.cast::<Handle>())
+}
+
+/// Returns whether the handle of a key has this layout: its block is large enough, and its members change as a value is set and deleted. The
+/// key is one that doesn't exist.
+unsafe fn has_handle_layout(server: Server) -> bool {
+    let (api, context) = (server.api(), server.context());
+    let text = |bytes: &[u8]| (api.create_text)(context, bytes.as_ptr().cast(), bytes.len());
+    let (key, value) = (text(SCRATCH), text(b"0"));
+    let handle = (api.open_key)(context, key, READ | WRITE);
+    let holds = |object: *mut Text| {
+        let now = members(handle);
+        now.context == context.cast() && now.key == key.cast() && now.value == object.cast()
+    };
+    let is_same = !handle.is_null()
+        && (api.block_size)(handle.cast()) >= size_of::<Handle>()
+        && holds(null_mut())
+        && (api.set_string)(handle, value) == OK
+        && {
+            let is_value = holds(value);
+            (api.delete_key)(handle) == OK && is_value && holds(null_mut())
+        };
+    (api.close_key)(handle);
+    (api.free_text)(context, value);
+    (api.free_text)(context, key);
+    is_same
+}
+
 /// Returns whether direct reads must still be checked against GET.
 pub fn is_checked() -> bool {
     CHECKS_LEFT.load(Ordering::Relaxed) > 0
@@ -109,6 +207,7 @@ pub fn is_checked() -> bool {
 
 /// Disables direct reads.
 fn end(server: Server) {
+    IS_KNOWN.store(false, Ordering::Relaxed);
     CHECKS_LEFT.store(NEVER, Ordering::Relaxed);
     server.warn("this server keeps integers otherwise than Redis 7.0: each value is read by GET from now on");
 }
@@ -123,61 +222,112 @@ pub fn count(server: Server, is_same: bool) {
     }
 }
 
-/// Enables direct reads if the server has the release and the layout.
+/// Returns whether the setting allows direct reads.
+pub fn is_allowed() -> bool {
+    IS_ALLOWED.load(Ordering::Relaxed)
+}
+
+/// Applies the setting: direct reads start again with their checks against GET, if the layouts are known.
+pub fn allow(is_allowed: bool) {
+    IS_ALLOWED.store(is_allowed, Ordering::Relaxed);
+    let is_on = is_allowed && IS_KNOWN.load(Ordering::Relaxed);
+    CHECKS_LEFT.store(if is_on { CHECKS } else { NEVER }, Ordering::Relaxed);
+}
+
+/// Returns why the module can't read directly on this server, or `None`.
+unsafe fn hindrance(server: Server) -> Option<&'static str> {
+    if !cfg!(all(target_endian = "little", target_pointer_width = "64")) {
+        Some("this isn't a machine of 64 bits with the least significant byte first")
+    } else if (server.api().server_version)() >> 8 != RELEASE {
+        Some("this isn't Redis 7.0")
+    } else if !has_layout(server) {
+        Some("its strings have another layout")
+    } else if !has_handle_layout(server) {
+        Some("its handles of keys have another layout")
+    } else {
+        None
+    }
+}
+
+/// Enables direct reads if the server has the release and the layouts and the setting allows it, and logs which way is taken.
 ///
 /// # Safety
-/// It must be called while the server loads the module.
+/// It must be called while the server loads the module, after the settings.
 pub unsafe fn begin(server: Server) {
-    let is_machine = cfg!(all(target_endian = "little", target_pointer_width = "64"));
-    if is_machine && (server.api().server_version)() >> 8 == RELEASE && has_layout(server) {
+    let hindrance = hindrance(server);
+    if hindrance.is_none() {
         let word = |bytes: &[u8]| {
             (server.api().create_text)(server.context(), bytes.as_ptr().cast(), bytes.len())
         };
         SET.store(word(b"SET"), Ordering::Relaxed);
         KEEPTTL.store(word(b"KEEPTTL"), Ordering::Relaxed);
-        CHECKS_LEFT.store(CHECKS, Ordering::Relaxed);
+    }
+    if hindrance.is_none() {
+        shared::begin(server);
+    }
+    IS_KNOWN.store(hindrance.is_none(), Ordering::Relaxed);
+    allow(is_allowed());
+    match hindrance.or(if is_allowed() { None } else { Some("jentry.direct is no") }) {
+        None => server.notice("integers are read and written in place, as in Redis 7.0"),
+        Some(why) => {
+            server.notice(&format!("integers are read by GET and written by SET: {why}"));
+        }
     }
 }
 
 /// Reads the value of an open key directly. Returns `None` if the API reports something else about the key.
-unsafe fn value_at(server: Server, key: *mut Text, handle: *mut Key) -> Option<Found> {
-    // SAFETY: `begin` has found the release with this layout.
-    let inside = &*handle.cast::<Handle>();
-    if inside.context != server.context().cast() || inside.key != key.cast() {
+unsafe fn value_at(key: *mut Text, mut place: Place) -> Option<Found> {
+    // SAFETY: `begin` has found this layout.
+    let inside = members(place.handle);
+    let (api, context) = (place.server.api(), place.server.context());
+    if inside.context != context.cast() || inside.key != key.cast() {
         return None;
     }
-    // SAFETY: the handle is open, so it has a value.
-    let object = NonNull::new(inside.value)?;
-    let (kind, value) = (object.as_ref().kind, object.as_ref().payload);
+    let length = (api.length)(place.handle);
+    let Object { kind, references, payload, .. } = match NonNull::new(inside.value) {
+        Some(object) => *object.as_ref(),
+        None => return (length == 0).then_some(Found::Place(place)),
+    };
     if kind != INTEGER {
         return Some(Found::Unknown);
     }
-    let may_expire = (server.api().expire)(handle) != NO_EXPIRE;
-    ((server.api().length)(handle) == length_of(value)).then_some(Found::Value(Place {
-        object,
-        value,
-        may_expire,
-    }))
+    if references == SHARED {
+        shared::learn(payload, inside.value);
+    }
+    place.may_expire = (api.expire)(place.handle) != NO_EXPIRE;
+    (place.object, place.read) = (NonNull::new(inside.value), payload);
+    (length == length_of(payload)).then_some(Found::Place(place))
 }
 
 /// Reads the value of a key directly.
 ///
 /// # Safety
 /// `key` must be a string of the server.
-pub unsafe fn look(server: Server, key: *mut Text) -> Found {
+pub unsafe fn look(server: Server, key: *mut Text, access: Access) -> Found {
     if CHECKS_LEFT.load(Ordering::Relaxed) == NEVER {
         return Found::Unknown;
     }
-    let handle: *mut Key = (server.api().open_key)(server.context(), key, READ);
+    let mode = if access == Access::Write { READ | WRITE } else { READ };
+    let handle: *mut Key = (server.api().open_key)(server.context(), key, mode);
     if handle.is_null() {
         return Found::Absent;
     }
-    let found = value_at(server, key, handle);
-    (server.api().close_key)(handle);
-    found.unwrap_or_else(|| {
+    let place = Place { server, handle, object: None, read: 0, may_expire: false };
+    value_at(key, place).unwrap_or_else(|| {
         end(server);
         Found::Unknown
     })
+}
+
+/// Reads an entry that a SET has just given a value, if the shared object of the value isn't known.
+///
+/// # Safety
+/// `key` must be a string of the server.
+pub unsafe fn learn(server: Server, key: *mut Text, value: i64) {
+    let is_shared = shared::sharing_of(value) == Sharing::ByModule;
+    if is_shared && shared::object_of::<Object>(value).is_null() {
+        look(server, key, Access::Read);
+    }
 }
 
 /// Writes the SET of a value to the AOF and to replicas. If the entry has no time to live, KEEPTTL makes no difference.
@@ -197,16 +347,18 @@ unsafe fn replicate(server: Server, words: Words, key: *mut Text, value: *mut Te
     }
 }
 
-/// Does what a SET of the value with KEEPTTL does, if the entry's object isn't shared: writes the value in place, notifies clients that
-/// watch or track the key and subscribers to events, and writes the SET to the AOF and to replicas. Returns false without doing anything if
-/// the object is shared.
+/// Does what a SET of the value with KEEPTTL does, if the module can write the value itself: writes it, notifies clients that watch or track
+/// the key and subscribers to events, and writes the SET to the AOF and to replicas. Returns false without doing anything if it can't.
 ///
 /// The SET gets the object itself as its argument. If it is written to a file or a replica, the server keeps the object until the end of
-/// the command, so a second run on the entry in the same command finds it shared.
+/// the command, so a second run on the entry in the same command finds that others refer to it.
+///
+/// The event comes last: it runs the functions of other modules, which may delete the key and with it the object. So a change that they make
+/// is also written behind the SET, in the order in which it happened.
 ///
 /// # Safety
-/// `words` must be the command's arguments, `key` a string of the server, and `place` the result of a read in this command; the entry must
-/// not have changed since.
+/// `words` must be the command's arguments, `key` a string of the server, and `place` the result of a read of it for writing in this
+/// command; the entry must not have changed since.
 pub unsafe fn write(
     server: Server,
     words: Words,
@@ -214,48 +366,13 @@ pub unsafe fn write(
     place: Place,
     value: i64,
 ) -> bool {
-    let object = place.object.as_ptr();
-    if (*object).references != 1 || (*object).kind != INTEGER || (*object).payload != place.value {
-        return false;
-    }
-    (*object).payload = value;
+    let (object, may_expire) = match place.write(value) {
+        Some(object) => (object, place.may_expire),
+        None => return false,
+    };
+    drop(place);
     (server.api().signal_modified)(server.context(), key);
+    replicate(server, words, key, object.as_ptr().cast::<Text>(), may_expire);
     (server.api().notify)(server.context(), OF_STRINGS, b"set\0".as_ptr().cast(), key);
-    replicate(server, words, key, object.cast::<Text>(), place.may_expire);
     true
-}
-
-/// An integer object that the module creates.
-pub struct Integer {
-    server: Server,
-    text: *mut Text,
-}
-
-impl Integer {
-    /// Creates an integer object. Returns `None` unless the layout is known.
-    pub fn new(server: Server, value: i64) -> Option<Integer> {
-        if is_checked() {
-            return None;
-        }
-        // SAFETY: `begin` has found that a short string is one block that contains its bytes, and nobody else refers to this one yet.
-        unsafe {
-            let text = (server.api().create_text)(server.context(), b"0".as_ptr().cast(), 1);
-            let object = &mut *text.cast::<Object>();
-            object.kind = INTEGER;
-            object.payload = value;
-            Some(Integer { server, text })
-        }
-    }
-
-    /// Returns the object as an argument of a command.
-    pub fn text(&self) -> *mut Text {
-        self.text
-    }
-}
-
-impl Drop for Integer {
-    fn drop(&mut self) {
-        // SAFETY: this value owns the object; a command that kept it has a reference of its own.
-        unsafe { (self.server.api().free_text)(self.server.context(), self.text) };
-    }
 }

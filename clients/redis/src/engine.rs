@@ -17,7 +17,7 @@ pub struct Verdict {
     pub id: [u8; 20],
 }
 
-/// An argument, of the kind `NULL`, `LONG` or `INTEGER`.
+/// An argument, of the kind `NULL`, `LONG`, `INTEGER` or `BOOLEAN`.
 #[repr(C)]
 #[derive(Clone, Copy, Default)]
 pub struct Arg {
@@ -54,6 +54,8 @@ pub const NULL: u32 = 0;
 pub const LONG: u32 = 1;
 pub const INTEGER: u32 = 2;
 pub const THREW: u32 = 3;
+pub const NO_CLASS: u32 = 4;
+pub const BOOLEAN: u32 = 7;
 pub const KEEP: u32 = 0;
 pub const PUT: u32 = 1;
 pub const UNTOUCHED: u32 = 0;
@@ -76,6 +78,7 @@ const _: [(); 40] = [(); size_of::<Done>()];
 
 extern "C" {
     fn jentry_open(handle: *mut Handle) -> u32;
+    fn jentry_close(handle: *mut Handle);
     fn jentry_define(handle: *mut Handle, bytes: *const u8, length: usize, verdict: *mut Verdict);
     fn jentry_forget(handle: *mut Handle, number: u32) -> u32;
     fn jentry_invoke(
@@ -88,9 +91,16 @@ extern "C" {
     fn jentry_explain(bytes: *const u8, length: usize, text: *mut u8, room: usize) -> usize;
 }
 
-/// The engine of this server. Only the thread that runs commands uses it.
+/// An engine. Only the thread that runs commands uses it.
 pub struct Engine {
     handle: Handle,
+}
+
+impl Done {
+    /// Returns whether the class was run. The outcomes between `THREW` and `BOOLEAN` are of denied calls.
+    pub fn has_run(&self) -> bool {
+        self.outcome <= THREW || self.outcome == BOOLEAN
+    }
 }
 
 impl Engine {
@@ -122,6 +132,13 @@ impl Engine {
         // SAFETY: the handle is the engine's own, and a slice's pointer is never null.
         unsafe { jentry_invoke(&mut self.handle, call, args.as_ptr(), args.len(), &mut done) };
         done
+    }
+}
+
+impl Drop for Engine {
+    fn drop(&mut self) {
+        // SAFETY: the handle is the engine's own.
+        unsafe { jentry_close(&mut self.handle) };
     }
 }
 

@@ -2,17 +2,17 @@
 //!
 //! Redis runs one command at a time, so nothing else happens between the read and the write of a run.
 use crate::api::{Text, REPLY_NULL, REPLY_TEXT};
-use crate::direct::{self, Found, Integer, Place};
+pub use crate::direct::Access;
+use crate::direct::{self, Found, Place};
 use crate::server::{Called, Failure, Server, Words};
 use crate::words::long_of;
 
 /// The entry at a key.
-#[derive(Clone, Copy)]
 pub struct Entry {
     pub value: Option<i64>,
     /// Whether it has a time to live, or may have one.
     may_expire: bool,
-    /// The location of its integer, if the module may write there.
+    /// Where the module may write it itself.
     place: Option<Place>,
 }
 
@@ -38,23 +38,25 @@ unsafe fn get(server: Server, key: *mut Text) -> Result<Entry, Failure> {
     Ok(Entry { value, may_expire: true, place: None })
 }
 
-/// Reads the entry of a key.
+/// Reads the entry of a key, which may be written afterwards if the command is one that writes.
 ///
 /// # Safety
-/// `key` must be a string of the server.
-pub unsafe fn read(server: Server, key: *mut Text) -> Result<Entry, Failure> {
-    let entry = match direct::look(server, key) {
+/// `key` must be a string of the server. The result must be dropped before anything else is done with the key.
+pub unsafe fn read(server: Server, key: *mut Text, access: Access) -> Result<Entry, Failure> {
+    let entry = match direct::look(server, key, access) {
         Found::Unknown => return get(server, key),
         Found::Absent => Entry { value: None, may_expire: false, place: None },
-        Found::Value(place) => {
-            Entry { value: Some(place.value), may_expire: place.may_expire, place: Some(place) }
+        Found::Place(place) => {
+            Entry { value: place.value(), may_expire: place.may_expire, place: Some(place) }
         }
     };
     if direct::is_checked() {
+        let Entry { value, may_expire, place } = entry;
+        drop(place);
         let told = get(server, key)?;
-        let is_same = told.value == entry.value;
+        let is_same = told.value == value;
         direct::count(server, is_same);
-        return Ok(if is_same { Entry { place: None, ..entry } } else { told });
+        return Ok(if is_same { Entry { value, may_expire, place: None } } else { told });
     }
     Ok(entry)
 }
@@ -70,27 +72,23 @@ pub enum Lifetime {
     Milliseconds(i64),
 }
 
-/// Sets the value of an entry by SET, with an integer object of the module if possible.
+/// Sets the value of an entry by SET.
 unsafe fn set_anew(
     server: Server,
     key: *mut Text,
-    entry: Entry,
+    may_expire: bool,
     value: i64,
     lifetime: Lifetime,
 ) -> Result<(), Failure> {
     let (call, context, name) = (server.api().call, server.context(), b"SET\0".as_ptr().cast());
-    let reply = match (lifetime, Integer::new(server, value)) {
-        (Lifetime::Milliseconds(time), _) => {
+    let reply = match lifetime {
+        Lifetime::Milliseconds(time) => {
             call(context, name, b"!slcl\0".as_ptr().cast(), key, value, b"PX\0".as_ptr(), time)
         }
-        (Lifetime::Keep, Some(own)) if entry.may_expire => {
-            call(context, name, b"!ssc\0".as_ptr().cast(), key, own.text(), b"KEEPTTL\0".as_ptr())
-        }
-        (Lifetime::Keep, None) if entry.may_expire => {
+        Lifetime::Keep if may_expire => {
             call(context, name, b"!slc\0".as_ptr().cast(), key, value, b"KEEPTTL\0".as_ptr())
         }
-        (_, Some(own)) => call(context, name, b"!ss\0".as_ptr().cast(), key, own.text()),
-        (_, None) => call(context, name, b"!sl\0".as_ptr().cast(), key, value),
+        _ => call(context, name, b"!sl\0".as_ptr().cast(), key, value),
     };
     Called::of(server, reply).map(drop)
 }
@@ -108,21 +106,22 @@ pub unsafe fn set(
     value: i64,
     lifetime: Lifetime,
 ) -> Result<(), Failure> {
-    match entry.place {
-        Some(place)
-            if lifetime == Lifetime::Keep && direct::write(server, words, key, place, value) =>
-        {
-            Ok(())
+    if let (Some(place), Lifetime::Keep) = (entry.place, lifetime) {
+        if direct::write(server, words, key, place, value) {
+            return Ok(());
         }
-        _ => set_anew(server, key, entry, value, lifetime),
     }
+    set_anew(server, key, entry.may_expire, value, lifetime)?;
+    direct::learn(server, key, value);
+    Ok(())
 }
 
 /// Deletes the entry of a key by DEL.
 ///
 /// # Safety
-/// `key` must be a string of the server.
-pub unsafe fn delete(server: Server, key: *mut Text) -> Result<(), Failure> {
+/// `key` must be a string of the server, and `entry` the result of its read.
+pub unsafe fn delete(server: Server, key: *mut Text, entry: Entry) -> Result<(), Failure> {
+    drop(entry);
     let reply = (server.api().call)(
         server.context(),
         b"DEL\0".as_ptr().cast(),
@@ -135,8 +134,14 @@ pub unsafe fn delete(server: Server, key: *mut Text) -> Result<(), Failure> {
 /// Changes only the time to live.
 ///
 /// # Safety
-/// `key` must be a string of the server.
-pub unsafe fn touch(server: Server, key: *mut Text, lifetime: Lifetime) -> Result<(), Failure> {
+/// `key` must be a string of the server, and `entry` the result of its read.
+pub unsafe fn touch(
+    server: Server,
+    key: *mut Text,
+    entry: Entry,
+    lifetime: Lifetime,
+) -> Result<(), Failure> {
+    drop(entry);
     let (call, context) = (server.api().call, server.context());
     let reply = match lifetime {
         Lifetime::Keep => return Ok(()),

@@ -12,13 +12,17 @@ mod define;
 mod direct;
 mod engine;
 mod entry;
+mod names;
 mod persistence;
+mod rights;
 mod run;
 mod server;
+mod shared;
 mod state;
+mod syntax;
 mod words;
 
-use api::{Api, Context, Text, API_VERSION, ERR, HANDLE_IO_ERRORS, OK};
+use api::{Api, Context, Text, API_VERSION, ERR, HANDLE_IO_ERRORS, NO_IMPLICIT_SIGNALS, OK};
 use engine::Engine;
 use server::{Server, Words};
 use std::os::raw::c_int;
@@ -45,7 +49,7 @@ pub unsafe extern "C" fn RedisModule_OnLoad(
         return ERR;
     }
     (api.set_module_attributes)(context, name, 1, API_VERSION);
-    (api.set_module_options)(context, HANDLE_IO_ERRORS);
+    (api.set_module_options)(context, HANDLE_IO_ERRORS | NO_IMPLICIT_SIGNALS);
     allocator::begin(&api);
     server::keep(api);
     let engine = match Engine::new() {
@@ -60,7 +64,6 @@ pub unsafe extern "C" fn RedisModule_OnLoad(
     if !is_ready {
         return ERR;
     }
-    config::warn_of_rewrites(context);
     direct::begin(Server::of(context));
     OK
 }

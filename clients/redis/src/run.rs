@@ -1,16 +1,22 @@
 //! The commands that run a class on an entry.
 use crate::api::Text;
-use crate::engine::{exception_name, Arg, Call, Done, INTEGER, KEEP, LONG, NULL, PUT, THREW};
-use crate::entry::{self, Entry, Lifetime};
+use crate::classes::{Place, NO_CLASS_HERE};
+use crate::config::{most_steps, STEPS_SETTING};
+use crate::engine::{
+    exception_name, Arg, Call, Done, BOOLEAN, INTEGER, KEEP, LONG, NO_CLASS, NULL, PUT, THREW,
+};
+use crate::entry::{self, Access, Entry, Lifetime};
 use crate::server::{Answer, Failure, Server, Words};
-use crate::state::with_state;
+use crate::state::{with_state, COUNTERS};
 use crate::words::{arg_of, key_of, long_of};
 
 const MOST_ARGS: usize = 8;
 
 /// A class and its arguments, to run on one or more keys.
 pub struct Plan {
-    number: u32,
+    place: Place,
+    /// The most instructions of a run.
+    steps: u32,
     args: [Arg; MOST_ARGS],
     count: usize,
 }
@@ -20,11 +26,8 @@ impl Plan {
     pub fn of_class(words: Words, id: usize) -> Result<Plan, Failure> {
         let digits = words.bytes(id)?;
         // SAFETY: commands run on the main thread, after the load.
-        let number = unsafe {
-            with_state(|state| state.classes.find(digits).map(|class| class.verdict.number))
-        };
-        let number = number.ok_or("NOCLASS no class of this id here: JENTRY.DEFINE it")?;
-        Ok(Plan { number, args: [Arg::default(); MOST_ARGS], count: 0 })
+        let (place, steps) = unsafe { with_state(|state| state.classes.place(digits))? };
+        Ok(Plan { place, steps, args: [Arg::default(); MOST_ARGS], count: 0 })
     }
 
     /// Adds all of these words as arguments.
@@ -34,8 +37,22 @@ impl Plan {
             return Err("ERR more than eight arguments".into());
         }
         for (place, arg) in self.args.iter_mut().enumerate().take(self.count) {
-            *arg = arg_of(words.bytes(place)?)
-                .ok_or_else(|| format!("ERR argument {} is no long, Integer or null", place + 1))?;
+            *arg = arg_of(words.bytes(place)?).ok_or_else(|| {
+                format!("ERR argument {} is no long, Integer, Boolean or null", place + 1)
+            })?;
+        }
+        Ok(self)
+    }
+
+    /// Checks that runs on this many keys take no more instructions together than the server allows. A run on one key is always allowed,
+    /// because DEFINE has checked it.
+    fn held_to(self, keys: usize, most: u32) -> Result<Plan, Failure> {
+        let steps = keys as u64 * u64::from(self.steps);
+        if keys > 1 && steps > most.into() {
+            return Err(format!(
+                "COSTLY steps {steps} on {keys} keys, and this server takes {most} ({STEPS_SETTING}): name fewer keys"
+            )
+            .into());
         }
         Ok(self)
     }
@@ -43,25 +60,21 @@ impl Plan {
     /// Runs the class on the entry `before`. Returns its result and what to do to the entry, but changes nothing.
     pub fn run(&self, key: i64, before: Option<i64>) -> Result<Done, Failure> {
         let call = Call {
-            number: self.number,
             present: before.is_some().into(),
             key,
             before: before.unwrap_or(0),
+            ..Call::default()
         };
         let args = self.args.get(..self.count).unwrap_or(&[]);
         // SAFETY: commands run on the main thread, after the load.
-        let done = unsafe {
-            with_state(|state| {
-                let done = state.classes.invoke(&call, args);
-                if done.outcome <= THREW {
-                    state.counters.ran(&done);
-                }
-                done
-            })
-        };
+        let done = unsafe { with_state(|state| state.classes.invoke(self.place, &call, args)) };
+        if done.has_run() {
+            COUNTERS.ran(&done);
+        }
         match done.outcome {
-            NULL | LONG | INTEGER => Ok(done),
+            NULL | LONG | INTEGER | BOOLEAN => Ok(done),
             THREW => Err(format!("THREW {} {}", done.value, exception_name(done.value)).into()),
+            NO_CLASS => Err(NO_CLASS_HERE.into()),
             denied => Err(format!("ERR the engine denied the call ({denied})").into()),
         }
     }
@@ -79,12 +92,12 @@ fn apply(server: Server, words: Words, key: *mut Text, before: Entry, done: &Don
         match done.effect {
             KEEP => Ok(()),
             PUT => entry::set(server, words, key, before, done.put, Lifetime::Keep),
-            _ => entry::delete(server, key),
+            _ => entry::delete(server, key, before),
         }
     }
 }
 
-/// Replies the result of a run.
+/// Replies the result of a run; a Boolean as 1 or 0.
 pub fn reply_value(server: Server, done: &Done) {
     if done.outcome == NULL {
         server.reply_null();
@@ -98,7 +111,8 @@ pub fn reply_type(server: Server, done: &Done) {
     server.reply_text(match done.outcome {
         NULL => b"null",
         LONG => b"Long",
-        _ => b"Integer",
+        INTEGER => b"Integer",
+        _ => b"Boolean",
     });
 }
 
@@ -120,7 +134,7 @@ fn invoke_on(
     number: i64,
 ) -> Result<Done, Failure> {
     // SAFETY: the key is an argument of the command.
-    let before = unsafe { entry::read(server, key)? };
+    let before = unsafe { entry::read(server, key, Access::Write)? };
     let done = plan.run(number, before.value)?;
     apply(server, words, key, before, &done)?;
     Ok(done)
@@ -160,7 +174,7 @@ pub fn peek(server: Server, words: Words) -> Answer {
     let number = number_of(name)?;
     let plan = plan.with_args(words.from(3))?;
     // SAFETY: the key is an argument of the command.
-    let done = plan.run(number, unsafe { entry::read(server, key)?.value })?;
+    let done = plan.run(number, unsafe { entry::read(server, key, Access::Read)?.value })?;
     if done.effect != KEEP {
         return Err("WRITES the processor changes the entry: JENTRY.INVOKE it".into());
     }
@@ -179,6 +193,7 @@ pub fn invoke_all(server: Server, words: Words) -> Answer {
         return Err("ERR Number of keys can't be greater than number of args".into());
     }
     let plan = Plan::of_class(words, 1)?.with_args(words.from(3 + count))?;
+    let plan = plan.held_to(count, most_steps())?;
     server.reply_array(count);
     for place in 3..3 + count {
         let done = number_of(words.bytes(place)?)

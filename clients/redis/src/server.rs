@@ -22,6 +22,12 @@ pub unsafe fn api() -> &'static Api {
     &*API.load(Ordering::Acquire)
 }
 
+/// Returns the time in milliseconds since 1970.
+pub fn now() -> i64 {
+    // SAFETY: nothing asks for the time before `keep`.
+    unsafe { (api().milliseconds)() }
+}
+
 /// The reasons for which a command fails.
 pub enum Failure {
     /// The text of the error reply.
@@ -98,17 +104,58 @@ impl Server {
         unsafe { (self.api.context_flags)(self.context) & flags == flags }
     }
 
-    /// Writes a line to the server's log.
+    /// Returns the name of the user whose connection sent the command. There is none for a script and for a command of a module.
+    pub fn user(self) -> Option<Vec<u8>> {
+        // SAFETY: the context is that of a command, and the string is freed once.
+        unsafe {
+            let id = (self.api.client_id)(self.context);
+            let text = (self.api.client_user)(self.context, id);
+            if text.is_null() {
+                return None;
+            }
+            let mut length = 0;
+            let bytes = (self.api.text_bytes)(text, &mut length);
+            let name = slice::from_raw_parts(bytes, length).to_vec();
+            (self.api.free_text)(self.context, text);
+            Some(name)
+        }
+    }
+
+    /// Writes a warning to the server's log.
     pub fn warn(self, text: &str) {
+        self.log(b"warning\0", text);
+    }
+
+    /// Writes a line to the server's log that is no warning.
+    pub fn notice(self, text: &str) {
+        self.log(b"notice\0", text);
+    }
+
+    fn log(self, level: &'static [u8], text: &str) {
         let text = CString::new(text).unwrap_or_default();
         unsafe {
             (self.api.log)(
                 self.context,
-                b"warning\0".as_ptr().cast(),
+                level.as_ptr().cast(),
                 b"%s\0".as_ptr().cast(),
                 text.as_ptr(),
             )
         };
+    }
+
+    /// Returns whether a setting of the server has a value that fits.
+    pub fn has_setting(self, name: &'static [u8], fits: impl Fn(&[u8]) -> bool) -> bool {
+        // SAFETY: the names end with zero bytes, and the reply is freed once.
+        unsafe {
+            let reply = (self.api.call)(
+                self.context,
+                b"CONFIG\0".as_ptr().cast(),
+                b"cc\0".as_ptr().cast(),
+                b"GET\0".as_ptr(),
+                name.as_ptr(),
+            );
+            Called::of(self, reply).map_or(false, |called| called.element(1).map_or(false, fits))
+        }
     }
 
     /// Sends a message to the other nodes of the cluster.
@@ -233,19 +280,30 @@ impl Called {
         }
     }
 
-    /// Returns whether it is an array that contains this text.
-    pub fn holds(&self, text: &[u8]) -> bool {
-        let length = unsafe { (self.api.reply_length)(self.reply.as_ptr()) };
-        (0..length).any(|place| unsafe {
-            let mut length = 0;
-            let element = (self.api.reply_element)(self.reply.as_ptr(), place);
-            let at = if element.is_null() {
-                null()
-            } else {
-                (self.api.reply_bytes)(element, &mut length)
-            };
-            !at.is_null() && slice::from_raw_parts(at, length) == text
-        })
+    /// Returns the length of an array.
+    pub fn length(&self) -> usize {
+        unsafe { (self.api.reply_length)(self.reply.as_ptr()) }
+    }
+
+    /// Returns the element of an array at an index, if it is a text.
+    pub fn element(&self, place: usize) -> Option<&[u8]> {
+        // SAFETY: the element lasts as long as the reply.
+        unsafe { self.text_of((self.api.reply_element)(self.reply.as_ptr(), place)) }
+    }
+
+    unsafe fn text_of(&self, reply: *mut Reply) -> Option<&[u8]> {
+        let mut length = 0;
+        let at = if reply.is_null() { null() } else { (self.api.reply_bytes)(reply, &mut length) };
+        (!at.is_null()).then(|| slice::from_raw_parts(at, length))
+    }
+
+    /// Returns whether an element of the reply to MODULE LIST is about the module with this name.
+    pub fn is_module(&self, place: usize, name: &[u8]) -> bool {
+        // SAFETY: the elements last as long as the reply. The element is a list of names and values, and `name` is the first.
+        unsafe {
+            let module = (self.api.reply_element)(self.reply.as_ptr(), place);
+            !module.is_null() && self.text_of((self.api.reply_element)(module, 1)) == Some(name)
+        }
     }
 }
 

@@ -3,61 +3,87 @@ use crate::api::{Context, InfoContext};
 use crate::classes::Classes;
 use crate::engine::{Done, Engine, THREW};
 use crate::server::api;
-use std::ffi::CString;
+use std::fmt::Arguments;
+use std::io::Write;
 use std::os::raw::c_int;
 use std::ptr::null_mut;
-use std::sync::atomic::{AtomicPtr, Ordering};
+use std::sync::atomic::{AtomicPtr, AtomicU64, Ordering};
 
-/// Counts since the start of the server.
-#[derive(Default)]
-pub struct Counters {
-    pub runs: u64,
-    pub steps: u64,
-    pub costly: u64,
-    /// One count for each exception, 1 to 6.
-    exceptions: [u64; 6],
-    /// One count for each refusal, 1 to 30.
-    refusals: [u64; 30],
+/// A number that the main thread alone changes, and that a crash report reads, on whichever thread and in the middle of whichever command.
+pub struct Count(AtomicU64);
+
+impl Count {
+    #[allow(clippy::declare_interior_mutable_const)]
+    const ZERO: Count = Count(AtomicU64::new(0));
+
+    fn get(&self) -> u64 {
+        self.0.load(Ordering::Relaxed)
+    }
+
+    pub fn set(&self, number: u64) {
+        self.0.store(number, Ordering::Relaxed);
+    }
+
+    pub fn add(&self, number: u64) {
+        self.set(self.get().wrapping_add(number));
+    }
 }
 
+/// Counts of the classes, and since the start of the server.
+pub struct Counters {
+    pub classes: Count,
+    pub class_bytes: Count,
+    runs: Count,
+    steps: Count,
+    pub costly: Count,
+    /// One count for each exception, 1 to 6.
+    exceptions: [Count; 6],
+    /// One count for each refusal, 1 to 30.
+    refusals: [Count; 30],
+}
+
+pub static COUNTERS: Counters = Counters {
+    classes: Count::ZERO,
+    class_bytes: Count::ZERO,
+    runs: Count::ZERO,
+    steps: Count::ZERO,
+    costly: Count::ZERO,
+    exceptions: [Count::ZERO; 6],
+    refusals: [Count::ZERO; 30],
+};
+
 /// Increments the count for a number that starts at 1.
-fn count_in(counts: &mut [u64], number: u64) {
+fn count_in(counts: &[Count], number: u64) {
     let place = usize::try_from(number).ok().and_then(|number| number.checked_sub(1));
-    if let Some(count) = place.and_then(|place| counts.get_mut(place)) {
-        *count = count.wrapping_add(1);
+    if let Some(count) = place.and_then(|place| counts.get(place)) {
+        count.add(1);
     }
 }
 
 impl Counters {
-    pub fn ran(&mut self, done: &Done) {
-        self.runs = self.runs.wrapping_add(1);
-        self.steps = self.steps.wrapping_add(done.steps.into());
+    pub fn ran(&self, done: &Done) {
+        self.runs.add(1);
+        self.steps.add(done.steps.into());
         if done.outcome == THREW {
-            count_in(&mut self.exceptions, done.value.unsigned_abs());
+            count_in(&self.exceptions, done.value.unsigned_abs());
         }
     }
 
-    pub fn refused(&mut self, refusal: u32) {
-        count_in(&mut self.refusals, refusal.into());
+    pub fn refused(&self, refusal: u32) {
+        count_in(&self.refusals, refusal.into());
     }
 }
 
 pub struct State {
     pub classes: Classes,
-    pub counters: Counters,
 }
 
 static STATE: AtomicPtr<State> = AtomicPtr::new(null_mut());
 
 /// Creates the state, for the lifetime of the server.
 pub fn begin(engine: Engine) {
-    STATE.store(
-        Box::into_raw(Box::new(State {
-            classes: Classes::new(engine),
-            counters: Counters::default(),
-        })),
-        Ordering::Release,
-    );
+    let state = Box::new(State { classes: Classes::new(engine) });
+    STATE.store(Box::into_raw(state), Ordering::Release);
 }
 
 /// Runs an action on the state. The action must not call a server function that runs commands, since such a command could be one of the
@@ -70,30 +96,36 @@ pub unsafe fn with_state<T>(action: impl FnOnce(&mut State) -> T) -> T {
     action(&mut *STATE.load(Ordering::Acquire))
 }
 
-/// Writes the section `jentry` of INFO. Redis puts the module's name and `_` before the name of each field.
+/// The most bytes of a field's name, with the zero byte at its end.
+const MOST_NAME: usize = 32;
+
+/// Writes one field of INFO, without allocating.
+unsafe fn tell(context: *mut InfoContext, name: Arguments, count: &Count) {
+    let mut text = [0; MOST_NAME];
+    // A name that is too long is cut off before the last zero byte.
+    let _ = text.get_mut(..MOST_NAME - 1).map(|mut room| room.write_fmt(name));
+    (api().info_count)(context, text.as_ptr().cast(), count.get());
+}
+
+/// Writes the section `jentry` of INFO. Redis puts the module's name and `_` before the name of each field. A crash report calls it, too, so
+/// it reads the counters alone.
 ///
 /// # Safety
-/// Only Redis may call it, on its main thread.
+/// Only Redis may call it.
 pub unsafe extern "C" fn inform(context: *mut InfoContext, _is_crash: c_int) {
-    let tell = |name: &str, count: u64| {
-        let name = CString::new(name).unwrap_or_default();
-        (api().info_count)(context, name.as_ptr(), count);
-    };
     (api().info_section)(context, b"\0".as_ptr().cast());
-    with_state(|state| {
-        let classes = state.classes.all();
-        tell("classes", classes.len() as u64);
-        tell("class_bytes", classes.iter().map(|class| class.bytes.len() as u64).sum());
-        tell("runs_total", state.counters.runs);
-        tell("steps_total", state.counters.steps);
-        for (number, count) in (1..).zip(state.counters.exceptions) {
-            tell(&format!("exceptions_{number}_total"), count);
-        }
-        for (number, count) in (1..).zip(state.counters.refusals) {
-            tell(&format!("refusals_{number}_total"), count);
-        }
-        tell("costly_total", state.counters.costly);
-    });
+    let told = &COUNTERS;
+    tell(context, format_args!("classes"), &told.classes);
+    tell(context, format_args!("class_bytes"), &told.class_bytes);
+    tell(context, format_args!("runs_total"), &told.runs);
+    tell(context, format_args!("steps_total"), &told.steps);
+    for (number, count) in (1..).zip(&told.exceptions) {
+        tell(context, format_args!("exceptions_{number}_total"), count);
+    }
+    for (number, count) in (1..).zip(&told.refusals) {
+        tell(context, format_args!("refusals_{number}_total"), count);
+    }
+    tell(context, format_args!("costly_total"), &told.costly);
 }
 
 /// Registers the function for INFO. Returns whether that succeeded.

@@ -1,5 +1,5 @@
 //! Parses the arguments of commands: numbers, keys, processor arguments, ids.
-use crate::engine::{Arg, INTEGER, LONG, NULL};
+use crate::engine::{Arg, BOOLEAN, INTEGER, LONG, NULL};
 
 /// The maximum number of digits of a long, without leading zeros.
 const MOST_DIGITS: usize = 19;
@@ -54,11 +54,13 @@ pub fn key_of(name: &[u8]) -> Option<i64> {
     }
 }
 
-/// Parses an argument: a long, an Integer (digits and `i`), or `null`.
+/// Parses an argument: a long, an Integer (digits and `i`), `false`, `true` or `null`.
 pub fn arg_of(word: &[u8]) -> Option<Arg> {
     let of = |kind, value| Arg { kind, unused: 0, value };
     match word {
         b"null" => Some(of(NULL, 0)),
+        b"false" => Some(of(BOOLEAN, 0)),
+        b"true" => Some(of(BOOLEAN, 1)),
         [digits @ .., b'i'] => long_of(digits)
             .filter(|number| i32::try_from(*number).is_ok())
             .map(|value| of(INTEGER, value)),
@@ -69,11 +71,12 @@ pub fn arg_of(word: &[u8]) -> Option<Arg> {
 /// A class's id: the SHA-1 of its file.
 pub type Id = [u8; 20];
 
-/// Returns the value of a hexadecimal digit, `a` to `f` in lower case.
+/// Returns the value of a hexadecimal digit.
 fn digit_of(byte: u8) -> Option<u8> {
     match byte {
         b'0'..=b'9' => Some(byte - b'0'),
         b'a'..=b'f' => Some(byte - b'a' + 10),
+        b'A'..=b'F' => Some(byte - b'A' + 10),
         _ => None,
     }
 }
@@ -93,7 +96,17 @@ pub fn id_of(text: &[u8]) -> Option<Id> {
     Some(id)
 }
 
-/// Returns the forty hexadecimal digits of an id.
+/// The maximum number of bytes of a wrong argument that an error shows.
+const SHOWN: usize = 48;
+
+/// Returns the error for an argument that is no id.
+pub fn no_id(text: &[u8]) -> String {
+    let shown = text.get(..SHOWN).unwrap_or(text).escape_ascii();
+    let more = if text.len() > SHOWN { ".." } else { "" };
+    format!("ERR '{shown}{more}' is no class id: an id has 40 hexadecimal digits")
+}
+
+/// Returns the forty hexadecimal digits of an id in lower case.
 pub fn digits_of(id: &Id) -> [u8; 40] {
     let mut text = [0; 40];
     for (digits, byte) in text.chunks_exact_mut(2).zip(id) {

@@ -19,6 +19,18 @@ class Applied(OneServer):
         self.assertEqual(self.ask("EXISTS", "v:1"), 0)
         self.assertEqual(self.apply(-1, -1, -1, "do", cas, "v:1", 1, 2)[:5], [0, b"Integer", b"keep", None, None])
 
+    def test_booleans(self):
+        reserve = self.define(self.line, "Reserve")
+        self.line.get("SET", "v:1", 41)
+        for words, wanted in (
+            (["dry", reserve, "v:1", 40, "false"], [1, b"Boolean", b"put", b"41", b"1", 51, 0]),
+            (["do", reserve, "v:1", 40, "true"], [1, b"Boolean", b"keep", b"41", b"41", 48, 0]),
+            (["do", reserve, "v:1", 40], [1, b"Boolean", b"put", b"41", b"1", 45, 0]),
+            (["do", reserve, "v:1", 40], [0, b"Boolean", b"keep", b"1", b"1", 38, 0]),
+            (["do", reserve, "v:2", 40], [None, b"null", b"keep", None, None, 22, 0]),
+        ):
+            self.assertEqual(self.apply(-1, -1, -1, *words), wanted)
+
     def test_a_put_of_the_value_that_is_there_is_an_update(self):
         self.line.get("SET", "v:1", 10, "PX", 100_000)
         self.assertEqual(self.ask("JENTRY.DETAIL", self.add, "v:1", 0)[2], b"keep")
@@ -97,7 +109,9 @@ class Applied(OneServer):
         self.fails(self.apply(-1, -1, -1, "did", self.add, "v:1", 1), "ERR the mode is do or dry")
         self.fails(self.apply(-1, -1, -1, "do", "0" * 40, "v:1", 1), NO_CLASS)
         self.fails(self.apply(-1, -1, -1, "do", self.add, "v", 1), NO_KEY)
-        self.fails(self.apply(-1, -1, -1, "do", self.add, "v:1", "x"), "ERR argument 1 is no long, Integer or null")
+        self.fails(
+            self.apply(-1, -1, -1, "do", self.add, "v:1", "x"), "ERR argument 1 is no long, Integer, Boolean or null"
+        )
         self.fails(self.apply(-1, -1, -1, "do", self.add, "v:1", *range(9)), "ERR more than eight arguments")
         self.fails(self.apply(-1, -1, -1, "DRY", self.add, "v:1"), "THREW 2 ArrayIndexOutOfBoundsException")
         self.fails(

@@ -89,3 +89,7 @@ class PythonRedisCluster(unittest.TestCase):
         with Cluster() as cluster:
             told = self.run_client("cluster", cluster.nodes[0].port, os.path.join(EXAMPLES, "Add.class"))
             self.assertEqual(told, ["24 24", "None ResponseError THREW 2 ArrayIndexOutOfBoundsException"])
+            # The client forgets the class at the end.
+            for node in cluster.masters():
+                with node.open() as line:
+                    self.assertEqual(line.get("JENTRY.LIST"), [])

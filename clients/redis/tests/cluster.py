@@ -27,7 +27,9 @@ class Cluster:
                 self.add_server()
             hosts = [f"127.0.0.1:{node.port}" for node in self.nodes]
             cli("--cluster", "create", *hosts, "--cluster-replicas", replicas, "--cluster-yes")
-            wait_for(lambda: all(self.is_settled(node, len(self.nodes)) for node in self.nodes), "the cluster")
+            wait_for(
+                lambda: all(self.is_settled(node, len(self.nodes), replicas) for node in self.nodes), "the cluster"
+            )
         except BaseException:
             self.__exit__()
             raise
@@ -38,7 +40,7 @@ class Cluster:
         return node
 
     @staticmethod
-    def is_settled(node, count):
+    def is_settled(node, count, has_replicas=True):
         with node.open() as line:
             info = dict(row.split(":") for row in line.get("CLUSTER", "INFO").decode().splitlines())
             rows = line.get("CLUSTER", "NODES").decode().splitlines()
@@ -49,7 +51,7 @@ class Cluster:
             and len(rows) == count
             and all("connected" in row for row in rows)
             and is_linked
-            and len(replicas) > 0
+            and (len(replicas) > 0 or not has_replicas)
         )
 
     def role(self, node):

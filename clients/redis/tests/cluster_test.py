@@ -82,13 +82,20 @@ class Definitions(OneCluster):
             self.assertEqual(client.ask("{v}:1", "JENTRY.INVOKEALL", self.add, 2, "{v}:1", "{v}:2", 1), [1, 1])
             self.assertEqual(client.ask("{v}:1", "JENTRY.APPLY", -1, -1, -1, "do", self.add, "{v}:1", 1)[0], 2)
 
+    def test_one_command_forgets_a_class_at_all_nodes(self):
+        words = ["JENTRY.FORGET", self.add.decode()]
+        told = cli("--cluster", "call", f"127.0.0.1:{self.cluster.nodes[0].port}", *words, "--cluster-only-masters")
+        self.assertEqual(told.count(": 1\n"), 3, told)
+        wait_for(lambda: all(ids_at(node) == [] for node in self.cluster.nodes), "no class at all six nodes")
+
     def test_a_class_that_is_costly_elsewhere_is_left_out_there(self):
         first, second = self.cluster.masters()[:2]
         with first.open() as line, second.open() as other:
             other.get("CONFIG", "SET", "jentry.max-steps", 1)
             plus = self.define(line, "Plus")
             wait_for(
-                lambda: "a class of another node is left out: COSTLY steps 14, and this server takes 1" in second.log(),
+                lambda: "a class of another node is left out: COSTLY steps 14, and this server takes 1 (jentry.max-steps)"
+                in second.log(),
                 "the line of the log",
             )
             self.assertNotIn(plus, ids_at(second))

@@ -3,6 +3,7 @@ import hashlib
 import os
 import random
 import re
+import time
 
 from module_test import NEEDS_PROGRAM, NO_CLASS, ModuleTest
 from servers import ReplyError, Server, class_file, examples, path_of, program, row_classes
@@ -42,18 +43,87 @@ class Classes(OneServer):
     def test_list_and_class(self):
         plus = self.define(self.line, "Plus")
         listed = {row[0]: row[1:] for row in self.line.get("JENTRY.LIST")}
-        self.assertEqual(listed[self.add], [29, 0, 17, 2, len(class_file("Add"))])
-        self.assertEqual(listed[plus], [14, 0, 9, 1, len(class_file("Plus"))])
+        self.assertEqual(listed[self.add][:7], [29, 0, 17, 2, len(class_file("Add")), b"Add", b"default"])
+        self.assertEqual(listed[plus][:7], [14, 0, 9, 1, len(class_file("Plus")), b"Row", b"default"])
         self.assertEqual(list(listed), sorted(listed))
         self.assertEqual(self.line.get("JENTRY.CLASS", plus), class_file("Plus"))
-        for unknown in (b"0" * 40, plus.upper(), plus[:-1], plus + b"0", b"", b"g" * 40):
-            self.assertIsNone(self.line.get("JENTRY.CLASS", unknown))
+        self.assertIsNone(self.line.get("JENTRY.CLASS", b"0" * 40))
+
+    def test_ids_in_upper_case_and_texts_that_are_no_ids(self):
+        self.assertEqual(self.line.get("JENTRY.CLASS", self.add.upper()), class_file("Add"))
+        self.assertEqual(self.line.get("JENTRY.INVOKE", self.add.upper(), "v:1", 5), 5)
+        self.assertEqual(self.line.get("JENTRY.INVOKE", self.add[:20] + self.add[20:].upper(), "v:1", 5), 10)
+        mixed = {b"": "", b"g" * 40: "g" * 40, self.add[:-1]: None, self.add + b"0": None, b"a\0b\r\n": r"a\x00b\r\n"}
+        for text, shown in {**mixed, b"x" * 100: "x" * 48 + ".."}.items():
+            shown = text.decode() if shown is None else shown
+            for words in (
+                ["INVOKE", text, "v:1", 5],
+                ["DETAIL", text, "v:1", 5],
+                ["PEEK", text, "v:1", 5],
+                ["INVOKEALL", text, 1, "v:1", 5],
+                ["APPLY", -1, -1, -1, "do", text, "v:1", 5],
+                ["CLASS", text],
+                ["FORGET", text],
+                ["EXISTS", self.add, text],
+                ["STATS", self.add, text],
+            ):
+                self.fails(
+                    self.ask("JENTRY." + words[0], *words[1:]),
+                    f"ERR '{shown}' is no class id: an id has 40 hexadecimal digits",
+                )
+        self.assertEqual(self.ask("GET", "v:1"), b"10")
+        self.assertEqual(self.ask("JENTRY.FORGET", self.add.upper()), 1)
+
+    def test_names(self):
+        """A class in a package has dots in its name; that of Plus is Row."""
+        plus = class_file("Plus").replace(b"\1\0\3Row", b"\1\0\x0borg/a/b/Row")
+        named = {self.line.get("JENTRY.DEFINE", plus)[0]: b"org.a.b.Row", self.add: b"Add"}
+        named[self.define(self.line, "CompareAndSet")] = b"CompareAndSet"
+        told = {row[0]: row[6] for row in self.line.get("JENTRY.LIST")}
+        self.assertEqual({name: told[name] for name in named}, named)
+
+    def test_stats(self):
+        plus, cas = self.define(self.line, "Plus"), self.define(self.line, "CompareAndSet")
+        for row in self.line.get("JENTRY.STATS"):
+            self.line.get("JENTRY.FORGET", row[0])
+        for name in ("Add", "Plus", "CompareAndSet"):
+            self.define(self.line, name)
+        begun = time.time() * 1000
+        self.ask("JENTRY.INVOKE", self.add, "v:1", 5)
+        self.ask("JENTRY.INVOKE", self.add, "v:1", 5)
+        self.ask("JENTRY.INVOKEALL", self.add, 2, "v:1", "v:2")
+        self.ask("JENTRY.PEEK", plus, "v:1")
+        self.ask("JENTRY.APPLY", -1, -1, -1, "dry", plus, "v:1")
+        told = {row[0]: row[1:] for row in self.line.get("JENTRY.STATS")}
+        self.assertEqual([told[self.add][place] for place in (0, 1, 3)], [b"Add", 4, 2])
+        steps = 23 + 29 + self.line.get("JENTRY.STATS", plus)[0][3]
+        self.assertTrue(steps - 28 < told[self.add][2] + told[plus][2] - 0 < steps + 2 * 29, told)
+        self.assertEqual([told[plus][place] for place in (0, 1, 3)], [b"Row", 2, 0])
+        self.assertEqual(told[cas], [b"CompareAndSet", 0, 0, 0, None])
+        for name in (self.add, plus):
+            self.assertTrue(begun - 1 <= told[name][4] <= time.time() * 1000 + 1)
+        some = self.line.get("JENTRY.STATS", plus, "0" * 40, self.add.upper())
+        self.assertEqual([row and row[0] for row in some], [plus, None, self.add])
+        self.line.get("JENTRY.FORGET", plus)
+        self.define(self.line, "Plus")
+        self.assertEqual(self.line.get("JENTRY.STATS", plus), [[plus, b"Row", 0, 0, 0, None]])
+
+    def test_exists(self):
+        self.assertEqual(self.ask("JENTRY.EXISTS", self.add), [1])
+        self.assertEqual(self.ask("JENTRY.EXISTS", "0" * 40, self.add.upper(), self.add), [0, 1, 1])
+        self.line.get("JENTRY.FORGET", self.add)
+        self.line.get("MULTI")
+        self.ask("JENTRY.EXISTS", self.add)
+        self.ask("JENTRY.DEFINE", class_file("Add"))
+        self.ask("JENTRY.EXISTS", self.add)
+        told = self.ask("EXEC")
+        self.assertEqual((told[0], told[2]), ([0], [1]))
 
     def test_forget(self):
         count = len(self.line.get("JENTRY.LIST"))
         self.assertEqual(self.ask("JENTRY.FORGET", self.add), 1)
         self.assertEqual(self.ask("JENTRY.FORGET", self.add), 0)
-        self.assertEqual(self.ask("JENTRY.FORGET", b"no id"), 0)
+        self.assertEqual(self.ask("JENTRY.FORGET", b"0" * 40), 0)
         self.assertEqual(len(self.line.get("JENTRY.LIST")), count - 1)
         self.fails(self.ask("JENTRY.INVOKE", self.add, "v:1", 5), NO_CLASS)
         plus = self.define(self.line, "Plus")
@@ -117,6 +187,49 @@ class Classes(OneServer):
             again = line.get("JENTRY.DEFINE", plus.replace(b"\1\0\3Row", b"\1\0\7Row0007"))
             self.assertEqual(line.ask("JENTRY.FORGET", again[0]), 1)
             self.assertEqual(line.get("JENTRY.DEFINE", plus)[1], 14)
+
+
+class Documented(OneServer):
+    def test_help(self):
+        lines = [line.decode() for line in self.line.get("JENTRY.HELP")]
+        known = {row[0].decode().upper(): row[1] for row in self.line.get("COMMAND") if row[0].startswith(b"jentry.")}
+        self.assertEqual({line.split()[0] for line in lines[::2]}, set(known))
+        self.assertIn("JENTRY.INVOKE ID KEY [ARG ..]", lines)
+        self.assertIn("    Runs a class on an entry.", lines)
+        for line in lines[::2]:
+            words = line.replace(" ..", "").split()
+            least = sum(not word.startswith("[") for word in words)
+            self.assertEqual(known[words[0]], -least if ".." in line else least, line)
+
+    def documented(self, name):
+        """Returns the arguments of COMMAND DOCS: for each its name, its type, its flags, and what it is one of."""
+        pairs = lambda told: dict(zip(told[::2], told[1::2]))
+        arguments = pairs(self.line.get("COMMAND", "DOCS", name)[1]).get(b"arguments", [])
+        row = lambda it: (
+            it[b"name"],
+            it[b"type"],
+            it.get(b"flags", []),
+            [pairs(part) for part in it.get(b"arguments", [])],
+        )
+        return [row(pairs(it)) for it in arguments]
+
+    def test_arguments(self):
+        several = (b"arg", b"string", [b"optional", b"multiple"], [])
+        self.assertEqual(
+            self.documented("jentry.invokeall"),
+            [(b"id", b"string", [], []), (b"n", b"integer", [], []), (b"key", b"key", [b"multiple"], []), several],
+        )
+        told = self.documented("jentry.apply")
+        self.assertEqual(
+            [row[0] for row in told], [b"created", b"updated", b"accessed", b"mode", b"id", b"key", b"arg"]
+        )
+        self.assertEqual(told[3][1], b"oneof")
+        self.assertEqual(
+            [(it[b"name"], it[b"type"], it[b"token"]) for it in told[3][3]],
+            [(b"do", b"pure-token", b"do"), (b"dry", b"pure-token", b"dry")],
+        )
+        self.assertEqual(self.documented("jentry.list"), [])
+        self.assertEqual(self.documented("jentry.exists"), [(b"id", b"string", [b"multiple"], [])])
 
 
 class Runs(OneServer):
@@ -244,6 +357,8 @@ class Runs(OneServer):
             (1, ["-2147483649i"]),
             (1, ["i"]),
             (1, ["NULL"]),
+            (1, ["TRUE"]),
+            (1, ["falsei"]),
             (1, ["+1"]),
             (1, ["007"]),
             (1, ["9223372036854775808"]),
@@ -251,11 +366,27 @@ class Runs(OneServer):
             (8, [1, 2, 3, 4, 5, 6, 7, "8x"]),
         ]:
             self.fails(
-                self.ask("JENTRY.INVOKE", self.add, "v:1", *words), f"ERR argument {place} is no long, Integer or null"
+                self.ask("JENTRY.INVOKE", self.add, "v:1", *words),
+                f"ERR argument {place} is no long, Integer, Boolean or null",
             )
         self.fails(self.ask("JENTRY.INVOKE", self.add, "v:1", *range(9)), "ERR more than eight arguments")
         self.assertEqual(self.ask("EXISTS", "v:1"), 0)
         self.assertEqual(self.ask("JENTRY.INVOKE", self.add, "v:1", *range(1, 9)), 1)
+
+    def test_booleans(self):
+        reserve = self.define(self.line, "Reserve")
+        self.line.get("SET", "v:1", 41)
+        self.assertEqual(self.ask("JENTRY.INVOKE", reserve, "v:1", 50), 0)
+        self.assertEqual(self.ask("JENTRY.PEEK", reserve, "v:1", 40, "true"), 1)
+        self.assertEqual(self.ask("JENTRY.DETAIL", reserve, "v:1", 40, "true"), [1, b"Boolean", b"keep", 48, 0])
+        self.assertEqual(self.ask("JENTRY.DETAIL", reserve, "v:1", 40, "false"), [1, b"Boolean", b"put", 51, 0])
+        self.assertEqual(self.ask("JENTRY.DETAIL", reserve, "v:1", 40), [0, b"Boolean", b"keep", 38, 0])
+        self.assertEqual(self.ask("JENTRY.DETAIL", reserve, "v:2", 40), [None, b"null", b"keep", 22, 0])
+        self.assertEqual(self.ask("JENTRY.INVOKEALL", reserve, 3, "v:1", "v:2", "v:3", 1, "true"), [1, None, None])
+        self.assertEqual(self.ask("GET", "v:1"), b"1")
+        self.fails(self.ask("JENTRY.INVOKE", reserve, "v:1", 1, 1), "THREW 4 ClassCastException")
+        self.fails(self.ask("JENTRY.INVOKE", reserve, "v:1", 1, "null"), "THREW 3 NullPointerException")
+        self.fails(self.ask("JENTRY.INVOKE", self.add, "v:1", "true"), "THREW 4 ClassCastException")
 
     def test_thrown(self):
         self.line.get("SET", "v:1", 41)
@@ -271,7 +402,9 @@ class Runs(OneServer):
         self.fails(self.ask("JENTRY.INVOKE", "0" * 40, "v", "x"), NO_CLASS)
         self.fails(self.ask("JENTRY.INVOKE", self.add, "v", "x"), NO_KEY)
         self.line.get("SET", "v:1", "y")
-        self.fails(self.ask("JENTRY.INVOKE", self.add, "v:1", "x"), "ERR argument 1 is no long, Integer or null")
+        self.fails(
+            self.ask("JENTRY.INVOKE", self.add, "v:1", "x"), "ERR argument 1 is no long, Integer, Boolean or null"
+        )
 
     def test_arity(self):
         for words in (
@@ -283,6 +416,7 @@ class Runs(OneServer):
             ["LIST", 1],
             ["CLASS"],
             ["CLASS", 1, 2],
+            ["EXISTS"],
             ["EXPLAIN"],
             ["EXPLAIN", 1, 2],
             ["FORGET"],
@@ -328,7 +462,9 @@ def random_number():
 def random_call():
     """Returns a random key, entry and arguments."""
     words = [
-        random.choice([str(random_number()), str(random_number()), f"{random.randrange(2**31)}i", "null"])
+        random.choice(
+            [str(random_number()), str(random_number()), f"{random.randrange(2**31)}i", "null", "true", "false"]
+        )
         for _ in range(random.randrange(4))
     ]
     return random_number(), random.choice([None, random_number(), random_number()]), words
@@ -339,7 +475,8 @@ def lines_of(told, entry):
     value = "none" if entry is None else entry.decode()
     if isinstance(told, ReplyError):
         return str(told).replace("THREW", "threw") + f"\nvalue {value}\n"
-    result = "null" if told[1] == b"null" else f"{told[0]}i" if told[1] == b"Integer" else str(told[0])
+    words = {b"null": "null", b"Integer": f"{told[0]}i", b"Boolean": "true" if told[0] else "false"}
+    result = words.get(told[1], str(told[0]))
     return f"result {result}\nvalue {value}\nsteps {told[3]} words {told[4]}\n"
 
 
@@ -374,6 +511,8 @@ class SeveralKeys(OneServer):
             self.ask("JENTRY.INVOKEALL", self.add, MOST, "a:1", 1),
             "ERR Number of keys can't be greater than number of args",
         )
-        self.fails(self.ask("JENTRY.INVOKEALL", self.add, 1, "a:1", "x"), "ERR argument 1 is no long, Integer or null")
+        self.fails(
+            self.ask("JENTRY.INVOKEALL", self.add, 1, "a:1", "x"), "ERR argument 1 is no long, Integer, Boolean or null"
+        )
         self.fails(self.ask("JENTRY.INVOKEALL", self.add, 1, "a:1", *range(9)), "ERR more than eight arguments")
         self.assertEqual(self.ask("DBSIZE"), 0)

@@ -76,11 +76,10 @@ class Pages(OneServer):
                     self.assertEqual(self.run_here(command), printed)
 
     def test_readme(self):
+        """README's commands are the first of the page's session; tests/pages/blocks_test.py pastes the whole block."""
         (block,) = [block for block in blocks("README.md") if "redis-cli" in block]
-        build, cargo, server, *commands = block.splitlines()
-        self.assertEqual(build, "bin/build embed")
-        self.assertTrue(os.path.isfile(os.path.join(TOP, cargo.split()[-1])), cargo)
-        self.assertEqual(server, f"redis-server --loadmodule {BUILT} &")
+        self.assertIn(f" --loadmodule {BUILT}\n", block)
+        commands = [line.replace(" -p 6390", "") for line in block.splitlines() if line.startswith("redis-cli")]
         self.assertGreater(len(commands), 1)
         self.assertEqual(commands, [command for command, _ in start_of_the_page()[: len(commands)]])
 

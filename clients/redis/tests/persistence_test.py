@@ -1,6 +1,7 @@
 """Tests classes and values across restarts and in replicas, and the contents of their files and streams."""
 import os
 import re
+import time
 
 from module_test import NO_CLASS, ModuleTest
 from servers import ReplyError, Server, class_file, wait_for
@@ -102,35 +103,122 @@ class Restarts(ModuleTest):
 
 def rewrite(line):
     """Rewrites the AOF."""
-    wait_for(lambda: line.info("persistence")["aof_rewrite_in_progress"] == "0", "an earlier rewrite")
+
+    def is_done():
+        told = line.info("persistence")
+        return (told["aof_rewrite_in_progress"], told["aof_rewrite_scheduled"]) == ("0", "0")
+
+    wait_for(is_done, "an earlier rewrite")
     line.get("BGREWRITEAOF")
-    wait_for(
-        lambda: line.info("persistence")["aof_rewrite_in_progress"] == "0"
-        and line.info("persistence")["aof_rewrite_scheduled"] == "0",
-        "the rewrite",
-    )
+    wait_for(is_done, "the rewrite")
 
 
-class Pitfalls(ModuleTest):
-    def test_a_rewrite_without_an_rdb_part_loses_classes(self):
-        with Server("--appendonly", "yes", "--aof-use-rdb-preamble", "no") as server:
-            self.assertIn("aof-use-rdb-preamble is no: a rewrite of the AOF loses the classes", server.log())
+class RewritesAsCommands(ModuleTest):
+    """With `aof-use-rdb-preamble no` the AOF's first part has no place for classes: the next part defines them."""
+
+    def test_classes_outlive_rewrites(self):
+        options = ("--appendonly", "yes", "--appendfsync", "always", "--aof-use-rdb-preamble", "no")
+        with Server(*options) as server:
             with server.open() as line:
+                add, plus, ratio = (self.define(line, name) for name in ("Add", "Plus", "Ratio"))
+                line.get("JENTRY.INVOKE", add, "v:1", 41)
+            for _ in range(2):
+                with server.open() as line:
+                    rewrite(line)
+                    line.get("JENTRY.FORGET", ratio)
+                server.restart("kill")
+                with server.open() as line:
+                    self.assertEqual(ids_of(line), sorted([add, plus]))
+                    self.assertEqual(line.get("JENTRY.CLASS", add), class_file("Add"))
+                    ratio = self.define(line, "Ratio")
+            with server.open() as line:
+                self.assertEqual(line.ask("JENTRY.INVOKE", add, "v:1", 1), 42)
+
+    def test_an_aof_that_begins_later(self):
+        with Server("--aof-use-rdb-preamble", "no") as server, Server() as replica:
+            with server.open() as line, replica.open() as other:
+                other.get("REPLICAOF", "127.0.0.1", server.port)
+                wait_for(lambda: other.info("replication").get("master_link_status") == "up", "the link")
                 add = self.define(line, "Add")
                 line.get("JENTRY.INVOKE", add, "v:1", 41)
+                line.get("CONFIG", "SET", "appendonly", "yes")
+
+                def is_done():
+                    told = line.info("persistence")
+                    names = ("aof_rewrites", "aof_rewrite_in_progress", "rdb_bgsave_in_progress")
+                    return [told[name] for name in names] == ["1", "0", "0"]
+
+                wait_for(is_done, "the first rewrite")
+                line.get("BGSAVE")
+                self.assertEqual(line.ask("WAIT", 1, 10_000), 1)
+                self.assertEqual(ids_of(other), [add])
+            server.options += ("--appendonly", "yes")
             server.restart()
             with server.open() as line:
                 self.assertEqual(ids_of(line), [add])
-                rewrite(line)
-            server.restart()
-            with server.open() as line:
-                self.assertEqual(ids_of(line), [])
-                self.fails(line.ask("JENTRY.INVOKE", add, "v:1", 1), NO_CLASS)
-                self.define(line, "Add")
                 self.assertEqual(line.ask("JENTRY.INVOKE", add, "v:1", 1), 42)
-        with Server() as server:
-            self.assertNotIn("aof-use-rdb-preamble", server.log())
 
+
+def aux_of_version_1(*files):
+    """Returns an RDB file with the classes as version 1 of the data type has them: the number of classes and their files."""
+    letters = "ABCDEFGHIJKLMNOPQRSTUVWXYZabcdefghijklmnopqrstuvwxyz0123456789-_"
+    module = 0
+    for letter in "jentrycls":
+        module = module << 6 | letters.index(letter)
+    long = lambda number: b"\x80" + number.to_bytes(4, "big")
+    number = lambda value: long(2) + long(value)
+    text = lambda value: long(5) + long(len(value)) + value
+    aux = b"\xf7\x81" + (module << 10 | 1).to_bytes(8, "big") + number(1)
+    aux += number(len(files)) + b"".join(map(text, files)) + long(0)
+    return b"REDIS0010" + aux + b"\xff" + bytes(8)
+
+
+class Versions(ModuleTest):
+    def test_a_file_of_version_1(self):
+        with Server("--rdbchecksum", "no") as server:
+            server.end("kill")
+            with open(os.path.join(server.folder, "dump.rdb"), "wb") as file:
+                file.write(aux_of_version_1(class_file("Add"), class_file("Plus")))
+            server.start()
+            with server.open() as line:
+                told = {row[6]: row[7:] for row in line.get("JENTRY.LIST")}
+                self.assertEqual(told, {b"Add": [None, 0], b"Row": [None, 0]})
+                self.assertEqual(line.get("JENTRY.INVOKE", row_of(line, b"Add")[0], "v:1", 5), 5)
+                line.get("SAVE")
+            server.restart("kill")
+            with server.open() as line:
+                self.assertEqual(len(ids_of(line)), 2)
+
+
+def row_of(line, name):
+    """Returns the row of LIST for the class with this name."""
+    return next(row for row in line.get("JENTRY.LIST") if row[6] == name)
+
+
+class Origins(ModuleTest):
+    def test_who_defined_a_class_and_when(self):
+        with Server("--appendonly", "yes") as server, Server() as replica:
+            begun = time.time() * 1000
+            with server.open() as line, replica.open() as other:
+                line.get("ACL", "SETUSER", "ann", "on", "nopass", "+@all", "~*")
+                self.define(line, "Plus")
+                line.get("AUTH", "ann", "any")
+                self.define(line, "Add")
+                line.get("EVAL", "redis.call('JENTRY.DEFINE', ARGV[1])", 0, class_file("Lease"))
+                told = {row[6]: row[7:] for row in line.get("JENTRY.LIST")}
+                self.assertEqual([told[name][0] for name in (b"Row", b"Add", b"Lease")], [b"default", b"ann", None])
+                for _, at in told.values():
+                    self.assertTrue(begun - 1 <= at <= time.time() * 1000 + 1, at)
+                other.get("REPLICAOF", "127.0.0.1", server.port)
+                wait_for(lambda: other.info("replication").get("master_link_status") == "up", "the link")
+                self.assertEqual({row[6]: row[7:] for row in other.get("JENTRY.LIST")}, told)
+                rewrite(line)
+            server.restart("kill")
+            with server.open() as line:
+                self.assertEqual({row[6]: row[7:] for row in line.get("JENTRY.LIST")}, told)
+
+
+class Pitfalls(ModuleTest):
     def test_a_file_with_the_module_is_not_read_without_it(self):
         with Server() as server:
             with server.open() as line:

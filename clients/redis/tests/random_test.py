@@ -28,6 +28,9 @@ NAMES = [
     "CLASS",
     "EXPLAIN",
     "FORGET",
+    "EXISTS",
+    "STATS",
+    "HELP",
 ]
 LEAST, MOST = -(2**63), 2**63 - 1
 
@@ -93,7 +96,9 @@ class Words:
 
     def args(self):
         return [
-            self.chosen.choice([self.number(), f"{self.chosen.randrange(-5, 5)}i", "null", self.junk()])
+            self.chosen.choice(
+                [self.number(), f"{self.chosen.randrange(-5, 5)}i", "null", "true", "false", self.junk()]
+            )
             if self.chosen.random() < 0.2
             else self.chosen.randrange(10)
             for _ in range(self.chosen.choice([0, 1, 1, 2, 3, 8, 9]))
@@ -104,9 +109,9 @@ class Words:
         some_id, file = self.chosen.choice(self.ids), self.chosen.choice(self.files)
         if name in ("DEFINE", "EXPLAIN"):
             words = [damaged(file, self.chosen) if self.chosen.random() < 0.6 else file]
-        elif name in ("CLASS", "FORGET"):
+        elif name in ("CLASS", "FORGET", "EXISTS", "STATS"):
             words = [some_id]
-        elif name == "LIST":
+        elif name in ("LIST", "HELP"):
             words = []
         elif name == "APPLY":
             times = [self.chosen.choice([-2, -1, 0, 1, 1000, self.number()]) for _ in range(3)]

@@ -22,6 +22,11 @@ class Jentry:
         self.files[name] = file
         return name
 
+    def forget(self, name):
+        """Forgets a class at all nodes."""
+        where = {"target_nodes": RedisCluster.PRIMARIES} if isinstance(self.server, RedisCluster) else {}
+        self.server.execute_command("JENTRY.FORGET", name, **where)
+
     def invoke(self, name, key, *args):
         try:
             return self.server.execute_command("JENTRY.INVOKE", name, key, *args)
@@ -48,6 +53,8 @@ def main(kind, port, path):
     keys = [f"visits:{number}" for number in range(12 if kind == "one" else 24)]
     print(sum(jentry.invoke(add, key, 1) for key in keys), sum(int(server.get(key)) for key in keys))
     print(*try_without_argument(jentry, add))
+    if kind == "cluster":
+        jentry.forget(add)
     if kind == "one":
         with server.pipeline() as pipe:
             for _ in range(3):

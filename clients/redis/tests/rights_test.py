@@ -1,6 +1,10 @@
-"""Tests access rights: commands by name, keys by pattern, and read rights apart from write rights."""
+"""Tests access rights: commands by name, keys by pattern, read rights apart from write rights, and who may change the classes."""
+from cluster import Cluster
 from commands_test import OneServer
-from servers import class_file
+from module_test import ModuleTest
+from servers import Server, class_file, wait_for
+
+NO_DEPLOYER = "NOPERM only the users of jentry.deployers may change the classes"
 
 
 class Rights(OneServer):
@@ -80,3 +84,76 @@ class Rights(OneServer):
         for name in ("peek", "list", "class", "explain"):
             self.assertIn(b"readonly", flags("jentry." + name))
         self.assertNotIn(b"denyoom", flags("jentry.forget"))
+
+
+class Deployers(OneServer):
+    """The setting `jentry.deployers` names the users who may change the classes."""
+
+    user = Rights.user
+
+    def setUp(self):
+        super().setUp()
+        self.addCleanup(self.line.get, "CONFIG", "SET", "jentry.deployers", "")
+
+    def test_without_it_the_rules_decide(self):
+        other = self.user("~*", "+@all", "-@dangerous", "-@admin")
+        self.assertEqual(other.ask("JENTRY.DEFINE", class_file("Plus"))[1], 14)
+        self.assertEqual(other.ask("JENTRY.FORGET", self.add), 1)
+        self.assertEqual(self.line.get("CONFIG", "GET", "jentry.deployers"), [b"jentry.deployers", b""])
+
+    def test_others_are_refused(self):
+        other = self.user("~*", "+@all")
+        self.line.get("CONFIG", "SET", "jentry.deployers", " default   two ")
+        for words in (("DEFINE", class_file("Plus")), ("DEFINE", class_file("Add")), ("FORGET", self.add)):
+            self.fails(other.ask("JENTRY." + words[0], *words[1:]), NO_DEPLOYER)
+        self.assertEqual(other.ask("JENTRY.INVOKE", self.add, "v:1", 5), 5)
+        self.assertEqual(other.ask("JENTRY.EXISTS", self.add), [1])
+        self.define(self.line, "Plus")
+        self.line.get("CONFIG", "SET", "jentry.deployers", "two one")
+        self.assertEqual(other.ask("JENTRY.FORGET", self.add), 1)
+        self.fails(self.line.ask("JENTRY.DEFINE", class_file("Add")), NO_DEPLOYER)
+
+    def test_in_transactions_and_scripts(self):
+        other = self.user("~*", "+@all")
+        self.line.get("CONFIG", "SET", "jentry.deployers", "default")
+        script = "return redis.pcall('JENTRY.FORGET', ARGV[1])"
+        for line in (other, self.line):
+            # A script has no user of its own.
+            self.fails(line.ask("EVAL", script, 0, self.add), NO_DEPLOYER)
+        for line, told in ((other, NO_DEPLOYER), (self.line, "1")):
+            line.get("MULTI")
+            line.ask("JENTRY.FORGET", self.add)
+            self.assertEqual([str(it) for it in line.get("EXEC")], [told])
+
+
+class DeployersElsewhere(ModuleTest):
+    """Replicas, files and the other nodes of a cluster take what the deployers of one server changed."""
+
+    def test_replicas_and_files(self):
+        with Server("--appendonly", "yes") as server, server.open() as line:
+            with Server() as replica, replica.open() as other:
+                other.get("REPLICAOF", "127.0.0.1", server.port)
+                wait_for(lambda: other.info("replication").get("master_link_status") == "up", "the link")
+                other.get("CONFIG", "SET", "jentry.deployers", "nobody")
+                add, plus = self.define(line, "Add"), self.define(line, "Plus")
+                line.get("JENTRY.FORGET", plus)
+                self.assertEqual(line.ask("WAIT", 1, 10_000), 1)
+                self.assertEqual(other.get("JENTRY.EXISTS", add, plus), [1, 0])
+            server.options += ("--jentry.deployers", "nobody")
+            server.restart()
+            with server.open() as again:
+                self.assertEqual(again.get("JENTRY.EXISTS", add, plus), [1, 0])
+                self.fails(again.ask("JENTRY.FORGET", add), NO_DEPLOYER)
+
+    def test_nodes(self):
+        with Cluster(3, 0) as cluster:
+            first, *others = cluster.nodes
+            for node in others:
+                with node.open() as line:
+                    line.get("CONFIG", "SET", "jentry.deployers", "nobody")
+            with first.open() as line:
+                add = self.define(line, "Add")
+            for node in others:
+                with node.open() as line:
+                    wait_for(lambda: line.get("JENTRY.EXISTS", add) == [1], "the class at the node")
+                    self.fails(line.ask("JENTRY.FORGET", add), NO_DEPLOYER)

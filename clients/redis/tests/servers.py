@@ -118,8 +118,9 @@ class Connection:
 class Server:
     """A redis-server with the module. Leaving the `with` statement ends it and deletes its folder."""
 
-    def __init__(self, *options, module=True, arguments=()):
+    def __init__(self, *options, module=True, arguments=(), variables=None):
         self.options, self.module, self.arguments = options, module, arguments
+        self.variables = {**os.environ, **PRELOADED, **(variables or {})}
         self.folder = tempfile.mkdtemp(prefix="jentry-redis-")
         self.port = free_port()
         self.process = None
@@ -148,7 +149,7 @@ class Server:
         words += ["--loadmodule", MODULE, *map(str, self.arguments)] if self.module else []
         with open(self.log_path(), "ab") as log:
             self.process = subprocess.Popen(
-                words, stdin=subprocess.DEVNULL, stdout=log, stderr=subprocess.STDOUT, env={**os.environ, **PRELOADED}
+                words, stdin=subprocess.DEVNULL, stdout=log, stderr=subprocess.STDOUT, env=self.variables
             )
         wait_for(self.is_up, "the server's start", lambda: self.log()[-2000:])
 

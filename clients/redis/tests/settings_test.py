@@ -1,7 +1,7 @@
 """Tests the counts of INFO, and the setting for the maximum number of steps of a class."""
 from commands_test import OneServer
 from module_test import ModuleTest
-from servers import ReplyError, Server, class_file
+from servers import ReplyError, Server, class_file, wait_for
 
 
 class Counted(OneServer):
@@ -35,6 +35,15 @@ class Counted(OneServer):
             line.get("JENTRY.FORGET", add)
             self.assertEqual(line.info("jentry")["jentry_class_bytes"], "0")
 
+    def test_runs_that_return_a_boolean_are_counted(self):
+        with Server() as server, server.open() as line:
+            reserve = self.define(line, "Reserve")
+            line.get("SET", "v:1", 41)
+            for word, wanted in (("true", 1), ("false", 1)):
+                self.assertEqual(line.get("JENTRY.INVOKE", reserve, "v:1", 40, word), wanted)
+            told = line.info("jentry")
+            self.assertEqual((told["jentry_runs_total"], told["jentry_steps_total"]), ("2", str(48 + 51)))
+
     def test_memory_is_redis_own(self):
         with Server() as server, server.open() as line:
             before = int(line.info("memory")["used_memory"])
@@ -45,6 +54,14 @@ class Counted(OneServer):
             grown = int(line.info("memory")["used_memory"]) - before
             self.assertGreater(grown, sum(map(len, large)))
 
+    def test_a_crash_report_has_the_counts(self):
+        with Server("--enable-debug-command", "yes") as server, server.open() as line:
+            line.get("JENTRY.INVOKE", self.define(line, "Add"), "v:1", 5)
+            line.send("DEBUG", "PANIC")
+            wait_for(lambda: server.process.poll() is not None, "the end of the server")
+            self.assertIn("jentry_runs_total:1", server.log())
+            self.assertIn("jentry_classes:1", server.log())
+
 
 def told_steps(told):
     """Returns the total steps of the two runs that threw."""
@@ -54,7 +71,10 @@ def told_steps(told):
 class Costly(ModuleTest):
     def test_argument_and_config(self):
         with Server(arguments=("max-steps", 28)) as server, server.open() as line:
-            self.fails(line.ask("JENTRY.DEFINE", class_file("Add")), "COSTLY steps 29, and this server takes 28")
+            self.fails(
+                line.ask("JENTRY.DEFINE", class_file("Add")),
+                "COSTLY steps 29, and this server takes 28 (jentry.max-steps)",
+            )
             self.assertEqual(line.get("JENTRY.LIST"), [])
             self.assertEqual(line.info("jentry")["jentry_costly_total"], "1")
             self.assertEqual(line.get("CONFIG", "GET", "jentry.max-steps"), [b"jentry.max-steps", b"28"])
@@ -65,6 +85,20 @@ class Costly(ModuleTest):
             self.assertEqual(self.define(line, "Add"), add)
             for number in (0, 4_000_001, "x"):
                 self.assertIsInstance(line.ask("CONFIG", "SET", "jentry.max-steps", number), ReplyError)
+
+    def test_several_keys_are_held_to_it_together(self):
+        with Server(arguments=("max-steps", 290)) as server, server.open() as line:
+            add = self.define(line, "Add")
+            keys = [f"v:{number}" for number in range(11)]
+            self.assertEqual(line.get("JENTRY.INVOKEALL", add, 10, *keys[:10], 1), [1] * 10)
+            self.fails(
+                line.ask("JENTRY.INVOKEALL", add, 11, *keys, 1),
+                "COSTLY steps 319 on 11 keys, and this server takes 290 (jentry.max-steps): name fewer keys",
+            )
+            self.assertEqual(line.get("MGET", "v:0", "v:10"), [b"1", None])
+            line.get("CONFIG", "SET", "jentry.max-steps", 28)
+            self.assertEqual(line.get("JENTRY.INVOKEALL", add, 1, "v:0", 1), [2])
+            self.assertIsInstance(line.ask("JENTRY.INVOKEALL", add, 2, *keys[:2], 1), ReplyError)
 
     def test_default(self):
         with Server() as server, server.open() as line:
@@ -78,6 +112,8 @@ class Costly(ModuleTest):
             ("steps", 5),
             ("max-steps", 5, 6),
             ("max-steps", 4_000_001),
+            ("direct", "maybe"),
+            ("direct",),
         ):
             with self.assertRaises(RuntimeError) as told:
                 Server(arguments=words).__exit__()
@@ -96,3 +132,40 @@ class Costly(ModuleTest):
             server.restart()
             with server.open() as again:
                 self.assertEqual(sorted(row[0] for row in again.get("JENTRY.LIST")), sorted([add, plus]))
+
+
+class Direct(ModuleTest):
+    """Whether the module reads and writes the integers of Redis 7.0 in place."""
+
+    def calls(self, line, command):
+        return int(line.info("commandstats").get("cmdstat_" + command, "calls=0").split(",")[0].split("=")[1])
+
+    def runs(self, line, add, count):
+        """Returns how many GETs and SETs this many runs cost."""
+        before = [self.calls(line, name) for name in ("get", "set")]
+        for _ in range(count):
+            line.get("JENTRY.INVOKE", add, "v:1", 1)
+        return [self.calls(line, name) - told for name, told in zip(("get", "set"), before)]
+
+    def test_the_log_says_which_way_is_taken(self):
+        with Server() as server, server.open() as line:
+            if line.info("server")["redis_version"].startswith("7.0."):
+                self.assertIn("integers are read and written in place, as in Redis 7.0", server.log())
+            else:
+                self.assertIn("integers are read by GET and written by SET: this isn't Redis 7.0", server.log())
+            self.assertEqual(line.get("DBSIZE"), 0)
+        with Server(arguments=("direct", "no", "max-steps", 5)) as server, server.open() as line:
+            self.assertIn("integers are read by GET and written by SET: jentry.direct is no", server.log())
+            self.assertEqual(line.get("CONFIG", "GET", "jentry.direct"), [b"jentry.direct", b"no"])
+
+    def test_it_can_be_switched_off(self):
+        with Server(arguments=("direct", "no")) as server, server.open() as line:
+            add = self.define(line, "Add")
+            self.assertEqual(self.runs(line, add, 100), [100, 100])
+            line.get("CONFIG", "SET", "jentry.direct", "yes")
+            if line.info("server")["redis_version"].startswith("7.0."):
+                line.get("SET", "v:1", 20_000)
+                self.assertEqual(self.runs(line, add, 100)[0], 64)
+                self.assertEqual(self.runs(line, add, 100), [0, 0])
+            line.get("CONFIG", "SET", "jentry.direct", "no")
+            self.assertEqual(self.runs(line, add, 100), [100, 100])

@@ -1,4 +1,4 @@
-"""Measures the longest time that a class at `max-steps` delays other clients."""
+"""Measures the longest time that a class at `max-steps`, or a file that is too large, delays other clients."""
 import os
 import sys
 import threading
@@ -11,6 +11,8 @@ sys.path.append(os.path.join(HERE, "../../tests"))
 import class_files  # noqa: E402  (it is one of the clients' other tests)
 
 RUNS = int(os.environ.get("JENTRY_RUNS", 50))
+LARGE = 64 << 20
+"""The bytes of a file that is too large."""
 PATIENCE_OF_A_RUN = 10
 """Seconds that one run may take on a slow machine; what it takes is printed."""
 
@@ -51,3 +53,25 @@ class Stall(ModuleTest):
             )
             self.assertEqual(len(runs), RUNS)
             self.assertLess(max(waits), PATIENCE_OF_A_RUN)
+
+
+class LargeFile(ModuleTest):
+    def test_a_file_that_is_too_large_costs_no_more_than_its_transfer(self):
+        large = b"\xca\xfe\xba\xbe" + bytes(LARGE)
+        with Server() as server, server.open() as line:
+
+            def seconds(*words):
+                """Returns the CPU seconds of a command, and its reply."""
+                before = server.processor_seconds()
+                told = line.ask(*words)
+                return server.processor_seconds() - before, told
+
+            transfer = max(seconds("EXISTS", large)[0] for _ in range(3))
+            for name, begin in (("DEFINE", "REFUSED 1 TooLarge"), ("EXPLAIN", "refused 1 TooLarge")):
+                taken, told = min(seconds("JENTRY." + name, large) for _ in range(3))
+                print(
+                    f"{name} of {LARGE >> 20} MB: {taken * 1000:.0f} ms of a processor, its transfer {transfer * 1000:.0f}"
+                )
+                self.assertEqual((told.decode() if isinstance(told, bytes) else str(told))[: len(begin)], begin)
+                self.assertLess(taken, 2 * transfer + 0.02)
+            self.assertEqual(line.get("JENTRY.LIST"), [])

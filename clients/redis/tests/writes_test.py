@@ -6,6 +6,9 @@ import unittest
 from commands_test import OneServer
 from servers import Server, wait_for
 
+KEYS = 1_000
+SHARED = 2**31 - 1
+"""The reference count of an integer that Redis shares."""
 CHECKS = 64
 """So many looks are held to GET, and until then each write is a SET."""
 
@@ -42,7 +45,7 @@ class Writes(OneServer):
         self.assertEqual(self.held(), [b"20010", b"int", 1])
 
     def test_values_of_all_lengths(self):
-        for value in [-(2**63), 2**63 - 2, 10**18, -(10**18), -1, -10, 99_999]:
+        for value in [-(2**63), 2**63 - 2, 10**18, -(10**18), -2, -10, 99_999]:
             self.line.get("SET", "v:1", value)
             self.assertEqual(self.sets_of(1), 0, value)
             self.assertEqual(self.held(), [b"%d" % (value + 1), b"int", 1])
@@ -50,23 +53,84 @@ class Writes(OneServer):
     def test_a_shared_integer_is_never_written(self):
         for number in range(1, 4):
             self.line.get("SET", f"v:{number}", 5)
-        self.assertGreater(self.ask("OBJECT", "REFCOUNT", "v:1"), 1)
-        self.assertEqual(self.sets_of(10), 1)
-        self.assertEqual(self.held(), [b"15", b"int", 1])
+        self.assertEqual(self.ask("OBJECT", "REFCOUNT", "v:1"), SHARED)
+        self.assertEqual(self.sets_of(10), 0)
+        self.assertEqual(self.held(), [b"15", b"int", SHARED])
         self.assertEqual(self.ask("MGET", "v:2", "v:3"), [b"5", b"5"])
         self.line.get("SET", "v:4", 5)
         self.assertEqual(self.ask("INCR", "v:4"), 6)
 
     def test_a_new_entry(self):
-        self.assertEqual(self.sets_of(3), 1)
-        self.assertEqual(self.held(), [b"3", b"int", 1])
+        self.assertEqual(self.sets_of(3), 0)
+        self.assertEqual(self.held(), [b"3", b"int", SHARED])
+
+    def test_a_value_needs_one_set(self):
+        """The module knows a shared integer after the first entry that it sets to it."""
+        self.line.get("MSET", *(it for number in range(20) for it in (f"v:{number}", 7_777)))
+        self.assertLessEqual(sum(self.sets_of(1, f"v:{number}") for number in range(20)), 1)
+        self.assertEqual(self.held("v:19"), [b"7778", b"int", SHARED])
+
+    def test_at_the_ends_of_the_shared_integers(self):
+        self.line.get("SET", "v:1", 9_998)
+        self.assertEqual(self.sets_of(1), 1)
+        self.assertEqual(self.held(), [b"9999", b"int", SHARED])
+        self.assertEqual(self.sets_of(1), 1)
+        self.assertEqual(self.held(), [b"10000", b"int", 1])
+        self.assertEqual(self.sets_of(1), 0)
+        self.line.get("SET", "v:1", 9_998)
+        self.assertEqual(self.sets_of(1), 0)
+        self.assertEqual(self.held(), [b"9999", b"int", SHARED])
+        for value, count in ((-2, 1), (-(10**6), 2)):
+            self.line.get("SET", "v:1", value)
+            self.assertEqual(self.sets_of(count), 0)
+        self.line.get("SET", "v:1", -1)
+        self.assertLessEqual(self.sets_of(1), 1)
+        self.assertEqual(self.held(), [b"0", b"int", SHARED])
+
+    def test_no_memory_beyond_that_of_incrby(self):
+        def used(values, *words):
+            """Adds the values to each key, and returns the bytes that the keys take."""
+            self.line.get("FLUSHALL")
+            before = int(self.line.info("memory")["used_memory"])
+            for number in range(KEYS):
+                for value in values:
+                    self.line.send(*words, f"v:{number}", value)
+                for value in values:
+                    told = self.line.take()
+            self.assertEqual(told, sum(values))
+            return int(self.line.info("memory")["used_memory"]) - before
+
+        for values in ([1, 1], [20_000, 1], [5_000, 5_000, -3, -9_990]):
+            base = used(values, "INCRBY")
+            self.assertLess(used(values, "JENTRY.INVOKE", self.add), 1.05 * base, values)
+
+    def test_an_eviction_by_age_has_no_shared_integers(self):
+        for setting, value in (("maxmemory", "1gb"), ("maxmemory-policy", "allkeys-lru")):
+            self.addCleanup(self.line.get, "CONFIG", "SET", setting, self.line.get("CONFIG", "GET", setting)[1])
+            self.line.get("CONFIG", "SET", setting, value)
+        self.assertEqual(self.sets_of(1), 1)
+        self.assertEqual(self.held(), [b"1", b"int", 1])
+        self.assertEqual(self.sets_of(10), 0)
+        self.assertEqual(self.held(), [b"11", b"int", 1])
+        self.line.get("CONFIG", "SET", "maxmemory-policy", "noeviction")
+        self.assertEqual(self.sets_of(1), 0)
+        self.assertEqual(self.held(), [b"12", b"int", SHARED])
+
+    def test_an_old_key_is_never_told_to_be_new(self):
+        self.line.get("CONFIG", "SET", "notify-keyspace-events", "KAn")
+        self.addCleanup(self.line.get, "CONFIG", "SET", "notify-keyspace-events", "")
+        with self.server.open() as listener:
+            listener.get("PSUBSCRIBE", "__keyspace@0__:v:*")
+            self.sets_of(3)
+            self.assertEqual([listener.take()[3] for _ in range(4)], [b"new", b"set", b"set", b"set"])
+        self.assertEqual(self.held(), [b"3", b"int", SHARED])
 
     def test_a_text_of_digits(self):
         self.line.get("SET", "v:1", 1)
         self.line.get("APPEND", "v:1", 2)
         self.assertEqual(self.ask("OBJECT", "ENCODING", "v:1"), b"raw")
         self.assertEqual(self.sets_of(3), 1)
-        self.assertEqual(self.held(), [b"15", b"int", 1])
+        self.assertEqual(self.held(), [b"15", b"int", SHARED])
 
     def test_a_copy_is_another_entry(self):
         self.line.get("SET", "v:1", 20_000)
