@@ -169,8 +169,9 @@ class OperatorsPage(FrontTest):
         )
         (row,) = browser.run(self.ROWS, "classes")
         runs, threw = metrics["jentry_runs_total"], metrics['jentry_exceptions_total{number="3"}']
-        numbers = [int(row[n].replace(",", "")) for n in (0, 2, 3, 5, 6)]
-        self.assertEqual(numbers, [0, len(plus()), 14, runs, threw])
+        numbers = [int(row[n].replace(",", "")) for n in (0, 3, 4, 6, 7, 8)]
+        self.assertEqual(numbers, [7, len(plus()), 14, runs, 14 * runs, threw])
+        self.assertEqual(row[1], "Row")
         return len(compared)
 
     def keyboard(self, browser):
@@ -264,13 +265,14 @@ class OperatorsPage(FrontTest):
             print(f"{compared} numbers of the page are those of /metrics; pictures in {OUT}")
 
     def test_a_class_of_a_stranger_is_text(self):
-        """Nothing that a client sends becomes HTML: the page shows only hashes and numbers."""
+        """Nothing that a client sends becomes HTML, also not the name of its class."""
         with Running("--http", "0") as front, front.open() as a, Browser() as browser:
-            self.define(a, another(7), 0)
+            self.define(a, another(7).replace(b"Row0007", b"<b>x<b>"), 0)
             a.sendall(define(b"<script>alert(1)</script>") + END)
             browser.go("http://{}:{}/".format(*front.http_address()))
             browser.wait_for("return document.querySelectorAll('#classes tr').length >= 1")
             self.assertEqual(browser.run("return document.querySelectorAll('script').length"), 1)
+            self.assertEqual(browser.run(self.ROWS, "classes")[0][1], "<b>x<b>")
             self.assertEqual(browser.log("browser"), [])
 
 

@@ -53,8 +53,17 @@ def method(pool, code_name, flags, name, descriptor, slots, code):
     return struct.pack(">HHHHHI", flags, pool.text(name), pool.text(descriptor), 1, code_name, len(body)) + body
 
 
-def heavy():
-    """A class that takes some 240,000 instructions and returns the same number each time. Each of its methods calls the next one eight times."""
+def heavy_steps(levels):
+    """Returns the instructions that a call of a heavy class takes."""
+    own = 6
+    for _ in range(levels):
+        own = 8 * (own + 1) + 2
+    return own + 4
+
+
+def heavy(levels=5):
+    """A class that takes some 240,000 instructions, an eighth of them for each level less, and returns the same number each time. Each of its
+    methods calls the next one eight times."""
     pool = Pool()
     this, above, processor, code = (
         pool.type("Heavy"),
@@ -71,12 +80,14 @@ def heavy():
     process = "(Ljavax/cache/processor/MutableEntry;[Ljava/lang/Object;)Ljava/lang/Object;"
     methods = [
         method(pool, code, 1, "<init>", "()V", (1, 1), constructor),
-        method(pool, code, 0x81, "process", process, (4, 3), b"\x0a" + static(this, "m5", "(J)J") + boxed + b"\xb0"),
+        method(
+            pool, code, 0x81, "process", process, (4, 3), b"\x0a" + static(this, f"m{levels}", "(J)J") + boxed + b"\xb0"
+        ),
         method(pool, code, 8, "m0", "(J)J", (4, 2), b"\x1e\x1e\x61\x1e\x83\xad"),
     ]
     methods += [
         method(pool, code, 8, f"m{n}", "(J)J", (4, 2), b"\x1e" + 8 * static(this, f"m{n - 1}", "(J)J") + b"\xad")
-        for n in range(1, 6)
+        for n in range(1, levels + 1)
     ]
     head = b"\xca\xfe\xba\xbe" + struct.pack(">HHH", 0, 52, len(pool.constants) + 1) + b"".join(pool.constants)
     return (

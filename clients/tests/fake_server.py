@@ -1,14 +1,17 @@
 #!/usr/bin/env python3
 """fake_server: speaks the protocol of `jentry serve` without running classes, for tests of clients where the program isn't built, and of
-clients whose server fails. It accepts every class, and each class adds one to its entry.
+clients whose server fails. It accepts every class that begins like a class file, and each class adds one to its entry.
 
     fake_server.py [--die N] [--wrong N] [--short N] [--other N] [--huge N] [--empty N] [--slow SECONDS]
+                   [--classes N] [--pace SECONDS]
 
 --die N exits in round N, before the replies to that round; --wrong N sends one reply too many in round N; --short N leaves out the last
 reply of round N. The other options replace that reply: --other N by one of an unknown kind, --huge N by a frame of 1 MB, --empty N by a
-frame of length 0. With --slow each round takes SECONDS.
+frame of length 0. Rounds that only define classes don't count. With --slow each round takes SECONDS. With --classes the server denies each
+class after N. With --pace each instruction takes SECONDS, and a class RowN (class_files.another) has 100 * N of them.
 """
 import argparse
+import re
 import struct
 import sys
 import time
@@ -26,8 +29,9 @@ def long(it):
 class Server:
     """The entries of a cache, and the replies to the requests of a round."""
 
-    def __init__(self):
-        self.entries, self.classes, self.jobs = {}, 0, 0
+    def __init__(self, most_classes, has_pace):
+        self.entries, self.steps, self.jobs, self.most_classes = {}, [], 0, most_classes
+        self.spent, self.has_pace = 0, has_pace
 
     def plus(self, key):
         if key not in self.entries:
@@ -39,9 +43,8 @@ class Server:
         """Returns the reply to a request, or None for an unknown kind of request."""
         kind = text[0]
         if kind == 1:
-            self.classes += 1
-            return struct.pack(">BIII", 1, self.classes - 1, 14, 0)
-        if kind in (6, 7) and struct.unpack_from(">I", text, 1)[0] >= self.classes:
+            return self.define(text)
+        if kind in (6, 7) and struct.unpack_from(">I", text, 1)[0] >= len(self.steps):
             return b"\x08\1"
         if kind == 7:
             return self.invoke_all(text)
@@ -49,8 +52,19 @@ class Server:
         if self.jobs > MOST_JOBS:
             return b"\x08\5"
         if kind == 6:
-            return b"\6" + self.plus(*struct.unpack_from(">q", text, 5))
+            number, key = struct.unpack_from(">Iq", text, 1)
+            self.spent += self.steps[number]
+            return b"\6" + self.plus(key)
         return self.plain(kind, text)
+
+    def define(self, text):
+        if not text.startswith(b"\1\xca\xfe\xba\xbe"):
+            return struct.pack(">BBI", 2, 3, 0)
+        if len(self.steps) == self.most_classes:
+            return b"\x08\4"
+        costly = re.search(rb"\x01\x00\x07Row(\d{4})", text)
+        self.steps.append(100 * int(costly[1]) if costly and self.has_pace else 14)
+        return struct.pack(">BIII", 1, len(self.steps) - 1, self.steps[-1], 0)
 
     def plain(self, kind, text):
         (key,) = struct.unpack_from(">q", text, 1)
@@ -78,17 +92,19 @@ def end(words):
 
 
 def serve(options, read, write):
-    server, rounds, out = Server(), 0, []
+    server, rounds, out, is_counted = Server(options.classes, options.pace > 0), 0, [], False
     while head := read.read(4):
         text = read.read(int.from_bytes(head, "big"))
         if text != b"\x08":
+            is_counted = is_counted or text[0] != 1
             told = server.reply(text)
             if told is None:
                 end("serve fault 3 Malformed")
             out.append(len(told).to_bytes(4, "big") + told)
             continue
-        rounds, server.jobs = rounds + 1, 0
-        time.sleep(options.slow)
+        rounds, server.jobs, is_counted = rounds + is_counted, 0, False
+        time.sleep(options.slow + options.pace * server.spent)
+        server.spent = 0
         if rounds == options.die:
             end("serve fault 5 NoMemory")
         if rounds == options.wrong:
@@ -108,6 +124,8 @@ if __name__ == "__main__":
     for name in ("--die", "--wrong", "--short", "--other", "--huge", "--empty"):
         parser.add_argument(name, type=int, default=-1)
     parser.add_argument("--slow", type=float, default=0)
+    parser.add_argument("--pace", type=float, default=0)
+    parser.add_argument("--classes", type=int, default=4_096)
     try:
         serve(parser.parse_args(), sys.stdin.buffer, sys.stdout.buffer)
     except (BrokenPipeError, KeyboardInterrupt):

@@ -8,9 +8,12 @@ import subprocess
 import time
 import unittest
 
-from class_files import another, heavy, plus
+from class_files import another, heavy, heavy_steps, plus
 from frames import DONE, END, ENDED, define, denied, frame, get, invoke, invoke_all, put, result, results, value
 from running import FRONT, PATIENCE, PROGRAM, SERVER, STAND_IN, FrontTest, Running, has_more, is_ended, take, take_frame
+
+# running.py has named its folder.
+from pace import seconds_an_instruction
 
 
 class ClassesRunOut(FrontTest):
@@ -25,12 +28,13 @@ class ClassesRunOut(FrontTest):
 
     @unittest.skipUnless(PROGRAM, "the stand-in has no limit of classes")
     def test_4096_classes_of_all_then_denied(self):
+        """Seven of them are the clients' built-in ones."""
         with Running("--classes", "4096") as front, front.open() as a, front.open() as b:
-            for n in range(4_096):
+            for n in range(4_089):
                 self.define(a, another(n), n)
-            self.ask(b, define(another(4_096)) + END, denied(4) + ENDED)
+            self.ask(b, define(another(4_089)) + END, denied(4) + ENDED)
             self.define(b, another(7), 0)
-            self.ask(b, define(another(4_096)) + END, denied(4) + ENDED)
+            self.ask(b, define(another(4_089)) + END, denied(4) + ENDED)
 
     def test_a_connection_has_4096_numbers(self):
         with Running() as front, front.open() as a:
@@ -58,7 +62,19 @@ class ClassesRunOut(FrontTest):
 @unittest.skipUnless(PROGRAM, "the stand-in runs no classes")
 class Heavy(FrontTest):
     """A light call is run between the batches of heavy rounds: its reply comes while nearly all of their work is still to be done. That
-    work takes many seconds, and the front is stopped before its end."""
+    work takes seconds, and the front is stopped before its end. A slow build gets a class and batches of fewer instructions.
+    """
+
+    @classmethod
+    def setUpClass(cls):
+        """Chooses a class whose call takes a millisecond or more in this build."""
+        instruction = seconds_an_instruction(PROGRAM)
+        levels = next((it for it in range(1, 5) if heavy_steps(it) * instruction > 0.001), 5)
+        cls.file, cls.steps = heavy(levels), heavy_steps(levels)
+
+    def front(self):
+        """Starts a front whose batches are of four heavy calls."""
+        return Running("--steps", str(4 * self.steps))
 
     def light_calls(self, line, heavy_lines):
         for n in range(5):
@@ -68,34 +84,34 @@ class Heavy(FrontTest):
         )
 
     def test_beside_one_connection(self):
-        with Running() as front, front.open() as a, front.open() as b:
-            self.assertGreater(self.define(a, heavy(), 0), 200_000)
+        with self.front() as front, front.open() as a, front.open() as b:
+            self.assertEqual(self.define(a, self.file, 0), self.steps)
             a.sendall(b"".join(invoke(0, key) for key in range(4_096)) + END)
             self.light_calls(b, [a])
 
     def test_beside_64_connections(self):
-        with Running() as front, front.open() as b:
+        with self.front() as front, front.open() as b:
             lines = [front.open() for _ in range(64)]
             for line in lines:
                 self.addCleanup(line.close)
-                self.define(line, heavy(), 0)
+                self.define(line, self.file, 0)
             for line in lines:
                 line.sendall(b"".join(invoke(0, key) for key in range(64)) + END)
             self.light_calls(b, lines)
 
     def test_beside_an_invoke_all_of_many_keys(self):
-        with Running() as front, front.open() as a, front.open() as b:
-            self.define(a, heavy(), 0)
+        with self.front() as front, front.open() as a, front.open() as b:
+            self.define(a, self.file, 0)
             a.sendall(invoke_all(0, range(4_096)) + END)
             self.light_calls(b, [a])
 
     def test_all_are_answered(self):
-        with Running() as front:
+        with self.front() as front:
             lines = [front.open() for _ in range(8)]
             keys = [5, 3, 5, 9, 1, 3]
             for line in lines:
                 self.addCleanup(line.close)
-                self.define(line, heavy(), 0)
+                self.define(line, self.file, 0)
                 line.sendall(4 * invoke(0, 1) + invoke_all(0, keys) + get(2) + END)
             told = [[take_frame(line) for _ in range(7)] for line in lines]
             self.assertEqual(len({repr(it) for it in told}), 1)

@@ -239,6 +239,36 @@ class Answers(FrontTest):
                     line.sendall(text)
                     self.assertEqual(read_all(line).split(b" ")[1], status)
 
+    def test_names_of_strangers_are_misdirected(self):
+        """A web page whose name a stranger's DNS leads here (DNS rebinding) reads nothing."""
+        for options, names in ((), ("evil.example", "evil.example:80")), (
+            ("--http-name", "cache.example.org"),
+            ("a.b",),
+        ):
+            with self.subTest(options=options), Running("--http", "0", *options) as front:
+                for host, status in (
+                    *((name, b"421") for name in names),
+                    *((name, b"200") for name in ("127.0.0.1:9464", "localhost", "[::1]:1", "cache7:9464")),
+                    ("cache.example.org", b"200" if options else b"421"),
+                ):
+                    with self.subTest(host=host), connect(front.http_address()) as line:
+                        request = f"GET /metrics HTTP/1.1\r\nHost: {host}\r\nConnection: close\r\n\r\n"
+                        line.sendall(request.encode())
+                        self.assertEqual(read_all(line).split(b" ")[1], status)
+
+    def test_the_17th_viewer_is_told_that_there_are_16(self):
+        request = b"GET /events HTTP/1.1\r\nHost: a\r\n\r\n"
+        with Running("--http", "0") as front:
+            lines = [connect(front.http_address()) for _ in range(17)]
+            for line in lines:
+                self.addCleanup(line.close)
+                line.sendall(request)
+                first = line.recv(65_536)
+                while b"event: " not in first:
+                    first += line.recv(65_536)
+            self.assertTrue(first.startswith(b"HTTP/1.1 200 OK\r\n"), first)
+            self.assertTrue(first.endswith(b"retry: 10000\nevent: full\ndata: 16\n\n"), first)
+
     def test_a_server_that_has_ended_is_said(self):
         with Running("--http", "0") as front, front.open() as a:
             self.ask(a, put(1, 1) + END, DONE + ENDED)
@@ -268,7 +298,7 @@ class Answers(FrontTest):
             ]
             self.assertGreaterEqual(len(events), 3)
             self.assertEqual(events[-1]["totals"]["jentry_requests_total"], 101)
-            self.assertEqual([(it["number"], it["steps"], it["runs"]) for it in events[-1]["classes"]], [(0, 14, 0)])
+            self.assertEqual([(it["number"], it["steps"], it["runs"]) for it in events[-1]["classes"]], [(7, 14, 0)])
             self.assertEqual([it["requests"] for it in events[-1]["connections"]], [101])
             times = [point[0] for it in events for point in it["history"]]
             self.assertEqual(times, sorted(set(times)))

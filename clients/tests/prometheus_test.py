@@ -22,13 +22,43 @@ PAGE = os.path.join(HERE, "../../docs/OPERATIONS.md")
 CLASS = os.path.join(HERE, "../../examples/Plus.class")
 LOAD = os.environ.get("JENTRY_LOAD")
 SECONDS = int(os.environ.get("JENTRY_LOAD_SECONDS", "60"))
-ALERTS = ("JentryDown", "JentrySlow", "JentryClassesNearLimit")
+ALERTS = (
+    "JentryDown",
+    "JentryStalled",
+    "JentryRestarted",
+    "JentrySlow",
+    "JentryConnectionsRejected",
+    "JentryClassesDenied",
+    "JentryClassesNearLimit",
+)
+# Series before and after minute 20, in which nothing is wrong, and everything is.
+SERIES = {
+    "up": "1x20 0x20",
+    "jentry_server_up": "1x20 0x20",
+    "jentry_batch_age_seconds": "0x20 11+60x20",
+    "jentry_server_start_time_seconds": "1000x20 2000+300x20",
+    'jentry_round_seconds_bucket{le="0.05"}': "0+100x20 2000x20",
+    'jentry_round_seconds_bucket{le="0.5"}': "0+100x20 2000+10x20",
+    'jentry_round_seconds_bucket{le="5"}': "0+100x20 2000+100x20",
+    'jentry_round_seconds_bucket{le="+Inf"}': "0+100x20 2000+100x20",
+    "jentry_connections_rejected_total": "3x20 4+1x20",
+    'jentry_denials_total{number="4"}': "3x20 4+1x20",
+    'jentry_denials_total{number="5"}': "0+9x40",
+    "jentry_classes": "10x20 3500x20",
+}
+PAGES = ("JentryDown", "JentryStalled")
 
 
 def blocks(language):
     """Returns the code blocks of this language in docs/OPERATIONS.md."""
     with open(PAGE, encoding="utf-8") as page:
         return re.findall(rf"```{language}\n(.*?)```", page.read(), re.DOTALL)
+
+
+def with_labels(series):
+    """Returns a series with the labels of the front a."""
+    name, _, labels = series.rstrip("}").partition("{")
+    return f'{name}{{job="jentry", instance="a"{", " * bool(labels)}{labels}}}'
 
 
 def promtool(*words, text=None):
@@ -186,32 +216,22 @@ class Page(unittest.TestCase):
         self.assertEqual(told.returncode, 0, told.stdout)
         told = promtool("check", "rules", self.rules)
         self.assertEqual(told.returncode, 0, told.stdout)
-        self.assertIn("3 rules found", told.stdout)
+        self.assertIn(f"{len(ALERTS)} rules found", told.stdout)
 
     def test_alerts_fire_when_they_should_and_only_then(self):
-        series = {
-            'up{job="jentry", instance="a"}': "1x20 0x20",
-            'jentry_server_up{job="jentry", instance="a"}': "1x20 0x20",
-            'jentry_round_seconds_bucket{job="jentry", instance="a", le="0.05"}': "0+100x20 2000x20",
-            'jentry_round_seconds_bucket{job="jentry", instance="a", le="0.5"}': "0+100x20 2000+10x20",
-            'jentry_round_seconds_bucket{job="jentry", instance="a", le="5"}': "0+100x20 2000+100x20",
-            'jentry_round_seconds_bucket{job="jentry", instance="a", le="+Inf"}': "0+100x20 2000+100x20",
-            'jentry_classes{job="jentry", instance="a"}': "10x20 3500x20",
-        }
+        of_front = {"job": "jentry", "instance": "a"}
+        labels = {name: {"severity": "page" if name in PAGES else "ticket"} for name in ALERTS}
+        labels["JentryClassesDenied"]["number"] = "4"
         cases = [
-            {"eval_time": time, "alertname": name, "exp_alerts": [{"exp_labels": labels}] if fires else []}
-            for name, labels in (
-                (ALERTS[0], {"severity": "page"}),
-                (ALERTS[1], {"severity": "ticket"}),
-                (ALERTS[2], {"severity": "ticket"}),
-            )
+            {"eval_time": time, "alertname": name, "exp_alerts": [{"exp_labels": dict(labels[name])}] if fires else []}
+            for name in ALERTS
             for time, fires in (("15m", False), ("40m", True))
         ]
         summaries = dict(re.findall(r"- alert: (\w+)\n.*?summary: (.*?)\n", blocks("yaml")[1], re.DOTALL))
         self.assertEqual(set(summaries), set(ALERTS))
         for case in cases:
             for alert in case["exp_alerts"]:
-                alert["exp_labels"] = {"job": "jentry", "instance": "a", **alert["exp_labels"]}
+                alert["exp_labels"].update(of_front)
                 alert["exp_annotations"] = {"summary": summaries[case["alertname"]]}
         test = {
             "rule_files": [self.rules],
@@ -219,7 +239,7 @@ class Page(unittest.TestCase):
             "tests": [
                 {
                     "interval": "1m",
-                    "input_series": [{"series": name, "values": values} for name, values in series.items()],
+                    "input_series": [{"series": with_labels(name), "values": it} for name, it in SERIES.items()],
                     "alert_rule_test": cases,
                 }
             ],

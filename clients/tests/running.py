@@ -1,7 +1,7 @@
 """A front that runs for a test, on the built program or on fake_server.py.
 
 JENTRY_FRONT names the front, JENTRY_PROGRAM the built program, if it is there, JENTRY_OUT a folder for the files that tests keep, and
-JENTRY_PATIENCE the seconds that a test waits for a reply, 60 by default.
+JENTRY_PATIENCE the seconds that a test waits for a reply, by default 60 and more for a slow build.
 """
 import http.client
 import os
@@ -19,11 +19,15 @@ import unittest
 from frames import END, ENDED, define
 
 HERE = os.path.dirname(os.path.abspath(__file__))
+# It goes last: this folder has a module `running`, too.
+sys.path.append(os.path.join(HERE, "../../tests/program"))
+from pace import patience
+
 PROGRAM = os.environ.get("JENTRY_PROGRAM")
 FRONT = os.environ.get("JENTRY_FRONT")
 STAND_IN = [sys.executable, os.path.join(HERE, "fake_server.py")]
 SERVER = [PROGRAM, "serve"] if PROGRAM else STAND_IN
-PATIENCE = int(os.environ.get("JENTRY_PATIENCE", "60"))
+PATIENCE = patience(PROGRAM)
 
 
 class Running:

@@ -1,7 +1,9 @@
 //! A batch: what is sent to the server as one round. It is gathered from the waiting sub-batches,
 //! and its replies are distributed to them by position. Nothing here does I/O.
 
+use crate::peers::Peer;
 use crate::request::MOST_JOBS;
+use crate::shares::{shares, Demand, Expensive, Share, Turns, MOST_PICKED};
 use crate::sub_batch::{Next, Sent, SubBatch};
 use crate::tally::Tally;
 
@@ -11,9 +13,12 @@ pub const END: [u8; 5] = [0, 0, 0, 1, 8];
 /// The maximum number of bytes of a batch that are allocated in advance.
 const RESERVED: usize = 65_536;
 
-/// A sub-batch that waits for the server, with its owner.
+const ALL: Share = Share { steps: u64::MAX, jobs: usize::MAX };
+
+/// A sub-batch that waits for the server, with its owner and the peer that it comes from.
 pub struct Queued<T> {
     pub owner: T,
+    pub peer: Peer,
     pub sub_batch: SubBatch,
 }
 
@@ -39,31 +44,26 @@ pub struct Batch {
     left_out: Vec<bool>,
 }
 
-/// How much more fits into a batch, in jobs and instructions.
-struct Budget {
-    steps: u64,
-    jobs_each: usize,
-    steps_each: u64,
-    /// The instructions of the jobs that exceed their share.
-    expensive: u64,
-    has_class: bool,
+/// What each sub-batch may send.
+enum Plan {
+    /// Everything, since it fits.
+    All,
+    Shares(Vec<Share>),
 }
 
-/// The part of a sub-batch that is already in this batch.
+/// The turns of peers, with expensive jobs and with classes.
 #[derive(Default)]
-struct Share {
-    jobs: usize,
-    steps: u64,
+pub struct AllTurns {
+    jobs: Turns,
+    classes: Turns,
 }
 
 impl Batch {
-    /// Gathers a batch. Each sub-batch contributes as much as its share allows.
-    ///
-    /// Half of `steps` is divided equally for jobs that fit into their share, so a cheap job is
-    /// always in the next batch. The other half is for jobs that don't fit, one from each
-    /// sub-batch; the first of them is accepted at any cost. A batch has at most one class.
-    pub fn gather<T>(queued: &mut [Queued<T>], steps: u64) -> Batch {
-        let mut budget = Budget::new(queued.len().max(1), steps);
+    /// Gathers a batch. Each sub-batch contributes as much as its share allows, or one expensive
+    /// job when its turn comes. A batch has at most one class.
+    pub fn gather<T>(queued: &mut [Queued<T>], steps: u64, turns: &mut AllTurns) -> Batch {
+        let class = next_class(queued, &mut turns.classes);
+        let plan = Plan::of(queued, steps / 2, &mut turns.jobs);
         let unsent = queued.iter().map(|it| it.sub_batch.unsent());
         let (requests, bytes) = unsent.fold((0, 0), |all, it| (all.0 + it.0, all.1 + it.1));
         // One allocation for each is enough for most batches.
@@ -72,28 +72,34 @@ impl Batch {
             positions: Vec::with_capacity(requests.min(MOST_JOBS)),
             left_out: Vec::with_capacity(queued.len()),
         };
-        for (index, it) in queued.iter_mut().enumerate().take(MOST_JOBS) {
+        for (index, it) in queued.iter_mut().enumerate() {
             let before = batch.positions.len();
-            batch.take_from(index as u32, &mut it.sub_batch, &mut budget);
+            let share = match &plan {
+                Plan::All => ALL,
+                Plan::Shares(shares) => shares[index],
+            };
+            batch.take_from(index as u32, &mut it.sub_batch, share, class == Some(index));
             batch.left_out.push(batch.positions.len() == before);
         }
         batch.text.extend_from_slice(&END);
         batch
     }
 
-    fn take_from(&mut self, queued: u32, sub_batch: &mut SubBatch, budget: &mut Budget) {
-        let mut share = Share::default();
+    fn take_from(
+        &mut self,
+        queued: u32,
+        sub_batch: &mut SubBatch,
+        mut share: Share,
+        has_turn: bool,
+    ) {
         loop {
             if let Some(replies) = sub_batch.take_known() {
                 self.positions.push(Position { queued, kind: Kind::Known(replies) });
             }
             let count = match sub_batch.next() {
-                Next::Class if !budget.has_class => {
-                    budget.has_class = true;
-                    1
-                }
-                Next::Jobs { count, cost } => budget.grant(count, cost, &mut share),
-                Next::Class | Next::Nothing => 0,
+                Next::Class => usize::from(has_turn),
+                Next::Jobs { count, cost } => share.take(count, cost),
+                Next::Nothing => 0,
             };
             if count == 0 {
                 return;
@@ -161,34 +167,49 @@ impl Batch {
     }
 }
 
-impl Budget {
-    /// Creates the budget of a batch with `count` sub-batches.
-    fn new(count: usize, steps: u64) -> Budget {
-        let steps = steps / 2;
-        Budget {
-            steps,
-            jobs_each: (MOST_JOBS / count).max(1),
-            steps_each: steps / count as u64,
-            expensive: 0,
-            has_class: false,
+impl Plan {
+    /// Plans a batch with this number of instructions for cheap jobs, and as many for others.
+    fn of<T>(queued: &[Queued<T>], steps: u64, turns: &mut Turns) -> Plan {
+        let sums = queued.iter().map(|it| (it.sub_batch.jobs(), it.sub_batch.steps()));
+        let (jobs, wanted) = sums.fold((0, 0u64), |all, it| (all.0 + it.0, all.1 + it.1));
+        if jobs <= MOST_JOBS && wanted <= steps {
+            return Plan::All;
         }
+        let demands: Vec<Demand> = queued.iter().map(demand).collect();
+        let mut shares = shares(&demands, Share { steps, jobs: MOST_JOBS - MOST_PICKED });
+        let is_left =
+            |(index, it): &(usize, &Demand)| it.next.is_some() && shares[*index].jobs == 0;
+        let left = demands.iter().enumerate().filter(is_left);
+        let expensive: Vec<Expensive> =
+            left.map(|(index, it)| (index, it.peer, it.next.unwrap_or(0))).collect();
+        let has_cheap = shares.iter().any(|it| it.jobs > 0);
+        for index in turns.pick(&expensive, steps, has_cheap) {
+            shares[index] = Share { steps: demands[index].next.unwrap_or(0), jobs: 1 };
+        }
+        Plan::Shares(shares)
     }
+}
 
-    /// Returns how many of `most` jobs, each of this cost, a sub-batch may send in addition to its
-    /// share so far.
-    fn grant(&mut self, most: usize, cost: u64, share: &mut Share) -> usize {
-        let steps_left = self.steps_each.saturating_sub(share.steps);
-        let fit = (steps_left / cost.max(1)).min(most as u64) as usize;
-        let mut count = fit.min(self.jobs_each.saturating_sub(share.jobs));
-        let is_expensive = fit == 0 && share.jobs == 0;
-        if is_expensive && (self.expensive == 0 || self.expensive + cost <= self.steps) {
-            self.expensive += cost;
-            count = 1;
-        }
-        share.jobs += count;
-        share.steps += cost * count as u64;
-        count
+fn demand<T>(it: &Queued<T>) -> Demand {
+    let sub_batch = &it.sub_batch;
+    Demand {
+        peer: it.peer,
+        next: sub_batch.next_cost(),
+        steps: sub_batch.steps(),
+        jobs: sub_batch.jobs(),
     }
+}
+
+/// Returns the index of the sub-batch whose class is judged next.
+fn next_class<T>(queued: &[Queued<T>], turns: &mut Turns) -> Option<usize> {
+    let all = queued.iter().enumerate();
+    let classes = all.filter(|(_, it)| matches!(it.sub_batch.next(), Next::Class));
+    let classes: Vec<Expensive> =
+        classes.map(|(index, it)| (index, it.peer, it.sub_batch.bytes() as u64)).collect();
+    if classes.is_empty() {
+        return None;
+    }
+    turns.pick(&classes, 0, false).first().copied()
 }
 
 /// The sub-batches of a batch: those that are done, and those that continue to wait.

@@ -20,7 +20,11 @@ fn invoke_all(keys: &[u8]) -> Vec<u8> {
 }
 
 fn queued(owner: u8, sub_batch: SubBatch) -> Queued<u8> {
-    Queued { owner, sub_batch }
+    Queued { owner, peer: Peer::User(1), sub_batch }
+}
+
+fn gather(queued: &mut [Queued<u8>], steps: u64) -> Batch {
+    Batch::gather(queued, steps, &mut AllTurns::default())
 }
 
 /// Creates a round of `jobs` requests, each of this cost.
@@ -52,17 +56,17 @@ fn deal_to_all(batch: &Batch, queued: &mut [Queued<u8>], reply: &[u8]) -> bool {
 #[test]
 fn each_has_its_share_of_jobs() {
     let mut all = vec![round(1, 5_000, 64), round(2, 5_000, 64), round(3, 1, 64)];
-    let batch = Batch::gather(&mut all, u64::MAX);
+    let batch = gather(&mut all, u64::MAX);
     let keys = last_bytes(&batch);
     let count = |key| keys.iter().filter(|it| **it == key).count();
-    assert_eq!([count(1), count(2), count(3)], [1_365, 1_365, 1]);
+    assert_eq!([count(1), count(2), count(3)], [1_919, 1_920, 1]);
     assert_eq!(keys.last(), Some(&0));
 }
 
 #[test]
 fn a_cheap_job_is_sent_beside_expensive_ones() {
     let mut all = vec![round(1, 9, 400_000), round(2, 9, 400_000), round(3, 2, 64)];
-    let batch = Batch::gather(&mut all, 1_000_000);
+    let batch = gather(&mut all, 1_000_000);
     assert_eq!(last_bytes(&batch), [1, 3, 3, 0]);
     assert_eq!([batch.left_out(0), batch.left_out(1), batch.left_out(2)], [false, true, false]);
 }
@@ -70,15 +74,15 @@ fn a_cheap_job_is_sent_beside_expensive_ones() {
 #[test]
 fn a_job_of_more_instructions_than_a_batch_is_sent() {
     let mut all = vec![round(1, 2, 9_000_000)];
-    assert_eq!(last_bytes(&Batch::gather(&mut all, 1)), [1, 0]);
+    assert_eq!(last_bytes(&gather(&mut all, 1)), [1, 0]);
 }
 
 #[test]
 fn who_was_left_out_is_first() {
     let mut all = vec![round(1, 3, 800_000), round(2, 3, 800_000), round(3, 3, 800_000)];
-    let mut keys = Vec::new();
+    let (mut keys, mut turns) = (Vec::new(), AllTurns::default());
     while !all.is_empty() {
-        let batch = Batch::gather(&mut all, 1_000_000);
+        let batch = Batch::gather(&mut all, 1_000_000, &mut turns);
         keys.extend(last_bytes(&batch).into_iter().filter(|key| *key > 0));
         assert!(deal_to_all(&batch, &mut all, &DONE));
         let dealt = Dealt::of(all, |index| batch.left_out(index));
@@ -92,7 +96,7 @@ fn who_was_left_out_is_first() {
 fn a_batch_has_one_class() {
     let class = || SubBatch::of_class(vec![0, 0, 0, 1, 1]);
     let mut all = vec![queued(1, class()), queued(2, class())];
-    let batch = Batch::gather(&mut all, 100);
+    let batch = gather(&mut all, 100);
     assert_eq!(batch.replies(), 1);
     assert!(batch.left_out(1));
 }
@@ -106,7 +110,7 @@ fn replies_go_to_their_positions() {
     other.add_known(&[0, 0, 0, 1, 78]);
     other.add_job(&get(3), 1, NO_CLASS);
     let mut all = vec![queued(1, one), queued(2, other)];
-    let batch = Batch::gather(&mut all, 1_000);
+    let batch = gather(&mut all, 1_000);
     assert_eq!(batch.replies(), 3);
     let text = [0, 0, 0, 2, 5, 1, 0, 0, 0, 2, 5, 2, 0, 0, 0, 2, 5, 3];
     assert!(batch.deal(&mut all, &text, &[6, 12, 18], &mut Tally::default()));
@@ -131,7 +135,7 @@ fn replies_to_some_keys_of_an_invoke_all_are_joined() {
         [&[7, 0, 1][..], &key(1), &[1, 2]].concat(),
     ];
     for (index, reply) in replies.iter().enumerate() {
-        let batch = Batch::gather(&mut all, 1);
+        let batch = gather(&mut all, 1);
         let sent = invoke_all(&[4 - index as u8]);
         assert_eq!(batch.text()[..sent.len()], sent[..]);
         let frame = [&(reply.len() as u32).to_be_bytes()[..], reply].concat();
@@ -148,13 +152,13 @@ fn a_reply_of_another_kind_is_none_for_keys() {
     let mut sub_batch = SubBatch::default();
     sub_batch.add_invoke_all(&invoke_all(&[1, 2]), 2, 100, 1);
     let mut all = vec![queued(1, sub_batch)];
-    let batch = Batch::gather(&mut all, 1);
+    let batch = gather(&mut all, 1);
     assert!(!deal_to_all(&batch, &mut all, &DONE));
 }
 
 #[test]
 fn missing_replies_are_noticed() {
     let mut all = vec![round(1, 2, 64)];
-    let batch = Batch::gather(&mut all, 1_000);
+    let batch = gather(&mut all, 1_000);
     assert!(!batch.deal(&mut all, &DONE, &[5], &mut Tally::default()));
 }

@@ -1,6 +1,7 @@
 //! The classes of the server, by class file. Equal files are one class of the server, no matter how
 //! many connections define them.
 
+use crate::class_name::class_name;
 use crate::request::number_at;
 use sha1::{Digest, Sha1};
 use std::collections::HashMap;
@@ -40,6 +41,8 @@ pub enum Lookup {
 #[derive(Clone, Debug)]
 pub struct Accepted {
     pub class: Class,
+    /// The class's name.
+    pub name: String,
     /// The SHA-1 of its file in hexadecimal, as `sha1sum` prints it.
     pub hash: String,
     /// The length of its file.
@@ -54,6 +57,8 @@ pub struct Accepted {
 pub struct Classes {
     states: HashMap<Vec<u8>, State>,
     accepted: Vec<Accepted>,
+    /// Their indices by the server's number.
+    by_number: HashMap<u32, usize>,
     bytes: usize,
 }
 
@@ -75,6 +80,11 @@ impl Classes {
         }
     }
 
+    /// Returns whether the server has a file, or is verifying it.
+    pub fn has(&self, file: &[u8]) -> bool {
+        self.states.contains_key(file)
+    }
+
     /// Returns the classes in the order in which the server accepted them.
     pub fn accepted(&self) -> &[Accepted] {
         &self.accepted
@@ -89,7 +99,14 @@ impl Classes {
     pub fn note(&mut self, class: Class, file: &[u8], connection: u64, peer: String) {
         let bytes = file.len();
         self.bytes += bytes;
-        self.accepted.push(Accepted { class, hash: hash(file), bytes, connection, peer });
+        let (name, hash) = (class_name(file), hash(file));
+        self.by_number.insert(class.number, self.accepted.len());
+        self.accepted.push(Accepted { class, name, hash, bytes, connection, peer });
+    }
+
+    /// Returns an accepted class by the server's number.
+    pub fn by_number(&self, number: u32) -> Option<&Accepted> {
+        self.accepted.get(*self.by_number.get(&number)?)
     }
 
     /// Stores the verdict on a new file: a class, or `None`. Returns the connections that waited

@@ -1,14 +1,18 @@
 //! One connection: the frames that arrived, the open round, and the replies on their way out. It
 //! never blocks; the event loop calls it when its socket is ready.
 
-use crate::classes::{class_of, Class, Classes, Lookup};
+mod definitions;
+
+use crate::classes::{class_of, Class};
 use crate::listen::Stream;
-use crate::request::{frame_length, judge, remove_duplicates, Frame, MOST_CLASSES, MOST_JOBS};
+use crate::peers::Peer;
+use crate::request::{frame_length, judge, remove_duplicates, Frame, MOST_JOBS};
+use crate::shared::Shared;
 use crate::sub_batch::SubBatch;
 use crate::tally::{Tally, NO_CLASS};
 use std::io::{self, Read, Write};
 use std::mem::take;
-use std::time::Instant;
+use std::time::{Duration, Instant};
 
 /// The instructions that a request costs in addition to those of its class.
 const REQUEST_COST: u64 = 64;
@@ -20,34 +24,13 @@ const KEPT: usize = 16_384;
 /// The maximum number of bytes of one read, so that no connection delays the others.
 pub const READ_SIZE: usize = 16_384;
 
+/// The instructions that a round may have even if its peer's other rounds have reached their limit.
+const LIGHT_ROUND: u64 = 500_000;
+
 const UNKNOWN_CLASS: [u8; 6] = [0, 0, 0, 2, 8, 1];
-const TOO_MANY_CLASSES: [u8; 6] = [0, 0, 0, 2, 8, 4];
 const TOO_MANY_JOBS: [u8; 6] = [0, 0, 0, 2, 8, 5];
 const NO_RESULTS: [u8; 7] = [0, 0, 0, 3, 7, 0, 0];
 const ENDED: [u8; 5] = [0, 0, 0, 1, 9];
-
-/// The state that all connections share.
-pub struct Shared {
-    /// The classes of the server.
-    pub classes: Classes,
-    /// The counts of all connections.
-    pub tally: Tally,
-    /// The maximum number of new classes of a connection.
-    pub most_classes: usize,
-    /// The maximum number of requests of a round.
-    pub most_requests: usize,
-    /// The buffer for reads.
-    buffer: Vec<u8>,
-}
-
-impl Shared {
-    /// Creates the state, without classes and with these limits.
-    pub fn new(most_classes: usize, most_requests: usize) -> Shared {
-        let buffer = vec![0; READ_SIZE];
-        let (classes, tally) = (Classes::default(), Tally::default());
-        Shared { classes, tally, most_classes, most_requests, buffer }
-    }
-}
 
 /// What a connection waits for.
 pub enum Step {
@@ -59,6 +42,8 @@ pub enum Step {
     Class(Vec<u8>),
     /// The verdict on a class that another connection has sent to the server.
     OthersClass,
+    /// A time: its peer has sent too many bytes of refused classes.
+    Pause,
 }
 
 /// The amount that a read found.
@@ -75,13 +60,18 @@ enum Input {
 /// The counts of a connection.
 #[derive(Clone, Debug)]
 pub struct Traffic {
-    /// The peer's address.
+    /// The peer, for people and for limits.
     pub peer: String,
+    pub owner: Peer,
     pub opened: Instant,
     pub rounds: u64,
     pub requests: u64,
     pub received_bytes: u64,
     pub sent_bytes: u64,
+    /// The longest time that the server took for one of its rounds.
+    pub slowest: Duration,
+    /// When its round began to wait for the server, if one does.
+    pub waits_since: Option<Instant>,
 }
 
 /// A connection and its open round.
@@ -107,6 +97,17 @@ pub struct Connection {
     sub_batch: SubBatch,
     jobs: usize,
     requests: usize,
+    /// The instructions that its open round may have.
+    most_steps: u64,
+    /// The bytes of its round at the server, and those of all its rounds that were last counted.
+    sent_round_bytes: usize,
+    counted_bytes: usize,
+    /// When its open round began to arrive, or its replies to wait for the socket.
+    begun: Option<Instant>,
+    /// When its peer ended its input while it waited for the server.
+    half_closed: Option<Instant>,
+    /// When it may try again, after [`Step::Pause`].
+    paused_until: Option<Instant>,
 }
 
 impl Connection {
@@ -114,11 +115,14 @@ impl Connection {
     pub fn new(number: u64, stream: Stream) -> Connection {
         let traffic = Traffic {
             peer: stream.peer(),
+            owner: stream.owner(),
             opened: Instant::now(),
             rounds: 0,
             requests: 0,
             received_bytes: 0,
             sent_bytes: 0,
+            slowest: Duration::ZERO,
+            waits_since: None,
         };
         Connection {
             number,
@@ -136,6 +140,12 @@ impl Connection {
             sub_batch: SubBatch::default(),
             jobs: 0,
             requests: 0,
+            most_steps: 0,
+            sent_round_bytes: 0,
+            counted_bytes: 0,
+            begun: None,
+            half_closed: None,
+            paused_until: None,
         }
     }
 
@@ -181,9 +191,55 @@ impl Connection {
 
     /// Marks the socket as readable, which an edge-triggered event reports only once. With
     /// `is_closed` it must be read to its end, because no further event comes.
-    pub fn set_readable(&mut self, is_closed: bool) {
+    pub fn set_readable(&mut self, is_closed: bool, now: Instant) {
         self.may_have_input = true;
         self.peer_closed |= is_closed;
+        if is_closed && self.is_waiting && self.stream.is_tcp() {
+            self.half_closed.get_or_insert(now);
+        }
+    }
+
+    /// Returns the bytes of its rounds that haven't been answered.
+    pub fn round_bytes(&self) -> usize {
+        self.counted_bytes
+    }
+
+    /// Returns when its open round began to arrive, or its replies to wait for the socket. A round
+    /// that waits for the server isn't late.
+    pub fn begun(&self) -> Option<Instant> {
+        self.begun.filter(|_| !self.is_waiting)
+    }
+
+    /// Returns when its peer ended its input, if it still waits for the server.
+    pub fn half_closed(&self) -> Option<Instant> {
+        self.half_closed.filter(|_| self.is_waiting)
+    }
+
+    /// Returns when it may try again, after [`Step::Pause`].
+    pub fn paused_until(&self) -> Option<Instant> {
+        self.paused_until
+    }
+
+    /// Returns whether it has sent nothing that isn't answered.
+    pub fn is_quiet(&self) -> bool {
+        !self.is_writing() && !self.is_waiting && !self.has_open_round()
+    }
+
+    fn has_open_round(&self) -> bool {
+        self.requests > 0 || self.taken < self.input.len()
+    }
+
+    /// Counts the bytes of its rounds, and notes when its round or its replies began to wait.
+    fn count_bytes(&mut self, shared: &mut Shared) {
+        let of_input = self.input.len() - self.taken + self.sub_batch.bytes();
+        let bytes = of_input + self.sent_round_bytes + self.output.len() - self.written;
+        shared.round_bytes = shared.round_bytes + bytes - self.counted_bytes;
+        self.counted_bytes = bytes;
+        if self.is_writing() || self.has_open_round() {
+            self.begun.get_or_insert(shared.now);
+        } else {
+            self.begun = None;
+        }
     }
 
     /// Reads what arrived or writes what waits, and continues as far as possible. An error ends the
@@ -208,23 +264,32 @@ impl Connection {
         self.output.extend_from_slice(replies);
         self.output.extend_from_slice(&ENDED);
         self.is_waiting = false;
+        self.sent_round_bytes = 0;
+        self.begun = None;
+    }
+
+    /// Notes how long the round took that the server has answered.
+    pub fn note_time(&mut self, time: Duration) {
+        self.traffic.slowest = self.traffic.slowest.max(time);
+        self.traffic.waits_since = None;
     }
 
     /// Takes the verdict on a class that it sent.
-    pub fn take_verdict(&mut self, reply: &[u8], tally: &mut Tally) {
+    pub fn take_verdict(&mut self, reply: &[u8], shared: &mut Shared) {
         match class_of(reply) {
-            None => self.add_known(reply, tally),
+            None => self.add_known(reply, &mut shared.tally),
             Some(class) => {
                 self.brought += 1;
-                self.number_class(class, tally);
+                self.take_class(class, shared);
             }
         }
         self.is_waiting = false;
     }
 
-    /// Processes its next frame again: a class that now has a verdict.
+    /// Processes its next frame again: a class that now has a verdict, or that was to wait.
     pub fn retry(&mut self) {
         self.is_waiting = false;
+        self.paused_until = None;
     }
 
     /// Reads what arrived, or a part of it.
@@ -281,6 +346,12 @@ impl Connection {
     /// Writes the replies that are ready, and processes frames until one has to wait. While replies
     /// wait for the socket, no frame is processed.
     pub fn advance(&mut self, shared: &mut Shared) -> io::Result<Step> {
+        let step = self.process(shared);
+        self.count_bytes(shared);
+        step
+    }
+
+    fn process(&mut self, shared: &mut Shared) -> io::Result<Step> {
         self.write(&mut shared.tally)?;
         while !self.is_writing() && !self.is_waiting {
             let step = self.take_frames(shared);
@@ -317,13 +388,13 @@ impl Connection {
             let step = match judge(text).ok_or(io::ErrorKind::InvalidData)? {
                 Frame::End => {
                     shared.tally.rounds += 1;
-                    self.end_round()
+                    self.end_round(shared.now)
                 }
                 Frame::Define => self.define(text, shared)?,
                 frame => self.add(frame, text, shared)?,
             };
             self.is_waiting = !matches!(step, Step::Socket);
-            if !matches!(step, Step::OthersClass) {
+            if !matches!(step, Step::OthersClass | Step::Pause) {
                 self.taken += length;
             }
             if self.is_waiting {
@@ -334,7 +405,7 @@ impl Connection {
     }
 
     /// Ends the open round. If no request waits for the server, its replies are complete.
-    fn end_round(&mut self) -> Step {
+    fn end_round(&mut self, now: Instant) -> Step {
         self.traffic.rounds += 1;
         self.traffic.requests += self.requests as u64;
         let requests = take(&mut self.requests);
@@ -344,13 +415,19 @@ impl Connection {
             self.answer(&sub_batch.into_replies());
             Step::Socket
         } else {
+            self.sent_round_bytes = sub_batch.bytes();
+            self.traffic.waits_since = Some(now);
             Step::Round { sub_batch, requests }
         }
     }
 
     fn count_request(&mut self, kind: u8, shared: &mut Shared) -> io::Result<()> {
+        if self.requests == 0 {
+            let of_peer = shared.peers.steps_left(self.traffic.owner);
+            self.most_steps = of_peer.max(LIGHT_ROUND).min(shared.limits.round_steps);
+        }
         self.requests += 1;
-        if self.requests > shared.most_requests {
+        if self.requests > shared.limits.requests {
             return Err(io::ErrorKind::InvalidData.into());
         }
         shared.tally.request(kind);
@@ -390,7 +467,7 @@ impl Connection {
     }
 
     fn add_job(&mut self, text: &[u8], cost: u64, class: u32, tally: &mut Tally) {
-        if self.jobs == MOST_JOBS {
+        if self.jobs == MOST_JOBS || self.sub_batch.steps() + cost > self.most_steps {
             self.add_known(&TOO_MANY_JOBS, tally);
         } else {
             self.jobs += 1;
@@ -401,50 +478,16 @@ impl Connection {
     fn add_invoke_all(&mut self, text: &[u8], keys: usize, class: Class, tally: &mut Tally) {
         let mut text = text.to_vec();
         let keys = remove_duplicates(&mut text, keys);
-        if keys > MOST_JOBS - self.jobs {
+        let cost = u64::from(class.steps) + REQUEST_COST;
+        let steps = self.sub_batch.steps() + cost * keys as u64;
+        if keys > MOST_JOBS - self.jobs || steps > self.most_steps {
             self.add_known(&TOO_MANY_JOBS, tally);
         } else if keys == 0 {
             self.add_known(&NO_RESULTS, tally);
         } else {
             self.jobs += keys;
-            let cost = u64::from(class.steps) + REQUEST_COST;
             self.sub_batch.add_invoke_all(&text, keys, cost, class.number);
         }
-    }
-
-    /// Looks up a class, or sends it to the server.
-    fn define(&mut self, text: &[u8], shared: &mut Shared) -> io::Result<Step> {
-        if self.requests >= shared.most_requests {
-            // This comes before the lookup, which marks a new class as sent to the server.
-            return Err(io::ErrorKind::InvalidData.into());
-        }
-        let may_number = self.classes.len() < MOST_CLASSES;
-        let may_bring = self.brought < shared.most_classes;
-        let lookup = if may_number {
-            shared.classes.find(&text[5..], self.number, may_bring)
-        } else {
-            Lookup::TooMany
-        };
-        if matches!(lookup, Lookup::Pending) {
-            return Ok(Step::OthersClass);
-        }
-        self.count_request(text[4], shared)?;
-        match lookup {
-            Lookup::Class(class) => self.number_class(class, &mut shared.tally),
-            Lookup::New => return Ok(Step::Class(text.to_vec())),
-            _ => self.add_known(&TOO_MANY_CLASSES, &mut shared.tally),
-        }
-        Ok(Step::Socket)
-    }
-
-    /// Gives a class a number on this connection, and replies with it.
-    fn number_class(&mut self, class: Class, tally: &mut Tally) {
-        let mut reply = vec![0, 0, 0, 13, 1];
-        reply.extend_from_slice(&(self.classes.len() as u32).to_be_bytes());
-        reply.extend_from_slice(&class.steps.to_be_bytes());
-        reply.extend_from_slice(&class.words.to_be_bytes());
-        self.classes.push(class);
-        self.add_known(&reply, tally);
     }
 }
 

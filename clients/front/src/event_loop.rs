@@ -5,25 +5,30 @@
 //! Events are edge-triggered: each reports only once that a socket became ready. A connection that
 //! wasn't read to its end is put in the backlog, and continues after the others.
 
+mod delivery;
+mod publishing;
+mod timers;
+
 use crate::batch::Queued;
-use crate::classes::class_of;
-use crate::connection::{Connection, Shared, Step, Traffic};
+use crate::connection::{Connection, Step, Traffic};
 use crate::listen::{Acceptor, Stream};
 use crate::logging::LogLimit;
-use crate::metrics::Gauges;
-use crate::refusal::log_refusal;
+use crate::peers::Peer;
 use crate::scheduler::{Owner, Scheduler};
 use crate::server::end_soon;
+use crate::shared::Shared;
 use crate::spin_wait::SpinWait;
-use crate::status::{top, ClassRow, ConnectionRow, Publisher, Tables};
+use crate::status::Publisher;
 use crate::sub_batch::SubBatch;
-use crate::tally::{Closed, Tally};
+use crate::tally::Closed;
 use log::{debug, warn};
 use mio::{Events, Interest, Poll, Token};
 use std::collections::{HashMap, VecDeque};
 use std::io;
 use std::sync::Arc;
 use std::time::{Duration, Instant};
+pub use timers::Times;
+use timers::{Timers, SWEEP};
 
 /// The tokens of the server's replies and of the waker. Connections have higher ones.
 const SERVER: Token = Token(0);
@@ -37,9 +42,6 @@ const MOST_EVENTS: usize = 256;
 /// polled.
 const MOST_DIRECT_READS: u32 = 8;
 
-/// How often the event loop checks for connections without progress.
-const SWEEP: Duration = Duration::from_millis(250);
-
 /// A connection, the interest with which its socket is registered, and the time of its last
 /// progress.
 struct Entry {
@@ -48,6 +50,17 @@ struct Entry {
     moved: Instant,
     /// Whether it is in the backlog.
     in_backlog: bool,
+    /// Whether the peer has closed the connection, so that it takes no replies.
+    is_gone: bool,
+}
+
+/// A socket that is ready.
+#[derive(Clone, Copy)]
+struct Ready {
+    token: Token,
+    /// Whether the peer sends nothing more, and whether it takes nothing more either.
+    is_closed: bool,
+    is_gone: bool,
 }
 
 /// All connections, and the server.
@@ -55,8 +68,10 @@ pub struct EventLoop {
     poll: Poll,
     acceptor: Arc<Acceptor>,
     events: Events,
-    /// The events of the last poll: tokens, and whether the peer has closed the connection.
-    ready: Vec<(Token, bool)>,
+    /// The events of the last poll.
+    ready: Vec<Ready>,
+    /// Connections that wait for the server and whose peers have closed them.
+    gone: Vec<u64>,
     /// Connections whose sockets may have more input.
     backlog: VecDeque<u64>,
     /// Whether the server has closed its replies; the last ones may not have been read yet.
@@ -70,10 +85,7 @@ pub struct EventLoop {
     answered: u64,
     /// The number of consecutive reads of only the likeliest socket.
     direct_reads: u32,
-    idle: Option<Duration>,
-    swept: Instant,
-    /// The time when the last wait ended.
-    now: Instant,
+    timers: Timers,
     publisher: Option<Publisher>,
     log_limit: LogLimit,
 }
@@ -89,14 +101,13 @@ enum Woken {
 }
 
 impl EventLoop {
-    /// Creates an event loop on this poll; its [`WAKER`] belongs to the acceptor. A connection
-    /// without progress for the time `idle` is closed.
+    /// Creates an event loop on this poll; its [`WAKER`] belongs to the acceptor.
     pub fn new(
         poll: Poll,
         acceptor: Arc<Acceptor>,
         mut scheduler: Scheduler,
         shared: Shared,
-        idle: Option<Duration>,
+        times: Times,
         publisher: Option<Publisher>,
     ) -> io::Result<EventLoop> {
         poll.registry().register(scheduler.output(), SERVER, Interest::READABLE)?;
@@ -105,6 +116,7 @@ impl EventLoop {
             acceptor,
             events: Events::with_capacity(MOST_EVENTS),
             ready: Vec::with_capacity(MOST_EVENTS),
+            gone: Vec::new(),
             backlog: VecDeque::new(),
             server_closed: false,
             spin: SpinWait::new(),
@@ -114,9 +126,7 @@ impl EventLoop {
             next: FIRST_CONNECTION,
             answered: 0,
             direct_reads: 0,
-            idle,
-            swept: Instant::now(),
-            now: Instant::now(),
+            timers: Timers::new(times),
             publisher,
             log_limit: LogLimit::default(),
         })
@@ -141,18 +151,19 @@ impl EventLoop {
     fn turn(&mut self) -> io::Result<()> {
         let woken = self.wait()?;
         if !matches!(woken, Woken::Connection) {
-            self.now = Instant::now();
+            self.shared.now = Instant::now();
         }
         let done = match woken {
             Woken::Replies(done) => done,
             Woken::Connection => Vec::new(),
             Woken::Events => self.handle_events()?,
         };
-        self.scheduler.send(self.now)?;
+        self.scheduler.send(self.shared.now)?;
         self.count_batch();
         done.into_iter().for_each(|it| self.deliver(it));
+        self.close_gone();
         self.sweep();
-        self.scheduler.send(self.now)
+        self.scheduler.send(self.shared.now)
     }
 
     /// Waits until there is something to do. It polls for some time before it sleeps, unless the
@@ -181,9 +192,7 @@ impl EventLoop {
     }
 
     fn sleep(&mut self) -> io::Result<Woken> {
-        let timeout =
-            if self.has_backlog() { Some(Duration::ZERO) } else { self.idle.map(|_| SWEEP) };
-        self.poll_events(timeout)?;
+        self.poll_events(self.timeout())?;
         Ok(Woken::Events)
     }
 
@@ -218,7 +227,11 @@ impl EventLoop {
             Err(_) => return Ok(()),
             Ok(()) => {}
         }
-        self.ready.extend(self.events.iter().map(|it| (it.token(), it.is_read_closed())));
+        self.ready.extend(self.events.iter().map(|it| Ready {
+            token: it.token(),
+            is_closed: it.is_read_closed(),
+            is_gone: it.is_write_closed(),
+        }));
         Ok(())
     }
 
@@ -231,7 +244,7 @@ impl EventLoop {
         match entry.connection.try_read(&mut self.shared) {
             Ok(None) => return false,
             Ok(Some(step)) => {
-                self.now = Instant::now();
+                self.shared.now = Instant::now();
                 self.follow(number, Ok(step));
             }
             Err(e) => self.follow(number, Err(e)),
@@ -248,15 +261,16 @@ impl EventLoop {
         }
         let backlog = self.backlog.len();
         for index in 0..self.ready.len() {
-            match self.ready[index] {
-                (SERVER, is_closed) => {
+            let ready = self.ready[index];
+            match ready.token {
+                SERVER => {
                     done.extend(
                         self.scheduler.receive(&mut self.shared.tally)?.unwrap_or_default(),
                     );
-                    self.server_closed = is_closed;
+                    self.server_closed = ready.is_closed;
                 }
-                (WAKER, _) => self.on_wake(),
-                (connection, is_closed) => self.on_ready(connection.0 as u64, is_closed),
+                WAKER => self.on_wake(),
+                connection => self.on_ready(connection.0 as u64, ready),
             }
         }
         for _ in 0..backlog {
@@ -275,50 +289,8 @@ impl EventLoop {
         if self.publisher.as_ref().map_or(false, Publisher::is_wanted) {
             self.publish();
         }
-    }
-
-    fn publish(&self) {
-        let publisher = match &self.publisher {
-            Some(it) => it,
-            None => return,
-        };
-        let (waiting_rounds, waiting_requests) = self.scheduler.waiting();
-        let classes = &self.shared.classes;
-        let gauges = Gauges {
-            waiting_rounds,
-            waiting_requests,
-            connections: self.connections.len(),
-            connections_limit: self.acceptor.limit(),
-            classes: classes.accepted().len(),
-            class_bytes: classes.bytes(),
-            rejected: self.acceptor.rejected(),
-        };
-        publisher.publish(&self.shared.tally, &gauges, || self.tables());
-    }
-
-    fn tables(&self) -> Tables {
-        let accepted = self.shared.classes.accepted().iter();
-        let classes = accepted.map(|it| ClassRow {
-            accepted: it.clone(),
-            tally: self.shared.tally.class_tally(it.class.number),
-        });
-        let connections = self.connections.iter().map(|(number, entry)| ConnectionRow {
-            number: *number,
-            traffic: entry.connection.traffic().clone(),
-            state: entry.connection.state(),
-        });
-        let class_number = |it: &ClassRow| u64::from(it.accepted.class.number);
-        Tables {
-            classes: top(classes.collect(), |it| it.tally.runs, class_number),
-            connections: top(connections.collect(), |it| it.traffic.requests, |it| it.number),
-        }
-    }
-
-    fn count_batch(&mut self) {
-        if let Some(completed) = self.scheduler.take_completed() {
-            if let Some(publisher) = &self.publisher {
-                publisher.batch(&completed, self.now);
-            }
+        if self.acceptor.is_stopped() {
+            self.begin_drain();
         }
     }
 
@@ -336,19 +308,26 @@ impl EventLoop {
             interest: Interest::READABLE,
             moved: Instant::now(),
             in_backlog: false,
+            is_gone: false,
         };
+        self.shared.peers.open(entry.connection.traffic().owner);
         debug!("connection {} opened by {}", number, entry.connection.traffic().peer);
         self.connections.insert(number, entry);
     }
 
     /// Handles a connection whose socket is ready or whose peer has closed. A connection that waits
     /// for the server isn't read.
-    fn on_ready(&mut self, number: u64, is_closed: bool) {
+    fn on_ready(&mut self, number: u64, ready: Ready) {
         if let Some(entry) = self.connections.get_mut(&number) {
-            entry.connection.set_readable(is_closed);
+            entry.connection.set_readable(ready.is_closed, self.shared.now);
+            entry.is_gone |= ready.is_gone;
             if entry.connection.is_writing() || !entry.connection.is_waiting() {
                 let step = entry.connection.continue_io(&mut self.shared);
                 self.follow(number, step);
+            } else if entry.is_gone {
+                self.gone.push(number);
+            } else if ready.is_closed {
+                self.timers.is_timed = true;
             }
         }
     }
@@ -369,15 +348,13 @@ impl EventLoop {
         let result = step.and_then(|step| {
             match step {
                 Step::Round { sub_batch, requests } => {
-                    let queued = self.now;
-                    let owner = Owner { connection: number, class: None, queued, requests };
-                    self.scheduler.queue(owner, sub_batch);
+                    self.queue(number, None, requests, sub_batch);
                 }
                 Step::Class(frame) => {
-                    let (class, queued) = (Some(frame.clone()), self.now);
-                    let owner = Owner { connection: number, class, queued, requests: 1 };
-                    self.scheduler.queue(owner, SubBatch::of_class(frame));
+                    let sub_batch = SubBatch::of_class(frame.clone());
+                    self.queue(number, Some(frame), 1, sub_batch);
                 }
+                Step::Pause => self.timers.is_timed = true,
                 Step::Socket | Step::OthersClass => {}
             }
             self.listen(number)
@@ -387,6 +364,20 @@ impl EventLoop {
             Err(_) => self.close(number, Closed::Ended),
             Ok(()) => {}
         }
+        if self.shared.round_bytes > self.shared.limits.round_bytes {
+            self.close_largest();
+        }
+    }
+
+    /// Queues a round of a connection, or its class, for the server.
+    fn queue(&mut self, number: u64, class: Option<Vec<u8>>, requests: usize, sub_batch: SubBatch) {
+        let entry = self.connections.get(&number);
+        let peer = entry.map_or(Peer::Unknown, |it| it.connection.traffic().owner);
+        let (steps, queued) = (sub_batch.steps(), self.shared.now);
+        self.shared.peers.waits(peer, steps);
+        let owner =
+            Owner { connection: number, peer, class, steps, is_gone: false, queued, requests };
+        self.scheduler.queue(owner, sub_batch);
     }
 
     /// Registers for the events that a connection needs.
@@ -399,11 +390,15 @@ impl EventLoop {
         let interest = match (connection.is_writing(), connection.is_waiting()) {
             (true, _) => Interest::WRITABLE,
             (false, false) => Interest::READABLE,
-            (false, true) => return Ok(()),
+            (false, true) => {
+                if entry.is_gone {
+                    self.gone.push(number);
+                }
+                return Ok(());
+            }
         };
-        if self.idle.is_some() {
-            entry.moved = Instant::now();
-        }
+        self.timers.is_timed |= connection.begun().is_some();
+        entry.moved = self.shared.now;
         if interest != entry.interest {
             entry.interest = interest;
             let token = Token(number as usize);
@@ -416,78 +411,51 @@ impl EventLoop {
         Ok(())
     }
 
+    /// Closes the connections that wait for the server and whose peers are gone. What of their
+    /// rounds hasn't been sent to the server is dropped.
+    fn close_gone(&mut self) {
+        while let Some(number) = self.gone.pop() {
+            self.close(number, Closed::Ended);
+        }
+    }
+
+    /// Closes the connections with the largest rounds, until the others have room.
+    fn close_largest(&mut self) {
+        while self.shared.round_bytes > self.shared.limits.round_bytes {
+            let bytes = |(number, it): (&u64, &Entry)| (it.connection.round_bytes(), *number);
+            match self.connections.iter().map(bytes).max() {
+                Some((_, number)) => self.close(number, Closed::Large),
+                None => return,
+            }
+        }
+    }
+
     fn close(&mut self, number: u64, why: Closed) {
-        if let Some(entry) = self.connections.remove(&number) {
-            self.acceptor.release();
-            self.shared.tally.closed[why as usize] += 1;
-            let Traffic { peer, rounds, .. } = entry.connection.traffic();
-            debug!("connection {} of {} closed after {} rounds: {:?}", number, peer, rounds, why);
-            if matches!(why, Closed::Invalid) && self.log_limit.allows(self.now) {
-                let requests = entry.connection.open_requests();
-                warn!(
-                    "connection {} of {} closed: no request, or too many in a round, after {}",
-                    number, peer, requests
-                );
-            }
-        }
-    }
-
-    /// Delivers the replies to a round, or the verdict on a class.
-    fn deliver(&mut self, queued: Queued<Owner>) {
-        let Owner { connection, class, queued: begun, requests } = queued.owner;
-        self.answered = connection;
-        let replies = queued.sub_batch.into_replies();
-        match class {
-            None => {
-                if let Some(publisher) = &self.publisher {
-                    publisher.round(self.now.saturating_duration_since(begun), requests);
-                }
-                self.resume(connection, |it, _| it.answer(&replies));
-            }
-            Some(frame) => self.deliver_verdict(connection, &frame[5..], &replies),
-        }
-    }
-
-    /// Delivers the verdict on a class to the connection that sent it and to those that wait.
-    fn deliver_verdict(&mut self, connection: u64, file: &[u8], reply: &[u8]) {
-        let class = class_of(reply);
-        let entry = self.connections.get(&connection);
-        let peer = entry.map_or("gone".to_string(), |it| it.connection.traffic().peer.clone());
-        match class {
-            Some(class) => {
-                self.shared.tally.class(class.number, class.steps);
-                self.shared.classes.note(class, file, connection, peer);
-            }
-            None if self.log_limit.allows(self.now) => log_refusal(connection, &peer, file, reply),
-            None => {}
-        }
-        let waiting = self.shared.classes.resolve(file, class);
-        self.resume(connection, |it, tally| it.take_verdict(reply, tally));
-        waiting.into_iter().for_each(|other| self.resume(other, |it, _| it.retry()));
-    }
-
-    /// Continues with a connection that waited for the server.
-    fn resume(&mut self, number: u64, deliver: impl FnOnce(&mut Connection, &mut Tally)) {
-        if let Some(entry) = self.connections.get_mut(&number) {
-            deliver(&mut entry.connection, &mut self.shared.tally);
-            let step = entry.connection.advance(&mut self.shared);
-            self.follow(number, step);
-        }
-    }
-
-    /// Closes the connections without progress, if that is enabled, at most once in each `SWEEP`.
-    fn sweep(&mut self) {
-        let idle = match self.idle {
-            Some(idle) if self.swept.elapsed() >= SWEEP => idle,
-            _ => return,
+        let entry = match self.connections.remove(&number) {
+            Some(it) => it,
+            None => return,
         };
-        self.swept = Instant::now();
-        let is_idle = |entry: &Entry| {
-            let needs_socket = entry.connection.is_writing() || !entry.connection.is_waiting();
-            needs_socket && entry.moved.elapsed() >= idle
+        let connection = &entry.connection;
+        if connection.is_waiting() {
+            if let Some(dropped) = self.scheduler.forget(number) {
+                self.shared.peers.done(dropped.peer, dropped.owner.steps);
+            }
+        }
+        self.acceptor.release();
+        self.shared.round_bytes -= connection.round_bytes();
+        self.shared.tally.closed[why as usize] += 1;
+        let Traffic { peer, owner, rounds, .. } = connection.traffic();
+        self.shared.peers.close(*owner);
+        debug!("connection {} of {} closed after {} rounds: {:?}", number, peer, rounds, why);
+        let reason = match why {
+            Closed::Invalid => "no request, or too many in a round",
+            Closed::Slow => "its round or its replies took longer than --round",
+            Closed::Large => "all rounds took more than --round-bytes, and its the most",
+            Closed::Ended | Closed::Idle | Closed::Drained => return,
         };
-        let found = self.connections.iter().filter(|(_, entry)| is_idle(entry));
-        let found: Vec<u64> = found.map(|(number, _)| *number).collect();
-        found.into_iter().for_each(|number| self.close(number, Closed::Idle));
+        if self.log_limit.allows(self.shared.now) {
+            let requests = connection.open_requests();
+            warn!("connection {} of {} closed: {}, after {}", number, peer, reason, requests);
+        }
     }
 }

@@ -1,20 +1,24 @@
 //! Listening sockets, and the threads that accept connections.
 
 use crate::options::Address;
+use crate::peers::Peer;
+use crate::socket_file::{self, Rights, SocketFile};
 use mio::event::Source;
 use mio::net::{TcpStream, UnixStream};
 use mio::{Interest, Registry, Token, Waker};
+use nix::poll::{poll, PollFd, PollFlags};
 use nix::sys::resource::{getrlimit, Resource};
-use nix::sys::socket::getsockopt;
-use nix::sys::socket::sockopt::PeerCredentials;
-use std::fs;
+use nix::sys::socket::sockopt::{
+    KeepAlive, PeerCredentials, TcpKeepCount, TcpKeepIdle, TcpKeepInterval,
+};
+use nix::sys::socket::{getsockopt, setsockopt};
 use std::io::{self, Read, Write};
 use std::mem::take;
-use std::net::TcpListener;
-use std::os::unix::io::{AsFd, AsRawFd, OwnedFd};
+use std::net::{Shutdown, TcpListener, TcpStream as StdTcpStream};
+use std::os::unix::io::{AsFd, AsRawFd, OwnedFd, RawFd};
 use std::os::unix::net::{UnixListener, UnixStream as StdUnixStream};
-use std::sync::atomic::{AtomicU64, AtomicUsize, Ordering};
-use std::sync::{Arc, Mutex};
+use std::sync::atomic::{AtomicBool, AtomicU64, AtomicUsize, Ordering};
+use std::sync::{Arc, Condvar, Mutex};
 use std::thread;
 use std::time::Duration;
 
@@ -25,10 +29,25 @@ const OTHER_FILES: usize = 16;
 /// descriptors.
 const PAUSE: Duration = Duration::from_millis(50);
 
+/// The seconds without data after which a TCP connection is probed, those between two probes, and
+/// their number.
+const KEEP_ALIVE_IDLE: u32 = 60;
+const KEEP_ALIVE_INTERVAL: u32 = 15;
+const KEEP_ALIVE_PROBES: u32 = 4;
+
 /// A listening socket.
 pub enum Listener {
     Unix(UnixListener),
     Tcp(TcpListener),
+}
+
+impl Listener {
+    fn as_raw_fd(&self) -> RawFd {
+        match self {
+            Listener::Unix(it) => it.as_raw_fd(),
+            Listener::Tcp(it) => it.as_raw_fd(),
+        }
+    }
 }
 
 /// A connection's non-blocking socket.
@@ -38,7 +57,22 @@ pub enum Stream {
 }
 
 impl Stream {
-    /// Returns the peer: process and user for a unix socket, the address for a TCP one.
+    /// Returns the peer for limits: the user for a unix socket, the address for a TCP one.
+    pub fn owner(&self) -> Peer {
+        match self {
+            Stream::Unix(it) => getsockopt(it.as_raw_fd(), PeerCredentials)
+                .map_or(Peer::Unknown, |it| Peer::User(it.uid())),
+            Stream::Tcp(it) => it.peer_addr().map_or(Peer::Unknown, |it| Peer::at(it.ip())),
+        }
+    }
+
+    /// Returns whether it is a TCP connection. Only of a unix socket the end of the peer's input
+    /// and the peer's end can be distinguished.
+    pub fn is_tcp(&self) -> bool {
+        matches!(self, Stream::Tcp(_))
+    }
+
+    /// Returns the peer for people: process and user for a unix socket, the address for a TCP one.
     pub fn peer(&self) -> String {
         match self {
             Stream::Unix(it) => match getsockopt(it.as_raw_fd(), PeerCredentials) {
@@ -112,14 +146,69 @@ pub struct Acceptor {
     rejected: AtomicU64,
     arrived: Mutex<Vec<Stream>>,
     waker: Arc<Waker>,
+    /// Two connected sockets. The accepting threads end when the first is shut down.
+    stop: (StdUnixStream, StdUnixStream),
+    is_stopped: AtomicBool,
+    /// Whether all connections have ended after that.
+    is_drained: Mutex<bool>,
+    drained: Condvar,
 }
 
 impl Acceptor {
     /// Creates an acceptor that allows at most `limit` connections at a time, and wakes the event
     /// loop for each.
-    pub fn new(limit: usize, waker: Arc<Waker>) -> Acceptor {
-        let (count, rejected) = (AtomicUsize::new(0), AtomicU64::new(0));
-        Acceptor { limit, count, rejected, arrived: Mutex::default(), waker }
+    pub fn new(limit: usize, waker: Arc<Waker>) -> io::Result<Acceptor> {
+        Ok(Acceptor {
+            limit,
+            count: AtomicUsize::new(0),
+            rejected: AtomicU64::new(0),
+            arrived: Mutex::default(),
+            waker,
+            stop: StdUnixStream::pair()?,
+            is_stopped: AtomicBool::new(false),
+            is_drained: Mutex::new(false),
+            drained: Condvar::new(),
+        })
+    }
+
+    /// Ends the accepting threads, and wakes the event loop. Connections that haven't been accepted
+    /// stay with their listener.
+    pub fn stop(&self) {
+        self.is_stopped.store(true, Ordering::SeqCst);
+        let _ = self.stop.0.shutdown(Shutdown::Both);
+        let _ = self.waker.wake();
+    }
+
+    /// Returns whether [`Acceptor::stop`] was called.
+    pub fn is_stopped(&self) -> bool {
+        self.is_stopped.load(Ordering::SeqCst)
+    }
+
+    /// Notes that all connections have ended after [`Acceptor::stop`].
+    pub fn set_drained(&self) {
+        if let Ok(mut it) = self.is_drained.lock() {
+            *it = true;
+            self.drained.notify_all();
+        }
+    }
+
+    /// Waits for the end of all connections, but at most for `patience`. Returns the number of
+    /// those that are left.
+    pub fn wait_drained(&self, patience: Duration) -> usize {
+        if let Ok(it) = self.is_drained.lock() {
+            drop(self.drained.wait_timeout_while(it, patience, |is_drained| !*is_drained));
+        }
+        self.count.load(Ordering::SeqCst)
+    }
+
+    /// Waits until a connection has arrived at a listener. Returns false after
+    /// [`Acceptor::stop`].
+    fn waits(&self, listener: &Listener) -> bool {
+        let mut files = [listener.as_raw_fd(), self.stop.1.as_raw_fd()]
+            .map(|it| PollFd::new(it, PollFlags::POLLIN));
+        // An error is a signal that interrupted it.
+        let _ = poll(&mut files, -1);
+        !self.is_stopped()
     }
 
     /// Passes a connection to the event loop, or closes it if the limit is reached.
@@ -157,31 +246,28 @@ impl Acceptor {
     }
 }
 
-/// Opens a listening socket. Returns it with its name for the log.
-pub fn open(address: &Address) -> io::Result<(Listener, String)> {
-    match address {
-        Address::Unix(path) => Ok((Listener::Unix(bind_unix(path)?), path.clone())),
+/// A listening socket, its name for the log, and the file that this process has created for it.
+pub struct Opened {
+    pub listener: Listener,
+    pub name: String,
+    pub file: Option<SocketFile>,
+}
+
+/// Opens a listening socket.
+pub fn open(address: &Address, rights: Rights) -> io::Result<Opened> {
+    let (listener, name, file) = match address {
+        Address::Unix(path) => {
+            let (listener, file) = socket_file::bind(path, rights)?;
+            (Listener::Unix(listener), path.clone(), Some(file))
+        }
         Address::Tcp(address) => {
             let listener = TcpListener::bind(address)?;
             let name = listener.local_addr()?.to_string();
-            Ok((Listener::Tcp(listener), name))
+            (Listener::Tcp(listener), name, None)
         }
-        Address::Stdin => Ok((inherited()?, "the standard input".to_string())),
-    }
-}
-
-/// Binds a unix socket. One that no process listens on is replaced.
-fn bind_unix(path: &str) -> io::Result<UnixListener> {
-    match UnixListener::bind(path) {
-        Err(e) if e.kind() == io::ErrorKind::AddrInUse => match StdUnixStream::connect(path) {
-            Err(other) if other.kind() == io::ErrorKind::ConnectionRefused => {
-                fs::remove_file(path)?;
-                UnixListener::bind(path)
-            }
-            _ => Err(e),
-        },
-        it => it,
-    }
+        Address::Stdin => (inherited()?, "the standard input".to_string(), None),
+    };
+    Ok(Opened { listener, name, file })
 }
 
 /// Returns standard input as a listening socket, as systemd passes it.
@@ -204,9 +290,9 @@ pub fn connections_by_files(others: usize) -> Option<usize> {
     Some(files.saturating_sub(OTHER_FILES + others))
 }
 
-/// Accepts the connections of a listener, without end.
+/// Accepts the connections of a listener, until the acceptor is stopped.
 pub fn run(listener: &Listener, acceptor: &Acceptor) {
-    loop {
+    while acceptor.waits(listener) {
         match accept(listener) {
             Ok(Some(stream)) => acceptor.hand_over(stream),
             Ok(None) => {}
@@ -224,8 +310,19 @@ fn accept(listener: &Listener) -> io::Result<Option<Stream>> {
         }
         Listener::Tcp(it) => {
             let (stream, _) = it.accept()?;
+            keep_alive(&stream);
             let ready = stream.set_nonblocking(true).and(stream.set_nodelay(true));
             ready.ok().map(|_| Stream::Tcp(TcpStream::from_std(stream)))
         }
     })
+}
+
+/// Has the system end a connection whose peer is unreachable, after two minutes.
+fn keep_alive(stream: &StdTcpStream) {
+    let file = stream.as_raw_fd();
+    // A connection works without these settings too.
+    let _ = setsockopt(file, KeepAlive, &true);
+    let _ = setsockopt(file, TcpKeepIdle, &KEEP_ALIVE_IDLE);
+    let _ = setsockopt(file, TcpKeepInterval, &KEEP_ALIVE_INTERVAL);
+    let _ = setsockopt(file, TcpKeepCount, &KEEP_ALIVE_PROBES);
 }

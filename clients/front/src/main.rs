@@ -7,38 +7,49 @@
 
 mod affinity;
 mod batch;
+mod builtins;
+mod class_name;
 mod classes;
 mod connection;
+mod definition_log;
 mod event_loop;
 mod http;
 mod listen;
 mod logging;
 mod metrics;
 mod options;
-mod refusal;
+mod peers;
 mod request;
 mod scheduler;
 mod server;
+mod shared;
+mod shares;
+mod socket_file;
 mod spin_wait;
 mod status;
 mod sub_batch;
+mod systemd;
 mod tally;
 
-use connection::Shared;
 use event_loop::{EventLoop, WAKER};
-use listen::{Acceptor, Listener};
+use http::Hosts;
+use listen::{Acceptor, Opened};
 use log::{error, info, warn};
 use mio::{Poll, Waker};
+use nix::unistd::gethostname as hostname;
 use options::{Address, Options};
 use prometheus::Registry;
 use scheduler::Scheduler;
-use signal_hook::consts::{SIGINT, SIGTERM};
+use serde_json::{json, Value};
+use shared::Shared;
+use signal_hook::consts::{SIGHUP, SIGINT, SIGTERM};
 use signal_hook::iterator::Signals;
 use signal_hook::low_level::{emulate_default_handler, signal_name};
+use socket_file::SocketFile;
 use status::{Board, Publisher};
 use std::io;
 use std::net::TcpListener;
-use std::process::exit;
+use std::process::{exit, id};
 use std::sync::{Arc, Mutex, PoisonError};
 use std::thread;
 use std::time::Duration;
@@ -52,6 +63,9 @@ const START_STATUS: i32 = 3;
 /// How long the front waits at its end until the viewers of the page have been told that the server
 /// ended.
 const FAREWELL: Duration = Duration::from_millis(500);
+
+/// The jobs of a round that clients send.
+const CLIENTS_JOBS: usize = 4_096;
 
 /// Returns the maximum number of connections, limited by the number of files that this process may
 /// open.
@@ -69,24 +83,62 @@ fn connection_limit(options: &Options) -> usize {
     }
 }
 
-/// Removes the unix sockets that the front created.
-fn remove_sockets(addresses: &[Address]) {
-    for address in addresses {
-        if let Address::Unix(path) = address {
-            let _ = std::fs::remove_file(path);
-        }
+/// Why the front can't start, and its exit status.
+struct Failure {
+    reason: String,
+    status: i32,
+}
+
+impl From<String> for Failure {
+    fn from(reason: String) -> Failure {
+        Failure { reason, status: START_STATUS }
     }
 }
 
-/// Removes the sockets when a signal ends the front, and then ends by that signal.
-fn end_on_signals(addresses: Vec<Address>) -> io::Result<()> {
-    let mut signals = Signals::new([SIGINT, SIGTERM])?;
+/// What a signal needs that ends the front.
+struct Ending {
+    files: Vec<SocketFile>,
+    acceptor: Arc<Acceptor>,
+    board: Arc<Board>,
+    drain: Duration,
+}
+
+impl Ending {
+    /// Stops accepting connections, waits until those that are open have been answered, and ends by
+    /// this signal.
+    fn end(&self, signal: i32) {
+        systemd::notify("STOPPING=1");
+        self.board.set_draining();
+        self.files.iter().for_each(SocketFile::remove);
+        self.acceptor.stop();
+        let left = self.acceptor.wait_drained(self.drain);
+        info!("ended by {}, with {} open connections", name_of(signal), left);
+        logging::flush();
+        let _ = emulate_default_handler(signal);
+    }
+}
+
+fn name_of(signal: i32) -> &'static str {
+    signal_name(signal).unwrap_or("a signal")
+}
+
+/// Ends the front by SIGTERM and SIGINT once it has answered what was sent; a second one of them
+/// ends it at once. SIGHUP only opens the log's file again.
+fn handle_signals(ending: Ending) -> io::Result<()> {
+    let mut signals = Signals::new([SIGHUP, SIGINT, SIGTERM])?;
+    let mut ending = Some(ending);
     thread::spawn(move || {
         for signal in signals.forever() {
-            info!("ended by {}", signal_name(signal).unwrap_or("a signal"));
-            remove_sockets(&addresses);
-            logging::flush();
-            let _ = emulate_default_handler(signal);
+            if signal == SIGHUP {
+                logging::reopen();
+                info!("SIGHUP: the log's file, if there is one, was opened again");
+            } else if let Some(ending) = ending.take() {
+                thread::spawn(move || ending.end(signal));
+            } else {
+                info!("ended by a second {}", name_of(signal));
+                logging::flush();
+                let _ = emulate_default_handler(signal);
+            }
         }
     });
     Ok(())
@@ -94,16 +146,22 @@ fn end_on_signals(addresses: Vec<Address>) -> io::Result<()> {
 
 /// The listening sockets.
 struct Listeners {
-    /// The sockets for connections, each with its name.
-    front: Vec<(Listener, String)>,
+    front: Vec<Opened>,
     http: Option<TcpListener>,
 }
 
-fn open_listeners(options: &Options) -> Result<Listeners, String> {
+/// Returns why a socket can't be opened. A file that may not be replaced is an error of the command
+/// line.
+fn cannot_listen(address: &Address, e: &io::Error) -> Failure {
+    let is_usage = e.kind() == io::ErrorKind::AlreadyExists;
+    let reason = format!("can't listen on {}: {}", address, e);
+    Failure { reason, status: if is_usage { USAGE_STATUS } else { START_STATUS } }
+}
+
+fn open_listeners(options: &Options) -> Result<Listeners, Failure> {
     let mut front = Vec::new();
     for address in &options.addresses {
-        let listener = listen::open(address);
-        front.push(listener.map_err(|e| format!("can't listen on {:?}: {}", address, e))?);
+        front.push(listen::open(address, options.rights).map_err(|e| cannot_listen(address, &e))?);
     }
     let http = options.http.as_ref().map(|address| {
         TcpListener::bind(address).map_err(|e| format!("can't listen on {}: {}", address, e))
@@ -112,38 +170,102 @@ fn open_listeners(options: &Options) -> Result<Listeners, String> {
 }
 
 /// Listens, starts the server, and serves until it ends. Returns an error if it fails before that.
-fn run(options: Options) -> Result<(), String> {
+fn run(options: Options) -> Result<(), Failure> {
     let limit = connection_limit(&options);
+    if options.limits.requests < CLIENTS_JOBS {
+        warn!(
+            "--requests {}: the clients send rounds of up to {} requests, and larger ones end them",
+            options.limits.requests, CLIENTS_JOBS
+        );
+    }
     let Listeners { front, http } = open_listeners(&options)?;
-    end_on_signals(options.addresses.clone()).map_err(setup_failed)?;
+    let files: Vec<SocketFile> = front.iter().filter_map(|it| it.file.clone()).collect();
     let poll = Poll::new().map_err(setup_failed)?;
     let waker = Arc::new(Waker::new(poll.registry(), WAKER).map_err(setup_failed)?);
     let board = Arc::new(Board::new(Registry::new(), waker.clone()));
+    let acceptor = Arc::new(Acceptor::new(limit, waker).map_err(setup_failed)?);
+    let (drain, stall) = (options.drain, options.times.stall);
+    let (names, about) = (http_names(&options), about(&options, &front));
+    let ending =
+        Ending { files: files.clone(), acceptor: acceptor.clone(), board: board.clone(), drain };
+    handle_signals(ending).map_err(setup_failed)?;
     let (http_waker, for_end) = (Arc::new(Mutex::new(None::<Waker>)), board.clone());
-    let (addresses, waker_for_end) = (options.addresses, http_waker.clone());
-    let server = server::start(&options.program, move |how| {
-        remove_sockets(&addresses);
+    let waker_for_end = http_waker.clone();
+    let mut server = server::start(&options.program, move |how| {
+        files.iter().for_each(SocketFile::remove);
         say_ended(&for_end, &waker_for_end, how);
     })
     .map_err(|e| format!("can't start {}: {}", options.program[0].to_string_lossy(), e))?;
-    let mut publisher = None;
+    let mut shared = Shared::new(options.limits);
+    if builtins::define(&mut server, &mut shared).is_err() {
+        drop(server);
+        server::end_soon();
+        loop {
+            thread::park();
+        }
+    }
+    let publisher = publisher(&board, http.is_some(), stall)?;
     if let Some(listener) = http {
-        publisher = Some(Publisher::new(board.clone()).map_err(|e| e.to_string())?);
-        let waker = http::start(listener, board, server.process).map_err(setup_failed)?;
+        let settings = http::Settings { stall, hosts: Hosts(names), about };
+        let waker = http::start(listener, board, server.process, settings).map_err(setup_failed)?;
         *http_waker.lock().unwrap_or_else(PoisonError::into_inner) = Some(waker);
     }
     let scheduler = Scheduler::new(server, options.steps).map_err(setup_failed)?;
-    let shared = Shared::new(options.classes, options.requests);
-    let idle = Some(options.idle).filter(|it| *it > 0).map(Duration::from_secs);
-    let acceptor = Arc::new(Acceptor::new(limit, waker));
-    let event_loop = EventLoop::new(poll, acceptor.clone(), scheduler, shared, idle, publisher)
-        .map_err(setup_failed)?;
-    for (listener, name) in front {
+    let event_loop =
+        EventLoop::new(poll, acceptor.clone(), scheduler, shared, options.times, publisher)
+            .map_err(setup_failed)?;
+    for Opened { listener, name, .. } in front {
         let acceptor = acceptor.clone();
         info!("listening on {}", name);
         thread::spawn(move || listen::run(&listener, &acceptor));
     }
+    systemd::notify("READY=1");
     event_loop.run()
+}
+
+/// Returns the names by which the HTTP server may be called: those of the options, and the host
+/// that it listens on.
+fn http_names(options: &Options) -> Vec<String> {
+    let host = options.http.iter().filter_map(|it| it.rsplit_once(':'));
+    options.http_names.iter().cloned().chain(host.map(|it| it.0.to_string())).collect()
+}
+
+/// Returns what the page says of this front.
+fn about(options: &Options, front: &[Opened]) -> Value {
+    let words: Vec<_> = options.program.iter().map(|it| it.to_string_lossy()).collect();
+    let commit = option_env!("JENTRY_COMMIT").map_or(String::new(), |it| format!(" ({})", it));
+    let limits = &options.limits;
+    json!({
+        "host": hostname().ok().map(|it| it.to_string_lossy().into_owned()),
+        "process": id(),
+        "version": format!("{}{}", env!("CARGO_PKG_VERSION"), commit),
+        "sockets": front.iter().map(|it| &it.name).collect::<Vec<_>>(),
+        "server": words.join(" "),
+        "limits": {
+            "--classes": limits.classes, "--peer-classes": limits.peers.classes,
+            "--max-steps": limits.class_steps, "--requests": limits.requests,
+            "--round-steps": limits.round_steps, "--peer-steps": limits.peers.steps,
+            "--round-bytes": limits.round_bytes, "--steps": options.steps,
+            "--define-bytes": limits.peers.bytes_a_second,
+            "--stall": options.times.stall.as_secs(), "--drain": options.drain.as_secs(),
+        },
+    })
+}
+
+/// Returns what publishes the counts, if the HTTP thread or systemd's watchdog asks for them.
+fn publisher(
+    board: &Arc<Board>,
+    has_http: bool,
+    stall: Duration,
+) -> Result<Option<Publisher>, String> {
+    let watchdog = systemd::watchdog_time();
+    if let Some(time) = watchdog {
+        systemd::watch(board.clone(), time, stall);
+    }
+    if !has_http && watchdog.is_none() {
+        return Ok(None);
+    }
+    Publisher::new(board.clone()).map(Some).map_err(|e| e.to_string())
 }
 
 /// Has the HTTP thread, if there is one, report how the server ended.
@@ -162,10 +284,13 @@ fn main() {
         let _ = e.print();
         exit(if e.use_stderr() { USAGE_STATUS } else { 0 });
     });
-    logging::start(options.log);
-    if let Err(reason) = run(options) {
-        error!("{}", reason);
-        logging::flush();
+    if let Err(e) = logging::start(&options.log) {
+        eprintln!("jentry-front: can't open the log's file: {}", e);
         exit(START_STATUS);
+    }
+    if let Err(failure) = run(options) {
+        error!("{}", failure.reason);
+        logging::flush();
+        exit(failure.status);
     }
 }

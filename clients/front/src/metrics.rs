@@ -103,6 +103,7 @@ pub struct Gauges {
     pub connections_limit: usize,
     pub classes: usize,
     pub class_bytes: usize,
+    pub round_bytes: usize,
     /// The number of rejected connections since the start of the process.
     pub rejected: u64,
 }
@@ -247,7 +248,7 @@ impl Metrics {
 }
 
 fn gauges(registry: &Registry) -> Result<Vec<(IntGauge, OfGauges)>> {
-    let all: [(&str, &str, OfGauges); 6] = [
+    let all: [(&str, &str, OfGauges); 7] = [
         (
             "jentry_waiting_rounds",
             "Rounds and classes of connections that wait for the server or are there.",
@@ -260,6 +261,11 @@ fn gauges(registry: &Registry) -> Result<Vec<(IntGauge, OfGauges)>> {
         ("jentry_connections_limit", "The most open connections.", |it| it.connections_limit),
         ("jentry_classes", "Classes that the server has accepted.", |it| it.classes),
         ("jentry_class_bytes", "Length of their class files.", |it| it.class_bytes),
+        (
+            "jentry_round_bytes",
+            "Memory of rounds that connections send, that wait, or whose replies wait.",
+            |it| it.round_bytes,
+        ),
     ];
     all.into_iter().map(|(name, help, value)| Ok((gauge(registry, name, help)?, value))).collect()
 }

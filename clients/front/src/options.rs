@@ -1,9 +1,21 @@
 //! The command line.
 
+use crate::event_loop::Times;
+use crate::logging::Settings;
+use crate::peers::PeerLimits;
+use crate::shared::Limits;
+use crate::socket_file::Rights;
 use clap::builder::PossibleValuesParser;
 use clap::{value_parser, Arg, ArgAction, ArgGroup, ArgMatches, Command};
 use log::LevelFilter;
+use nix::unistd::{Group, User};
 use std::ffi::OsString;
+use std::fmt::{self, Display, Formatter};
+use std::path::PathBuf;
+use std::time::Duration;
+
+/// The permissions of a unix socket that has a group.
+const GROUP_MODE: u32 = 0o660;
 
 const USAGE: &str = "jentry-front [OPTIONS] <--unix PATH | --tcp [HOST:]PORT | --stdin> \
                      PROGRAM [WORDS]...";
@@ -25,24 +37,34 @@ pub enum Address {
     Stdin,
 }
 
+impl Display for Address {
+    fn fmt(&self, out: &mut Formatter<'_>) -> fmt::Result {
+        match self {
+            Address::Unix(text) | Address::Tcp(text) => out.write_str(text),
+            Address::Stdin => out.write_str("the standard input"),
+        }
+    }
+}
+
 /// The options and the server's command line.
 #[derive(Debug, PartialEq, Eq)]
 pub struct Options {
     pub addresses: Vec<Address>,
     /// The maximum number of connections at a time.
     pub connections: usize,
-    /// The maximum number of new classes of a connection.
-    pub classes: usize,
-    /// The maximum number of requests of a round.
-    pub requests: usize,
+    pub limits: Limits,
+    pub times: Times,
     /// The maximum number of instructions of a batch.
     pub steps: u64,
-    /// Seconds after which a connection without progress is closed, 0 for never.
-    pub idle: u64,
+    /// The permissions of unix sockets, and the group that they are given to.
+    pub rights: Rights,
     /// The address for `/metrics`, `/healthz` and the page, if they are enabled.
     pub http: Option<String>,
-    /// The least important level that is logged.
-    pub log: LevelFilter,
+    /// The names by which that server may be called.
+    pub http_names: Vec<String>,
+    pub log: Settings,
+    /// How long the front answers what was sent after a signal that ends it.
+    pub drain: Duration,
     /// The server's program and its arguments.
     pub program: Vec<OsString>,
 }
@@ -62,6 +84,7 @@ fn command() -> Command {
         .after_help(AFTER_HELP)
         .args(address_args())
         .args(limit_args())
+        .args(rights_args())
         .arg(
             Arg::new("http")
                 .long("http")
@@ -70,13 +93,13 @@ fn command() -> Command {
                 .help("Serve /metrics, /healthz and a page, on 127.0.0.1 without a host"),
         )
         .arg(
-            Arg::new("log")
-                .long("log")
-                .value_name("LEVEL")
-                .default_value("info")
-                .value_parser(PossibleValuesParser::new(["error", "warn", "info", "debug"]))
-                .help("The least important level of events on standard error"),
+            Arg::new("http-name")
+                .long("http-name")
+                .value_name("NAME")
+                .action(ArgAction::Append)
+                .help("A name with dots by which browsers may call that server; can be repeated"),
         )
+        .args(log_args())
         .arg(
             Arg::new("program")
                 .value_name("PROGRAM")
@@ -110,30 +133,169 @@ fn address_args() -> [Arg; 3] {
     [unix, tcp, stdin]
 }
 
-fn limit_args() -> [Arg; 5] {
-    let limit = |name: &'static str, value: &'static str, least: u64, most: u64| {
-        Arg::new(name)
-            .long(name)
-            .value_name(value)
-            .value_parser(value_parser!(u64).range(least..=most))
-    };
-    [
-        limit("connections", "N", 1, 4_096)
-            .default_value("1024")
-            .help("The most connections at a time, 1 to 4096"),
-        limit("classes", "N", 0, 4_096)
-            .default_value("64")
-            .help("The most new classes that a connection may bring, 0 to 4096"),
-        limit("requests", "N", 1, 1_000_000)
-            .default_value("65536")
-            .help("The most requests of a round, 1 to 1000000"),
-        limit("steps", "N", 1, 1_000_000_000)
-            .default_value("1000000")
-            .help("The most instructions of a batch, 1 to 1000000000"),
-        limit("idle", "SECONDS", 0, 1_000_000)
-            .default_value("0")
-            .help("Close a connection after so long without progress, 0 for never"),
-    ]
+fn log_args() -> [Arg; 3] {
+    let level = Arg::new("log")
+        .long("log")
+        .value_name("LEVEL")
+        .default_value("info")
+        .value_parser(PossibleValuesParser::new(["error", "warn", "info", "debug"]))
+        .help("The least important level of events in the log");
+    let file = Arg::new("log-file")
+        .long("log-file")
+        .value_name("PATH")
+        .value_parser(value_parser!(PathBuf))
+        .help("Append the log to a file in place of standard error; SIGHUP opens it again");
+    let format = Arg::new("log-format")
+        .long("log-format")
+        .value_name("FORMAT")
+        .default_value("text")
+        .value_parser(PossibleValuesParser::new(["text", "json"]))
+        .help("The form of the log's lines");
+    [level, file, format]
+}
+
+/// The numbers: name, value, least, most, default, and help.
+const NUMBERS: [(&str, &str, u64, u64, &str, &str); 14] = [
+    ("connections", "N", 1, 4_096, "1024", "The most connections at a time, 1 to 4096"),
+    ("classes", "N", 0, 4_096, "64", "The most new classes that a connection may bring, 0 to 4096"),
+    (
+        "peer-classes",
+        "N",
+        0,
+        4_096,
+        "1024",
+        "The most new classes of a user or an address, at least those of a connection",
+    ),
+    (
+        "define-bytes",
+        "N",
+        1,
+        1_000_000_000,
+        "65536",
+        "The bytes of refused class files a second of a user or an address; more wait",
+    ),
+    (
+        "max-steps",
+        "N",
+        1,
+        4_000_000,
+        "4000000",
+        "The most instructions of a run; a class that may take more is refused as StepLimit",
+    ),
+    (
+        "requests",
+        "N",
+        1,
+        1_000_000,
+        "65536",
+        "The most requests of a round, 1 to 1000000; clients send 4096, and fewer end them",
+    ),
+    (
+        "round-steps",
+        "N",
+        1,
+        1_000_000_000_000,
+        "10000000000",
+        "The most instructions of a round; further requests are denied",
+    ),
+    (
+        "peer-steps",
+        "N",
+        1,
+        1_000_000_000_000,
+        "100000000000",
+        "The most instructions that may wait, of a user or an address",
+    ),
+    (
+        "round-bytes",
+        "N",
+        1_048_576,
+        1_000_000_000_000,
+        "268435456",
+        "The most memory of all rounds; the connection with the largest is closed",
+    ),
+    (
+        "steps",
+        "N",
+        1,
+        1_000_000_000,
+        "1000000",
+        "The most instructions of a batch, 1 to 1000000000",
+    ),
+    (
+        "idle",
+        "SECONDS",
+        0,
+        1_000_000,
+        "0",
+        "Close a connection after so long without progress, 0 for never",
+    ),
+    (
+        "round",
+        "SECONDS",
+        0,
+        1_000_000,
+        "60",
+        "The most time for a round to arrive, or its replies to be taken, 0 for any",
+    ),
+    (
+        "stall",
+        "SECONDS",
+        1,
+        1_000_000,
+        "10",
+        "The time without a reply after which the server hangs",
+    ),
+    (
+        "drain",
+        "SECONDS",
+        0,
+        3_600,
+        "5",
+        "How long SIGTERM and SIGINT let the front answer what was sent, before it ends",
+    ),
+];
+
+fn limit_args() -> impl Iterator<Item = Arg> {
+    NUMBERS.into_iter().map(|(name, value, least, most, default, help)| {
+        let parser = value_parser!(u64).range(least..=most);
+        let arg = Arg::new(name).long(name).value_name(value).value_parser(parser);
+        arg.default_value(default).help(help)
+    })
+}
+
+fn rights_args() -> [Arg; 3] {
+    let mode =
+        Arg::new("mode").long("mode").value_name("OCTAL").value_parser(file_mode).help(
+            "The permissions of unix sockets, such as 0660; 0660 with --group, else by umask",
+        );
+    let group = Arg::new("group")
+        .long("group")
+        .value_name("GROUP")
+        .value_parser(group_id)
+        .help("The group of unix sockets, a name or a number");
+    let definers = Arg::new("define-uid")
+        .long("define-uid")
+        .value_name("USER")
+        .action(ArgAction::Append)
+        .value_parser(user_id)
+        .help("A user who may bring new classes, a name or a number; without it everybody may");
+    [mode, group, definers]
+}
+
+fn file_mode(text: &str) -> Result<u32, String> {
+    let mode = u32::from_str_radix(text, 8).ok().filter(|it| *it <= 0o777);
+    mode.ok_or_else(|| "expected permissions such as 0660".to_string())
+}
+
+fn group_id(text: &str) -> Result<u32, String> {
+    let found = || Group::from_name(text).ok().flatten().map(|it| it.gid.as_raw());
+    text.parse().ok().or_else(found).ok_or_else(|| "there is no such group".to_string())
+}
+
+fn user_id(text: &str) -> Result<u32, String> {
+    let found = || User::from_name(text).ok().flatten().map(|it| it.uid.as_raw());
+    text.parse().ok().or_else(found).ok_or_else(|| "there is no such user".to_string())
 }
 
 /// Returns a TCP address with its port; the host defaults to the loopback address.
@@ -145,8 +307,42 @@ fn tcp_address(text: &str) -> Result<String, String> {
     }
 }
 
+fn limits(matches: &ArgMatches) -> Limits {
+    let number = |name: &str| matches.get_one::<u64>(name).copied().unwrap_or_default();
+    let classes = number("classes") as usize;
+    Limits {
+        classes,
+        requests: number("requests") as usize,
+        round_steps: number("round-steps"),
+        class_steps: number("max-steps"),
+        round_bytes: number("round-bytes") as usize,
+        peers: PeerLimits {
+            classes: classes.max(number("peer-classes") as usize),
+            definers: matches.get_many("define-uid").into_iter().flatten().copied().collect(),
+            steps: number("peer-steps"),
+            bytes_a_second: number("define-bytes"),
+        },
+    }
+}
+
+fn rights(matches: &ArgMatches) -> Rights {
+    let group = matches.get_one::<u32>("group").copied();
+    let mode = matches.get_one::<u32>("mode").copied().or_else(|| group.map(|_| GROUP_MODE));
+    Rights { mode, group }
+}
+
+fn log_settings(matches: &ArgMatches) -> Settings {
+    let text = |name: &str| matches.get_one::<String>(name).cloned().unwrap_or_default();
+    Settings {
+        level: text("log").parse().unwrap_or(LevelFilter::Info),
+        file: matches.get_one::<PathBuf>("log-file").cloned(),
+        is_json: text("log-format") == "json",
+    }
+}
+
 fn options(matches: &ArgMatches) -> Options {
     let number = |name: &str| matches.get_one::<u64>(name).copied().unwrap_or_default();
+    let seconds = |name: &str| Some(number(name)).filter(|it| *it > 0).map(Duration::from_secs);
     let texts = |name: &str| matches.get_many::<String>(name).into_iter().flatten().cloned();
     let mut addresses: Vec<Address> = texts("unix").map(Address::Unix).collect();
     addresses.extend(texts("tcp").map(Address::Tcp));
@@ -156,12 +352,18 @@ fn options(matches: &ArgMatches) -> Options {
     Options {
         addresses,
         connections: number("connections") as usize,
-        classes: number("classes") as usize,
-        requests: number("requests") as usize,
+        limits: limits(matches),
+        times: Times {
+            idle: seconds("idle"),
+            round: seconds("round"),
+            stall: Duration::from_secs(number("stall")),
+        },
         steps: number("steps"),
-        idle: number("idle"),
+        rights: rights(matches),
         http: texts("http").next(),
-        log: texts("log").next().and_then(|it| it.parse().ok()).unwrap_or(LevelFilter::Info),
+        http_names: texts("http-name").collect(),
+        log: log_settings(matches),
+        drain: Duration::from_secs(number("drain")),
         program: matches.get_many::<OsString>("program").into_iter().flatten().cloned().collect(),
     }
 }
@@ -200,8 +402,27 @@ mod tests {
         assert_eq!(it.http.as_deref(), Some("127.0.0.1:0"));
         let it = parse_line("--unix a --unix b jentry serve").expect("options");
         assert_eq!(it.addresses.len(), 2);
-        assert_eq!((it.connections, it.classes, it.requests), (1_024, 64, 65_536));
-        assert_eq!((it.steps, it.idle, it.log), (1_000_000, 0, LevelFilter::Info));
+        let limits = &it.limits;
+        assert_eq!((it.connections, limits.classes, limits.requests), (1_024, 64, 65_536));
+        assert_eq!((limits.class_steps, limits.peers.classes), (4_000_000, 1_024));
+        assert_eq!((it.steps, it.times.idle, it.drain.as_secs()), (1_000_000, None, 5));
+        assert_eq!(it.times.round, Some(Duration::from_secs(60)));
+        let it = parse_line("--unix a --classes 2000 jentry serve").expect("options");
+        assert_eq!(it.limits.peers.classes, 2_000);
+        let log = Settings { level: LevelFilter::Info, file: None, is_json: false };
+        assert_eq!(it.log, log);
+    }
+
+    #[test]
+    fn users_and_groups_have_names_or_numbers() {
+        let it = parse_line("--unix a --group root --define-uid root --define-uid 7 jentry serve")
+            .expect("options");
+        assert_eq!(it.rights, Rights { mode: Some(0o660), group: Some(0) });
+        assert_eq!(it.limits.peers.definers, [0, 7]);
+        let it = parse_line("--unix a --mode 0600 jentry serve").expect("options");
+        assert_eq!(it.rights, Rights { mode: Some(0o600), group: None });
+        assert!(error("--unix a --mode 999 jentry").contains("expected permissions"));
+        assert!(error("--unix a --group nobody-has-this jentry").contains("no such group"));
     }
 
     #[test]

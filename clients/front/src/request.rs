@@ -60,7 +60,7 @@ fn arguments_end(text: &[u8], at: usize) -> Option<usize> {
     let mut at = at + 1;
     for _ in 0..count {
         at += match *text.get(at)? {
-            0 => 1,
+            0 | 3 | 4 => 1,
             1 => 9,
             2 => 5,
             _ => return None,
@@ -168,6 +168,22 @@ mod tests {
         }
         body.push(0);
         assert_eq!(judged(&body), None);
+    }
+
+    #[test]
+    fn each_kind_of_argument_has_its_length() {
+        let kinds: [&[u8]; 6] =
+            [&[0], &[1, 0, 0, 0, 0, 0, 0, 0, 9], &[2, 0, 0, 0, 9], &[3], &[4], &[5]];
+        for argument in kinds {
+            let mut body = vec![6, 0, 0, 0, 5];
+            body.extend_from_slice(&[0; 8]);
+            body.push(2);
+            body.extend_from_slice(argument);
+            assert_eq!(judged(&body), None, "one argument of two");
+            body.push(0);
+            let wanted = if argument == [5] { None } else { Some(Frame::Invoke(5)) };
+            assert_eq!(judged(&body), wanted, "an argument of the kind {}", argument[0]);
+        }
     }
 
     #[test]

@@ -3,7 +3,8 @@
 //! next.
 
 use crate::affinity::Affinity;
-use crate::batch::{Batch, Dealt, Queued};
+use crate::batch::{AllTurns, Batch, Dealt, Queued};
+use crate::peers::Peer;
 use crate::request::frame_length;
 use crate::server::Server;
 use crate::sub_batch::SubBatch;
@@ -26,7 +27,12 @@ const KEPT: usize = 1_048_576;
 /// The owner of a sub-batch: a connection, and the class's frame if the sub-batch is a class.
 pub struct Owner {
     pub connection: u64,
+    pub peer: Peer,
     pub class: Option<Vec<u8>>,
+    /// The maximum instructions of its round.
+    pub steps: u64,
+    /// Whether the connection was closed since the sub-batch was queued.
+    pub is_gone: bool,
     /// The time when the sub-batch was queued, and the number of requests in its round.
     pub queued: Instant,
     pub requests: usize,
@@ -63,6 +69,7 @@ pub struct Scheduler {
     was_single: bool,
     waiting: VecDeque<Queued<Owner>>,
     steps: u64,
+    turns: AllTurns,
     affinity: Affinity,
     /// The last completed batch, until it is counted.
     completed: Option<Completed>,
@@ -83,6 +90,7 @@ impl Scheduler {
             was_single: false,
             waiting: VecDeque::new(),
             steps,
+            turns: AllTurns::default(),
             affinity: Affinity::new(process),
             completed: None,
         })
@@ -111,7 +119,23 @@ impl Scheduler {
 
     /// Queues a sub-batch.
     pub fn queue(&mut self, owner: Owner, sub_batch: SubBatch) {
-        self.waiting.push_back(Queued { owner, sub_batch });
+        self.waiting.push_back(Queued { peer: owner.peer, owner, sub_batch });
+    }
+
+    /// Drops what a connection that was closed has not sent to the server yet, and returns it. A
+    /// class stays, since other connections may wait for the verdict.
+    pub fn forget(&mut self, connection: u64) -> Option<Queued<Owner>> {
+        let is_own =
+            |it: &Queued<Owner>| it.owner.connection == connection && it.owner.class.is_none();
+        let in_flight = self.in_flight.iter_mut().flat_map(|it| &mut it.queued);
+        in_flight.filter(|it| is_own(it)).for_each(|it| it.owner.is_gone = true);
+        let index = self.waiting.iter().position(is_own)?;
+        self.waiting.remove(index)
+    }
+
+    /// Returns when the batch at the server was sent, if there is one.
+    pub fn sent(&self) -> Option<Instant> {
+        self.in_flight.as_ref().map(|it| it.sent)
     }
 
     /// Returns the number of sub-batches that wait or are at the server, and the number of their
@@ -134,7 +158,7 @@ impl Scheduler {
             return Ok(());
         }
         let mut queued: Vec<Queued<Owner>> = self.waiting.drain(..).collect();
-        let batch = Batch::gather(&mut queued, self.steps);
+        let batch = Batch::gather(&mut queued, self.steps, &mut self.turns);
         let only = match &queued[..] {
             [it] => Some(it.owner.connection),
             _ => None,
@@ -147,7 +171,8 @@ impl Scheduler {
     }
 
     /// Reads the replies that have arrived. After all replies and their end it distributes them,
-    /// and returns the sub-batches that are done; before that it returns `None`.
+    /// and returns the sub-batches that are done, or whose connections were closed; before that it
+    /// returns `None`.
     ///
     /// Unfinished sub-batches that had no part in this batch come first in the next one. Those that
     /// had a part come after those that arrived meanwhile. An error means that the server has
@@ -183,10 +208,18 @@ impl Scheduler {
         self.replies.clear();
         self.affinity.on_replies();
         let dealt = Dealt::of(queued, |index| batch.left_out(index));
-        dealt.left_out.into_iter().rev().for_each(|it| self.waiting.push_front(it));
-        self.waiting.extend(dealt.unfinished);
-        Ok(dealt.done)
+        let Dealt { mut done, left_out, unfinished } = dealt;
+        let (gone, left_out): (Vec<_>, Vec<_>) = left_out.into_iter().partition(is_gone);
+        left_out.into_iter().rev().for_each(|it| self.waiting.push_front(it));
+        let (also_gone, unfinished): (Vec<_>, Vec<_>) = unfinished.into_iter().partition(is_gone);
+        self.waiting.extend(unfinished);
+        done.extend(gone.into_iter().chain(also_gone));
+        Ok(done)
     }
+}
+
+fn is_gone(it: &Queued<Owner>) -> bool {
+    it.owner.is_gone
 }
 
 impl Replies {

@@ -8,11 +8,13 @@ use crate::scheduler::Completed;
 use crate::tally::{ClassTally, Tally};
 use mio::Waker;
 use prometheus::Registry;
+use std::cmp::Reverse;
 use std::sync::atomic::{AtomicBool, Ordering};
 use std::sync::{Arc, Condvar, Mutex, MutexGuard, PoisonError};
 use std::time::{Duration, Instant};
 
-/// The maximum number of rows of a table, which has those with the most runs or requests.
+/// The maximum number of rows of a table, which has the classes with the highest cost, or the
+/// connections that wait longest.
 pub const MOST_ROWS: usize = 100;
 
 /// A row of the table of classes.
@@ -30,7 +32,7 @@ pub struct ConnectionRow {
     pub state: &'static str,
 }
 
-/// The tables of the page, by number.
+/// The tables of the page.
 #[derive(Clone, Debug, Default)]
 pub struct Tables {
     pub classes: Vec<ClassRow>,
@@ -42,6 +44,9 @@ struct State {
     /// How often the event loop has published, and the time of the last publication.
     published: u64,
     at: Option<Instant>,
+    /// When the batch at the server was sent, if there was one at the last publication.
+    batch_sent: Option<Instant>,
+    is_draining: bool,
     wants_tables: bool,
     tables: Tables,
     /// How the server ended.
@@ -109,6 +114,26 @@ impl Board {
         self.lock().at.map(|at| at.elapsed())
     }
 
+    /// Returns the age of the batch at the server, or zero.
+    pub fn batch_age(&self) -> Duration {
+        self.lock().batch_sent.map_or(Duration::ZERO, |it| it.elapsed())
+    }
+
+    /// Returns the age of the batch at the server, if it is at least the time `stall`.
+    pub fn stalled(&self, stall: Duration) -> Option<Duration> {
+        Some(self.batch_age()).filter(|it| *it >= stall)
+    }
+
+    /// Records that the front is to end once it has answered what was sent.
+    pub fn set_draining(&self) {
+        self.lock().is_draining = true;
+    }
+
+    /// Returns whether the front is to end.
+    pub fn is_draining(&self) -> bool {
+        self.lock().is_draining
+    }
+
     /// Records that the server has ended. If `wake` wakes the HTTP thread, this waits until that
     /// thread has reported the end to the viewers of the page, but at most for `patience`.
     pub fn set_ended(&self, how: String, patience: Duration, wake: impl FnOnce() -> bool) {
@@ -132,8 +157,9 @@ impl Board {
         self.wanted.swap(false, Ordering::SeqCst)
     }
 
-    fn publish(&self, tables: impl FnOnce() -> Tables) {
+    fn publish(&self, batch_sent: Option<Instant>, tables: impl FnOnce() -> Tables) {
         let mut state = self.lock();
+        state.batch_sent = batch_sent;
         if state.wants_tables {
             state.wants_tables = false;
             state.tables = tables();
@@ -161,10 +187,17 @@ impl Publisher {
         self.board.take_wanted()
     }
 
-    /// Publishes the counts, and the tables if they were requested.
-    pub fn publish(&self, tally: &Tally, gauges: &Gauges, tables: impl FnOnce() -> Tables) {
+    /// Publishes the counts, when the batch at the server was sent, and the tables if they were
+    /// requested.
+    pub fn publish(
+        &self,
+        tally: &Tally,
+        gauges: &Gauges,
+        batch_sent: Option<Instant>,
+        tables: impl FnOnce() -> Tables,
+    ) {
         self.metrics.publish(tally, gauges);
-        self.board.publish(tables);
+        self.board.publish(batch_sent, tables);
     }
 
     /// Counts a round to which the server has replied.
@@ -179,13 +212,10 @@ impl Publisher {
     }
 }
 
-/// Returns the rows with the largest amounts, sorted by number.
+/// Returns the rows with the largest amounts, the largest first, and equal ones by number.
 pub fn top<T>(mut rows: Vec<T>, amount: impl Fn(&T) -> u64, number: impl Fn(&T) -> u64) -> Vec<T> {
-    if rows.len() > MOST_ROWS {
-        rows.sort_by_key(|it| std::cmp::Reverse(amount(it)));
-        rows.truncate(MOST_ROWS);
-    }
-    rows.sort_by_key(number);
+    rows.sort_by_key(|it| (Reverse(amount(it)), number(it)));
+    rows.truncate(MOST_ROWS);
     rows
 }
 
@@ -194,11 +224,12 @@ mod tests {
     use super::*;
 
     #[test]
-    fn a_table_has_the_largest_rows_by_number() {
+    fn a_table_has_the_largest_rows_first() {
         let rows: Vec<(u64, u64)> = (0..150).map(|n| (n, n % 75)).collect();
         let top = top(rows, |it| it.1, |it| it.0);
         assert_eq!(top.len(), MOST_ROWS);
         assert!(top.iter().all(|it| it.1 >= 25));
-        assert!(top.windows(2).all(|it| it[0].0 < it[1].0));
+        let order = |it: &(u64, u64)| (Reverse(it.1), it.0);
+        assert!(top.windows(2).all(|it| order(&it[0]) < order(&it[1])));
     }
 }

@@ -4,6 +4,7 @@
 use crate::request::{set_class, KEYS_AT};
 use crate::tally::{Asked, NO_CLASS};
 use std::collections::VecDeque;
+use std::mem::size_of;
 
 const DEFINE: u8 = 1;
 const INVOKE_ALL: u8 = 7;
@@ -55,7 +56,15 @@ pub struct SubBatch {
     replies: Vec<u8>,
     /// The start of a reply that is being joined from several.
     joined: Option<usize>,
+    /// The maximum instructions and the number of the jobs that aren't in a batch yet.
+    steps: u64,
+    jobs: usize,
+    /// The bytes of the replies that the front creates itself and that wait for others.
+    known: usize,
 }
+
+/// The memory that a request takes beside its text.
+const REQUEST_BYTES: usize = size_of::<Request>();
 
 impl SubBatch {
     /// Creates a sub-batch of a single class from its frame.
@@ -68,12 +77,16 @@ impl SubBatch {
     pub fn add_job(&mut self, text: &[u8], cost: u64, class: u32) {
         self.add_text(text, class);
         let (bytes, kind) = (text.len() as u32, text[4]);
+        self.steps += cost;
+        self.jobs += 1;
         self.requests.push_back(Request::Job { bytes, class, cost, kind });
     }
 
     /// Adds an invokeAll with this number of distinct keys, at least one.
     pub fn add_invoke_all(&mut self, text: &[u8], keys: usize, cost: u64, class: u32) {
         self.add_text(text, class);
+        self.steps += cost * keys as u64;
+        self.jobs += keys;
         let (bytes, keys) = (text.len() as u32, keys as u16);
         self.requests.push_back(Request::InvokeAll { bytes, class, cost, keys, sent: 0 });
     }
@@ -87,6 +100,30 @@ impl SubBatch {
         }
     }
 
+    /// Returns the maximum instructions of the jobs that aren't in a batch yet.
+    pub fn steps(&self) -> u64 {
+        self.steps
+    }
+
+    /// Returns the number of those jobs.
+    pub fn jobs(&self) -> usize {
+        self.jobs
+    }
+
+    /// Returns the bytes of memory that it takes, without its replies.
+    pub fn bytes(&self) -> usize {
+        self.text.len() + self.known + REQUEST_BYTES * self.requests.len()
+    }
+
+    /// Returns the instructions of the next job, if the next request for the server is one.
+    pub fn next_cost(&self) -> Option<u64> {
+        let is_known = matches!(self.requests.front(), Some(Request::Known(_)));
+        match self.requests.get(usize::from(is_known)) {
+            Some(Request::Job { cost, .. } | Request::InvokeAll { cost, .. }) => Some(*cost),
+            _ => None,
+        }
+    }
+
     /// Returns the number of requests and of bytes that aren't in a batch yet.
     pub fn unsent(&self) -> (usize, usize) {
         (self.requests.len(), self.text.len() - self.sent)
@@ -94,6 +131,7 @@ impl SubBatch {
 
     /// Adds a reply that is already known.
     pub fn add_known(&mut self, reply: &[u8]) {
+        self.known += reply.len();
         if let Some(Request::Known(replies)) = self.requests.back_mut() {
             replies.extend_from_slice(reply);
         } else {
@@ -130,7 +168,10 @@ impl SubBatch {
             return None;
         }
         match self.requests.pop_front() {
-            Some(Request::Known(replies)) => Some(replies),
+            Some(Request::Known(replies)) => {
+                self.known -= replies.len();
+                Some(replies)
+            }
             _ => None,
         }
     }
@@ -150,6 +191,10 @@ impl SubBatch {
     /// Moves the next class, the next job, or `count` keys of the next invokeAll into a batch's
     /// text.
     pub fn send(&mut self, count: usize, text: &mut Vec<u8>) -> Sent {
+        if let Next::Jobs { cost, .. } = self.next() {
+            self.steps -= cost * count as u64;
+            self.jobs -= count;
+        }
         match self.requests.front() {
             Some(Request::InvokeAll { keys, sent, .. })
                 if *sent > 0 || usize::from(*keys) != count =>

@@ -70,10 +70,16 @@ pub enum Closed {
     Invalid = 1,
     /// It made no progress for the time of `--idle`.
     Idle = 2,
+    /// Its round took longer than `--round` to arrive, or its replies to be taken.
+    Slow = 3,
+    /// It had the largest of the rounds that together took more than `--round-bytes`.
+    Large = 4,
+    /// The front was to end.
+    Drained = 5,
 }
 
 /// The labels of [`Closed`].
-pub const CLOSED: [&str; 3] = ["ended", "invalid", "idle"];
+pub const CLOSED: [&str; 6] = ["ended", "invalid", "idle", "slow", "large", "drained"];
 
 const DEFINE: u8 = 1;
 const REMOVE: u8 = 4;
@@ -105,6 +111,13 @@ pub struct ClassTally {
     pub steps: u32,
     pub runs: u64,
     pub exceptions: u64,
+}
+
+impl ClassTally {
+    /// Returns the maximum instructions of all its runs together.
+    pub fn cost(&self) -> u64 {
+        self.runs.saturating_mul(self.steps.into())
+    }
 }
 
 /// Counts since the start of the process.
@@ -230,7 +243,7 @@ impl Tally {
         let (mut runs, mut exceptions) = (u64::from(asked.keys), 0);
         while let Some(outcome) = results.get(8..) {
             let length = match outcome {
-                [0, 0, ..] => 2,
+                [0, 0 | 3 | 4, ..] => 2,
                 [0, 1, ..] => 10,
                 [0, 2, ..] => 6,
                 [1, number, ..] => {
@@ -304,6 +317,19 @@ mod tests {
         }
         tally.reply(asked(7, 0, 6), &reply);
         assert_eq!((tally.runs, tally.exceptions[1], tally.denials[3]), (5, 1, 1));
+    }
+
+    #[test]
+    fn an_outcome_after_a_boolean_is_counted() {
+        let mut tally = with_class();
+        let mut reply = vec![7, 0, 4];
+        for outcome in [&[0, 3][..], &[0, 4], &[1, 1], &[2, 3]] {
+            reply.extend_from_slice(&[0; 8]);
+            reply.extend_from_slice(outcome);
+        }
+        tally.reply(asked(7, 0, 4), &reply);
+        assert_eq!((tally.runs, tally.exceptions[1], tally.denials[3]), (3, 1, 1));
+        assert_eq!(tally.classes[0], ClassTally { steps: 14, runs: 3, exceptions: 1 });
     }
 
     #[test]

@@ -1,5 +1,6 @@
 //! An HTTP connection: its input, its output, and its time limits.
 
+use super::hosts::Hosts;
 use super::request::{parse, Route, LONGEST};
 use mio::net::TcpStream;
 use std::io::{self, Read, Write};
@@ -71,14 +72,14 @@ impl Connection {
 
     /// Writes and reads as far as the socket is ready. Returns the request once it is complete. An
     /// error ends the connection.
-    pub fn on_ready(&mut self) -> io::Result<Option<Route>> {
+    pub fn on_ready(&mut self, hosts: &Hosts) -> io::Result<Option<Route>> {
         self.write()?;
         loop {
             if self.is_writing() {
                 return Ok(None);
             }
             if !self.is_watching {
-                if let Some(it) = parse(&self.input) {
+                if let Some(it) = parse(&self.input, hosts) {
                     self.input.drain(..it.length);
                     self.closes = !it.keeps_alive;
                     self.active = Instant::now();

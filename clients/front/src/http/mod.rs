@@ -5,6 +5,7 @@
 //! that has been idle longest.
 
 mod connection;
+mod hosts;
 mod page;
 mod process;
 mod request;
@@ -12,10 +13,12 @@ mod watch;
 
 use crate::status::Board;
 use connection::Connection;
+pub use hosts::Hosts;
 use log::{debug, info};
 use mio::net::TcpListener;
 use mio::{Events, Interest, Poll, Token, Waker};
 use request::Route;
+use serde_json::Value;
 use std::collections::HashMap;
 use std::io;
 use std::net::TcpListener as StdTcpListener;
@@ -28,7 +31,7 @@ use watch::Watch;
 pub const MOST_CONNECTIONS: usize = 64;
 
 /// The maximum number of connections that receive the events of the page.
-const MOST_WATCHERS: usize = 16;
+pub const MOST_WATCHERS: usize = 16;
 
 /// The maximum number of connections that are accepted before others are served, and the pause
 /// after that.
@@ -48,6 +51,17 @@ const LISTENER: Token = Token(0);
 const WAKER: Token = Token(1);
 const FIRST_CONNECTION: usize = 2;
 
+/// What the HTTP thread has to know of the front's options.
+#[derive(Clone, Debug)]
+pub struct Settings {
+    /// The time after which a batch at the server means that it hangs.
+    pub stall: Duration,
+    /// The names by which the server may be called.
+    pub hosts: Hosts,
+    /// What the page says of the front, as JSON.
+    pub about: Value,
+}
+
 /// The HTTP thread.
 struct Server {
     poll: Poll,
@@ -61,13 +75,19 @@ struct Server {
     /// Connections that may have sent more requests than were processed.
     backlog: Vec<usize>,
     watch: Watch,
+    hosts: Hosts,
     refreshed: Instant,
     ticked: Instant,
 }
 
 /// Starts the HTTP thread on a listening socket. The returned waker wakes it when the server has
 /// ended.
-pub fn start(listener: StdTcpListener, board: Arc<Board>, server: u32) -> io::Result<Waker> {
+pub fn start(
+    listener: StdTcpListener,
+    board: Arc<Board>,
+    server: u32,
+    settings: Settings,
+) -> io::Result<Waker> {
     listener.set_nonblocking(true)?;
     info!("http on {}", listener.local_addr()?);
     let poll = Poll::new()?;
@@ -75,7 +95,8 @@ pub fn start(listener: StdTcpListener, board: Arc<Board>, server: u32) -> io::Re
     poll.registry().register(&mut listener, LISTENER, Interest::READABLE)?;
     let waker = Waker::new(poll.registry(), WAKER)?;
     let now = Instant::now();
-    let watch = Watch::new(board.clone(), server)
+    let hosts = settings.hosts.clone();
+    let watch = Watch::new(board.clone(), server, settings)
         .map_err(|e| io::Error::new(io::ErrorKind::Other, e.to_string()))?;
     let it = Server {
         poll,
@@ -87,6 +108,7 @@ pub fn start(listener: StdTcpListener, board: Arc<Board>, server: u32) -> io::Re
         next: FIRST_CONNECTION,
         backlog: Vec::new(),
         watch,
+        hosts,
         refreshed: now,
         ticked: now,
     };
@@ -184,7 +206,7 @@ impl Server {
 
     /// Reads and writes as far as a connection is ready. Returns its request, if there is one.
     fn on_ready(&mut self, token: usize) -> Option<Route> {
-        match self.connections.get_mut(&token)?.on_ready() {
+        match self.connections.get_mut(&token)?.on_ready(&self.hosts) {
             Ok(route) => route,
             Err(_) => {
                 self.connections.remove(&token);

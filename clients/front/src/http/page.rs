@@ -87,8 +87,9 @@ fn numbered(families: &[MetricFamily], family: &str, names: &[&'static str]) -> 
 fn class_row(row: &ClassRow) -> Value {
     let it = &row.accepted;
     json!({
-        "number": it.class.number, "sha1": it.hash, "bytes": it.bytes, "steps": it.class.steps,
-        "words": it.class.words, "runs": row.tally.runs, "exceptions": row.tally.exceptions,
+        "number": it.class.number, "name": it.name, "sha1": it.hash, "bytes": it.bytes,
+        "steps": it.class.steps, "words": it.class.words, "runs": row.tally.runs,
+        "cost": row.tally.cost(), "exceptions": row.tally.exceptions,
         "by": format!("connection {} ({})", it.connection, it.peer),
     })
 }
@@ -98,12 +99,13 @@ fn connection_row(row: &ConnectionRow) -> Value {
     json!({
         "number": row.number, "peer": it.peer, "age": it.opened.elapsed().as_secs(),
         "rounds": it.rounds, "requests": it.requests, "received": it.received_bytes,
-        "sent": it.sent_bytes, "state": row.state,
+        "sent": it.sent_bytes, "state": row.state, "slowest": it.slowest.as_secs_f64(),
+        "waits": it.waits_since.map_or(0.0, |since| since.elapsed().as_secs_f64()),
     })
 }
 
 /// The metrics whose sums are on the page.
-const TOTALS: [&str; 22] = [
+const TOTALS: [&str; 23] = [
     "jentry_requests_total",
     "jentry_replies_total",
     "jentry_rounds_total",
@@ -126,6 +128,7 @@ const TOTALS: [&str; 22] = [
     "jentry_server_resident_memory_bytes",
     "jentry_server_start_time_seconds",
     "process_resident_memory_bytes",
+    "process_start_time_seconds",
 ];
 
 /// Returns the data of an event, as JSON on one line.

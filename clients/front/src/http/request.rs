@@ -1,5 +1,6 @@
 //! Parses the HTTP requests that the front supports.
 
+use super::hosts::Hosts;
 use httparse::{Request, Status, EMPTY_HEADER};
 
 /// The maximum length of a request, in bytes.
@@ -24,6 +25,8 @@ pub enum Route {
     NotFound {
         is_head: bool,
     },
+    /// The Host header names another server.
+    Misdirected,
     /// A method other than GET and HEAD.
     BadMethod,
     /// Not HTTP, or HTTP that isn't supported here.
@@ -45,7 +48,8 @@ impl Route {
             | Route::Metrics { is_head }
             | Route::Health { is_head }
             | Route::NotFound { is_head } => is_head,
-            Route::Events | Route::BadMethod | Route::Bad | Route::TooLong => false,
+            Route::Events | Route::Misdirected | Route::BadMethod => false,
+            Route::Bad | Route::TooLong => false,
         }
     }
 
@@ -75,7 +79,7 @@ pub struct Parsed {
 }
 
 /// Parses the request at the start of the input. Returns `None` if it hasn't fully arrived.
-pub fn parse(input: &[u8]) -> Option<Parsed> {
+pub fn parse(input: &[u8], hosts: &Hosts) -> Option<Parsed> {
     let fail = |route| Some(Parsed { route, length: input.len(), keeps_alive: false });
     let mut headers = [EMPTY_HEADER; MOST_HEADERS];
     let mut request = Request::new(&mut headers);
@@ -91,6 +95,9 @@ pub fn parse(input: &[u8]) -> Option<Parsed> {
     };
     let has_body = header("transfer-encoding").is_some()
         || header("content-length").map_or(false, |it| it != b"0");
+    if !hosts.accepts(header("host")) {
+        return fail(Route::Misdirected);
+    }
     let route = match (request.method, request.path) {
         (Some(method), Some(target)) => Route::of(method, target),
         _ => Route::Bad,
@@ -110,7 +117,7 @@ mod tests {
     use super::*;
 
     fn route(text: &str) -> Option<(Route, bool)> {
-        parse(text.as_bytes()).map(|it| (it.route, it.keeps_alive))
+        parse(text.as_bytes(), &Hosts::default()).map(|it| (it.route, it.keeps_alive))
     }
 
     #[test]
@@ -128,11 +135,18 @@ mod tests {
     }
 
     #[test]
+    fn a_request_for_another_server_is_misdirected() {
+        let text = "GET / HTTP/1.1\r\nHost: evil.example\r\n\r\n";
+        assert_eq!(route(text), Some((Route::Misdirected, false)));
+    }
+
+    #[test]
     fn a_request_has_its_length() {
         let text = b"GET / HTTP/1.1\r\n\r\nGET /metrics HTTP/1.1\r\n\r\n";
-        assert_eq!(parse(text).map(|it| it.length), Some(18));
+        let hosts = Hosts::default();
+        assert_eq!(parse(text, &hosts).map(|it| it.length), Some(18));
         for end in 0..18 {
-            assert_eq!(parse(&text[..end]), None, "a beginning of {} bytes", end);
+            assert_eq!(parse(&text[..end], &hosts), None, "a beginning of {} bytes", end);
         }
     }
 

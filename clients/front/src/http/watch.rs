@@ -5,6 +5,7 @@ use super::connection::Response;
 use super::page;
 use super::process::{self, Process};
 use super::request::Route;
+use super::{Settings, MOST_WATCHERS};
 use crate::status::Board;
 use prometheus::proto::MetricFamily;
 use prometheus::{Counter, Gauge, IntGauge, Opts, Registry, TextEncoder};
@@ -44,6 +45,7 @@ struct OwnMetrics {
     front: ProcessMetrics,
     front_files: Gauge,
     age: Gauge,
+    batch_age: Gauge,
 }
 
 /// Metrics of a process.
@@ -57,6 +59,7 @@ struct ProcessMetrics {
 pub struct Watch {
     board: Arc<Board>,
     server: String,
+    settings: Settings,
     own: OwnMetrics,
     last: Option<(Instant, Sample)>,
     /// Seconds since 1970, calls per second, median and 99th percentile of a round's time, waiting
@@ -103,25 +106,34 @@ impl OwnMetrics {
             front: ProcessMetrics::new(registry, "process", "the front")?,
             front_files: of("process_open_fds", "Open files of the front.")?,
             age: of("jentry_counts_age_seconds", "Time since the event loop gave its counts.")?,
+            batch_age: of(
+                "jentry_batch_age_seconds",
+                "Time since the batch at the server was sent, 0 without one.",
+            )?,
         })
     }
 
-    fn set(&self, server: Option<Process>, age: Option<Duration>) {
+    fn set(&self, server: Option<Process>, board: &Board) {
         self.server_up.set(i64::from(server.is_some()));
-        self.server.set(&server.unwrap_or_default());
+        // Once it has ended, its last values stay.
+        if let Some(server) = &server {
+            self.server.set(server);
+        }
         let front = process::read("self").unwrap_or_default();
         self.front.set(&front);
         self.front_files.set(front.open_files as f64);
-        self.age.set(age.map_or(0.0, |it| it.as_secs_f64()));
+        self.age.set(board.age().map_or(0.0, |it| it.as_secs_f64()));
+        self.batch_age.set(board.batch_age().as_secs_f64());
     }
 }
 
 impl Watch {
     /// Observes this board, and the server by its process id.
-    pub fn new(board: Arc<Board>, server: u32) -> prometheus::Result<Watch> {
+    pub fn new(board: Arc<Board>, server: u32, settings: Settings) -> prometheus::Result<Watch> {
         let own = OwnMetrics::new(board.registry())?;
         let history = VecDeque::with_capacity(HISTORY);
-        Ok(Watch { board, server: server.to_string(), own, last: None, history })
+        let server = server.to_string();
+        Ok(Watch { board, server, settings, own, last: None, history })
     }
 
     /// Returns the response to a request. For [`Route::Events`] it reports that there are too many
@@ -134,7 +146,11 @@ impl Watch {
             }
             Route::Metrics { .. } => self.metrics(),
             Route::Health { .. } => self.health(),
-            Route::Events => text("503 Service Unavailable", "too many pages watch this front\n"),
+            Route::Events => full(),
+            Route::Misdirected => text(
+                "421 Misdirected Request",
+                "this server isn't called so; --http-name NAME allows the name\n",
+            ),
             Route::NotFound { .. } => text("404 Not Found", "there are /, /metrics and /healthz\n"),
             Route::BadMethod => {
                 let body = "only GET and HEAD\n".into();
@@ -152,7 +168,7 @@ impl Watch {
             Some(_) => None,
             None => process::read(&self.server),
         };
-        self.own.set(server, self.board.age());
+        self.own.set(server, &self.board);
         self.board.registry().gather()
     }
 
@@ -169,7 +185,8 @@ impl Watch {
     fn health(&self) -> Response {
         let problem = match (self.board.ended(), self.board.age()) {
             (Some(how), _) => Some(format!("the server has ended: {}\n", how)),
-            (None, Some(age)) if age < LONG_SILENCE => None,
+            (None, _) if self.board.is_draining() => Some("the front is to end\n".to_string()),
+            (None, Some(age)) if age < LONG_SILENCE => self.stalled().map(|it| it + "\n"),
             (None, Some(age)) => Some(format!("no answer for {} seconds\n", age.as_secs())),
             (None, None) => Some("no answer yet\n".to_string()),
         };
@@ -178,6 +195,12 @@ impl Watch {
             Some(problem) => ("503 Service Unavailable", problem.into_bytes()),
         };
         Response { status, headers: TEXT, body }
+    }
+
+    /// Returns what to say of a server that doesn't answer.
+    fn stalled(&self) -> Option<String> {
+        let age = self.board.stalled(self.settings.stall)?;
+        Some(format!("the server hasn't answered a batch for {} seconds", age.as_secs()))
     }
 
     /// Adds a sample to the history.
@@ -203,7 +226,9 @@ impl Watch {
     }
 
     fn state(&self, history: Value) -> String {
-        let state = page::state(&self.families(), &self.board.tables(), history);
+        let mut state = page::state(&self.families(), &self.board.tables(), history);
+        state["problem"] = json!(self.stalled());
+        state["about"] = self.settings.about.clone();
         format!("event: state\ndata: {}\n\n", state)
     }
 
@@ -216,6 +241,13 @@ impl Watch {
     pub fn event(&self) -> String {
         self.state(self.history.back().map_or(json!([]), |it| json!([it])))
     }
+}
+
+/// Returns the stream of a page too many, which says so and has the page try again.
+fn full() -> Response {
+    let headers = "Content-Type: text/event-stream\r\nCache-Control: no-store\r\n";
+    let body = format!("retry: 10000\nevent: full\ndata: {}\n\n", MOST_WATCHERS);
+    Response { status: "200 OK", headers, body: body.into_bytes() }
 }
 
 /// Returns the last event, which says how the server ended.
