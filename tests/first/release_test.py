@@ -1,16 +1,18 @@
 """bin/release: what it refuses, that all builds give the same bytes, and that the Debian package runs in an empty root."""
 import glob
 import os
+import re
 import shutil
 import subprocess
 import tarfile
 import tempfile
 import unittest
+from datetime import datetime, timezone
 
 import tiny
-from shared import sum_of
+from shared import load_script, sum_of, text_of
 
-VERSION = "0.1.0"
+VERSION = text_of(f"{tiny.TOP}/packaging/version").strip()
 NAMES = [f"jentry-{VERSION}+not.proved.tar.xz", f"jentry_{VERSION}+not.proved_amd64.deb"]
 PLUS = "result 42\nvalue 42\nsteps 14 words 0\n"
 NOTE = (
@@ -48,18 +50,14 @@ class Refusals(unittest.TestCase):
         tiny.write(built, "a program")
         subprocess.run(["python3", "-B", "-c", NOTE], cwd=self.folder, check=True)
         # With the note of bin/test, the next reason is the versions of the parts.
-        self.refused("clients/front/Cargo.toml has version None, and not 0.1.0")
-        for file, text in (
-            ("front/Cargo.toml", f'version = "{VERSION}"\n'),
-            ("python/pyproject.toml", f'version = "{VERSION}"\n'),
-            ("java/pom.xml", "<version>0.1.0-SNAPSHOT</version>"),
-        ):
-            tiny.write(f"{self.folder}/clients/{file}", text)
+        self.refused(f"clients/front/Cargo.toml has version None, and not {VERSION}")
+        for file in load_script("release").PARTS:
+            tiny.write(f"{self.folder}/{file}", text_of(f"{tiny.TOP}/{file}"))
         self.refused("the files of this checkout differ from its commit")
         commit(self.folder)
         self.refused("the gate didn't pass on this commit here")
         subprocess.run(["python3", "-B", "-c", NOTE], cwd=self.folder, check=True)
-        self.refused("CHANGELOG.md has no section for 0.1.0")
+        self.refused(f"CHANGELOG.md has no section for {VERSION}")
         tiny.write(built, "another program")
         self.refused("crates/jentry/out/jentry isn't the program that the gate built")
 
@@ -68,6 +66,44 @@ class Refusals(unittest.TestCase):
             output, errors, status = tiny.run(self.folder, "bin/release", *words)
             self.assertEqual((output, status), ("", 2))
             self.assertIn("usage: bin/release VERSION [FOLDER]", errors)
+
+
+class Changelogs(unittest.TestCase):
+    @unittest.skipUnless(
+        shutil.which("dpkg-parsechangelog"), "there is no dpkg-parsechangelog (apt-get install dpkg-dev)"
+    )
+    def test_debians_tools_read_the_changelog(self):
+        text = load_script("release").debian_changelog("1.2.3", datetime(2026, 11, 30, 8, 5, tzinfo=timezone.utc))
+        words = ["dpkg-parsechangelog", "-l-"]
+        done = subprocess.run(words, input=text, stdout=subprocess.PIPE, stderr=subprocess.PIPE, text=True, check=True)
+        self.assertEqual(done.stderr, "")
+        fields = dict(line.split(": ", 1) for line in done.stdout.splitlines() if ": " in line)
+        told = {name: fields[name] for name in ("Source", "Version", "Date")}
+        self.assertEqual(told, {"Source": "jentry", "Version": "1.2.3", "Date": "Mon, 30 Nov 2026 08:05:00 +0000"})
+
+
+class Commands(unittest.TestCase):
+    def test_the_packaged_command_answers_help_and_version(self):
+        """The command is where a release has it, beside a program that prints its own words and ends with status 9."""
+        with tempfile.TemporaryDirectory() as room:
+            command = f"{room}/bin/jentry"
+            for path, text in (
+                (command, load_script("release").packaged_command("1.2.3")),
+                (f"{room}/lib/jentry/jentry", '#!/bin/sh\necho "$@"\nexit 9\n'),
+            ):
+                tiny.write(path, text)
+                os.chmod(path, 0o755)
+            usage = text_of(f"{tiny.TOP}/packaging/usage.txt")
+            self.assertTrue(usage.startswith("usage: jentry check FILE "))
+            for words, wanted in (
+                (["--help"], (usage, "", 0)),
+                (["run", "-h"], (usage, "", 0)),
+                (["--version"], ("jentry 1.2.3\n", "", 0)),
+                ([], ("", usage, 1)),
+                (["check", "a  b"], ("check a  b\n", "", 9)),
+                ([""], ("\n", "", 9)),
+            ):
+                self.assertEqual(tiny.run(room, command, *words), wanted, words)
 
 
 @unittest.skipUnless(program(), "there is no proved program to pack")
@@ -107,10 +143,16 @@ class Releases(unittest.TestCase):
             "bin/jentry-front",
             "lib/jentry/jentry",
             "share/man/man1/jentry.1.gz",
+            "share/doc/jentry/copyright",
+            "share/doc/jentry/LICENSE",
+            "share/doc/jentry/changelog.gz",
+            "share/lintian/overrides/jentry",
             "lib/systemd/system/jentry-front.socket",
             "lib/systemd/system/jentry-front.service",
-            "lib/python3/dist-packages/jentry.py",
-            "lib/python3/dist-packages/jentry_errors.py",
+            "lib/sysusers.d/jentry-front.conf",
+            "lib/python3/dist-packages/jentry/__init__.py",
+            "lib/python3/dist-packages/jentry/py.typed",
+            "lib/python3/dist-packages/jentry_aio/__init__.py",
             "lib/python3/dist-packages/jentry_processors/GetAndPut.class",
         ):
             self.assertIn(name, members)
@@ -129,6 +171,25 @@ class Releases(unittest.TestCase):
         self.assertIn("verdict NOT PROVED", printed)
         self.assertIn(f"lib/jentry/jentry sha256 {sum_of(program())}\n", printed)
         self.assertTrue(jar.startswith(b"PK"))
+
+    def test_the_package_creates_the_group_of_the_socket(self):
+        """The unit of the socket gives it to a group, which the package's script makes by systemd-sysusers."""
+        with tempfile.TemporaryDirectory() as room:
+            subprocess.run(["dpkg-deb", "-R", f"{self.folders[0]}/{NAMES[1]}", room], check=True)
+            unit = text_of(f"{room}/usr/lib/systemd/system/jentry-front.socket")
+            (group,) = re.findall(r"(?m)^SocketGroup=(.*)$", unit)
+            self.assertIn(f"g {group} -", text_of(f"{room}/usr/lib/sysusers.d/jentry-front.conf"))
+            tiny.write(f"{room}/bin/systemd-sysusers", '#!/bin/sh\necho "$@"\n')
+            os.chmod(f"{room}/bin/systemd-sysusers", 0o755)
+            ran = subprocess.run(
+                ["/bin/sh", f"{room}/DEBIAN/postinst", "configure"],
+                env={"PATH": f"{room}/bin"},
+                capture_output=True,
+                text=True,
+                check=True,
+            )
+            self.assertEqual(ran.stdout, "jentry-front.conf\n")
+            self.assertTrue(os.access(f"{room}/DEBIAN/postinst", os.X_OK))
 
     def test_the_tarball_runs_where_it_is_unpacked(self):
         with tempfile.TemporaryDirectory() as room:
