@@ -61,11 +61,13 @@ def in_words(seconds):
 class Progress:
     """Shows the progress on standard error: on a terminal in one line that is updated, else in a line for each proved crate."""
 
-    def __init__(self, name, estimate):
-        self.name, self.estimate, self.done, self.running = name, estimate, set(), {}
+    def __init__(self, name, estimate, reused=frozenset(), note=""):
+        """`reused` has the names of the crates that needn't be proved, and `note` goes into the first line."""
+        self.name, self.estimate, self.reused, self.done, self.running = name, estimate, reused, set(), {}
         self.began, self.lock, self.ended = time.monotonic(), threading.Lock(), threading.Event()
+        count = f"{len(estimate.weights) - len(reused)} of " if reused else ""
         print(
-            f"{name}: proving and building {len(estimate.weights)} crates, {in_words(estimate.whole)}",
+            f"{name}: proving and building {count}{len(estimate.weights)} crates, {in_words(estimate.whole)}{note and f' ({note})'}",
             file=sys.stderr,
             flush=True,
         )
@@ -80,7 +82,7 @@ class Progress:
         with self.lock:
             self.running.pop(crate, None)
             self.done.add(crate)
-            if not sys.stderr.isatty():
+            if not sys.stderr.isatty() and crate not in self.reused:
                 print(self.line(f", {crate}"), file=sys.stderr, flush=True)
 
     def line(self, last=""):

@@ -8,12 +8,8 @@ import shutil
 import sys
 
 TOP = os.path.dirname(os.path.dirname(os.path.realpath(__file__)))
-KIT_NAME = "rattle-kit-13f"
-"""The kit whose proofs the gate passes."""
-NO_KIT = (
-    f"there is no Rattle kit on this machine: install {KIT_NAME} and put the folder of its rt on PATH. "
-    "A built release needs no kit: CHANGELOG.md lists them, and each has a jentry_VERSION_amd64.deb and a .tar.xz"
-)
+KIT_LOGIC = "dac8208d650f15bf"
+"""The logic of the kits whose proofs the gate passes: `rt version` ends with it. Kits of one logic prove the same."""
 RELEASE = re.compile(r"^## (\d+\.\d+\.\d+)\b[^\n]*\n(.*?)(?=^## |\Z)", re.MULTILINE | re.DOTALL)
 SUM = re.compile(r"sha256[^\n]*\b([0-9a-f]{64})\b")
 
@@ -60,6 +56,18 @@ def newest_release(changelog):
         if found:
             return version, found[1]
     return None
+
+
+def no_kit(changelog):
+    """Returns what to do without a kit: to install one, or, if a changelog lists a built release, to take that."""
+    newest = newest_release(changelog)
+    return (
+        f"there is no Rattle kit on this machine: install one with logic {KIT_LOGIC} and put the folder of its rt on PATH"
+        + (f"; release {newest[0]}, a jentry_{newest[0]}_amd64.deb and a .tar.xz, needs none" if newest else "")
+    )
+
+
+NO_KIT = no_kit(text_of(f"{TOP}/CHANGELOG.md"))
 
 
 def compare_with_release(program, changelog):

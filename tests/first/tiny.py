@@ -30,6 +30,15 @@ fn main(rt: HostRuntime) -> io::Result<()> {
     Ok(())
 }
 """
+EXPORTS = """//! A library with one function for C.
+#![tactic(auto)]
+
+/// The least.
+#[unsafe(no_mangle)]
+pub extern "C" fn tiny_least(x: usize) -> usize {
+    low::least(x)
+}
+"""
 CRATES = "low may_wait=3:\njentry may_wait=2: low\n"
 """Both counts are wrong: neither crate waits."""
 

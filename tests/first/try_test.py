@@ -1,16 +1,20 @@
 """bin/jentry and bin/try in a small repository: when a trial build is made, and by which command."""
 import os
+import re
 import subprocess
 import tempfile
 import unittest
 
 import tiny
+from shared import text_of
 
 MAKING, WAITING = (
     "jentry: making a trial build, a minute or two, once\n",
     "jentry: another command makes the trial build; waiting for it\n",
 )
-NOT_PROVED = "jentry: NOT PROVED HERE: a trial build, many times slower; bin/build makes the proved program\n"
+NOT_PROVED = (
+    "jentry: NOT PROVED HERE: a trial build, about a thousand times slower; bin/build makes the proved program\n"
+)
 CHECK = ["bin/jentry", "check", "examples/Plus.class"]
 
 
@@ -67,7 +71,8 @@ class Trials(unittest.TestCase):
         output, errors, status = self.run_here(*CHECK, PATH="/usr/bin:/bin")
         self.assertEqual((output, status, errors.count("\n")), ("", 3, 1))
         self.assertRegex(
-            errors, r"^jentry: no trial build: there is no Rattle kit .*: install rattle-kit-\S+ .*CHANGELOG\.md"
+            errors,
+            r"^jentry: no trial build: there is no Rattle kit .*: install one with logic [0-9a-f]{16} and put the folder of its rt on PATH",
         )
 
     def test_no_words_are_answered_by_a_usage_of_ten_lines(self):
@@ -76,6 +81,24 @@ class Trials(unittest.TestCase):
         self.assertTrue(errors.startswith("usage: jentry check FILE "))
         self.assertLessEqual(errors.count("\n"), 12)
         self.assertFalse(os.path.exists(f"{self.folder}/crates/jentry/out"))
+
+    def test_help_and_version_are_answered_before_the_program(self):
+        """The program ends with status 9, so the answers aren't its own. Neither they nor a usage make a trial build."""
+        program = f"{self.folder}/crates/jentry/out/jentry"
+        version = f"jentry {text_of(f'{tiny.TOP}/packaging/version').strip()}, checkout of commit "
+        for which in ("a trial build, not proved", "the program that bin/build made"):
+            for words in (["-h"], ["--help"], ["check", "--help"], ["serve", "-h"]):
+                output, errors, status = self.run_here("bin/jentry", *words)
+                self.assertEqual((output.partition(" FILE ")[0], errors, status), ("usage: jentry check", "", 0), words)
+            output, errors, status = self.run_here("bin/jentry", "--version")
+            self.assertEqual((errors, status), ("", 0))
+            self.assertRegex(output, rf"^{re.escape(version)}[0-9a-f]+, {which}\n$")
+            self.assertEqual(os.path.exists(f"{self.folder}/crates/jentry/out"), "bin/build" in which)
+            tiny.write(program, "#!/bin/sh\nexit 9\n")
+            os.chmod(program, 0o755)
+        # Words that name no help are the program's, also an empty one.
+        for words in (["run", "--help", "7"], [""], ["check", "help"]):
+            self.assertEqual(self.run_here("bin/jentry", *words), ("", "", 9), words)
 
     def test_a_proved_program_answers_where_there_is_one(self):
         """Any file at crates/jentry/out/jentry is run, with the arguments and the standard input, and its status is returned."""
