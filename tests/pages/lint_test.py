@@ -118,11 +118,6 @@ class Planted(unittest.TestCase):
             "java", {"A.java": good}, "A.java", (fault, "UnusedImports"), (good.replace("\n}", "  \n}"), "trailing")
         )
 
-    def test_size_of_the_pages(self):
-        files = {"lint/phrases.tsv": "phrase\tinstead\n", "CHANGELOG.md": "A line.\n" * LINT.MOST_BYTES}
-        most = "x" * 127 + "\n"
-        self.hold("pages", files, "docs/A.md", (most * (LINT.MOST_BYTES // 128) + "x\n", "bytes of at most"))
-
     def test_shellcheck(self):
         good = '#!/usr/bin/env bash\necho "$1"\n'
         self.hold("shell", {"bin/a": good}, "bin/a", (good.replace('"', ""), "SC2086"))

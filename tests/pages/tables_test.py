@@ -78,7 +78,7 @@ class Tables(unittest.TestCase):
             self.assertEqual(sorted(it for it in found if it[0].isupper()), sorted(wanted))
 
     def test_python_has_them(self):
-        client = constants_of("clients/python/jentry_errors.py")
+        client = constants_of("clients/python/jentry/errors.py")
         for table in ("refusals", "exceptions", "denials"):
             self.assertEqual(list(client[table.upper()]), [None, *names(table)], table)
 
