@@ -21,12 +21,10 @@ def numbers(table):
 
 def sources(folder, kind):
     """Returns the sources of a client without its tests, by their paths."""
-    paths = glob.glob(os.path.join(TOP, folder, "**", f"*.{kind}"), recursive=True)
-    return {
-        it: text_of(os.path.relpath(it, TOP))
-        for it in paths
-        if not re.search(r"/(test|tests|target|out)/|_tests?\.", it)
-    }
+    paths = [
+        os.path.join(folder, it) for it in glob.glob(f"**/*.{kind}", root_dir=os.path.join(TOP, folder), recursive=True)
+    ]
+    return {it: text_of(it) for it in paths if not re.search(r"/(test|tests|target|out)/|_tests?\.", it)}
 
 
 def listed(text, table):
@@ -109,7 +107,7 @@ class Tables(unittest.TestCase):
             self.skipTest("the front tells no names")
         for path, table in found:
             with self.subTest(table=table):
-                self.assertEqual(listed(text_of(os.path.relpath(path, TOP)), table), names(table))
+                self.assertEqual(listed(text_of(path), table), names(table))
 
     def test_the_example_client_has_them(self):
         client = constants_of("examples/frames.py")
