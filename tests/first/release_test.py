@@ -111,6 +111,7 @@ class Commands(unittest.TestCase):
     shutil.which("javac") and shutil.which("cargo") and shutil.which("dpkg-deb"),
     "it needs javac, cargo and dpkg-deb (apt-get install default-jdk-headless cargo dpkg)",
 )
+@unittest.skipUnless(tiny.has_front_crates(), "it needs the front's crates (clients/front/cargo packages lists them)")
 class Releases(unittest.TestCase):
     @classmethod
     def setUpClass(cls):

@@ -88,5 +88,17 @@ def run(folder, *words, limit=900, **variables):
     return output, errors, ran.returncode
 
 
+def has_front_crates():
+    """Returns whether Debian's packages of the front's crates are installed, from which bin/release builds the front without a network."""
+    ran = subprocess.run(
+        [f"{TOP}/clients/front/cargo", "metadata", "--format-version", "1"],
+        env={**os.environ, "FRONT_CRATES": "debian"},
+        stdin=subprocess.DEVNULL,
+        capture_output=True,
+        check=False,
+    )
+    return ran.returncode == 0
+
+
 if __name__ == "__main__":
     make(sys.argv[1])
