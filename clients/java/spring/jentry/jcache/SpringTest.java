@@ -23,13 +23,13 @@ class SpringTest extends OnServer {
         JCacheCacheManager manager = new JCacheCacheManager(made.getCacheManager());
         manager.setAllowNullValues(false);
         manager.afterPropertiesSet();
-        assertEquals(List.of("configured"), List.copyOf(manager.getCacheNames()));
-        spring = manager.getCache("configured");
+        assertEquals(List.of(made.getName()), List.copyOf(manager.getCacheNames()));
+        spring = manager.getCache(made.getName());
         assertNull(manager.getCache("another"));
     }
 
     @Test void names() {
-        assertEquals("configured", spring.getName());
+        assertEquals(made.getName(), spring.getName());
         assertSame(made, spring.getNativeCache());
     }
 
