@@ -12,6 +12,7 @@ CLASS is the number that the reply to the class's definition told. ARGS are deci
 import struct
 import sys
 
+# generated from the tables in protocol/ by protocol/generate.py --write
 FAULTS = {
     1: "ArithmeticException",
     2: "ArrayIndexOutOfBoundsException",
@@ -21,6 +22,7 @@ FAULTS = {
     6: "CacheLoaderException",
 }
 DENIALS = {1: "UnknownClass", 2: "JournalFull", 3: "NoMemory", 4: "TooManyClasses", 5: "TooManyJobs"}
+# end of the generated part
 WORDS = {"null": b"\0", "false": b"\3", "true": b"\4"}
 ON_ONE_KEY = {"get": 3, "remove": 4, "contains": 5}
 

@@ -14,7 +14,8 @@ sys.path[:0] = [HERE, os.path.join(HERE, "../tests")]
 import jentry
 from class_files import EXAMPLES, heavy, plus, ratio
 from jentry import requests
-from jentry.requests import CONTAINS, GET, INVOKE, INVOKE_ALL, read_answer
+from jentry.requests import read_answer
+from jentry.tables import CONTAINS, GET, INVOKE, INVOKE_ALL
 from python_cases import HAS_PROCESSORS, Endings, Threaded, wrong_calls
 from running import PATIENCE, PROGRAM, SERVER, STAND_IN
 

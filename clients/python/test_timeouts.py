@@ -14,7 +14,7 @@ import jentry
 import jentry_aio
 from class_files import another, plus
 from ending_server import CLOSED, DEAF, EndingServer
-from jentry.requests import DEFINE, GET, INVOKE, PUT
+from jentry.tables import DEFINE, GET, INVOKE, PUT
 from python_cases import Threaded
 from running import FRONT, PATIENCE, STAND_IN, Running
 

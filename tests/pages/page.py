@@ -93,6 +93,6 @@ def words_of_code():
 
 
 def rows_of(table):
-    """Returns the rows of a table in clients/tables: their cells by the names in the first line."""
-    lines = [line.split("\t") for line in text_of(f"clients/tables/{table}.tsv").rstrip("\n").split("\n")]
+    """Returns the rows of a table in protocol/: their cells by the names in the first line."""
+    lines = [line.split("\t") for line in text_of(f"protocol/{table}.tsv").rstrip("\n").split("\n")]
     return [dict(zip(lines[0], line)) for line in lines[1:]]

@@ -1,14 +1,26 @@
-"""clients/tables against its copies: in the server, in the clients of each language, in the example client, and on the pages."""
-import ast
-import glob
+"""The tables in protocol/ against the server's sources, and the files that are generated from them."""
 import os
 import re
+import shutil
+import subprocess
+import sys
+import tempfile
 import unittest
 
 from page import TOP, rows_of, tables_of, text_of
 
-NAME = re.compile(r"\"([A-Z][A-Za-z]+)\"")
-CREATED = re.compile(r"case (\d+)\s*(?::\s*return|->)\s*new (\w+)\(")
+sys.path.insert(0, os.path.join(TOP, "protocol"))
+import generate
+
+GENERATE = os.path.join(TOP, "protocol/generate.py")
+ADVICE = "crates/explain_text/src/advice.rt"
+LIMITS = {
+    "LONGEST": ("crates/wire/src/reading.rt", r"const LONGEST: u32 = ([\d_]+);"),
+    "MOST_JOBS": ("crates/serve/src/batch.rt", r"pub const MOST_JOBS: usize = ([\d_]+);"),
+    "MOST_CLASSES": ("crates/serve/src/batch_requests.rt", r"const MOST_CLASSES: usize = ([\d_]+);"),
+    "MOST_ARGUMENTS": ("crates/jtypes/src/args.rt", r"ensures few \{ length self\.now ≤ (\d+)\)? \}"),
+}
+"""Where the server's sources have each limit."""
 
 
 def names(table):
@@ -19,39 +31,38 @@ def numbers(table):
     return [int(row["number"]) for row in rows_of(table)]
 
 
-def sources(folder, kind):
-    """Returns the sources of a client without its tests, by their paths."""
-    paths = [
-        os.path.join(folder, it) for it in glob.glob(f"**/*.{kind}", root_dir=os.path.join(TOP, folder), recursive=True)
-    ]
-    return {it: text_of(it) for it in paths if not re.search(r"/(test|tests|target|out)/|_tests?\.", it)}
+def advice_of(function):
+    """Returns what a function of the advice of `jentry explain` has: the pattern of each arm, and its text."""
+    text = text_of(ADVICE)
+    unseen = re.search(r'UNSEEN: &str = ("[^"]*")', text)[1]
+    body = re.search(rf"^fn {function}\(.*?^\}}", text, re.M | re.S)[0].replace("UNSEEN", unseen)
+    return re.findall(r'^ {8}(\S.*?) =>\s*(?:\{\s*)?"([^"]*)"', body, re.M)
 
 
-def listed(text, table):
-    """Returns the names in a source from the first name of a table on, as many as the table has."""
-    found = NAME.findall(text)
-    at = found.index(names(table)[0])
-    return found[at : at + len(names(table))]
+def advice_of_refusal(row):
+    """Returns the advice of `jentry explain` for a refusal."""
+    number = int(row["number"])
+    function = "of_layout" if number <= 6 else "of_shape" if number <= 15 else "of_code"
+    texts = dict(advice_of("of_bounds" if number == 25 or number >= 27 else function))
+    return texts.get("Refusal::" + row["name"], texts["_"])
 
 
-def constants_of(path):
-    """Returns the constants of a Python module, by their names."""
-    found = {}
-    for it in ast.parse(text_of(path)).body:
-        if isinstance(it, ast.Assign) and isinstance(it.targets[0], ast.Name):
-            try:
-                found[it.targets[0].id] = ast.literal_eval(it.value)
-            except ValueError:
-                pass
-    return found
+class Server(unittest.TestCase):
+    """The server's sources have what the tables have."""
 
+    def test_numbers_rise(self):
+        for table, first in (
+            ("refusals", 1),
+            ("exceptions", 1),
+            ("denials", 1),
+            ("requests", 1),
+            ("replies", 1),
+            ("values", 0),
+        ):
+            self.assertEqual(numbers(table), list(range(first, first + len(numbers(table)))), table)
+            self.assertGreater(len(numbers(table)), 4)
 
-class Tables(unittest.TestCase):
-    def test_numbers_rise_from_1(self):
-        for table, count in (("refusals", 30), ("exceptions", 6), ("denials", 5)):
-            self.assertEqual(numbers(table), list(range(1, count + 1)))
-
-    def test_the_server_has_them(self):
+    def test_refusals_and_exceptions(self):
         for table, path, kind in (
             ("refusals", "crates/jtypes/src/refusal.rt", "Refusal"),
             ("exceptions", "crates/jtypes/src/types.rt", "JavaFault"),
@@ -61,8 +72,19 @@ class Tables(unittest.TestCase):
             self.assertEqual(
                 [(int(number), named[it]) for it, number in numbered], list(zip(numbers(table), names(table)))
             )
+
+    def test_denials(self):
         denials = re.findall(r"Denial::(\w+) => (\d+),", text_of("crates/wire/src/reply.rt"))
         self.assertEqual([(int(number), it) for it, number in denials], list(zip(numbers("denials"), names("denials"))))
+
+    def test_limits(self):
+        found = {name: int(re.search(pattern, text_of(path))[1]) for name, (path, pattern) in LIMITS.items()}
+        self.assertEqual(found, {row["name"]: int(row["value"]) for row in rows_of("limits")})
+
+    def test_faults_of_a_stream(self):
+        page = {head[0]: rows for head, rows in tables_of("docs/PROTOCOL.md") if head[1] == "Name"}
+        faults = re.findall(r"ServeFault::(\w+) => (\d+),", text_of("crates/serve/src/fault.rt"))
+        self.assertEqual([(row[1], row[0]) for row in page["Fault"]], faults)
 
     def test_levels_are_those_of_the_verdict(self):
         """The refusals of types and bounds are those in the definitions of their levels."""
@@ -75,65 +97,71 @@ class Tables(unittest.TestCase):
             wanted = [row["name"] for row in rows_of("refusals") if row["level"] == level]
             self.assertEqual(sorted(it for it in found if it[0].isupper()), sorted(wanted))
 
-    def test_python_has_them(self):
-        client = constants_of("clients/python/jentry/errors.py")
-        for table in ("refusals", "exceptions", "denials"):
-            self.assertEqual(list(client[table.upper()]), [None, *names(table)], table)
+    def test_remedies_are_the_advice_of_explain(self):
+        for row in rows_of("refusals"):
+            if row["name"] != "OutsideProfile":
+                self.assertEqual(row["remedy"], advice_of_refusal(row), row["name"])
 
-    def test_java_has_them(self):
-        java = sources("clients/java", "java").values()
-        with_refusals = [it for it in java if "TOO_LARGE(" in it]
-        self.assertEqual(len(with_refusals), 1)
-        self.assertEqual(listed(with_refusals[0], "refusals"), names("refusals"))
-        with_exceptions = [it for it in java if "new ArithmeticException(" in it]
-        self.assertEqual(len(with_exceptions), 1)
-        created = [
-            (int(number), name) for number, name in CREATED.findall(with_exceptions[0]) if name in names("exceptions")
-        ]
-        self.assertEqual(created, list(zip(numbers("exceptions"), names("exceptions"))))
-        with_denials = [it for it in java if "\"TooManyClasses\"" in it]
-        self.assertTrue(with_denials)
-        for it in with_denials:
-            self.assertEqual(listed(it, "denials"), names("denials"))
+    def test_remedies_of_opcodes_are_the_advice_of_explain(self):
+        found = {it.replace(" | ", ", ").replace("..=", "-"): text for it, text in advice_of("of_opcode")}
+        wanted = {row["opcodes"].replace("others", "_"): row["remedy"] for row in rows_of("opcodes")}
+        self.assertEqual(found, wanted)
 
-    def test_the_front_has_them(self):
-        found = [
-            (path, table)
-            for path, text in sources("clients/front/src", "rs").items()
-            for table in ("refusals", "exceptions", "denials")
-            if f"\"{names(table)[0]}\"" in text
-        ]
-        if not found:
-            self.skipTest("the front tells no names")
-        for path, table in found:
-            with self.subTest(table=table):
-                self.assertEqual(listed(text_of(path), table), names(table))
 
-    def test_the_example_client_has_them(self):
-        client = constants_of("examples/frames.py")
-        self.assertEqual(client["FAULTS"], dict(zip(numbers("exceptions"), names("exceptions"))))
-        self.assertEqual(client["DENIALS"], dict(zip(numbers("denials"), names("denials"))))
+class Generated(unittest.TestCase):
+    """The generated files have what the tables have, and the generator sees each one that hasn't."""
 
-    def test_the_protocol_page_has_them(self):
-        page = {head[0]: rows for head, rows in tables_of("docs/PROTOCOL.md") if head[1] == "Name"}
-        self.assertEqual(
-            page["Exception"], [[row["number"], row["name"], row["where"]] for row in rows_of("exceptions")]
-        )
-        self.assertEqual(page["Denial"], [[row["number"], row["name"], row["when"]] for row in rows_of("denials")])
-        faults = re.findall(r"ServeFault::(\w+) => (\d+),", text_of("crates/serve/src/fault.rt"))
-        self.assertEqual([(row[1], row[0]) for row in page["Fault"]], faults)
+    def run_on(self, option, folder):
+        """Runs the generator on a folder. Returns its status and its lines."""
+        ran = subprocess.run([sys.executable, "-B", GENERATE, option, folder], capture_output=True, text=True)
+        self.assertEqual(ran.stderr, "")
+        return ran.returncode, ran.stdout.splitlines()
 
-    def test_the_page_for_authors_has_each_refusal(self):
-        """A refusal has a heading, or is in a table's row with one or more numbers and their names in the same order."""
-        page = "docs/PROCESSORS.md"
-        found = dict(re.findall(r"^### (\d+) (\w+)", text_of(page), re.M))
-        for _, rows in tables_of(page):
-            for row in rows:
-                if re.fullmatch(r"\d+(, \d+)*", row[0]):
-                    listed_names = [it for it in re.findall(r"\b[A-Z]\w+\b", row[1]) if it in names("refusals")]
-                    found.update(zip(row[0].split(", "), listed_names))
-        wanted = {row["number"]: row["name"] for row in rows_of("refusals")}
-        self.assertEqual({number: found.get(number) for number in wanted}, wanted)
+    def copy(self):
+        """Returns a folder with the tables and the files with generated parts."""
+        folder = tempfile.TemporaryDirectory()
+        self.addCleanup(folder.cleanup)
+        shutil.copytree(os.path.join(TOP, "protocol"), os.path.join(folder.name, "protocol"))
+        for path in self.paths():
+            os.makedirs(os.path.join(folder.name, os.path.dirname(path)), exist_ok=True)
+            shutil.copy(os.path.join(TOP, path), os.path.join(folder.name, path))
+        return folder.name
+
+    @staticmethod
+    def paths():
+        return sorted({*generate.FILES, *(path for path, _ in generate.PARTS)})
+
+    def test_the_files_are_up_to_the_tables(self):
+        wrong = list(generate.differing(TOP))
+        self.assertEqual(wrong, [], f"run {generate.BY}")
+
+    def test_a_refusal_that_is_added_concerns_each_file_with_refusals(self):
+        folder = self.copy()
+        with open(os.path.join(folder, "protocol/refusals.tsv"), "a", encoding="utf-8") as it:
+            it.write("31\tTooOld\t\tlayout\ta class that is too old\tanother\t\tWrite another.\n")
+        wanted = [it for it in self.paths() if "BadStackMap" in text_of(it) or it.endswith("page.html")]
+        self.assertGreater(len(wanted), 5)
+        lines = [f"{it} differs from the tables in protocol/: run protocol/generate.py --write" for it in wanted]
+        self.assertEqual(self.run_on("--check", folder), (1, lines))
+        self.assertEqual(self.run_on("--write", folder), (0, wanted))
+        self.assertEqual(self.run_on("--check", folder), (0, []))
+
+    def test_a_line_that_is_missing_in_one_file_is_seen(self):
+        folder = self.copy()
+        for path in self.paths():
+            with open(os.path.join(folder, path), encoding="utf-8") as it:
+                text = it.read()
+            end = text.rfind(generate.END) if generate.END in text else len(text)
+            last = text.rfind("\n", 0, text.rfind("\n", 0, end))
+            with self.subTest(path=path):
+                self.replace(folder, path, text[:last] + text[text.index("\n", last + 1) :])
+                self.assertEqual(list(generate.differing(folder)), [path])
+            self.replace(folder, path, text)
+
+    @staticmethod
+    def replace(folder, path, text):
+        with open(os.path.join(folder, path), "w", encoding="utf-8") as it:
+            it.write(text)
 
 
 if __name__ == "__main__":

@@ -19,6 +19,7 @@ mod logging;
 mod metrics;
 mod options;
 mod peers;
+mod protocol;
 mod request;
 mod scheduler;
 mod server;

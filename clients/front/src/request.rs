@@ -3,17 +3,12 @@
 //! The server ends its stream after an invalid frame, and all connections share that stream. So
 //! each frame is fully validated here before it goes to the server.
 
+use crate::protocol::requests::{CONTAINS, DEFINE, END, GET, INVOKE, INVOKE_ALL, PUT};
+use crate::protocol::values::{FALSE, INTEGER, LONG, NULL, TRUE};
+use crate::protocol::MOST_ARGUMENTS;
+pub use crate::protocol::{LONGEST, MOST_CLASSES, MOST_JOBS};
 use std::collections::HashSet;
 use std::io;
-
-/// The maximum length of a frame, in bytes after the length field.
-pub const LONGEST: usize = 131_072;
-
-/// The maximum number of jobs in a round of the server.
-pub const MOST_JOBS: usize = 4_096;
-
-/// The maximum number of classes of a server.
-pub const MOST_CLASSES: usize = 4_096;
 
 /// The offset of the keys in an invokeAll: after length, kind, class number and count.
 pub const KEYS_AT: usize = 11;
@@ -54,15 +49,15 @@ pub fn number_at(text: &[u8], at: usize) -> u32 {
 /// Returns the end of the arguments that begin here, or `None` if they are invalid.
 fn arguments_end(text: &[u8], at: usize) -> Option<usize> {
     let count = *text.get(at)?;
-    if count > 8 {
+    if usize::from(count) > MOST_ARGUMENTS {
         return None;
     }
     let mut at = at + 1;
     for _ in 0..count {
         at += match *text.get(at)? {
-            0 | 3 | 4 => 1,
-            1 => 9,
-            2 => 5,
+            NULL | FALSE | TRUE => 1,
+            LONG => 9,
+            INTEGER => 5,
             _ => return None,
         };
     }
@@ -73,11 +68,13 @@ fn arguments_end(text: &[u8], at: usize) -> Option<usize> {
 pub fn judge(text: &[u8]) -> Option<Frame> {
     let length = text.len();
     match (*text.get(4)?, length) {
-        (1, _) => Some(Frame::Define),
-        (8, 5) => Some(Frame::End),
-        (2, 21) | (3..=5, 13) => Some(Frame::Plain),
-        (6, 18..) if arguments_end(text, 17)? == length => Some(Frame::Invoke(number_at(text, 5))),
-        (7, 12..) => {
+        (DEFINE, _) => Some(Frame::Define),
+        (END, 5) => Some(Frame::End),
+        (PUT, 21) | (GET..=CONTAINS, 13) => Some(Frame::Plain),
+        (INVOKE, 18..) if arguments_end(text, 17)? == length => {
+            Some(Frame::Invoke(number_at(text, 5)))
+        }
+        (INVOKE_ALL, 12..) => {
             let count = usize::from(u16::from_be_bytes([text[9], text[10]]));
             if arguments_end(text, KEYS_AT + 8 * count)? != length {
                 return None;

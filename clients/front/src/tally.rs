@@ -1,65 +1,10 @@
 //! The counts of the event loop: plain numbers without locks or atomics, so that counting has no
 //! measurable cost for calls. [`crate::metrics`] publishes them on request.
 
-use crate::request;
-
-/// The kinds of requests, by their number in a frame.
-pub const REQUESTS: [&str; 8] =
-    ["", "define", "put", "get", "remove", "contains", "invoke", "invoke_all"];
-
-/// The kinds of replies, by their number in a frame.
-pub const REPLIES: [&str; 9] =
-    ["", "defined", "refused", "done", "value", "flag", "result", "results", "denied"];
-
-/// The reasons for which the server or the front doesn't run a request, by number.
-pub const DENIALS: [&str; 6] =
-    ["", "UnknownClass", "JournalFull", "NoMemory", "TooManyClasses", "TooManyJobs"];
-
-/// The ways in which a processor ends without a result, by number.
-pub const EXCEPTIONS: [&str; 7] = [
-    "",
-    "ArithmeticException",
-    "ArrayIndexOutOfBoundsException",
-    "NullPointerException",
-    "ClassCastException",
-    "IncompatibleClassChangeError",
-    "CacheLoaderException",
-];
-
-/// The reasons for which the server refuses a class, by number.
-pub const REFUSALS: [&str; 31] = [
-    "",
-    "TooLarge",
-    "Truncated",
-    "BadMagic",
-    "BadVersion",
-    "BadPool",
-    "TrailingBytes",
-    "BadDescriptor",
-    "BadHeader",
-    "ConstructorForm",
-    "ClassInitialiser",
-    "NoProcess",
-    "DuplicateMethod",
-    "NoBody",
-    "BadCode",
-    "ExceptionTable",
-    "UnknownOpcode",
-    "OutsideProfile",
-    "BadOperand",
-    "BadTarget",
-    "BackwardBranch",
-    "BadStackMap",
-    "TypeMismatch",
-    "FallsOff",
-    "UnknownMember",
-    "Recursive",
-    "LengthNotConstant",
-    "StepLimit",
-    "WordLimit",
-    "FrameLimit",
-    "NoMemory",
-];
+use crate::protocol::replies::{DENIED, FLAG, REFUSED, RESULT, RESULTS, VALUE};
+use crate::protocol::requests::{DEFINE, REMOVE};
+use crate::protocol::MOST_CLASSES;
+pub use crate::protocol::{DENIALS, EXCEPTIONS, REFUSALS, REPLIES, REQUESTS};
 
 /// The reasons for which a connection was closed.
 #[derive(Clone, Copy, Debug)]
@@ -80,15 +25,6 @@ pub enum Closed {
 
 /// The labels of [`Closed`].
 pub const CLOSED: [&str; 6] = ["ended", "invalid", "idle", "slow", "large", "drained"];
-
-const DEFINE: u8 = 1;
-const REMOVE: u8 = 4;
-const VALUE: u8 = 4;
-const FLAG: u8 = 5;
-const RESULT: u8 = 6;
-const RESULTS: u8 = 7;
-const REFUSED: u8 = 2;
-const DENIED: u8 = 8;
 
 /// The class number of requests that run no class.
 pub const NO_CLASS: u32 = u32::MAX;
@@ -160,7 +96,7 @@ impl Tally {
     /// Counts a class that the server accepted.
     pub fn class(&mut self, number: u32, steps: u32) {
         let index = number as usize;
-        if index >= self.classes.len() && index < request::MOST_CLASSES {
+        if index >= self.classes.len() && index < MOST_CLASSES {
             self.classes.resize(index + 1, ClassTally::default());
         }
         if let Some(class) = self.classes.get_mut(index) {
@@ -276,7 +212,7 @@ impl Tally {
     }
 }
 
-/// Returns the name of a number in one of the tables above.
+/// Returns the name of a number in one of the tables of [`crate::protocol`].
 pub fn name(names: &[&'static str], number: u8) -> &'static str {
     names.get(usize::from(number)).copied().filter(|it| !it.is_empty()).unwrap_or("unknown")
 }

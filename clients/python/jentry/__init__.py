@@ -20,9 +20,6 @@ This client isn't part of what is proved about the server: a bug in it can retur
 """
 from jentry.cache import Cache
 from jentry.errors import (
-    DENIALS,
-    EXCEPTIONS,
-    REFUSALS,
     Denied,
     Error,
     NotConnected,
@@ -37,6 +34,7 @@ from jentry.errors import (
 from jentry.requests import Answer, Class, Int, Outcome
 from jentry.rounds import Round
 from jentry.stream import Address
+from jentry.tables import DENIALS, EXCEPTIONS, REFUSALS
 
 __all__ = [
     "Address",

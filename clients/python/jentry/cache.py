@@ -9,9 +9,10 @@ from jentry import requests
 from jentry import stream as streams
 from jentry.errors import WrongArgument
 from jentry.exchange import Exchanges, Processors
-from jentry.requests import MOST_JOBS, Answer, Class, Outcome, Request
+from jentry.requests import Answer, Class, Outcome, Request
 from jentry.rounds import Round
 from jentry.stream import Address, Deadline, Reader, Stream, Writer
+from jentry.tables import MOST_JOBS
 
 T = TypeVar("T")
 Timeout = Optional[float]

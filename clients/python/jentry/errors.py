@@ -1,52 +1,9 @@
-"""The exceptions of the clients of `jentry serve`, and the names of the server's numbers. Users import them from `jentry`, which is also the module
-that a traceback shows."""
+"""The exceptions of the clients of `jentry serve`. Users import them from `jentry`, which is also the module that a traceback shows."""
 from __future__ import annotations
 
 from typing import Optional, Sequence
 
-REFUSALS = (
-    None,
-    "TooLarge",
-    "Truncated",
-    "BadMagic",
-    "BadVersion",
-    "BadPool",
-    "TrailingBytes",
-    "BadDescriptor",
-    "BadHeader",
-    "ConstructorForm",
-    "ClassInitialiser",
-    "NoProcess",
-    "DuplicateMethod",
-    "NoBody",
-    "BadCode",
-    "ExceptionTable",
-    "UnknownOpcode",
-    "OutsideProfile",
-    "BadOperand",
-    "BadTarget",
-    "BackwardBranch",
-    "BadStackMap",
-    "TypeMismatch",
-    "FallsOff",
-    "UnknownMember",
-    "Recursive",
-    "LengthNotConstant",
-    "StepLimit",
-    "WordLimit",
-    "FrameLimit",
-    "NoMemory",
-)
-EXCEPTIONS = (
-    None,
-    "ArithmeticException",
-    "ArrayIndexOutOfBoundsException",
-    "NullPointerException",
-    "ClassCastException",
-    "IncompatibleClassChangeError",
-    "CacheLoaderException",
-)
-DENIALS = (None, "UnknownClass", "JournalFull", "NoMemory", "TooManyClasses", "TooManyJobs")
+from jentry.tables import DENIALS, EXCEPTIONS, REFUSALS
 
 
 def _name(names: Sequence[Optional[str]], number: int) -> str:

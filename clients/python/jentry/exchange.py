@@ -8,9 +8,10 @@ from functools import partial
 from typing import Any, Callable, Deque, Dict, List, Optional
 
 from jentry.errors import Error, NotConnected, NotSent, OutcomeUnknown, StreamEnded, TimedOut
-from jentry.requests import DEFINE, END, ENDED, MOST_JOBS, Class, Classes, read_answer, rounds_of
+from jentry.requests import END, ENDED, Class, Classes, read_answer, rounds_of
 from jentry.rounds import Calls
 from jentry.stream import LOST, Deadline, Stream
+from jentry.tables import DEFINE, MOST_JOBS
 
 FIRST_PAUSE, LONGEST_PAUSE = 0.05, 1.0
 

@@ -4,19 +4,18 @@ from __future__ import annotations
 import struct
 from typing import Any, Callable, Dict, Generic, Iterable, List, Optional, Tuple, TypeVar, Union, cast
 
+from jentry import tables
 from jentry.errors import Denied, Error, ProcessorThrew, Refused, StreamEnded, WrongArgument
+from jentry.tables import CONTAINS, DEFINE, DEFINED, DENIED, DONE, FLAG, GET, INVOKE, INVOKE_ALL, LONGEST
+from jentry.tables import MOST_ARGUMENTS, MOST_JOBS, PUT, REFUSED, REMOVE, RESULT, RESULTS, VALUE
 
 T = TypeVar("T")
-MOST_JOBS = 4_096
-LONGEST = 131_072
-MOST_ARGUMENTS = 8
-END = b"\0\0\0\1\x08"
-ENDED = b"\x09"
+END = struct.pack(">IB", 1, tables.END)
+"""The end of a round, behind its length."""
+ENDED = bytes([tables.ENDED])
+"""The reply to the end of a round, without its length."""
 NO_CLASS = 2**32 - 1
 """A number that no class has."""
-
-DEFINE, PUT, GET, REMOVE, CONTAINS, INVOKE, INVOKE_ALL = range(1, 8)
-DEFINED, REFUSED, DONE, VALUE, FLAG, RESULT, RESULTS, DENIED = range(1, 9)
 
 
 class Int(int):
@@ -106,13 +105,13 @@ def _arguments(arguments: Tuple[Optional[int], ...]) -> bytes:
     parts = [bytes([len(arguments)])]
     for it in arguments:
         if it is None:
-            parts.append(b"\0")
+            parts.append(bytes([tables.NULL]))
         elif isinstance(it, bool):  # before Long, since a bool is an int
-            parts.append(b"\4" if it else b"\3")
+            parts.append(bytes([tables.TRUE if it else tables.FALSE]))
         elif isinstance(it, Int):
-            parts.append(b"\2" + _int(it))
+            parts.append(bytes([tables.INTEGER]) + _int(it))
         else:
-            parts.append(b"\1" + _longs(it))
+            parts.append(bytes([tables.LONG]) + _longs(it))
     return b"".join(parts)
 
 
@@ -179,20 +178,20 @@ def _class(processor: Class) -> Class:
 
 def _argument(text: bytes, at: int) -> Tuple[Optional[int], int]:
     """Returns the argument encoded at offset `at`, and the offset after it."""
-    if text[at] == 0:
+    if text[at] == tables.NULL:
         return None, at + 1
-    if text[at] == 1:
+    if text[at] == tables.LONG:
         return int(struct.unpack_from(">q", text, at + 1)[0]), at + 9
-    if text[at] == 2:
+    if text[at] == tables.INTEGER:
         return Int(struct.unpack_from(">i", text, at + 1)[0]), at + 5
-    if text[at] in (3, 4):
-        return text[at] == 4, at + 1
+    if text[at] in (tables.FALSE, tables.TRUE):
+        return text[at] == tables.TRUE, at + 1
     raise ValueError("no argument")
 
 
 def _value(text: bytes) -> Tuple[Optional[int], int]:
     """Returns the Long or null in a reply to a get, and the offset after it."""
-    if text[1] > 1:
+    if text[1] not in (tables.NULL, tables.LONG):
         raise ValueError("a value that is no Long")
     return _argument(text, 1)
 

@@ -6,7 +6,8 @@ from typing import Any, Callable, Dict, Iterable, List, Optional, Tuple, Type, T
 
 from jentry import requests
 from jentry.errors import WrongArgument
-from jentry.requests import MOST_JOBS, Answer, Class, Outcome, Request
+from jentry.requests import Answer, Class, Outcome, Request
+from jentry.tables import MOST_JOBS
 
 T = TypeVar("T")
 Calls = List[Tuple[Request[Any], Answer[Any]]]

@@ -9,7 +9,7 @@ import time
 from typing import Any, Callable, Optional, Protocol, Sequence, Tuple, Union
 
 from jentry.errors import NotConnected, StreamEnded, TimedOut, WrongArgument
-from jentry.requests import LONGEST
+from jentry.tables import LONGEST
 
 Address = Union[str, Tuple[str, int]]
 """The path of a unix socket, or (host, port)."""

@@ -19,8 +19,8 @@ from typing import Optional, Type
 
 import jentry
 from jentry.cache import most_requests
-from jentry.requests import MOST_JOBS
 from jentry.stream import KEEPS_MEMORY, PROGRAM
+from jentry.tables import MOST_JOBS
 from jentry_aio.calls import Calls
 from jentry_aio.stream import Opener, Stream, Timeout, by_timeout
 

@@ -7,9 +7,9 @@ from typing import Any, Awaitable, Callable, Deque, List, Optional, Tuple, TypeV
 
 from jentry.errors import Error, NotConnected, NotSent, OutcomeUnknown, StreamEnded, TimedOut
 from jentry.exchange import FIRST_PAUSE, LONGEST_PAUSE
-from jentry.requests import DEFINE, END, ENDED, LONGEST, MOST_JOBS, Answer, Class, Classes, Request
-from jentry.requests import read_answer, rounds_of
+from jentry.requests import END, ENDED, Answer, Class, Classes, Request, read_answer, rounds_of
 from jentry.stream import LOST, Address, Deadline
+from jentry.tables import DEFINE, LONGEST, MOST_JOBS
 
 T = TypeVar("T")
 Timeout = Optional[float]

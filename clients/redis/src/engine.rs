@@ -1,4 +1,5 @@
 //! The verified core, through the interface of `clients/c/jentry.h`.
+use crate::protocol::{EXCEPTIONS, REFUSALS};
 use std::ffi::c_void;
 use std::mem::size_of;
 use std::ptr::null_mut;
@@ -166,50 +167,6 @@ pub fn explain(bytes: &[u8]) -> Vec<u8> {
     }
     text
 }
-
-/// The names of the refusals 1 to 30.
-const REFUSALS: [&str; 30] = [
-    "TooLarge",
-    "Truncated",
-    "BadMagic",
-    "BadVersion",
-    "BadPool",
-    "TrailingBytes",
-    "BadDescriptor",
-    "BadHeader",
-    "ConstructorForm",
-    "ClassInitialiser",
-    "NoProcess",
-    "DuplicateMethod",
-    "NoBody",
-    "BadCode",
-    "ExceptionTable",
-    "UnknownOpcode",
-    "OutsideProfile",
-    "BadOperand",
-    "BadTarget",
-    "BackwardBranch",
-    "BadStackMap",
-    "TypeMismatch",
-    "FallsOff",
-    "UnknownMember",
-    "Recursive",
-    "LengthNotConstant",
-    "StepLimit",
-    "WordLimit",
-    "FrameLimit",
-    "NoMemory",
-];
-
-/// The names of the exceptions 1 to 6.
-const EXCEPTIONS: [&str; 6] = [
-    "ArithmeticException",
-    "ArrayIndexOutOfBoundsException",
-    "NullPointerException",
-    "ClassCastException",
-    "IncompatibleClassChangeError",
-    "CacheLoaderException",
-];
 
 /// Returns the name of a number that starts at 1.
 fn named(names: &[&'static str], number: i64) -> &'static str {

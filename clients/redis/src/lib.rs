@@ -14,6 +14,7 @@ mod engine;
 mod entry;
 mod names;
 mod persistence;
+mod protocol;
 mod rights;
 mod run;
 mod server;

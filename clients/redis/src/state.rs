@@ -2,6 +2,7 @@
 use crate::api::{Context, InfoContext};
 use crate::classes::Classes;
 use crate::engine::{Done, Engine, THREW};
+use crate::protocol::{EXCEPTIONS, REFUSALS};
 use crate::server::api;
 use std::fmt::Arguments;
 use std::io::Write;
@@ -36,10 +37,10 @@ pub struct Counters {
     runs: Count,
     steps: Count,
     pub costly: Count,
-    /// One count for each exception, 1 to 6.
-    exceptions: [Count; 6],
-    /// One count for each refusal, 1 to 30.
-    refusals: [Count; 30],
+    /// One count for each exception, from number 1 on.
+    exceptions: [Count; EXCEPTIONS.len()],
+    /// One count for each refusal, from number 1 on.
+    refusals: [Count; REFUSALS.len()],
 }
 
 pub static COUNTERS: Counters = Counters {
@@ -48,8 +49,8 @@ pub static COUNTERS: Counters = Counters {
     runs: Count::ZERO,
     steps: Count::ZERO,
     costly: Count::ZERO,
-    exceptions: [Count::ZERO; 6],
-    refusals: [Count::ZERO; 30],
+    exceptions: [Count::ZERO; EXCEPTIONS.len()],
+    refusals: [Count::ZERO; REFUSALS.len()],
 };
 
 /// Increments the count for a number that starts at 1.

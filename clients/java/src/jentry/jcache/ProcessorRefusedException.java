@@ -2,11 +2,14 @@ package jentry.jcache;
 
 import java.util.List;
 import javax.cache.CacheException;
+import jentry.jcache.impl.OptionalCompiler;
 import jentry.jcache.impl.Refusal;
 
 /** The server refuses the class of a processor. Nothing was run, and no entry was changed. */
 public final class ProcessorRefusedException extends CacheException {
     private static final long serialVersionUID = 1L;
+    private static final int BAD_VERSION = Refusal.BAD_VERSION.number();
+    private static final int BACKWARD_BRANCH = Refusal.BACKWARD_BRANCH.number();
     private static final int OUTSIDE_PROFILE = Refusal.OUTSIDE_PROFILE.number();
     private static final int TYPE_MISMATCH = Refusal.TYPE_MISMATCH.number();
 
@@ -28,7 +31,7 @@ public final class ProcessorRefusedException extends CacheException {
         this.number = number;
         this.detail = detail;
         this.places = places.toArray(new String[0]);
-        remedy = Refusal.remedy(number, detail);
+        remedy = remedy(number, detail);
     }
 
     /**
@@ -49,8 +52,15 @@ public final class ProcessorRefusedException extends CacheException {
 
     private static String text(String processor, int number, int detail, List<String> places) {
         String text = processor + " is refused: " + reason(number, detail, places);
+        String remedy = remedy(number, detail);
+        return remedy.isEmpty() ? text : text + ". " + remedy;
+    }
+
+    /** Returns the server's advice, and for what the compiler alone can mend how to use it in the client. */
+    private static String remedy(int number, int detail) {
         String remedy = Refusal.remedy(number, detail);
-        return remedy.isEmpty() ? text : text + " (" + remedy + ")";
+        boolean isForCompiler = number == BAD_VERSION || number == BACKWARD_BRANCH;
+        return isForCompiler ? remedy + " To have the client compile it, " + OptionalCompiler.ADVICE + "." : remedy;
     }
 
     private static String reason(int number, int detail, List<String> places) {
@@ -63,7 +73,7 @@ public final class ProcessorRefusedException extends CacheException {
         return places.isEmpty() ? text : text + ", in " + String.join(", ", places);
     }
 
-    /** Returns the number of the refusal, 1 to 30. */
+    /** Returns the number of the refusal, from 1. */
     public int number() {
         return number;
     }
@@ -86,7 +96,7 @@ public final class ProcessorRefusedException extends CacheException {
         return List.of(places);
     }
 
-    /** Returns what to do instead, or an empty string if no Java source leads to this refusal. */
+    /** Returns what to do instead, in the words of {@code jentry explain}. */
     public String remedy() {
         return remedy;
     }

@@ -91,16 +91,16 @@ class ClassFileTest extends OnServer {
 
     @Test void classesThatTheServerRefuses() {
         Map<EntryProcessor<Long, Long, ?>, List<Object>> refused = new HashMap<>();
-        refused.put(new Sample.Names(), List.of(7, "BadDescriptor", "return a Long, an Integer, a Boolean or null"));
-        refused.put(new Sample.HasState(5), List.of(9, "ConstructorForm", "hand values over as arguments"));
+        refused.put(new Sample.Names(), List.of(7, "BadDescriptor", "a result of a type that isn't accepted: use int, long"));
+        refused.put(new Sample.HasState(5), List.of(9, "ConstructorForm", "arguments for what changes"));
         refused.put(new Sample.UsesField(), List.of(17, "OutsideProfile", "opcode 180, in process line "));
         refused.put(new Sample.Prints(), List.of(17, "OutsideProfile", "opcode 178, in process line "));
         refused.put(new Sample.SwitchOfText(), List.of(17, "OutsideProfile", "opcode 18, in process line "));
         refused.put(new Sample.SwitchOfEnum(), List.of(17, "OutsideProfile", "opcode 178, in process line "));
         refused.put(new Sample.Loops(), List.of(20, "BackwardBranch", "in process line "));
-        refused.put(new Sample.Catches(), List.of(15, "ExceptionTable", "in process ("));
+        refused.put(new Sample.Catches(), List.of(15, "ExceptionTable", "in process. Exceptions can't be caught"));
         refused.put(new Sample.Calls(), List.of(24, "UnknownMember", "write it as a method of the class"));
-        refused.put(new Newer(), List.of(4, "BadVersion", "javac --release 8"));
+        refused.put(new Newer(), List.of(4, "BadVersion", "Compile with --release 8, or 7. To have the client compile it, put jentry-compile.jar"));
         refused.forEach((processor, wanted) -> {
             ProcessorRefusedException e = assertThrows(ProcessorRefusedException.class, () -> cache.invoke(k, processor));
             assertEquals(wanted.get(0), e.number());

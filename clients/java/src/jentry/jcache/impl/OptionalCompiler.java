@@ -11,7 +11,11 @@ import javax.cache.processor.EntryProcessor;
  * The processor compiler, if the jar of jentry-compile is on the class path. It is found by reflection, so the provider
  * needs neither that jar nor ASM.
  */
-final class OptionalCompiler {
+public final class OptionalCompiler {
+    /** What a user does to have processors compiled. */
+    public static final String ADVICE = "put jentry-compile.jar on the class path (clients/compiler/build in the "
+        + "repository of jentry makes it)";
+
     private static final String NAME = "jentry.compiler.runtime.LoadedProcessors";
     private static final String UNKNOWN = "jentry.compiler.runtime.UnknownLambdaException";
     private static final MethodHandle COMPILE = find();

@@ -29,12 +29,14 @@ public final class ProcessorFaults {
     /** Returns the processor's own exception. The fifth one is an Error in Java. */
     private static Throwable thrown(int number, String where) {
         switch (number) {
+            // generated from protocol/exceptions.tsv by protocol/generate.py --write
             case 1: return new ArithmeticException(where);
             case 2: return new ArrayIndexOutOfBoundsException(where);
             case 3: return new NullPointerException(where);
             case 4: return new ClassCastException(where);
             case 5: return new IncompatibleClassChangeError(where);
             case 6: return new CacheLoaderException(where);
+            // end of the generated part
             default: return new IllegalStateException("exception " + number + " " + where);
         }
     }

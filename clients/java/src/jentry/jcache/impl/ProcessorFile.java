@@ -22,7 +22,7 @@ import javax.cache.processor.EntryProcessor;
  */
 public final class ProcessorFile {
     private static final String AS_A_CLASS =
-        Refusal.COMPILER + ", or write it as a class of its own, compiled with javac --release 8";
+        OptionalCompiler.ADVICE + ", or write it as a class of its own, compiled with javac --release 8";
     private static final ClassValue<ProcessorFile> FILES = new ClassValue<>() {
         @Override protected ProcessorFile computeValue(Class<?> type) {
             return new ProcessorFile(type.getName(), bytesOf(type));

@@ -1,76 +1,112 @@
+// Generated from the tables in protocol/ by protocol/generate.py --write.
 package jentry.jcache.impl;
 
+import java.util.HashMap;
 import java.util.Map;
 
-/** The reasons for which the server refuses a class, in the order of their numbers, each with what to write instead. */
+/** The reasons for which the server refuses a class, in the order of their numbers, each with what to do about it. */
 public enum Refusal {
     TOO_LARGE("TooLarge",
-        "the class file has more than 65,536 bytes, or the class more than 256 methods: write fewer or shorter ones, "
-            + "and leave -g out"),
-    TRUNCATED("Truncated", ""),
-    BAD_MAGIC("BadMagic", ""),
-    BAD_VERSION("BadVersion", Refusal.COMPILER + ", or compile the processor with javac --release 8"),
-    BAD_POOL("BadPool", ""),
-    TRAILING_BYTES("TrailingBytes", ""),
+        "A class has at most 65,536 bytes and 256 methods: share code by methods, put tables into arguments or "
+            + "entries, and leave -g out."),
+    TRUNCATED("Truncated",
+        "The file is damaged, or no class file: compile it again."),
+    BAD_MAGIC("BadMagic",
+        "The file is no class file: name the .class file that javac made."),
+    BAD_VERSION("BadVersion",
+        "Compile with --release 8, or 7."),
+    BAD_POOL("BadPool",
+        "The file is damaged, or no class file: compile it again."),
+    TRAILING_BYTES("TrailingBytes",
+        "The file is damaged, or no class file: compile it again."),
     BAD_DESCRIPTOR("BadDescriptor",
-        "a method or field has a type that isn't known: return a Long, an Integer, a Boolean or null from process, and "
-            + "make an inner class static"),
-    BAD_HEADER("BadHeader", "write a plain class that names EntryProcessor itself and extends nothing"),
+        "A method has a parameter or a result of a type that isn't accepted: use int, long, boolean, Object, "
+            + "Number, Long, Integer, Boolean, Void, the entry, int[], long[] or Object[]. jentry-compile takes "
+            + "byte, short and char, and leaves unused methods out."),
+    BAD_HEADER("BadHeader",
+        "Write a plain class with `implements EntryProcessor<Long, Long, ..>` that extends no other, and copy "
+            + "what an abstract base class would hold."),
     CONSTRUCTOR_FORM("ConstructorForm",
-        "write no constructor, and no field with an initialiser: hand values over as arguments"),
+        "A class has the constructor that javac writes, and no other: `static final` for constants, arguments "
+            + "for what changes, and no constructor in the source."),
     CLASS_INITIALISER("ClassInitialiser",
-        "write no static initialiser and no assert: static final constants of int and long are fine"),
-    NO_PROCESS("NoProcess", "write process in the class itself"),
-    DUPLICATE_METHOD("DuplicateMethod", ""),
-    NO_BODY("NoBody", "native methods can't be run"),
-    BAD_CODE("BadCode", ""),
+        "No code runs when a class is loaded: write `static final` of int or long with a constant, a local "
+            + "array, or a method that gives the value. jentry-compile computes static final tables and boxed "
+            + "constants at compile time."),
+    NO_PROCESS("NoProcess",
+        "Write a public `process` of the instance in the class itself."),
+    DUPLICATE_METHOD("DuplicateMethod",
+        "Two methods have one name and one descriptor: drop one."),
+    NO_BODY("NoBody",
+        "A native or abstract method has no code: write it in Java."),
+    BAD_CODE("BadCode",
+        "The parts of the code don't fit together: compile it again."),
     EXCEPTION_TABLE("ExceptionTable",
-        "write no try with catch or finally, and no synchronized block: test before you act"),
-    UNKNOWN_OPCODE("UnknownOpcode", ""),
+        "Exceptions can't be caught: test before you act, let the exception end the run, and drop "
+            + "`synchronized`."),
+    UNKNOWN_OPCODE("UnknownOpcode",
+        "No Java source was seen to cause this: compile the class again."),
     OUTSIDE_PROFILE("OutsideProfile", ""),
-    BAD_OPERAND("BadOperand", "a method that is called takes or answers a type that isn't known"),
-    BAD_TARGET("BadTarget", ""),
-    BACKWARD_BRANCH("BackwardBranch", "loops aren't taken as they are: " + Refusal.COMPILER + ", or use a formula"),
-    BAD_STACK_MAP("BadStackMap", "declare the local as Object, Number, Long, Integer or Boolean"),
-    TYPE_MISMATCH("TypeMismatch", ""),
-    FALLS_OFF("FallsOff", ""),
+    BAD_OPERAND("BadOperand",
+        "This call or operand isn't known here: write what is called as a method of the class."),
+    BAD_TARGET("BadTarget",
+        "No Java source was seen to cause this: compile the class again."),
+    BACKWARD_BRANCH("BackwardBranch",
+        "Loops aren't accepted as they are: compile the class with jentry-compile, which writes the passes of "
+            + "counted loops out, or use a formula."),
+    BAD_STACK_MAP("BadStackMap",
+        "Where ways through the code meet, each local in use has a type that is known here: declare it as "
+            + "Object, Number, Long, Integer or Boolean."),
+    TYPE_MISMATCH("TypeMismatch",
+        "No Java source was seen to cause this: compile the class again."),
+    FALLS_OFF("FallsOff",
+        "No Java source was seen to cause this: compile the class again."),
     UNKNOWN_MEMBER("UnknownMember",
-        "it calls a method, or casts to or tests for a type, that isn't among those that a processor may use: write "
-            + "it as a method of the class"),
-    RECURSIVE("Recursive", "write no recursion: a method for each level, or a formula"),
-    LENGTH_NOT_CONSTANT("LengthNotConstant", "give a new array a constant length from 0 to 65,535"),
-    STEP_LIMIT("StepLimit", "some way through the code has more than 4,000,000 instructions: call fewer methods"),
+        "Only methods of the class itself and a few of the entry, Long, Integer, Boolean, Number and Math are "
+            + "known: write it as a method of the class, and cast to Long, Integer, Boolean, Number or Object. "
+            + "jentry-compile copies most methods of Long, Integer, Boolean, Math and Objects into the class."),
+    RECURSIVE("Recursive",
+        "A method mustn't call itself, straight or by others: write a chain of methods, one for each level, or "
+            + "a formula."),
+    LENGTH_NOT_CONSTANT("LengthNotConstant",
+        "The length of a new array is a constant from 0 to 65,535: take the greatest length as `final int`, "
+            + "and keep a count beside it."),
+    STEP_LIMIT("StepLimit",
+        "Some way through the code has more than 4,000,000 instructions: make fewer calls."),
     WORD_LIMIT("WordLimit",
-        "the arrays of some way through the code take more than 65,536 words: make an array once and hand it on"),
-    FRAME_LIMIT("FrameLimit", "more than 64 methods or 8,192 slots are open at once: write a flatter chain of calls"),
-    NO_MEMORY("NoMemory", "the server had no memory to judge the class, which says nothing of the class");
-
-    /** What to do about a class that needs the compiler. */
-    static final String COMPILER = "put jentry-compile.jar on the class path (clients/compiler/build in the "
-        + "repository of jentry makes it)";
+        "The arrays of one way through the code take more than 65,536 words: make an array once, and hand it "
+            + "on."),
+    FRAME_LIMIT("FrameLimit",
+        "More than 64 methods are open at once, or more than 8,192 slots in them: flatten the chain of calls, "
+            + "and use fewer locals."),
+    NO_MEMORY("NoMemory",
+        "There was no memory left to judge the class.");
 
     private static final Refusal[] ALL = values();
-    private static final Map<Integer, String> OPCODES = Map.ofEntries(
-        Map.entry(12, "float isn't known: reckon in long, with a fixed point"),
-        Map.entry(18, "strings and class literals aren't known, a switch of a String neither: use numbers as codes"),
-        Map.entry(20, "double isn't known: reckon in long, with a fixed point"),
-        Map.entry(138, "double isn't known: reckon in long, with a fixed point"),
-        Map.entry(143, "double isn't known: reckon in long, with a fixed point"),
-        Map.entry(165, "compare boxes by longValue()"),
-        Map.entry(166, "compare boxes by longValue()"),
-        Map.entry(178,
-            "static fields that are no constants can't be used, enums neither: use arguments, locals, the entry's "
-                + "value, numbers as codes"),
-        Map.entry(179, "static fields that are no constants can't be used: use arguments, locals, the entry's value"),
-        Map.entry(180, "fields can't be used, since the object isn't sent: use arguments, locals, the entry's value"),
-        Map.entry(181, "fields can't be used, since the object isn't sent: use arguments, locals, the entry's value"),
-        Map.entry(186, "write a method of the class in place of a lambda or a method reference"),
-        Map.entry(187,
-            "objects can't be made, strings and exceptions neither: use locals, or a long that packs several numbers"),
-        Map.entry(188, "write int[] or long[]"),
-        Map.entry(189, "write long[], or parameters one by one"),
-        Map.entry(191, "nothing can be thrown: a division by zero ends the run"),
-        Map.entry(197, "write one array in place of an array of arrays"));
+    private static final Map<Integer, String> OPCODES = new HashMap<>();
+    private static final String OTHER_OPCODE =
+        "float and double aren't accepted: use fixed point in `long`, as `v * 119 / 100`.";
+
+    static {
+        add("Texts, classes and floats aren't accepted as constants: use numbers as codes, or "
+                            + "fixed point in `long`.", 18, 19);
+        add("References can't be compared: compare numbers, as `a.longValue() == b.longValue()`.", 165, 166);
+        add("Static fields and enums can't be used: use arguments, locals, the entry's value, or "
+                            + "numbers as codes. jentry-compile makes constants of final fields.", 178, 179);
+        add("Fields can't be read or written: use arguments, locals or the entry's value. "
+                            + "jentry-compile makes constants of final fields.", 180, 181);
+        add("Lambdas and method references aren't accepted: write a method of the class.", 186);
+        add("Objects can't be made, texts joined or exceptions thrown: use locals, or a `long` "
+                            + "that packs several numbers.", 187);
+        add("Arrays are of int or long: write `int[]` or `long[]`. jentry-compile makes int arrays "
+                            + "of byte, short, char and boolean arrays.", 51, 52, 53, 84, 85, 86, 188);
+        add("Arrays of references can't be made or written: use `long[]`, `long...`, or parameters "
+                            + "one by one.", 83, 189);
+        add("An exception can't be thrown by `throw`: let the code divide by zero.", 191);
+        add("Drop `synchronized`: each run has an instance of its own.", 194, 195);
+        add("No Java source was seen to cause this: compile the class again.", 168, 169, 201);
+        add("Use one array, with the index `width * i + j`.", 197);
+    }
 
     private final String title;
     private final String remedy;
@@ -80,15 +116,21 @@ public enum Refusal {
         this.remedy = remedy;
     }
 
+    private static void add(String remedy, int... opcodes) {
+        for (int opcode : opcodes) {
+            OPCODES.put(opcode, remedy);
+        }
+    }
+
     /** Returns the server's name of a refusal number. */
     public static String title(int number) {
         return number > 0 && number <= ALL.length ? ALL[number - 1].title : "refusal " + number;
     }
 
-    /** Returns what to write instead, or an empty string if no Java source leads to this refusal. */
+    /** Returns what to do instead, in the words of {@code jentry explain}, or an empty string for an unknown number. */
     public static String remedy(int number, int detail) {
         if (number == OUTSIDE_PROFILE.number()) {
-            return OPCODES.getOrDefault(detail, "");
+            return OPCODES.getOrDefault(detail, OTHER_OPCODE);
         }
         return number > 0 && number <= ALL.length ? ALL[number - 1].remedy : "";
     }

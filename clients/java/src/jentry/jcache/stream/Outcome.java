@@ -8,8 +8,10 @@ import jentry.jcache.store.Invocation;
 /** The server's reply to one invocation: a result, an exception of the processor, or a denial. */
 final class Outcome {
     private static final int RETURNED = 0, THREW = 1, DENIED = 2;
+    // generated from protocol/denials.tsv by protocol/generate.py --write
     private static final String[] DENIALS =
         {"", "UnknownClass", "JournalFull", "NoMemory", "TooManyClasses", "TooManyJobs"};
+    // end of the generated part
 
     private Outcome() { }
 

@@ -6,23 +6,30 @@ import java.util.Arrays;
 
 /** The frames of the protocol: requests are written, replies are read. Numbers are big-endian. */
 public final class Wire {
+    // generated from the tables in protocol/ by protocol/generate.py --write
     /** The kinds of requests. */
-    public static final int DEFINE = 1, PUT = 2, GET = 3, REMOVE = 4, CONTAINS = 5, INVOKE = 6, INVOKE_ALL = 7, END = 8;
+    public static final int DEFINE = 1, PUT = 2, GET = 3, REMOVE = 4, CONTAINS = 5, INVOKE = 6, INVOKE_ALL = 7,
+        END = 8;
 
-    static final int DEFINED = 1, REFUSED = 2, DONE = 3, VALUE = 4, FLAG = 5, RESULT = 6, RESULTS = 7, DENIED = 8,
-        ENDED = 9;
+    /** The kinds of replies. */
+    static final int DEFINED = 1, REFUSED = 2, DONE = 3, VALUE = 4, FLAG = 5, RESULT = 6, RESULTS = 7,
+        DENIED = 8, ENDED = 9;
 
-    /** The maximum length of a request in bytes. No reply to a request of this client is longer either. */
+    /** The kinds of values in arguments and results. */
+    static final int NULL = 0, LONG = 1, INTEGER = 2, FALSE = 3, TRUE = 4;
+
+    /** The maximum length of a frame, in bytes after the length field. */
     static final int LONGEST = 131_072;
 
-    /**
-     * The maximum number of jobs in a round. A put, get, remove, contains or invoke is one job, an invokeAll one for
-     * each key.
-     */
+    /** The maximum number of jobs in a round: one for each call, and one for each key of an invokeAll. */
     static final int MOST_JOBS = 4_096;
+
+    /** The maximum number of accepted classes of a stream. */
+    static final int MOST_CLASSES = 4_096;
 
     /** The maximum number of arguments of an invocation. */
     static final int MOST_ARGUMENTS = 8;
+    // end of the generated part
 
     private Wire() { }
 
@@ -135,13 +142,13 @@ public final class Wire {
         out.u1(arguments.length);
         for (Object argument : arguments) {
             if (argument == null) {
-                out.u1(0);
+                out.u1(NULL);
             } else if (argument instanceof Long) {
-                out.u1(1).s8((Long) argument);
+                out.u1(LONG).s8((Long) argument);
             } else if (argument instanceof Integer) {
-                out.u1(2).s4((Integer) argument);
+                out.u1(INTEGER).s4((Integer) argument);
             } else if (argument instanceof Boolean) {
-                out.u1((Boolean) argument ? 4 : 3);
+                out.u1((Boolean) argument ? TRUE : FALSE);
             } else {
                 throw new IllegalArgumentException(
                     "an argument is a Long, an Integer, a Boolean or null, not a " + argument.getClass().getName());
@@ -232,11 +239,11 @@ public final class Wire {
         Object argument() throws IOException {
             int kind = u1();
             switch (kind) {
-                case 0: return null;
-                case 1: return s8();
-                case 2: return s4();
-                case 3: return false;
-                case 4: return true;
+                case NULL: return null;
+                case LONG: return s8();
+                case INTEGER: return s4();
+                case FALSE: return false;
+                case TRUE: return true;
                 default: throw new IOException("an argument of kind " + kind);
             }
         }
