@@ -13,6 +13,8 @@ mod classes;
 mod connection;
 mod definition_log;
 mod event_loop;
+#[cfg(test)]
+mod golden_tests;
 mod http;
 mod listen;
 mod logging;
