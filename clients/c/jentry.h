@@ -40,8 +40,8 @@ struct jentry_handle {
 
 /* The result of jentry_define. If `refusal` is 0, the class is accepted: `number` identifies it, and `steps`, `words`, `slots` and
  * `depth` limit its runs, as numbers of instructions, of array words, of slots for locals and operands, and of nested calls.
- * Otherwise `refusal` is the reason, 1 to 30, `detail` is the opcode for refusal 17 and the index in the code for refusal 22, and the
- * number and the limits are 0. `id` is always the SHA-1 of the class file. */
+ * Otherwise `refusal` is the reason, which jentry_refusal_name names, `detail` is the opcode for refusal 17 and the index in the code
+ * for refusal 22, and the number and the limits are 0. `id` is always the SHA-1 of the class file. */
 struct jentry_verdict {
     uint32_t refusal, detail, number, steps, words, slots, depth;
     uint8_t id[20];

@@ -23,6 +23,21 @@ LIMITS = {
 """Where the server's sources have each limit."""
 
 
+SOURCES = {
+    "refusals": ("crates/jtypes/src/refusal.rt", "Refusal"),
+    "exceptions": ("crates/jtypes/src/types.rt", "JavaFault"),
+}
+"""Where the server's sources have numbers and names: the file and the enum."""
+
+
+def named_by_the_server(table):
+    """Returns the numbers and names in the server's sources."""
+    path, kind = SOURCES[table]
+    numbered = re.findall(rf"{kind}::(\w+)(?:\(_\))? => (\d+),", text_of(path))
+    named = dict(re.findall(rf"{kind}::(\w+)(?:\(_\))? => \"(\w+)\",", text_of(path)))
+    return [(int(number), named[it]) for it, number in numbered]
+
+
 def names(table):
     return [row["name"] for row in rows_of(table)]
 
@@ -63,15 +78,8 @@ class Server(unittest.TestCase):
             self.assertGreater(len(numbers(table)), 4)
 
     def test_refusals_and_exceptions(self):
-        for table, path, kind in (
-            ("refusals", "crates/jtypes/src/refusal.rt", "Refusal"),
-            ("exceptions", "crates/jtypes/src/types.rt", "JavaFault"),
-        ):
-            numbered = re.findall(rf"{kind}::(\w+)(?:\(_\))? => (\d+),", text_of(path))
-            named = dict(re.findall(rf"{kind}::(\w+)(?:\(_\))? => \"(\w+)\",", text_of(path)))
-            self.assertEqual(
-                [(int(number), named[it]) for it, number in numbered], list(zip(numbers(table), names(table)))
-            )
+        for table in SOURCES:
+            self.assertEqual(named_by_the_server(table), list(zip(numbers(table), names(table))))
 
     def test_denials(self):
         denials = re.findall(r"Denial::(\w+) => (\d+),", text_of("crates/wire/src/reply.rt"))
@@ -131,6 +139,12 @@ class Generated(unittest.TestCase):
     def paths():
         return sorted({*generate.FILES, *(path for path, _ in generate.PARTS)})
 
+    def with_refusals(self):
+        """Returns the files with generated parts that have the refusals, the front's page without their names."""
+        found = [it for it in self.paths() if "BadStackMap" in text_of(it) or it.endswith("page.html")]
+        self.assertGreater(len(found), 5)
+        return found
+
     def test_the_files_are_up_to_the_tables(self):
         wrong = list(generate.differing(TOP))
         self.assertEqual(wrong, [], f"run {generate.BY}")
@@ -139,12 +153,20 @@ class Generated(unittest.TestCase):
         folder = self.copy()
         with open(os.path.join(folder, "protocol/refusals.tsv"), "a", encoding="utf-8") as it:
             it.write("31\tTooOld\t\tlayout\ta class that is too old\tanother\t\tWrite another.\n")
-        wanted = [it for it in self.paths() if "BadStackMap" in text_of(it) or it.endswith("page.html")]
-        self.assertGreater(len(wanted), 5)
+        wanted = self.with_refusals()
         lines = [f"{it} differs from the tables in protocol/: run protocol/generate.py --write" for it in wanted]
         self.assertEqual(self.run_on("--check", folder), (1, lines))
         self.assertEqual(self.run_on("--write", folder), (0, wanted))
         self.assertEqual(self.run_on("--check", folder), (0, []))
+
+    def test_a_refusal_without_a_row_is_seen(self):
+        """The server's sources have one refusal more than a table whose last row is lost, and so has each file with refusals."""
+        folder = self.copy()
+        table = "protocol/refusals.tsv"
+        self.replace(folder, table, text_of(table).rstrip("\n").rpartition("\n")[0] + "\n")
+        left = generate.Tables(folder).names("refusals")
+        self.assertEqual(named_by_the_server("refusals")[:-1], list(enumerate(left, 1)))
+        self.assertEqual(list(generate.differing(folder)), self.with_refusals())
 
     def test_a_line_that_is_missing_in_one_file_is_seen(self):
         folder = self.copy()
