@@ -69,6 +69,16 @@ class PlantedFaultsTest {
                 }
             }
             return sum * 11 + a + low;""", ""));
+        sources.put("Steps", Javac.processor("Steps", "Object", """
+            long key = entry.getKey();
+            long sum = 0;
+            for (long x = Math.max(-90_000, Math.min(key, 90_000)); x > -7; x -= 1_000) {
+                sum = sum * 3 + x;
+            }
+            for (long x = Math.max(-80_000, Math.min(key, 10_000)); x < 7_700; x += 700) {
+                sum = sum * 5 + x;
+            }
+            return sum;""", ""));
         classes = Javac.compile(sources, "--release", "8");
     }
 
@@ -89,6 +99,8 @@ class PlantedFaultsTest {
         "Shrinks | unroll/Shrinkage.java | 92 - 2 + 1 | 92 - 2",
         "Shrinks | unroll/Shrinkage.java | (isInclusive ? 1 : 0) | 0",
         "Shrinks | unroll/Shrinkage.java | return isLong ? 92 - 2 + 1 | return isLong ? 12",
+        "Steps | unroll/Shrinkage.java | (x.high() - limit + step - 1) / step | (x.high() - limit) / step",
+        "Steps | unroll/SteppingPattern.java | isDown ? x : negative(x); | x;",
         "Shrinks | unroll/UnrolledGraph.java | value.isConstant() && value.low() == 0; | value.isConstant() && value.low() == 1;"})
     void theComparisonFindsIt(String processor, String file, String right, String wrong) throws Exception {
         Path source = Javac.HERE.resolve("src/jentry/compiler").resolve(file);

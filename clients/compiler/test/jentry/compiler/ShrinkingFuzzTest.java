@@ -8,7 +8,10 @@ import java.util.concurrent.TimeUnit;
 import org.junit.jupiter.api.Test;
 import org.junit.jupiter.api.Timeout;
 
-/** Compiles random programs with loops that shrink a value, and compares them on HotSpot. One that never ends there has been accepted wrongly. */
+/**
+ * Compiles random programs with loops that shrink a value, many of which hold or capture values, and compares them on HotSpot. One that never ends there
+ * has been accepted wrongly.
+ */
 class ShrinkingFuzzTest {
     private static final int CLASSES = Integer.getInteger("jentry.fuzz", 200);
     private static final long SEED = Long.getLong("jentry.fuzz.seed", 1);
@@ -20,6 +23,7 @@ class ShrinkingFuzzTest {
     void shrinkingLoopsKeepTheirMeaning() {
         int compiled = 0;
         int limited = 0;
+        int capturing = 0;
         int refused = 0;
         for (long seed = SEED * 1_000_000; compiled < CLASSES; seed += BATCH) {
             Map<String, String> sources = new LinkedHashMap<>();
@@ -31,6 +35,7 @@ class ShrinkingFuzzTest {
                     CompiledClass result = new ProcessorCompiler(one.getKey().hashCode() % 5 == 0).compile(one.getValue()).get(0);
                     compiled++;
                     limited += result.notes().stream().anyMatch(it -> it.contains("a run that would go on throws")) ? 1 : 0;
+                    capturing += result.captures().hidden().isEmpty() ? 0 : 1;
                     Checks.same(one.getValue(), result, CALLS);
                 } catch (CompileException e) {
                     refused++;
@@ -39,8 +44,9 @@ class ShrinkingFuzzTest {
                 }
             }
         }
-        System.out.println("fuzz: shrinking loops: " + compiled + " classes compiled (" + limited + " by limits), " + refused + " refused, " + (long) compiled * CALLS
-            + " runs, 0 differences");
+        System.out.println("fuzz: shrinking loops: " + compiled + " classes compiled (" + limited + " by limits, " + capturing + " with captured values), "
+            + refused + " refused, " + (long) compiled * CALLS + " runs, 0 differences");
         assertTrue(limited > compiled / 2, limited + " of " + compiled + " have a loop with a limit");
+        assertTrue(capturing > compiled / 4, capturing + " of " + compiled + " capture values");
     }
 }

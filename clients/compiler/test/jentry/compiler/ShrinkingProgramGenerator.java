@@ -4,15 +4,21 @@ import java.util.Random;
 
 /**
  * Generates random processors whose loops shrink a value: by bits, shifts, quotients, steps, remainders and halves, with tests that fit and tests that
- * don't. Some of the loops may never end: the compiler must refuse these.
+ * don't. A third of them hold values that a constructor sets, and a third are lambdas that capture such values; these are where values start, limits and
+ * steps. Some of the loops may never end: the compiler must refuse these.
  */
 final class ShrinkingProgramGenerator {
     private final Random random;
     private final StringBuilder text = new StringBuilder();
+    private final Values values;
     private int names;
+
+    /** Where a program has values from that differ from processor to processor. */
+    private enum Values { NONE, FIELDS, LAMBDA }
 
     ShrinkingProgramGenerator(long seed) {
         random = new Random(seed);
+        values = Values.values()[random.nextInt(3)];
     }
 
     String program(String name) {
@@ -27,7 +33,14 @@ final class ShrinkingProgramGenerator {
             }
         }
         text.append("return s;");
-        return Javac.processor(name, "Object", text.toString(), "");
+        return switch (values) {
+            case NONE -> Javac.processor(name, "Object", text.toString(), "");
+            case FIELDS -> Javac.processor(name, "Object", text.toString(), "private final long limit;\nprivate final int step;\nprivate final Long box;\n"
+                + "private final boolean isOdd;\n" + name + "(long limit, int step, Long box, boolean isOdd) {\nthis.limit = limit;\nthis.step = step;\n"
+                + "this.box = step == 3 ? null : box;\nthis.isOdd = isOdd;\n}\n");
+            case LAMBDA -> "import javax.cache.processor.*;\npublic class " + name + " {\nstatic EntryProcessor<Long, Long, Object> of(long limit, int step, Long box, "
+                + "boolean isOdd) {\nreturn (entry, args) -> {\n" + text + "\n};\n}\n}\n";
+        };
     }
 
     private String pick(String... choices) {
@@ -35,6 +48,9 @@ final class ShrinkingProgramGenerator {
     }
 
     private String start() {
+        if (values != Values.NONE && random.nextBoolean()) {
+            return pick("limit", "limit ^ key", "-limit", "limit & 0x7FFFFFFFL", "step", "step & 0xFFF", "(box == null ? 3 : box)", "(isOdd ? limit : value)", "box - step");
+        }
         return pick("key", "value", "key ^ value", "key & 0xFFFF", "key % 1000", "Math.abs(key)", "key >>> 7", "-value", "value & 0x7FFFFFFFL", "key - value");
     }
 
@@ -89,13 +105,17 @@ final class ShrinkingProgramGenerator {
         text.append(isNested ? "}\n" : "");
     }
 
+    private String captured(String name) {
+        return values == Values.NONE ? "key" : name;
+    }
+
     private void euclid() {
         String number = pick("long", "int");
         String cast = number.equals("int") ? "(int) " : "";
         String a = "a" + names;
         String b = "b" + names++;
-        text.append(number).append(' ').append(a).append(" = ").append(cast).append(pick("key", "value", "4660046610375530309L", "(key ^ 7)")).append(";\n");
-        text.append(number).append(' ').append(b).append(" = ").append(cast).append(pick("value", "97", "7540113804746346429L", "(key | 1)")).append(";\n");
+        text.append(number).append(' ').append(a).append(" = ").append(cast).append(pick(captured("limit"), "value", "4660046610375530309L", "(key ^ 7)")).append(";\n");
+        text.append(number).append(' ').append(b).append(" = ").append(cast).append(pick(captured("step"), "97", "7540113804746346429L", "(key | 1)")).append(";\n");
         text.append("while (").append(b).append(pick(" != 0", " != 0", " > 0")).append(") {\n").append(number).append(" r = ")
             .append(pick(a + " % " + b, a + " % " + b, a + " - " + a + " / " + b + " * " + b, b + " % " + a)).append(";\n");
         text.append(a).append(" = ").append(b).append(";\n").append(b).append(" = r;\n").append(use(a)).append("}\ns += ").append(a).append(";\n");
@@ -106,9 +126,17 @@ final class ShrinkingProgramGenerator {
         int step = 1 + random.nextInt(400);
         boolean isDown = random.nextBoolean();
         String start = pick("key & 0x3FFF", "key % 9000", "Math.min(key, 5000)", "Math.max(-4000, Math.min(value, 4000))", "n * 100", "key");
+        String end = String.valueOf(random.nextInt(2_000) - 1_000);
+        String by = pick(String.valueOf(step), "n + " + step, "n");
+        if (values != Values.NONE) {
+            start = pick(start, "limit & 0xFFF", "Math.max(-3000, Math.min(limit, 4000))", "isOdd ? 5000 : step % 100");
+            text.append("long end").append(x).append(" = ").append(pick("step % 700", "Math.max(-900, Math.min(limit, 900))", "limit")).append(";\n");
+            text.append("int by").append(x).append(" = ").append(pick("(step & 63) + 20", "Math.max(9, step & 0xFF)", "step & 7")).append(";\n");
+            end = pick(end, "end" + x);
+            by = pick(by, "by" + x);
+        }
         text.append("long ").append(x).append(" = ").append(start).append(";\nwhile (").append(x).append(isDown ? pick(" > ", " >= ") : pick(" < ", " <= "))
-            .append(random.nextInt(2_000) - 1_000).append(") {\n").append(x).append(isDown ? " -= " : " += ").append(pick(String.valueOf(step), "n + " + step, "n"))
-            .append(";\n").append(use(x)).append("}\n");
+            .append(end).append(") {\n").append(x).append(isDown ? " -= " : " += ").append(by).append(";\n").append(use(x)).append("}\n");
     }
 
     private void halving() {
@@ -118,7 +146,8 @@ final class ShrinkingProgramGenerator {
         String middle = pick("LO + HI >>> 1", "(LO + HI) / 2", "LO + HI >> 1", "LO + (HI - LO) / 2", "LO + HI + 1 >>> 1", "LO + (HI - LO + 1 >>> 1)")
             .replace("LO", low).replace("HI", high);
         text.append(number).append(' ').append(low).append(" = ").append(pick("0", "1", "-1000", "n", "n - 4")).append(";\n");
-        text.append(number).append(' ').append(high).append(" = ").append(pick("1 << 20", "1000000", "n * 9", "77", "-3")).append(";\n");
+        text.append(number).append(' ').append(high).append(" = ")
+            .append(pick("1 << 20", "1000000", "n * 9", "77", values == Values.NONE ? "-3" : "(step & 0xFFFF)")).append(";\n");
         text.append("while (").append(pick("LO < HI", "LO < HI", "LO <= HI", "HI - LO > 1", "LO + 1 < HI", "HI > LO").replace("LO", low).replace("HI", high)).append(") {\n");
         text.append(number).append(" mid = ").append(middle).append(";\nif (mid ").append(pick("<", "<=", ">")).append(number.equals("int") ? " (int) key" : " key")
             .append(") {\n").append(low).append(" = mid").append(pick("", " + 1", " + 1")).append(";\n} else {\n").append(high).append(" = mid")
