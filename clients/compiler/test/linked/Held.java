@@ -1,3 +1,4 @@
+import java.util.Arrays;
 import javax.cache.processor.EntryProcessor;
 import javax.cache.processor.MutableEntry;
 
@@ -52,6 +53,38 @@ public class Held {
 
         private long weight(int i, Object[] all) {
             return i * limit + (all.length > 2 ? ((Number) all[2]).longValue() : 0);
+        }
+    }
+
+    /** Sorts its arguments in an array of as many, and calls itself last; both beside a number that it holds. */
+    public static class Sorted implements EntryProcessor<Long, Long, Long> {
+        private final long limit;
+
+        public Sorted(long limit) {
+            this.limit = limit;
+        }
+
+        @Override
+        public Long process(MutableEntry<Long, Long> entry, Object... arguments) {
+            long[] all = numbers(arguments);
+            Arrays.sort(all);
+            long sum = all.length;
+            for (long one : all) {
+                sum = sum * 31 + Math.min(one, limit);
+            }
+            return shared(sum, entry.getKey());
+        }
+
+        private static long[] numbers(Object[] from) {
+            long[] all = new long[from.length];
+            for (int i = 0; i < from.length; i++) {
+                all[i] = from[i] instanceof Long ? (Long) from[i] : i;
+            }
+            return all;
+        }
+
+        private long shared(long a, long b) {
+            return b == 0 ? a ^ limit : shared(b, a % b);
         }
     }
 

@@ -31,7 +31,7 @@ public class Refused {
     /** An array with a length that the caller passes. */
     public static class Variable implements EntryProcessor<Long, Long, Long> {
         public Long process(MutableEntry<Long, Long> entry, Object... arguments) {
-            long[] values = new long[arguments.length];
+            long[] values = new long[(Integer) arguments[0]];
             return (long) values.length;
         }
     }

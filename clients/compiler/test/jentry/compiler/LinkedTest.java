@@ -79,7 +79,7 @@ class LinkedTest {
 
     /** The values in front of the arguments: which ones, and in which order. */
     @ParameterizedTest
-    @CsvSource({"Held$AddN,n (long)", "Held$Arguments,limit (long);isNegated (boolean)", "Held$Checked,window (long);share (long)",
+    @CsvSource({"Held$AddN,n (long)", "Held$Arguments,limit (long);isNegated (boolean)", "Held$Sorted,limit (long)", "Held$Checked,window (long);share (long)",
         "Held$Nested,pair.first.low (long);pair.first.high (long);pair.shift (int);pair.second.low (long);pair.second.high (long)",
         "Held$Inner,this$0.rate (long);mine (long)", "Bases$Clamped,limit (long)", "Bases$Further,", "Bases$Statics,", "Bases$Tax,", "Enums$Machine,",
         "Enums$Moves,to (Enums$State)"})

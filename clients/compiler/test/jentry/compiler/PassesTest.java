@@ -25,6 +25,7 @@ class PassesTest {
         "Long.max(x, y)", "Long.min(x, y)", "Long.signum(x)", "Long.bitCount(x)", "Long.highestOneBit(x)", "Long.lowestOneBit(x)",
         "Long.numberOfLeadingZeros(x)", "Long.numberOfTrailingZeros(x)", "Long.rotateLeft(x, i)", "Long.rotateRight(x, i)", "Long.reverse(x)",
         "Long.reverseBytes(x)", "Long.hashCode(x)", "a.compareTo(b)", "a.equals(b) ? 1 : 0", "a.hashCode()", "a.equals(args[0]) ? 1 : 0",
+        "a.byteValue() + 0", "a.shortValue() * 3", "(Integer.valueOf(i)).shortValue() + i", "((Number) args[0]).byteValue() + 0",
         "Integer.compare(i, k)", "Integer.compareUnsigned(i, k)", "Integer.divideUnsigned(i, k)", "Integer.remainderUnsigned(i, k)", "Integer.toUnsignedLong(i)",
         "Integer.sum(i, k)", "Integer.max(i, k)", "Integer.min(i, k)", "Integer.signum(i)", "Integer.bitCount(i)", "Integer.highestOneBit(i)",
         "Integer.lowestOneBit(i)", "Integer.numberOfLeadingZeros(i)", "Integer.numberOfTrailingZeros(i)", "Integer.rotateLeft(i, k)",

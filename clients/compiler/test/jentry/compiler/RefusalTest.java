@@ -40,7 +40,8 @@ class RefusalTest {
         "java.util.stream.LongStream s = java.util.stream.LongStream.range(0, 3); if (args.length > 0) { s = s.map(x -> x); } return s.sum(); "
             + "| R.process, line 4: it isn't known at compile time which object this is",
         "return Optional.ofNullable(entry.getValue()).orElse(0L); | R.process, line 4: a call of java.util.Optional.ofNullable, which the server doesn't know; test",
-        "int n = args.length; return new long[n].length; | R.process, line 4: the length of a new array"})
+        "int n = args.length - 3; return new long[n].length; | R.process, line 4: the length of a new array",
+        "return new long[args.length + 1].length; | R.process, line 4: the length of a new array"})
     void byMethodAndLine(String body, String told) {
         String refusal = refusal("Object", body, "");
         assertTrue(refusal.startsWith(told), refusal);

@@ -87,7 +87,8 @@ final class ShrinkingProgramGenerator {
         boolean isLong = random.nextInt(3) > 0;
         String x = "x" + names++;
         String zero = pick(" != 0", " != 0", " > 0", " > 0", " >= 1", " > 3", " >= 10", " < 0", " != 3", " > -1");
-        String test = random.nextInt(6) == 0 ? "0 != " + x : x + zero;
+        String ofBits = "(" + x + " & " + pick("1", "6", "0xFF0") + ")" + pick(" != 0", " > 0", " == 2");
+        String test = random.nextInt(6) == 0 ? "0 != " + x : random.nextInt(5) == 0 ? ofBits : x + zero;
         String other = pick("", "", "", " && s != 7", " && n < 9");
         String whole = random.nextBoolean() ? test + other : other.isEmpty() ? test : other.substring(4) + " && " + test;
         String step = cast(step(x, isLong), x, isLong) + "\n";

@@ -23,6 +23,7 @@ import jentry.compiler.profile.Instructions;
 import jentry.compiler.profile.Members;
 import jentry.compiler.profile.Problem;
 import jentry.compiler.profile.ProblemException;
+import jentry.compiler.rewrite.TailCalls;
 
 /**
  * Makes one class of a processor and of what it uses of other classes: methods that it inherits, static methods of others, and methods of the objects
@@ -119,6 +120,7 @@ public final class Linker implements Opcodes {
         names.add("<init>");
         addConstructor();
         MethodNode wrapper = addProcess();
+        TailCalls.replace(made);
         List<String> hidden = new HiddenArguments(made, leaves.hidden().keySet(), wrapper).bind();
         List<Capture> captures = hidden.stream().map(leaves.hidden()::get).toList();
         List<String> notes = new ArrayList<>();

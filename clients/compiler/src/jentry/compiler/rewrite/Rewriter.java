@@ -25,6 +25,10 @@ public final class Rewriter {
         owner.methods.forEach(it -> it.localVariables = null);
         ClassVersion.lower(owner);
         SmallTypes.widen(owner);
+        int tailCalls = TailCalls.replace(owner);
+        if (tailCalls > 0) {
+            notes.add("calls of a method by itself that became a loop: " + tailCalls);
+        }
         BooleanConstants.replace(owner);
         FieldConstants constants = FieldConstants.of(owner, host, values);
         int before = owner.methods.size();

@@ -19,11 +19,15 @@ import jentry.compiler.profile.Instructions;
 import jentry.compiler.profile.ProblemException;
 
 /**
- * Replaces `byte`, `short` and `char` in descriptors by `int`, and their arrays and those of `boolean` by arrays of `int`.
+ * Replaces `byte`, `short` and `char` in descriptors by `int`, their arrays and those of `boolean` by arrays of `int`, and byteValue and shortValue of
+ * boxes by intValue and a cast.
  *
  * <p>The values stay the same: javac narrows arguments, and this pass narrows what is stored into such an array.
  */
 final class SmallTypes implements Opcodes {
+    private static final Set<String> BOXES = Set.of("java/lang/Long", "java/lang/Integer", "java/lang/Number");
+    private static final Map<String, Integer> NARROWED = Map.of("byteValue()B", I2B, "shortValue()S", I2S);
+
     private final ClassNode owner;
 
     private SmallTypes(ClassNode owner) {
@@ -118,6 +122,9 @@ final class SmallTypes implements Opcodes {
                 int narrows = at.getOpcode() == BASTORE ? I2B : at.getOpcode() == CASTORE ? I2C : I2S;
                 method.instructions.insertBefore(at, new InsnNode(narrows));
                 method.instructions.set(at, new InsnNode(IASTORE));
+            } else if (at instanceof MethodInsnNode call && at.getOpcode() == INVOKEVIRTUAL && BOXES.contains(call.owner) && NARROWED.containsKey(call.name + call.desc)) {
+                method.instructions.insert(at, new InsnNode(NARROWED.get(call.name + call.desc)));
+                method.instructions.set(at, new MethodInsnNode(INVOKEVIRTUAL, call.owner, "intValue", "()I", false));
             }
         }
     }

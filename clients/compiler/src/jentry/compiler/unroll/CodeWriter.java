@@ -1,5 +1,6 @@
 package jentry.compiler.unroll;
 
+import java.util.Arrays;
 import java.util.List;
 import java.util.Map;
 import org.objectweb.asm.Opcodes;
@@ -7,6 +8,7 @@ import org.objectweb.asm.Type;
 import org.objectweb.asm.tree.AbstractInsnNode;
 import org.objectweb.asm.tree.InsnList;
 import org.objectweb.asm.tree.InsnNode;
+import org.objectweb.asm.tree.IntInsnNode;
 import org.objectweb.asm.tree.JumpInsnNode;
 import org.objectweb.asm.tree.LabelNode;
 import org.objectweb.asm.tree.LineNumberNode;
@@ -92,8 +94,29 @@ public final class CodeWriter implements Opcodes {
             addPlain(state);
             if (!state.next.isEmpty()) {
                 leadTo(state.next.get(0), behind);
+            } else if (UnrolledGraph.isBeyondArray(state)) {
+                // it has thrown, but the verifier wants code behind it
+                addGuard();
             }
         }
+    }
+
+    /** Adds a new array whose length is on the stack: one for each length that it may have. */
+    private void addArrayOf(AbstractValue length, IntInsnNode at) {
+        LabelNode[] sizes = new LabelNode[(int) (length.high() - length.low()) + 1];
+        Arrays.setAll(sizes, it -> new LabelNode());
+        LabelNode end = new LabelNode();
+        int last = sizes.length - 1;
+        code.add(new TableSwitchInsnNode((int) length.low(), (int) length.high() - 1, sizes[last], Arrays.copyOf(sizes, last)));
+        for (int i = 0; i <= last; i++) {
+            code.add(sizes[i]);
+            code.add(Instructions.push((int) length.low() + i));
+            code.add(new IntInsnNode(NEWARRAY, at.operand));
+            if (i < last) {
+                code.add(new JumpInsnNode(GOTO, end));
+            }
+        }
+        code.add(end);
     }
 
     /** Adds an ArithmeticException, and a return that is never reached. */
@@ -122,6 +145,10 @@ public final class CodeWriter implements Opcodes {
     }
 
     private void addPlain(State state) {
+        if (state.opcode() == NEWARRAY && ConstantPropagation.hasFewLengths(state.operand(0))) {
+            addArrayOf(state.operand(0), (IntInsnNode) state.instruction());
+            return;
+        }
         boolean isLength = state.next.size() == 1 && state.next.get(0).opcode() == NEWARRAY && Purity.operands(state.opcode()).length == 0;
         if (state.result == null || form == Form.VERBATIM && !isLength) {
             code.add(state.instruction().clone(Map.of()));

@@ -66,7 +66,8 @@ final class ConstantPropagation extends Interpreter<AbstractValue> implements Op
                 return value.fact() instanceof AbstractValue.Array array ? AbstractValue.range(1, array.least(), array.most())
                     : AbstractValue.range(1, 0, Integer.MAX_VALUE);
             case NEWARRAY:
-                return value.fact() instanceof Integer length && length >= 0 ? AbstractValue.array(length, length, true) : AbstractValue.unknown(1);
+                return hasFewLengths(value) || value.isConstant() && value.low() >= 0
+                    ? AbstractValue.array((int) value.low(), (int) value.high(), true) : AbstractValue.unknown(1);
             case IINC:
                 int by = ((IincInsnNode) at).incr;
                 return value.fact() instanceof Integer number ? AbstractValue.constant(number + by) : value.plus(by, by);
@@ -78,6 +79,11 @@ final class ConstantPropagation extends Interpreter<AbstractValue> implements Op
         }
         Object known = Arithmetic.unary(opcode, value.fact());
         return known != null ? AbstractValue.constant(known) : RangeArithmetic.unary(opcode, value);
+    }
+
+    /** Returns whether a length isn't known, but is one of so few that an array of each can be written. */
+    static boolean hasFewLengths(AbstractValue length) {
+        return !length.isConstant() && length.low() >= 0 && length.high() <= MOST_ARGUMENTS;
     }
 
     @Override

@@ -155,7 +155,7 @@ public final class LoopUnroller implements Opcodes {
     }
 
     /**
-     * Replaces the code of each method that has loops, or that creates an array whose known length isn't a constant in the code.
+     * Replaces the code of each method that has loops, or that creates an array whose length is known, or one of few, but isn't a constant in the code.
      *
      * @return the changes, one line for each loop
      */
@@ -185,6 +185,7 @@ public final class LoopUnroller implements Opcodes {
 
     private static boolean makesOfKnownLength(State state) {
         AbstractInsnNode at = state.instruction();
-        return at.getOpcode() == NEWARRAY && state.operand(0).isConstant() && Instructions.pushed(Instructions.previous(at)) == null;
+        boolean isKnown = at.getOpcode() == NEWARRAY && (state.operand(0).isConstant() || ConstantPropagation.hasFewLengths(state.operand(0)));
+        return isKnown && Instructions.pushed(Instructions.previous(at)) == null;
     }
 }

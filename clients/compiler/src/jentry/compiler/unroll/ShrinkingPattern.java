@@ -37,6 +37,10 @@ record ShrinkingPattern(String what, boolean isSignedShift, ToIntFunction<Frame<
             if (halving != null) {
                 return halving;
             }
+            ShrinkingPattern masked = ofMasked(one, ends);
+            if (masked != null) {
+                return masked;
+            }
             for (Term self : shrinking(one, ends)) {
                 ShrinkingPattern found = ofValue(one, self, ends);
                 found = found != null ? found : euclid(one, self, ends);
@@ -68,6 +72,20 @@ record ShrinkingPattern(String what, boolean isSignedShift, ToIntFunction<Frame<
     }
 
     // ---- one value
+
+    /** Returns the pattern of a value of which the test reads some bits: where these aren't all 0, the value isn't either, but it may be negative. */
+    private static ShrinkingPattern ofMasked(LoopTest test, List<Frame<Term>> ends) {
+        if (!test.left().isOperation(IAND) || !test.excludesZero()) {
+            return null;
+        }
+        for (Term self : test.left().operands()) {
+            ShrinkingPattern found = self.isLocal() ? ofValue(new LoopTest(1, self, Term.constant(0)), self, ends) : null;
+            if (found != null) {
+                return found;
+            }
+        }
+        return null;
+    }
 
     private static ShrinkingPattern ofValue(LoopTest test, Term self, List<Frame<Term>> ends) {
         if (!test.excludesZero()) {

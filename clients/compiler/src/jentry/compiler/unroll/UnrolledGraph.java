@@ -122,7 +122,7 @@ final class UnrolledGraph implements Opcodes {
         state.isDecided = decided >= 0;
         state.result = result(state, after);
         List<State> next = new ArrayList<>();
-        int[] successors = graph.successors(state.place());
+        int[] successors = isBeyondArray(state) ? new int[0] : graph.successors(state.place());
         for (int i = 0; i < successors.length; i++) {
             if (isPastLimit(state, i)) {
                 next.add(decided < 0 || decided == i ? guard(state) : null);
@@ -190,6 +190,20 @@ final class UnrolledGraph implements Opcodes {
         Frame<AbstractValue> way = new Frame<>(after);
         refinement.narrow(place, way, holds);
         return way;
+    }
+
+    /** Returns whether a state throws since it reads or writes an element that the array doesn't have. */
+    static boolean isBeyondArray(State state) {
+        int below = switch (state.opcode()) {
+            case IALOAD, LALOAD, AALOAD -> 0;
+            case IASTORE, LASTORE -> 1;
+            default -> -1;
+        };
+        if (below < 0 || !(state.operand(below + 1).fact() instanceof AbstractValue.Array array)) {
+            return false;
+        }
+        AbstractValue index = state.operand(below);
+        return index.high() < 0 || index.low() >= array.most();
     }
 
     private static Object result(State state, Frame<AbstractValue> after) {
