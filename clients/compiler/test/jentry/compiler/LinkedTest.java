@@ -136,6 +136,25 @@ class LinkedTest {
         return new ProcessorCompiler(false, ProgramClasses.of(now.loader(), false)).compile(CLASSES.get(name)).get(0);
     }
 
+    /** The body of the lambda is in line 5. */
+    @ParameterizedTest
+    @CsvSource(delimiter = '|', value = {
+        "return ++count; | line 5: the lambda captures this, a RR, and the field count is written; ",
+        "return (long) names.size(); | line 5: the lambda captures this, a RR, and the processor holds the value of the field names, which is of type java.util.Map; ",
+        "return (long) System.identityHashCode(this); | line 5: the lambda captures this, a RR, and an object that the processor holds"})
+    void aLambdaThatCapturesThisIsToldSo(String body, String told) throws Exception {
+        String name = "R" + CLASSES.size();
+        String source = "import javax.cache.processor.*;\nclass " + name + " {\nlong count; java.util.Map<Long, Long> names;\n"
+            + "EntryProcessor<Long, Long, Long> made() { return (entry, args) -> {\n" + body + "\n}; }\n}\n";
+        write(Javac.compile(Map.of(name, source), "--release", "17"));
+        try {
+            new ProcessorCompiler(false, ProgramClasses.of(path().loader(), false)).compile(CLASSES.get(name));
+            throw new AssertionError("it is compiled");
+        } catch (CompileException e) {
+            assertTrue(e.getMessage().contains(told.replace("RR", name)), e.getMessage());
+        }
+    }
+
     /** The members are in line 3, the body in line 5. */
     @ParameterizedTest
     @CsvSource(delimiter = '|', value = {

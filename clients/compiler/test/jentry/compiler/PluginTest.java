@@ -29,8 +29,12 @@ class PluginTest {
     }
 
     private int javac(String plugin, String... sources) throws Exception {
+        return javacWith(Javac.api(), plugin, sources);
+    }
+
+    private int javacWith(String classPath, String plugin, String... sources) throws Exception {
         List<String> words = new java.util.ArrayList<>(List.of(Path.of(System.getProperty("java.home"), "bin/javac").toString(), "-Xplugin:" + plugin, "-processorpath",
-            System.getProperty("jentry.jar"), "-cp", Javac.api(), "-d", "out"));
+            System.getProperty("jentry.jar"), "-cp", classPath, "-d", "out"));
         words.addAll(List.of(sources));
         Process process = new ProcessBuilder(words).directory(folder.toFile()).redirectErrorStream(true).start();
         told = new String(process.getInputStream().readAllBytes());
@@ -66,9 +70,30 @@ class PluginTest {
     }
 
     @Test
+    void aBaseClassIsReadFromAJar() throws Exception {
+        Files.writeString(folder.resolve("Base.java"), "public abstract class Base { protected long twice(long x) { return 2 * x; } }");
+        Files.createDirectories(folder.resolve("lib"));
+        run("javac", "-d", "lib", "Base.java");
+        run("jar", "--create", "--file", "base.jar", "-C", "lib", "Base.class");
+        Files.writeString(folder.resolve("Good.java"), GOOD.replace("class Good ", "class Good extends Base ").replace("return s;", "return twice(s);"));
+        String path = Javac.api() + java.io.File.pathSeparator + "base.jar";
+        assertEquals(1, javacWith(path, "jentry out", "Good.java"), told);
+        assertEquals(0, javacWith(path, "jentry out --classpath base.jar", "Good.java"), told);
+        assertEquals("", told);
+        assertEquals(0, javacWith(path, "jentry out warn --classpath base.jar", "Good.java"), told);
+        assertTrue(javacWith(path, "jentry out --classpath", "Good.java") != 0, told);
+    }
+
+    private void run(String tool, String... words) throws Exception {
+        List<String> all = new java.util.ArrayList<>(List.of(Path.of(System.getProperty("java.home"), "bin", tool).toString()));
+        all.addAll(List.of(words));
+        assertEquals(0, new ProcessBuilder(all).directory(folder.toFile()).inheritIO().start().waitFor());
+    }
+
+    @Test
     void theFolderIsNeeded() throws Exception {
         assertTrue(javac("jentry", "Good.java") != 0, told);
-        assertTrue(told.contains("jentry OUT [warn]"), told);
+        assertTrue(told.contains("jentry OUT [warn] [--classpath PATH]"), told);
         assertEquals(0, javac("jentry elsewhere", "Good.java"), told);
         assertTrue(told.contains("the class file of Good isn't in elsewhere: name the folder of -d"), told);
     }

@@ -9,11 +9,13 @@ import com.sun.source.util.TaskEvent;
 import com.sun.source.util.TaskListener;
 import com.sun.source.util.TreeScanner;
 import com.sun.source.util.Trees;
+import java.io.File;
 import java.io.IOException;
 import java.nio.file.Files;
 import java.nio.file.Path;
 import java.util.HashMap;
 import java.util.LinkedHashMap;
+import java.util.List;
 import java.util.Map;
 import javax.tools.Diagnostic;
 import jentry.compiler.CompileException;
@@ -25,11 +27,13 @@ import jentry.compiler.profile.Problem;
 /**
  * A plugin of javac that reports a processor which can't be compiled for jentry as a diagnostic at its line.
  *
- * <p>{@code javac -Xplugin:"jentry OUT [warn]"}: OUT is the folder of -d. Problems are errors, with `warn` warnings.
+ * <p>{@code javac -Xplugin:"jentry OUT [warn] [--classpath PATH]"}: OUT is the folder of -d. Problems are errors, with `warn` warnings. Other classes that a
+ * processor uses are read from OUT, then from the folders and jars of PATH: javac doesn't show its own class path to plugins.
  */
 public final class JentryPlugin implements Plugin {
     private Trees trees;
     private Path output;
+    private String classPath;
     private Diagnostic.Kind kind = Diagnostic.Kind.ERROR;
 
     /** The first tree of each line, by source file: javac changes its trees before it writes the class files. */
@@ -43,11 +47,16 @@ public final class JentryPlugin implements Plugin {
 
     @Override
     public void init(JavacTask task, String... words) {
-        if (words.length == 0 || words.length > 2 || words.length == 2 && !words[1].equals("warn")) {
-            throw new IllegalArgumentException("-Xplugin:\"jentry OUT [warn]\" names the folder of class files, as -d does");
+        List<String> options = words.length == 0 ? List.of() : List.of(words).subList(1, words.length);
+        boolean warns = options.contains("warn");
+        List<String> more = options.subList(warns && options.get(0).equals("warn") ? 1 : 0, options.size());
+        boolean namesPath = more.size() == 2 && more.get(0).equals("--classpath");
+        if (words.length == 0 || !more.isEmpty() && !namesPath) {
+            throw new IllegalArgumentException("-Xplugin:\"jentry OUT [warn] [--classpath PATH]\" names the folder of class files, as -d does");
         }
         output = Path.of(words[0]);
-        kind = words.length == 2 ? Diagnostic.Kind.WARNING : Diagnostic.Kind.ERROR;
+        classPath = namesPath ? output + File.pathSeparator + more.get(1) : output.toString();
+        kind = warns ? Diagnostic.Kind.WARNING : Diagnostic.Kind.ERROR;
         trees = Trees.instance(task);
         task.addTaskListener(new TaskListener() {
             @Override
@@ -85,7 +94,7 @@ public final class JentryPlugin implements Plugin {
     private void check(String name, CompilationUnitTree unit) {
         try {
             byte[] classFile = Files.readAllBytes(output.resolve(name.replace('.', '/') + ".class"));
-            ProcessorCompiler compiler = new ProcessorCompiler(false, ProgramClasses.of(new ClassPath(output.toString()).loader(), false));
+            ProcessorCompiler compiler = new ProcessorCompiler(false, ProgramClasses.of(new ClassPath(classPath).loader(), false));
             if (compiler.hasProcessors(classFile)) {
                 compiler.compileAll(classFile).problems().forEach(it -> report(unit, it));
             }

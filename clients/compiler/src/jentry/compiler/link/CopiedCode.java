@@ -112,7 +112,8 @@ final class CopiedCode implements Opcodes {
     /** Refuses an instruction that would use the null that stands for an object. */
     private void refuseLost(AbstractInsnNode at) throws ProblemException {
         if ((at.getOpcode() == PUTFIELD || at.getOpcode() == PUTSTATIC) && at instanceof FieldInsnNode field) {
-            throw problem(at, "the field " + field.name + " is written", "use locals, arguments or the entry's value: a processor keeps nothing between its runs");
+            String captured = at.getOpcode() == PUTFIELD ? linker.captureOfThis(Known.place(operand(1))) : "";
+            throw problem(at, captured + "the field " + field.name + " is written", "use locals, arguments or the entry's value: a processor keeps nothing between its runs");
         }
         if (at.getOpcode() == ALOAD && Known.place(frame.getLocal(((VarInsnNode) at).var)) instanceof Known.Lost
             && frame.getLocal(((VarInsnNode) at).var).getType().getSort() == Type.ARRAY) {
@@ -125,7 +126,8 @@ final class CopiedCode implements Opcodes {
             } else if (place != null && place.isAbstract() && !isUnderstood(at)) {
                 boolean isOfArrays = place instanceof Grids.Grid || place instanceof Grids.Row;
                 throw isOfArrays ? problem(at, "an array of arrays, or a row of one, is written though it is constant, or handed on", "use one array, with the index "
-                    + "width * i + j") : problem(at, "an object that the processor holds, or a constant object, is used as a value", "hand over the numbers in it");
+                    + "width * i + j") : problem(at, linker.captureOfThis(place) + "an object that the processor holds, or a constant object, is used as a value",
+                        "hand over the numbers in it");
             } else if (linker.representation().isNumber(operand(below).getType()) && !staysItself(at, below)) {
                 throw problem(at, "a " + operand(below).getType().getClassName() + " is used as an Object", "use its number, as by ordinal() or toEpochDay()");
             }
@@ -359,8 +361,8 @@ final class CopiedCode implements Opcodes {
         boolean isFinal = (field.node().access & ACC_FINAL) != 0;
         boolean isNumber = linker.representation().isNumber(Type.getType(at.desc));
         if (!isNumber && !Leaves.isLeaf(at.desc)) {
-            throw problem(at, "the processor holds the value of the field " + at.name + ", which is of type " + Type.getType(at.desc).getClassName(),
-                "hold numbers, arrays of them, enums, and records of these");
+            throw problem(at, linker.captureOfThis(held) + "the processor holds the value of the field " + at.name + ", which is of type "
+                + Type.getType(at.desc).getClassName(), "hold numbers, arrays of them, enums, and records of these");
         }
         FieldNode leaf = linker.leaves().held(path(held, field), at.desc, isFinal, linker.representation().of(Type.getType(at.desc)).getDescriptor());
         if (leaf == null) {

@@ -23,6 +23,7 @@ import jentry.compiler.profile.Instructions;
 import jentry.compiler.profile.Members;
 import jentry.compiler.profile.Problem;
 import jentry.compiler.profile.ProblemException;
+import jentry.compiler.rewrite.Lambdas;
 import jentry.compiler.rewrite.TailCalls;
 
 /**
@@ -178,6 +179,22 @@ public final class Linker implements Opcodes {
             }
         }
         return method;
+    }
+
+    /** Returns what a lambda captures by naming members of the object around it: "the lambda captures this, a Service, and ", or "" for other objects. */
+    String captureOfThis(Known.Place place) {
+        boolean isCaptured = place instanceof Known.Held held && !held.path().isEmpty()
+            && held.path().get(0).equals(new Capture.Step(root.name, Lambdas.CAPTURED + 1));
+        MethodNode process = isCaptured ? Instructions.method(root, "process", Members.PROCESS) : null;
+        if (process == null) {
+            return "";
+        }
+        for (AbstractInsnNode at : process.instructions) {
+            if (at instanceof MethodInsnNode call && call.getOpcode() != INVOKESTATIC && call.name.startsWith("lambda$")) {
+                return "the lambda captures this, a " + Instructions.nameOf(call.owner) + ", and ";
+            }
+        }
+        return "";
     }
 
     // ---- copies
