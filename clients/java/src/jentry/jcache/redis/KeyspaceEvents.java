@@ -2,21 +2,18 @@ package jentry.jcache.redis;
 
 import java.io.IOException;
 import java.nio.charset.StandardCharsets;
-import java.util.HashMap;
 import java.util.HashSet;
-import java.util.Map;
 import java.util.Set;
 import javax.cache.CacheException;
 import jentry.jcache.impl.Options;
 import jentry.jcache.store.Watcher;
 
 /**
- * Listens to Redis keyspace notifications about the keys of a cache, with a connection to each master. A thread
- * reconnects lost connections and follows changes of the masters. Events that happen meanwhile are lost.
+ * Listens to Redis keyspace notifications about the keys of a cache, with a connection to each master. Events that
+ * happen while a connection is lost are lost.
  */
-final class KeyspaceEvents implements AutoCloseable {
+final class KeyspaceEvents implements MasterSockets.User, AutoCloseable {
     private static final System.Logger LOG = System.getLogger("jentry.jcache");
-    private static final long PAUSE_MILLIS = 500;
     private static final Set<String> SETS =
         Set.of("set", "incrby", "append", "setrange", "restore", "rename_to", "copy_to");
     private static final Set<String> DELETES = Set.of("del", "rename_from", "move_from");
@@ -24,9 +21,7 @@ final class KeyspaceEvents implements AutoCloseable {
     private final RedisCluster cluster;
     private final Keys keys;
     private final Watcher watcher;
-    private final Map<String, RedisSocket> sockets = new HashMap<>();
-    private final Thread keeper;
-    private boolean closed;
+    private final MasterSockets sockets;
 
     /**
      * Connects and starts listening.
@@ -37,21 +32,9 @@ final class KeyspaceEvents implements AutoCloseable {
         this.cluster = cluster;
         this.keys = keys;
         this.watcher = watcher;
-        try {
-            for (String node : cluster.masters()) {
-                check(node);
-                connect(node);
-            }
-        } catch (IOException e) {
-            close();
-            throw new CacheException("the events of Redis can't be had: " + e.getMessage(), e);
-        } catch (RuntimeException e) {
-            close();
-            throw e;
-        }
-        keeper = new Thread(this::keep, "jentry-events");
-        keeper.setDaemon(true);
-        keeper.start();
+        cluster.masters().forEach(this::check);
+        sockets = new MasterSockets(cluster, "events", this);
+        sockets.open();
     }
 
     /** Checks that the {@code notify-keyspace-events} setting of a master includes the events. */
@@ -76,47 +59,21 @@ final class KeyspaceEvents implements AutoCloseable {
         }
     }
 
-    private void connect(String node) throws IOException {
-        RedisSocket socket = new RedisSocket(node, cluster.options());
-        synchronized (sockets) {
-            if (closed) {
-                socket.close();
-                return;
-            }
-            sockets.put(node, socket);
-        }
+    @Override public void subscribe(String node, RedisSocket socket) throws IOException {
         Object reply = socket.ask("PSUBSCRIBE", "__keyspace@0__:" + keys.pattern());
         if (reply instanceof Resp.Failure f) {
-            socket.close();
             throw new IOException(node + " refuses the events: " + f.text());
         }
-        Thread thread = new Thread(() -> listen(node, socket), "jentry-events-" + node);
-        thread.setDaemon(true);
-        thread.start();
     }
 
-    private void listen(String node, RedisSocket socket) {
+    @Override public void listen(String node, RedisSocket socket) throws IOException {
         Set<Long> fresh = new HashSet<>();
-        try {
-            while (true) {
-                Object[] message = (Object[]) socket.in.reply();
-                String channel = new String((byte[]) message[2], StandardCharsets.UTF_8);
-                Long key = keys.key(channel.substring(channel.indexOf(':') + 1));
-                if (key != null) {
-                    heard(key, Replies.text(message[3]), fresh);
-                }
-            }
-        } catch (IOException | RuntimeException e) {
-            boolean isOver;
-            synchronized (sockets) {
-                isOver = closed;
-                sockets.remove(node, socket);
-                sockets.notifyAll();
-            }
-            socket.close();
-            if (!isOver) {
-                LOG.log(System.Logger.Level.WARNING,
-                    "the events of " + node + " are lost until it is connected again", e);
+        while (true) {
+            Object[] message = (Object[]) socket.in.reply();
+            String channel = new String((byte[]) message[2], StandardCharsets.UTF_8);
+            Long key = keys.key(channel.substring(channel.indexOf(':') + 1));
+            if (key != null) {
+                heard(key, Replies.text(message[3]), fresh);
             }
         }
     }
@@ -142,57 +99,7 @@ final class KeyspaceEvents implements AutoCloseable {
         }
     }
 
-    /** Connects to masters that have no connection, and disconnects from nodes that are no longer masters. */
-    private void keep() {
-        while (true) {
-            synchronized (sockets) {
-                try {
-                    sockets.wait(PAUSE_MILLIS);
-                } catch (InterruptedException e) {
-                    // Nobody has a reason to interrupt this thread, so it continues.
-                }
-                if (closed) {
-                    return;
-                }
-            }
-            try {
-                boolean isWhole;
-                synchronized (sockets) {
-                    isWhole = sockets.keySet().equals(cluster.masters());
-                }
-                if (!isWhole) {
-                    mend(cluster.refreshedMasters());
-                }
-            } catch (IOException | RuntimeException e) {
-                LOG.log(System.Logger.Level.DEBUG, "the events can't be had yet", e);
-            }
-        }
-    }
-
-    private void mend(Set<String> masters) throws IOException {
-        Set<String> missing = new HashSet<>(masters);
-        Set<RedisSocket> left = new HashSet<>();
-        synchronized (sockets) {
-            missing.removeAll(sockets.keySet());
-            sockets.forEach((node, socket) -> {
-                if (!masters.contains(node)) {
-                    left.add(socket);
-                }
-            });
-        }
-        left.forEach(RedisSocket::close);
-        for (String node : missing) {
-            connect(node);
-        }
-    }
-
     @Override public void close() {
-        Set<RedisSocket> all;
-        synchronized (sockets) {
-            closed = true;
-            all = new HashSet<>(sockets.values());
-            sockets.notifyAll();
-        }
-        all.forEach(RedisSocket::close);
+        sockets.close();
     }
 }
