@@ -45,6 +45,8 @@ class UriTest extends OnServer {
         assertTrue(cannot("jentry+redis://a", "jentry.workers", "1").contains("jentry.workers"));
         assertTrue(cannot("jentry:/a", "jentry.events", "server").contains("jentry.events"));
         assertTrue(cannot("jentry+redis://a", "jentry.events", "all").contains("is one of local, expired, server, not all"));
+        assertTrue(cannot("jentry:/a", "jentry.near", "5").contains("jentry.near isn't one of"));
+        assertTrue(cannot("jentry+redis://a", "jentry.near", "-1").contains("jentry.near is a number from 0"));
         assertTrue(cannot("jentry+redis://a", "jentry.local", "yes").contains("is one of false, true, not yes"));
         assertTrue(cannot("jentry:/a", "jentry.compile", "maybe").contains("jentry.compile is one of true, false, not maybe"));
     }

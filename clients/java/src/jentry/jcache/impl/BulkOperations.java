@@ -1,6 +1,7 @@
 package jentry.jcache.impl;
 
 import java.util.ArrayList;
+import java.util.Arrays;
 import java.util.HashMap;
 import java.util.HashSet;
 import java.util.Iterator;
@@ -55,13 +56,26 @@ public final class BulkOperations {
         if (keys.length == 0) {
             return new Long[0];
         } else if (at.expiry.isConstant()) {
-            return store.getAll(keys, at.expiry.constant().accessed());
+            long accessed = at.expiry.constant().accessed();
+            return accessed == Durations.LEAVE ? near(keys) : store.getAll(keys, accessed);
         }
-        Long[] values = store.getAll(keys, Durations.LEAVE);
+        Long[] values = near(keys);
         for (int i = 0; i < keys.length; i++) {
             if (values[i] != null) {
                 entries.touch(keys[i]);
             }
+        }
+        return values;
+    }
+
+    /** Returns the values that the near cache keeps, and the server's of the other keys. */
+    private Long[] near(long[] keys) {
+        Long[] values = new Long[keys.length];
+        Arrays.setAll(values, i -> store.kept(keys[i]));
+        int[] missing = IntStream.range(0, keys.length).filter(i -> values[i] == null).toArray();
+        Long[] rest = store.getAll(IntStream.of(missing).mapToLong(i -> keys[i]).toArray(), Durations.LEAVE);
+        for (int i = 0; i < missing.length; i++) {
+            values[missing[i]] = rest[i];
         }
         return values;
     }

@@ -51,7 +51,11 @@ public final class EntryOperations {
             return CompletableFuture.supplyAsync(() -> get(key));
         }
         long begin = at.statistics.begin();
-        return store.getAsync(key, at.expiry.constant().accessed()).thenApply(value -> {
+        long accessed = at.expiry.constant().accessed();
+        Long kept = accessed == Durations.LEAVE ? store.kept(key) : null;
+        CompletableFuture<Long> read = kept == null ? store.getAsync(key, accessed)
+            : CompletableFuture.completedFuture(kept);
+        return read.thenApply(value -> {
             at.statistics.got(value == null ? 0 : 1, value == null ? 1 : 0, begin);
             return value;
         });
@@ -70,13 +74,20 @@ public final class EntryOperations {
 
     private Long read(long key) {
         if (at.expiry.isConstant()) {
-            return store.get(key, at.expiry.constant().accessed());
+            long accessed = at.expiry.constant().accessed();
+            return accessed == Durations.LEAVE ? near(key) : store.get(key, accessed);
         }
-        Long value = store.get(key, Durations.LEAVE);
+        Long value = near(key);
         if (value != null) {
             touch(key);
         }
         return value;
+    }
+
+    /** Returns the value that the near cache keeps, or else the server's. */
+    private Long near(long key) {
+        Long kept = store.kept(key);
+        return kept != null ? kept : store.getAndKeep(key);
     }
 
     /** Sets the time to live of an entry that was accessed. */

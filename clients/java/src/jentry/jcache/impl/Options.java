@@ -21,7 +21,8 @@ public final class Options {
         + "jentry+tcp://HOST:PORT, jentry+redis://HOST:PORT[,HOST:PORT ..][/NAME] or the same with jentry+rediss";
     private static final String PREFIX = "jentry.";
     private static final Set<String> OF_A_CHILD = Set.of("jentry.program", "jentry.workers", "jentry.stripes");
-    private static final Set<String> OF_REDIS = Set.of("jentry.events", "jentry.user", "jentry.password");
+    private static final Set<String> OF_REDIS = Set.of("jentry.events", "jentry.near", "jentry.user",
+        "jentry.password");
     private static final Set<String> OF_ALL = Set.of("jentry.timeout", "jentry.queue", "jentry.local",
         "jentry.compile");
     private static final Set<String> IN_A_FILE = Stream.of(OF_A_CHILD, OF_REDIS, OF_ALL, Set.of("jentry.uri"))
@@ -45,6 +46,7 @@ public final class Options {
     private final Properties file;
     private final int timeoutMillis;
     private final int queue;
+    private final int near;
     private final boolean isLocal;
     private final boolean isCompiling;
     private final Events events;
@@ -87,6 +89,7 @@ public final class Options {
         timeoutMillis = number("jentry.timeout", isRedis() ? REDIS_TIMEOUT_MILLIS : STREAM_TIMEOUT_MILLIS, 0,
             Integer.MAX_VALUE);
         queue = number("jentry.queue", QUEUE, 1, Integer.MAX_VALUE);
+        near = number("jentry.near", 0, 0, Integer.MAX_VALUE);
         number("jentry.workers", 1, 0, 16);
         number("jentry.stripes", 1, 1, 64);
         isLocal = one("jentry.local", "false", "true") == 1;
@@ -192,6 +195,11 @@ public final class Options {
     /** Returns the maximum number of waiting calls. */
     public int queue() {
         return queue;
+    }
+
+    /** Returns how many values of each cache in Redis this JVM keeps at most; 0 means that it keeps none. */
+    public int near() {
+        return near;
     }
 
     /** Returns whether a processor that the server can't run runs in this JVM. */

@@ -3,6 +3,7 @@ package jentry.jcache.impl;
 import java.util.HashMap;
 import java.util.Map;
 import java.util.concurrent.CompletableFuture;
+import java.util.concurrent.CompletionException;
 import java.util.concurrent.ConcurrentHashMap;
 import java.util.concurrent.ThreadLocalRandom;
 import java.util.concurrent.atomic.LongAdder;
@@ -363,7 +364,7 @@ public final class ProcessorInvoker {
 
     private static <T> void complete(CompletableFuture<T> result, Supplier<T> value, Throwable failure) {
         if (failure != null) {
-            result.completeExceptionally(failure);
+            result.completeExceptionally(failure instanceof CompletionException ? failure.getCause() : failure);
             return;
         }
         try {

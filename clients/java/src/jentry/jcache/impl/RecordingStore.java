@@ -25,6 +25,16 @@ final class RecordingStore implements Store {
         return value;
     }
 
+    @Override public Long kept(long key) {
+        return store.kept(key);
+    }
+
+    @Override public Long getAndKeep(long key) {
+        Long value = store.getAndKeep(key);
+        last.read(key, value, Durations.LEAVE);
+        return value;
+    }
+
     @Override public CompletableFuture<Long> getAsync(long key, long accessed) {
         return store.getAsync(key, accessed).thenApply(value -> {
             last.read(key, value, accessed);

@@ -70,10 +70,15 @@ final class RedisSocket {
 
     /** Sends one command and waits for its reply. */
     Object ask(Object... words) throws IOException {
+        send(words);
+        return in.reply();
+    }
+
+    /** Sends one command. */
+    void send(Object... words) throws IOException {
         Resp.Commands command = new Resp.Commands().add(words);
         socket.getOutputStream().write(command.bytes(), 0, command.length());
         socket.getOutputStream().flush();
-        return in.reply();
     }
 
     void close() {

@@ -29,6 +29,9 @@ import jentry.jcache.store.Watcher;
  * one key is one Redis command, or two between MULTI and EXEC; times to live run by the server's clock.
  */
 final class RedisStore implements Store {
+    /** The time left of an entry that doesn't expire, as PTTL replies it. */
+    static final long FOREVER = -1;
+
     private final RedisCluster cluster;
     private final Keys keys;
     private final Map<String, Set<ProcessorFile>> defined = new ConcurrentHashMap<>();
@@ -70,6 +73,34 @@ final class RedisStore implements Store {
 
     @Override public Long get(long key, long accessed) {
         return Replies.value(one(key, accessed != Durations.ZERO, reading(keys.name(key), accessed)));
+    }
+
+    /**
+     * A value and for how long its entry is there.
+     *
+     * @param value the value, or null
+     * @param millis the milliseconds that the entry has left, or {@link #FOREVER}
+     */
+    record Timed(Long value, long millis) { }
+
+    /** Returns the node of a key. */
+    String node(long key) {
+        return cluster.node(keys.slot(key));
+    }
+
+    /**
+     * Reads a value and its time at a node. Another client may change the entry between the two, after the value was
+     * read.
+     *
+     * @return what was read, or null if the node did nothing, since it doesn't have the key's slot
+     */
+    Timed timed(long key, String node) {
+        String name = keys.name(key);
+        Object[] replies = cluster.at(node, new Resp.Commands().add("GET", name).add("PTTL", name));
+        if (RedisCluster.undone(replies) != null) {
+            return null;
+        }
+        return new Timed(Replies.value(replies[0]), (Long) Replies.checked(replies[1]));
     }
 
     @Override public boolean contains(long key) {

@@ -27,7 +27,7 @@ public final class RedisStores implements StoreFactory {
                 throw new CacheException("there is no Redis at " + uri + ": " + e.getMessage(), e);
             }
         }
-        return new RedisStore(cluster, options.prefix(name));
+        return new NearStore(cluster, options.prefix(name), options.near());
     }
 
     @Override public synchronized void close() {

@@ -6,7 +6,7 @@ import java.io.InputStream;
 import java.nio.charset.StandardCharsets;
 import java.util.Arrays;
 
-/** The Redis serialization protocol (RESP), version 2. */
+/** The Redis serialization protocol (RESP), version 2, and of version 3 what the near caches receive. */
 final class Resp {
     private Resp() { }
 
@@ -25,6 +25,9 @@ final class Resp {
 
     /** A status reply such as OK. */
     record Status(String text) { }
+
+    /** What a server sends by itself in version 3: its kind, and then what belongs to it. */
+    record Push(Object[] parts) { }
 
     /** Commands that are sent together: on the shared connection no other thread's command comes between them. */
     static final class Commands {
@@ -86,7 +89,7 @@ final class Resp {
         }
     }
 
-    /** Reads replies: a Long, a byte[], a Status, a Failure, an Object[], or null. */
+    /** Reads replies: a Long, a byte[], a Status, a Failure, a Push, an Object[], or null. */
     static final class In {
         private static final int LONGEST = 512 << 20;
         private static final int LONGEST_ARRAY = 1 << 20;
@@ -156,8 +159,16 @@ final class Resp {
                 case ':': return number();
                 case '$': return bytes(number());
                 case '*': return array(number(), depth);
+                case '%': return array(2 * number(), depth);
+                case '>': return new Push(array(number(), depth));
+                case '_': return nothing();
                 default: throw new IOException("a reply that begins with the byte " + kind);
             }
+        }
+
+        private Object nothing() throws IOException {
+            line();
+            return null;
         }
 
         private Object[] array(long length, int depth) throws IOException {

@@ -27,6 +27,19 @@ public interface Store {
     Long get(long key, long accessed);
 
     /**
+     * Returns a value that a near cache in this JVM keeps of a key, or null. Another client may have changed the entry a
+     * moment ago.
+     */
+    default Long kept(long key) {
+        return null;
+    }
+
+    /** Reads a value at the server and leaves the time to live; a near cache in this JVM may keep the value. */
+    default Long getAndKeep(long key) {
+        return get(key, Durations.LEAVE);
+    }
+
+    /**
      * Reads a value like {@link #get} without blocking.
      *
      * @throws java.util.concurrent.RejectedExecutionException if too many calls are waiting
