@@ -30,4 +30,12 @@ public final class Renewing {
             return null;
         }
     }
+
+    /** Reads the value if its argument is 0. */
+    public static final class ReadsAtZero implements EntryProcessor<Long, Long, Object> {
+        @Override public Object process(MutableEntry<Long, Long> entry, Object... arguments) {
+            long argument = (Long) arguments[0];
+            return argument == 0 ? entry.getValue() : (Long) argument;
+        }
+    }
 }

@@ -151,8 +151,32 @@ public final class ProcessorInvoker {
         if (isDivided()) {
             return divided(key, processor, file, arguments, begin);
         }
-        Invocation done = store.run(file, key, file.sent(processor, arguments), at.expiry.constant());
+        Invocation done = store.run(file, key, file.sent(processor, arguments), timesOfRuns());
+        if (isAccess(key, done, processor, arguments)) {
+            entries.touch(key);
+        }
         return counted(key, done, begin);
+    }
+
+    /** Returns the times to live for a run at the server. An access isn't among them: {@link #isAccess} decides it. */
+    private Durations timesOfRuns() {
+        Durations times = at.expiry.constant();
+        return new Durations(times.created(), times.updated(), Durations.LEAVE);
+    }
+
+    /**
+     * Returns whether a run at the server was an access that gives its entry a time: it left the entry, and it read the
+     * value. The server doesn't report what a run read. It has accepted the class, so a run in this JVM on the same
+     * value does the same.
+     */
+    private boolean isAccess(long key, Invocation done, EntryProcessor<Long, Long, ?> processor, Object[] arguments) {
+        boolean isLeft = done.failure() == null && done.effect() == Effect.KEEP && done.before() != null;
+        if (!isLeft || at.expiry.isConstant() && at.expiry.forAccess() == Durations.LEAVE) {
+            return false;
+        }
+        LocalEntry entry = new LocalEntry(key, done.before(), it -> null);
+        processor.process(entry, arguments);
+        return entry.isAccessed();
     }
 
     /**
@@ -181,7 +205,8 @@ public final class ProcessorInvoker {
                 Invocation dry = store.dryRun(file, key, file.sent(processor, arguments));
                 dry.result();
                 Effect effect = isRemovalOfNone(key, dry, processor, arguments) ? Effect.DELETE : dry.effect();
-                Effect committed = commit(key, effect, dry.before(), dry.after(), true);
+                Effect committed = commit(key, effect, dry.before(), dry.after(),
+                    isAccess(key, dry, processor, arguments));
                 if (committed != null) {
                     counted(key, committed, dry.before(), dry.after(), begin);
                     return dry.value();
@@ -292,7 +317,7 @@ public final class ProcessorInvoker {
         Map<Long, EntryProcessorResult<T>> results = new HashMap<>();
         if (way.reason() == null && !isDivided() && !isWatched() && !at.loader.isOnMiss()) {
             try {
-                allThere(keys, way.file(), way.file().sent(processor, arguments), results);
+                allThere(keys, processor, way.file(), arguments, results);
                 return results;
             } catch (ProcessorRefusedException e) {
                 refuse(way, e);
@@ -315,11 +340,16 @@ public final class ProcessorInvoker {
         return new EntryProcessorException(e.getMessage(), e.getCause());
     }
 
-    private <T> void allThere(long[] keys, ProcessorFile file, Object[] arguments,
-        Map<Long, EntryProcessorResult<T>> results) {
+    private <T> void allThere(long[] keys, EntryProcessor<Long, Long, T> processor, ProcessorFile file,
+        Object[] arguments, Map<Long, EntryProcessorResult<T>> results) {
         long begin = at.statistics.begin();
         Map<Long, Invocation> all = new HashMap<>();
-        store.runAll(file, keys, arguments, at.expiry.constant(), (done, key) -> all.put(key, done));
+        store.runAll(file, keys, file.sent(processor, arguments), timesOfRuns(), (done, key) -> all.put(key, done));
+        long[] accessed = all.entrySet().stream().filter(it -> isAccess(it.getKey(), it.getValue(), processor, arguments))
+            .mapToLong(Map.Entry::getKey).toArray();
+        if (accessed.length > 0) {
+            store.getAll(accessed, at.expiry.forAccess());
+        }
         all.forEach((key, done) -> add(results, key, done));
         at.statistics.got(0, 0, begin);
         all.forEach((key, done) -> {
@@ -352,7 +382,10 @@ public final class ProcessorInvoker {
             long begin = at.statistics.begin();
             try {
                 CompletableFuture<T> result = new CompletableFuture<>();
-                store.runAsync(way.file(), key, way.file().sent(processor, arguments), at.expiry.constant())
+                store.runAsync(way.file(), key, way.file().sent(processor, arguments), timesOfRuns())
+                    .thenCompose(done -> isAccess(key, done, processor, arguments)
+                        ? store.getAsync(key, at.expiry.forAccess()).thenApply(value -> done)
+                        : CompletableFuture.completedFuture(done))
                     .whenComplete((done, e) -> complete(result, () -> (T) counted(key, done, begin), e));
                 return result;
             } catch (ProcessorRefusedException e) {

@@ -128,9 +128,11 @@ class ExpiryTest {
         survivors(on, TouchedExpiryPolicy::factoryOf, WRITES, true, true, true, true, true, true, true, true);
     }
 
-    @Deviates({"Expiry", "Access"})
     @Jsr void aRunThatDoesntReadTheValueIsNoAccess(Subject on) {
-        survivors(on, AccessedExpiryPolicy::factoryOf, List.of((cache, k) -> cache.invoke(k, new Processors.Exists())), false);
+        survivors(on, AccessedExpiryPolicy::factoryOf, List.of((cache, k) -> cache.invoke(k, new Processors.Exists()),
+            (cache, k) -> cache.invokeAll(Set.of(k), new Processors.Exists()), (cache, k) -> cache.invoke(k, new Processors.ReadsAtZero(), 1L),
+            (cache, k) -> cache.invoke(k, new Processors.ReadsAtZero(), 0L), (cache, k) -> cache.invokeAll(Set.of(k), new Processors.ReadsAtZero(), 0L)),
+            false, false, false, true, true);
     }
 
     @Jsr void creationOfZero(Subject on) {
@@ -250,6 +252,20 @@ class ExpiryTest {
         cache.remove(k);
         cache.invoke(k, new Processors.Sets(), 8L);
         same(List.of("created"), policy.called());
+    }
+
+    @Jsr void aRunCallsThePolicyWhereItReads(Subject on) {
+        Policy policy = new Policy(Duration.ETERNAL, null, null);
+        Cache<Long, Long> cache = cache(on, () -> policy);
+        cache.invoke(on.key(0), new Processors.Value());
+        same(List.of(), policy.called());
+        cache.put(on.key(0), 1L);
+        same(List.of("created"), policy.called());
+        cache.invoke(on.key(0), new Processors.Exists());
+        cache.invoke(on.key(0), new Processors.ReadsAtZero(), 1L);
+        same(List.of(), policy.called());
+        cache.invoke(on.key(0), new Processors.ReadsAtZero(), 0L);
+        same(List.of("accessed"), policy.called());
     }
 
     @Jsr void nullChangesNoTime(Subject on) {

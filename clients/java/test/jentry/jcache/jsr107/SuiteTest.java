@@ -16,7 +16,7 @@ class SuiteTest {
         IteratorTest.class, ExpiryTest.class, EventsTest.class, LoaderTest.class, WriterTest.class, ProcessorTest.class, StatisticsTest.class, BeansTest.class,
         ClosingTest.class, NullsTest.class, TypesTest.class, UnwrapTest.class);
     private static final int LEAST_ASSERTIONS = 800;
-    private static final int MOST_ROWS = 7;
+    private static final int MOST_ROWS = 6;
 
     @Test void theReferencePassesItWithAtLeast800Assertions() throws Exception {
         int before = Expect.COUNT.get();

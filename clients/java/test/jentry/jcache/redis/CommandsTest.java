@@ -161,7 +161,7 @@ class CommandsTest extends WithRedis {
         sends(it -> it.get(1L), "GETEX " + K + " PX " + HOUR);
         sends(it -> it.getAll(Set.of(1L)), "GETEX " + K + " PX " + HOUR);
         sends(it -> assertEquals(5L, it.iterator().next().getValue()), SCAN, "GETEX " + K + " PX " + HOUR);
-        sends(it -> it.invoke(1L, new Renewing.Read()), "JENTRY.APPLY " + HOUR + " " + HOUR + " " + HOUR + " do ID " + K);
+        sends(it -> it.invoke(1L, new Renewing.Read()), "JENTRY.APPLY " + HOUR + " " + HOUR + " -1 do ID " + K, "GETEX " + K + " PX " + HOUR);
         create(AccessedExpiryPolicy.factoryOf(Duration.ZERO));
         sends(it -> it.get(1L), "GETDEL " + K);
     }

@@ -33,6 +33,14 @@ final class Processors {
         }
     }
 
+    /** Reads the value if its argument is 0. */
+    static class ReadsAtZero implements EntryProcessor<Long, Long, Long> {
+        @Override public Long process(MutableEntry<Long, Long> entry, Object... arguments) {
+            long argument = (Long) arguments[0];
+            return argument == 0 ? entry.getValue() : (Long) argument;
+        }
+    }
+
     static class Key implements EntryProcessor<Long, Long, Long> {
         @Override public Long process(MutableEntry<Long, Long> entry, Object... arguments) {
             return entry.getKey();
