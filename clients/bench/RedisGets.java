@@ -8,6 +8,7 @@ import java.nio.charset.StandardCharsets;
 import java.util.ArrayDeque;
 import java.util.ArrayList;
 import java.util.Arrays;
+import java.util.Collections;
 import java.util.List;
 import java.util.concurrent.CountDownLatch;
 import java.util.concurrent.Semaphore;
@@ -17,9 +18,10 @@ import javax.cache.Caching;
 import javax.cache.configuration.MutableConfiguration;
 
 /**
- * Gets by the JCache provider over Redis, beside a client of bare sockets, by turns: RedisGets PORT MILLIS TURNS. The bare client has one connection. Its threads
- * write their commands one after the other and wait for their replies, which a thread reads; where one thread calls, that one reads its reply itself. Prints the
- * calls a second of each turn, and the quotient of the medians.
+ * Gets by the JCache provider over Redis, beside a client of bare sockets, by turns: RedisGets PORT MILLIS TURNS, as clients/bench/gets calls it. The bare client
+ * has one connection. Its threads write their commands one after the other without waiting for each other's replies, which a thread reads; where one thread
+ * calls, that one reads its reply itself. Which client is first changes from turn to turn. Prints the calls a second of each turn, the medians with the least
+ * and the greatest, and the quotient of the medians.
  */
 public final class RedisGets {
     private static final int KEYS = 1_000;
@@ -124,6 +126,26 @@ public final class RedisGets {
         return of.stream().sorted().skip(of.size() / 2).findFirst().orElseThrow();
     }
 
+    private static String figures(List<Double> of) {
+        return String.format("%,.0f (%,.0f to %,.0f)", median(of), Collections.min(of), Collections.max(of));
+    }
+
+    /** Measures both clients by turns. The turn before the first one isn't counted. */
+    private static void compare(Client provider, Client bare, int threads, long millis, int turns) throws InterruptedException {
+        List<Double> ours = new ArrayList<>(), others = new ArrayList<>();
+        for (int turn = -1; turn < turns; turn++) {
+            boolean isFirst = turn % 2 == 0;
+            double before = perSecond(isFirst ? provider : bare, threads, millis), then = perSecond(isFirst ? bare : provider, threads, millis);
+            if (turn >= 0) {
+                ours.add(isFirst ? before : then);
+                others.add(isFirst ? then : before);
+                System.out.printf("%d threads: provider %,.0f a second, bare %,.0f%n", threads, ours.get(turn), others.get(turn));
+            }
+        }
+        System.out.printf("%d threads, medians (least to greatest): provider %s, bare %s, quotient %.2f%n", threads, figures(ours), figures(others),
+            median(ours) / median(others));
+    }
+
     public static void main(String[] words) throws Exception {
         int port = Integer.parseInt(words[0]), turns = Integer.parseInt(words[2]);
         long millis = Long.parseLong(words[1]);
@@ -133,18 +155,7 @@ public final class RedisGets {
                 cache.put(key, key);
             }
             for (int threads : new int[] {1, 8, 64}) {
-                Client bare = new Bare(port, threads == 1);
-                List<Double> provider = new ArrayList<>(), plain = new ArrayList<>();
-                for (int turn = -1; turn < turns; turn++) {
-                    double one = perSecond(cache::get, threads, millis), other = perSecond(bare, threads, millis);
-                    if (turn >= 0) {
-                        provider.add(one);
-                        plain.add(other);
-                        System.out.printf("%d threads: provider %,.0f a second, bare %,.0f%n", threads, one, other);
-                    }
-                }
-                System.out.printf("%d threads, medians: provider %,.0f, bare %,.0f, quotient %.2f%n", threads, median(provider), median(plain),
-                    median(provider) / median(plain));
+                compare(cache::get, new Bare(port, threads == 1), threads, millis, turns);
             }
         }
     }
