@@ -214,6 +214,32 @@ class ConnectionTest {
         }).join();
     }
 
+    @Test void anInterruptOfCallersThatWaitLosesNothing() throws Exception {
+        permits.drainPermits();
+        Team all = Team.of(3, t -> {
+            assertEquals(10L + t, echo(10L + t));
+            assertTrue(Thread.interrupted(), "the interrupt is kept for the caller");
+            assertEquals(20L + t, echo(20L + t));
+        });
+        await(() -> connection.pending() == 3, "not all calls are out");
+        await(() -> all.threads().stream().allMatch(it -> isIn(it, "await")), "not all callers wait");
+        all.threads().forEach(Thread::interrupt);
+        Thread.sleep(20);
+        assertEquals(3, connection.pending(), "an interrupt ends no call");
+        permits.release(100);
+        all.join();
+    }
+
+    @Test void aTimeoutEndsTheCallerThatReadsAndThoseThatWaitBesideIt() throws Exception {
+        connect("jentry.timeout", "500");
+        permits.drainPermits();
+        Team all = Team.of(4, t -> assertThrows(CallOutcomeUnknownException.class, () -> echo(t)));
+        all.join();
+        assertTrue(connection.isBroken());
+        assertEquals(0, connection.pending());
+        assertThrows(CallNotSentException.class, () -> echo(1));
+    }
+
     @Test void aLoneCallerWhoseReplyDoesntCome() throws Exception {
         connect("jentry.timeout", "200");
         permits.drainPermits();
