@@ -10,6 +10,7 @@ import java.nio.charset.StandardCharsets;
 import java.security.MessageDigest;
 import java.security.NoSuchAlgorithmException;
 import java.util.HexFormat;
+import java.util.List;
 import java.util.Map;
 import java.util.Properties;
 import java.util.Set;
@@ -23,6 +24,9 @@ import jentry.jcache.impl.Options;
  * this JVM while no other run is in progress.
  */
 final class StandInModule implements AutoCloseable {
+    /** The exceptions of processors, by the module's numbers from 1 on. */
+    private static final List<Class<?>> THROWN = List.of(ArithmeticException.class, ArrayIndexOutOfBoundsException.class, NullPointerException.class,
+        ClassCastException.class);
     private static final byte[] NULL = "$-1\r\n".getBytes(StandardCharsets.US_ASCII);
 
     private final String server;
@@ -261,8 +265,8 @@ final class StandInModule implements AutoCloseable {
         Object result;
         try {
             result = processor.process(entry, arguments);
-        } catch (ArithmeticException | NullPointerException e) {
-            return new Resp.Failure("THREW " + (e instanceof ArithmeticException ? 1 : 3) + " " + e.getClass().getSimpleName());
+        } catch (RuntimeException e) {
+            return new Resp.Failure("THREW " + (1 + THROWN.indexOf(e.getClass())) + " " + e.getClass().getSimpleName());
         }
         String effect = entry.effect();
         int time = effect.equals("keep") ? 3 : before == null ? 1 : 2;
