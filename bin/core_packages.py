@@ -1,16 +1,17 @@
 """The packages of the proved core for other programs: jentry-redis, the module of Redis, and libjentry-dev, the library for C."""
 import os
 
-from packing import cargo_variables, output_of, pack_deb, put, tool, write
+from packing import cargo_variables, output_of, pack_deb, put, put_legal, tool, write
 from shared import TOP, sum_of
 
 MODULE = "lib/redis/modules/jentry.so"
 """Where Debian has modules of Redis: systemd's ProtectHome keeps redis-server from files in home folders."""
 CONTROL = {
     "jentry-redis": """Package: jentry-redis
+Source: jentry
 Version: @VERSION@
 Architecture: amd64
-Maintainer: The jentry authors <jentry@localhost>
+Maintainer: @MAINTAINER@
 Installed-Size: @KILOBYTES@
 Depends: libc6 (>= 2.34), libgcc-s1 (>= 4.2)
 Recommends: redis-server (>= 5:7.0)
@@ -25,9 +26,10 @@ Description: module of Redis that runs verified entry processors
  /etc/redis/redis.conf loads it.
 """,
     "libjentry-dev": """Package: libjentry-dev
+Source: jentry
 Version: @VERSION@
 Architecture: amd64
-Maintainer: The jentry authors <jentry@localhost>
+Maintainer: @MAINTAINER@
 Installed-Size: @KILOBYTES@
 Depends: libc6 (>= 2.34)
 Suggests: gcc, pkg-config
@@ -65,6 +67,11 @@ def put_library(room, root, library):
     put(library, f"{folder}/libembed.a")
     words = ["make", "-s", "install", "EMBED=libembed.a", "PREFIX=/usr", f"DESTDIR={os.path.dirname(root)}"]
     output_of(*words, cwd=folder)
+    shared = f"{root}/lib/libjentry.so.0"
+    output_of("strip", "--strip-unneeded", shared)
+    os.chmod(shared, 0o644)
+    write(f"{os.path.dirname(root)}/DEBIAN/shlibs", "libjentry 0 libjentry-dev\n")
+    write(f"{os.path.dirname(root)}/DEBIAN/triggers", "activate-noawait ldconfig\n")
     put(f"{folder}/example.c", f"{root}/share/doc/libjentry-dev/example.c")
 
 
@@ -78,10 +85,9 @@ def make(room, library, said, folder):
     for name, fill in PUTS.items():
         tree = f"{room}/{name}"
         fill(room, f"{tree}/usr", library)
-        documents = f"{tree}/usr/share/doc/{name}"
-        put(f"{TOP}/packaging/copyright", f"{documents}/copyright")
+        put_legal(name, f"{tree}/usr", said["version"], said["seconds"])
         write(
-            f"{documents}/RELEASE",
+            f"{tree}/usr/share/doc/{name}/RELEASE",
             f"{name} {said['version']}\ncommit {said['commit']}\nkit {said['kit']}\nverdict {said['verdict']}\nlibembed.a sha256 {sum_of(library)}\n",
         )
         made.append(f"{folder}/{name}_{said['version']}_amd64.deb")

@@ -1,9 +1,13 @@
 """What bin/release makes its packages with: builds by cargo, files with fixed modes and dates, and Debian packages."""
+import gzip
+import hashlib
 import os
 import shutil
 import subprocess
+from datetime import datetime, timezone
+from email.utils import format_datetime
 
-from shared import TOP
+from shared import TOP, text_of
 
 COMPRESSION = 9
 
@@ -82,11 +86,59 @@ def settle(root, seconds):
         os.utime(at, (seconds, seconds))
 
 
+def put_packed(text, to):
+    """Writes a text, packed by gzip without a date."""
+    os.makedirs(os.path.dirname(to), exist_ok=True)
+    with open(to, "wb") as it, gzip.GzipFile("", "wb", COMPRESSION, it, 0) as packed:
+        packed.write(text.encode())
+
+
+def maintainer():
+    """Returns the name and the address that the packages give for questions."""
+    return text_of(f"{TOP}/packaging/maintainer").strip()
+
+
+def debian_changelog(version, seconds):
+    """Returns the changelog of a release of this Unix time in the form that Debian's tools read. What changed is in CHANGELOG.md."""
+    date = format_datetime(datetime.fromtimestamp(seconds, timezone.utc))
+    words = "  * The changes are in /usr/share/doc/jentry/CHANGELOG.md (package jentry)."
+    return f"jentry ({version}) unstable; urgency=medium\n\n{words}\n\n -- {maintainer()}  {date}\n"
+
+
+def put_manual(name, root, version, seconds):
+    """Puts packaging/NAME.1 into a tree, with the version and the date of the release."""
+    date = datetime.fromtimestamp(seconds, timezone.utc)
+    page = text_of(f"{TOP}/packaging/{name}.1").replace("@VERSION@", version).replace("@DATE@", f"{date:%Y-%m-%d}")
+    put_packed(page, f"{root}/share/man/man1/{name}.1.gz")
+
+
+def put_legal(name, root, version, seconds):
+    """Puts into a package's tree what Debian demands of each: the licences and a changelog, and what lintian reports for a reason."""
+    put(f"{TOP}/packaging/copyright", f"{root}/share/doc/{name}/copyright")
+    put_packed(debian_changelog(version, seconds), f"{root}/share/doc/{name}/changelog.gz")
+    overrides = f"{TOP}/packaging/{name}.lintian-overrides"
+    if os.path.exists(overrides):
+        put(overrides, f"{root}/share/lintian/overrides/{name}")
+
+
+def sums_of(tree):
+    """Returns the lines of DEBIAN/md5sums, by which `dpkg --verify` compares the files of a tree."""
+    lines = []
+    for at, _, names in os.walk(tree):
+        for path in (os.path.relpath(f"{at}/{name}", tree) for name in names):
+            if not path.startswith(("DEBIAN/", "etc/")) and not os.path.islink(f"{tree}/{path}"):
+                with open(f"{tree}/{path}", "rb") as it:
+                    lines.append(f"{hashlib.md5(it.read()).hexdigest()}  {path}\n")
+    return "".join(sorted(lines, key=lambda line: line[34:]))
+
+
 def pack_deb(tree, control, version, seconds, to):
     """Packs a tree with its folder usr/ into a Debian package with this control file."""
     size = sum(os.path.getsize(f"{at}/{name}") for at, _, names in os.walk(tree) for name in names)
-    control = control.replace("@VERSION@", version).replace("@KILOBYTES@", str(size // 1024 + 1))
+    for word, value in (("VERSION", version), ("KILOBYTES", str(size // 1024 + 1)), ("MAINTAINER", maintainer())):
+        control = control.replace(f"@{word}@", value)
     write(f"{tree}/DEBIAN/control", control)
+    write(f"{tree}/DEBIAN/md5sums", sums_of(tree))
     settle(tree, seconds)
     output_of(
         "dpkg-deb",

@@ -66,11 +66,18 @@ class CorePackages(unittest.TestCase):
         for path in self.made[0]:
             name = os.path.basename(path).split("_")[0]
             told = subprocess.run(["dpkg-deb", "-f", path], capture_output=True, text=True, check=True).stdout
-            self.assertIn(f"Package: {name}\nVersion: 1.2.3\n", told)
+            self.assertIn(f"Package: {name}\nSource: jentry\nVersion: 1.2.3\n", told)
             self.assertRegex(told, r"\nInstalled-Size: [1-9]\d*\n")
             with open(f"{self.root}/usr/share/doc/{name}/RELEASE", encoding="utf-8") as it:
                 self.assertIn(f"verdict NOT PROVED\nlibembed.a sha256 {sum_of(library())}\n", it.read())
             self.assertTrue(os.path.exists(f"{self.root}/usr/share/doc/{name}/copyright"))
+
+    @unittest.skipUnless(shutil.which("lintian"), "there is no lintian (apt-get install lintian)")
+    def test_lintian_reports_nothing(self):
+        for path in self.made[0]:
+            words = ["lintian", "--allow-root", "--fail-on", "none", path]
+            told = subprocess.run(words, stdout=subprocess.PIPE, stderr=subprocess.STDOUT, text=True, check=True)
+            self.assertEqual(told.stdout, "", path)
 
     @unittest.skipUnless(shutil.which("redis-server"), "there is no redis-server (apt-get install redis-server)")
     def test_a_server_loads_the_module_by_one_line(self):

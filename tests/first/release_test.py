@@ -7,24 +7,19 @@ import subprocess
 import tarfile
 import tempfile
 import unittest
-from datetime import datetime, timezone
 
+import released
 import tiny
+from packing import debian_changelog
+from released import VERSION, program
 from shared import load_script, sum_of, text_of
 
-VERSION = text_of(f"{tiny.TOP}/packaging/version").strip()
 NAMES = [f"jentry-{VERSION}+not.proved.tar.xz", f"jentry_{VERSION}+not.proved_amd64.deb"]
 PLUS = "result 42\nvalue 42\nsteps 14 words 0\n"
 NOTE = (
     "import sys; sys.path.insert(0, 'bin'); from shared import load_script; test = load_script('test'); "
     "test.note_passed(test.clean_commit(), '7 passed, 0 failed\\n')"
 )
-
-
-def program():
-    """Returns the built program that the tests run on, or None. A trial build isn't used: it is twenty times as large, and slow to pack."""
-    found = os.path.abspath(os.environ.get("JENTRY_PROGRAM", f"{tiny.TOP}/crates/jentry/out/jentry"))
-    return found if os.access(found, os.X_OK) and not os.environ.get("JENTRY_TRIAL") else None
 
 
 def commit(folder):
@@ -73,7 +68,7 @@ class Changelogs(unittest.TestCase):
         shutil.which("dpkg-parsechangelog"), "there is no dpkg-parsechangelog (apt-get install dpkg-dev)"
     )
     def test_debians_tools_read_the_changelog(self):
-        text = load_script("release").debian_changelog("1.2.3", datetime(2026, 11, 30, 8, 5, tzinfo=timezone.utc))
+        text = debian_changelog("1.2.3", 1_796_025_900)
         words = ["dpkg-parsechangelog", "-l-"]
         done = subprocess.run(words, input=text, stdout=subprocess.PIPE, stderr=subprocess.PIPE, text=True, check=True)
         self.assertEqual(done.stderr, "")
@@ -106,27 +101,11 @@ class Commands(unittest.TestCase):
                 self.assertEqual(tiny.run(room, command, *words), wanted, words)
 
 
-@unittest.skipUnless(program(), "there is no proved program to pack")
-@unittest.skipUnless(
-    shutil.which("javac") and shutil.which("cargo") and shutil.which("dpkg-deb"),
-    "it needs javac, cargo and dpkg-deb (apt-get install default-jdk-headless cargo dpkg)",
-)
-@unittest.skipUnless(tiny.has_front_crates(), "it needs the front's crates (clients/front/cargo packages lists them)")
+@released.NEEDED
 class Releases(unittest.TestCase):
     @classmethod
     def setUpClass(cls):
-        """Makes two releases of one commit, each in its own clone, with different umasks and time zones."""
-        cls.room = tempfile.TemporaryDirectory()
-        cls.addClassCleanup(cls.room.cleanup)
-        cls.folders = []
-        for name, mask, zone in (("one", "022", "UTC"), ("another/with/a/longer/path", "077", "Asia/Tokyo")):
-            folder = f"{cls.room.name}/{name}"
-            subprocess.run(["git", "clone", "-q", tiny.TOP, folder], check=True)
-            words = ["sh", "-c", f"umask {mask}; bin/release {VERSION} built"]
-            output, errors, status = tiny.run(folder, *words, JENTRY_NOT_PROVED=program(), TZ=zone)
-            assert status == 0, errors
-            assert output.splitlines()[-1] == f"- program sha256 {sum_of(program())}", output
-            cls.folders.append(f"{folder}/built")
+        cls.folders = released.folders()
 
     def test_two_folders_give_the_same_bytes(self):
         for folder in self.folders:
