@@ -1,7 +1,6 @@
 """bin/release: what it refuses, that all builds give the same bytes, and that the Debian package runs in an empty root."""
 import glob
 import os
-import re
 import shutil
 import subprocess
 import tarfile
@@ -151,25 +150,6 @@ class Releases(unittest.TestCase):
         self.assertIn("verdict NOT PROVED", printed)
         self.assertIn(f"lib/jentry/jentry sha256 {sum_of(program())}\n", printed)
         self.assertTrue(jar.startswith(b"PK"))
-
-    def test_the_package_creates_the_group_of_the_socket(self):
-        """The unit of the socket gives it to a group, which the package's script makes by systemd-sysusers."""
-        with tempfile.TemporaryDirectory() as room:
-            subprocess.run(["dpkg-deb", "-R", f"{self.folders[0]}/{NAMES[1]}", room], check=True)
-            unit = text_of(f"{room}/usr/lib/systemd/system/jentry-front.socket")
-            (group,) = re.findall(r"(?m)^SocketGroup=(.*)$", unit)
-            self.assertIn(f"g {group} -", text_of(f"{room}/usr/lib/sysusers.d/jentry-front.conf"))
-            tiny.write(f"{room}/bin/systemd-sysusers", '#!/bin/sh\necho "$@"\n')
-            os.chmod(f"{room}/bin/systemd-sysusers", 0o755)
-            ran = subprocess.run(
-                ["/bin/sh", f"{room}/DEBIAN/postinst", "configure"],
-                env={"PATH": f"{room}/bin"},
-                capture_output=True,
-                text=True,
-                check=True,
-            )
-            self.assertEqual(ran.stdout, "jentry-front.conf\n")
-            self.assertTrue(os.access(f"{room}/DEBIAN/postinst", os.X_OK))
 
     def test_the_tarball_runs_where_it_is_unpacked(self):
         with tempfile.TemporaryDirectory() as room:
