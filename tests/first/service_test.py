@@ -14,6 +14,8 @@ from shared import text_of
 SCRIPTS = ("postinst", "prerm", "postrm")
 SOCKET, SERVICE = "jentry-front.socket", "jentry-front.service"
 HELPERS = ("deb-systemd-helper", "deb-systemd-invoke", "systemd-sysusers")
+EXPOSURE = 1.2
+"""The most points that `systemd-analyze security` of systemd 252 may count."""
 TOOLS = ("systemctl", "getent", "groupadd", "useradd", "userdel", "groupdel")
 STAND_IN = """#!/bin/sh
 echo "${0##*/} $*" >>"$CALLS"
@@ -170,6 +172,22 @@ class Accounts(unittest.TestCase):
         for line in ("User=jentry", "Group=jentry", "LogsDirectory=jentry"):
             self.assertIn(f"\n{line}\n", service)
         self.assertIn("\nSocketGroup=jentry\n", socket)
+
+
+@unittest.skipUnless(shutil.which("systemd-analyze"), "there is no systemd-analyze (apt-get install systemd)")
+class Exposure(unittest.TestCase):
+    def test_systemd_counts_the_service_as_little_exposed(self):
+        """Of 10 points, from which each setting that is missing leaves its own."""
+        with tempfile.TemporaryDirectory() as room:
+            unit = re.sub(
+                r"/usr/local/bin/[\w-]+", shutil.which("true"), text_of(f"{tiny.TOP}/clients/front/{SERVICE}")
+            )
+            tiny.write(f"{room}/{SERVICE}", unit)
+            words = ["systemd-analyze", "security", "--offline=true", "--no-pager", f"{room}/{SERVICE}"]
+            output, errors, status = tiny.run(room, *words)
+            self.assertEqual((errors, status), ("", 0))
+            (points,) = re.findall(rf"Overall exposure level for {SERVICE}: ([\d.]+) ", output)
+            self.assertLessEqual(float(points), EXPOSURE)
 
 
 @released.NEEDED
