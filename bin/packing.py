@@ -4,12 +4,14 @@ import hashlib
 import os
 import shutil
 import subprocess
+import zipfile
 from datetime import datetime, timezone
 from email.utils import format_datetime
 
 from shared import TOP, text_of
 
 COMPRESSION = 9
+JAR_DATE = (1980, 1, 1, 0, 0, 0)
 
 
 class Refused(Exception):
@@ -86,6 +88,19 @@ def settle(root, seconds):
         os.utime(at, (seconds, seconds))
 
 
+def settle_jar(made, to):
+    """Copies a jar, with its files in order and with one date."""
+    os.makedirs(os.path.dirname(to), exist_ok=True)
+    with zipfile.ZipFile(made) as jar, zipfile.ZipFile(
+        to, "w", zipfile.ZIP_DEFLATED, compresslevel=COMPRESSION
+    ) as copy:
+        files = [name for name in jar.namelist() if not name.endswith("/")]
+        for name in sorted(files, key=lambda it: (not it.startswith("META-INF/MANIFEST.MF"), it)):
+            entry = zipfile.ZipInfo(name, JAR_DATE)
+            entry.compress_type, entry.external_attr = zipfile.ZIP_DEFLATED, 0o644 << 16
+            copy.writestr(entry, jar.read(name))
+
+
 def put_packed(text, to):
     """Writes a text, packed by gzip without a date."""
     os.makedirs(os.path.dirname(to), exist_ok=True)
@@ -114,7 +129,8 @@ def put_manual(name, root, version, seconds):
 
 def put_legal(name, root, version, seconds):
     """Puts into a package's tree what Debian demands of each: the licences and a changelog, and what lintian reports for a reason."""
-    put(f"{TOP}/packaging/copyright", f"{root}/share/doc/{name}/copyright")
+    own = f"{TOP}/packaging/{name}.copyright"
+    put(own if os.path.exists(own) else f"{TOP}/packaging/copyright", f"{root}/share/doc/{name}/copyright")
     put_packed(debian_changelog(version, seconds), f"{root}/share/doc/{name}/changelog.gz")
     overrides = f"{TOP}/packaging/{name}.lintian-overrides"
     if os.path.exists(overrides):

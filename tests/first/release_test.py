@@ -13,7 +13,11 @@ from packing import debian_changelog
 from released import VERSION, program
 from shared import load_script, sum_of, text_of
 
-NAMES = [f"jentry-{VERSION}+not.proved.tar.xz", f"jentry_{VERSION}+not.proved_amd64.deb"]
+NAMES = [
+    f"jentry-{VERSION}+not.proved.tar.xz",
+    f"jentry_{VERSION}+not.proved_amd64.deb",
+    f"jentry-compile_{VERSION}+not.proved_all.deb",
+]
 PLUS = "result 42\nvalue 42\nsteps 14 words 0\n"
 NOTE = (
     "import sys; sys.path.insert(0, 'bin'); from shared import load_script; test = load_script('test'); "
@@ -108,7 +112,7 @@ class Releases(unittest.TestCase):
 
     def test_two_folders_give_the_same_bytes(self):
         for folder in self.folders:
-            self.assertEqual(sorted(os.listdir(folder)), NAMES)
+            self.assertEqual(sorted(os.listdir(folder)), sorted(NAMES))
         for name in NAMES:
             self.assertEqual(*(sum_of(f"{folder}/{name}") for folder in self.folders), name)
 

@@ -29,6 +29,8 @@ def why_not():
         return "it needs javac, cargo and dpkg-deb (apt-get install default-jdk-headless cargo dpkg)"
     if not tiny.has_front_crates():
         return "it needs the front's crates (clients/front/cargo packages lists them)"
+    if not os.path.exists("/usr/share/java/asm-commons.jar"):
+        return "it needs ASM (apt-get install libasm-java)"
     return None
 
 

@@ -14,7 +14,7 @@ import jentry.compiler.profile.Problem;
 
 /** The command `jentry-compile`. */
 public final class Main {
-    private static final String VERSION = "jentry-compile 0.1.0";
+    private static final String VERSION = "jentry-compile 0.2.0";
     private static final int BAD_COMMAND = 1;
     private static final int REFUSED = 2;
     private static final int FAILED = 3;
