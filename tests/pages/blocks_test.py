@@ -1,6 +1,7 @@
 """The code blocks of README.md, CLIENTS, REDIS and OPERATIONS, pasted into a shell. Those that need the front are in
 clients/tests/front_pages_test.py, which has one."""
 import hashlib
+import os
 import shutil
 import unittest
 
@@ -81,6 +82,26 @@ class Blocks(Pasting):
     @unittest.skipUnless(PROGRAM, "there is no program (bin/build makes it)")
     def test_clients_starts_a_server_from_python(self):
         self.assertTrue(self.paste(block("docs/CLIENTS.md", 4)).endswith("41 False 29 {7: 42, 8: 1}\n"))
+
+    @unittest.skipUnless(shutil.which("dpkg-deb"), "it needs dpkg-deb (apt-get install dpkg)")
+    @unittest.skipUnless(shutil.which("systemd-sysusers"), "it needs systemd-sysusers (apt-get install systemd)")
+    def test_operations_installs_starts_and_removes_the_package(self):
+        """The package is empty, and what its script does for the first block, the user, is done before. tests/first/service_test.py has the rest."""
+        self.write(
+            "room/DEBIAN/control",
+            "Package: jentry\nVersion: 1\nArchitecture: amd64\nMaintainer: a <a@b.c>\nDescription: d\n",
+        )
+        os.chmod(f"{self.clone}/room/DEBIAN/control", 0o644)
+        told = self.paste(
+            "chmod 755 room/DEBIAN\ndpkg-deb --build room jentry_1_amd64.deb >/dev/null\nrm -r room\n",
+            "echo deploy:x:6390:6390::/:/bin/false >>/etc/passwd\n",
+            "systemd-sysusers $PWD/clients/front/jentry-front.sysusers 2>/dev/null\n",
+            *(block("docs/OPERATIONS.md", number) for number in (3, 4, 5)),
+            "getent group jentry\n",
+        )
+        unit = "clients/front/jentry-front.service"
+        lines = f"jentry\n{unit}\n{unit}\nremove jentry\npurge jentry\n"
+        self.assertRegex(told, rf"^{lines}jentry:x:\d+:deploy\n$")
 
 
 if __name__ == "__main__":

@@ -2,7 +2,8 @@
 
 The shell has namespaces of its own for mounts, the network and processes: a clone of this repository is its folder, /tmp, /run and /usr/local/bin
 are empty, /etc is a copy, all ports are free, and what a block starts ends with the shell. What takes an hour is replaced: in the clone the program
-is the one that is tested, or a stand-in. apt-get only looks whether the packages are installed, and systemctl has systemd read the units."""
+is the one that is tested, or a stand-in. apt-get only looks whether the packages are installed, or reads the file of a package, and systemctl has
+systemd read the units."""
 import os
 import re
 import shutil
@@ -27,6 +28,9 @@ PASTED = {
         "jentry-front --unix /run/jentry.sock --http 9464 jentry serve",
         "JENTRY_FRONT_OPTIONS=",
         "[Service]",
+        "apt-get install ./jentry_*_amd64.deb",
+        "systemctl enable --now jentry-front.service",
+        "apt-get remove jentry",
     ],
 }
 """What the blocks begin with that blocks_test.py here and clients/tests/front_pages_test.py paste."""
@@ -53,6 +57,10 @@ cd /mnt/jentry
 exec bash -es
 """
 APT_GET = f"""#!/bin/bash
+case $* in
+  'install ./'*.deb) dpkg-deb --field "$2" Package; exit ;;
+  'remove jentry' | 'purge jentry') echo "$*"; exit ;;
+esac
 [ "$1" = install ] || exit 1
 shift
 for package in "$@"; do
@@ -66,6 +74,7 @@ SYSTEMCTL = """#!/bin/bash
 case $* in
   daemon-reload) ;;
   'enable --now jentry-front.socket') systemd-analyze verify /etc/systemd/system/jentry-front.{socket,service} ;;
+  'enable --now '* | 'restart '*) grep -l '^WantedBy=' "clients/front/${*: -1}" ;;
   *) exit 1 ;;
 esac
 """
