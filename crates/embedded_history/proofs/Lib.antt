@@ -1,0 +1,4 @@
+pub mod Exact
+pub mod Runs
+pub mod Records
+pub mod ThreeTurns
