@@ -6,7 +6,8 @@ import unittest
 from commands_test import OneServer
 from servers import Server, wait_for
 
-KEYS = 1_000
+KEYS = 10_000
+"""With this number of keys a client's buffer of 16 KB, which Redis makes and frees by its own clock, is less than a twentieth of their memory."""
 SHARED = 2**31 - 1
 """The reference count of an integer that Redis shares."""
 CHECKS = 64
