@@ -1,0 +1,9 @@
+pub mod Sound
+pub mod Events
+pub mod Complete
+pub mod Local
+pub mod Numbers
+pub mod Caches
+pub mod OneStripe
+pub mod First
+pub mod Crossed

@@ -1,0 +1,4 @@
+pub mod OneByOne
+pub mod Settled
+pub mod Statements
+pub mod Example
