@@ -120,8 +120,8 @@ class NearTest extends WithStandInModule {
         near.get(1L);
         RedisSocket socket = new RedisSocket("127.0.0.1:" + module.port(), new Options(server.uri(""), new Properties()));
         open(socket::close);
-        Object id = socket.ask("JENTRY.DEFINE", Renewing.Add.class.getResourceAsStream("Renewing$Add.class").readAllBytes());
-        assertTrue(id instanceof byte[], String.valueOf(id));
+        byte[] file = Renewing.Add.class.getResourceAsStream("Renewing$Add.class").readAllBytes();
+        Object id = ((Object[]) socket.ask("JENTRY.DEFINE", file))[0];
         for (long i = 1; i <= 20; i++) {
             long wanted = 50_000 + i;
             assertTrue(socket.ask("JENTRY.APPLY", -2, -1, -1, "do", id, K + 1, 1) instanceof Object[]);

@@ -230,7 +230,7 @@ final class StandInModule implements AutoCloseable {
         try {
             String id = HexFormat.of().formatHex(MessageDigest.getInstance("SHA-1").digest(file));
             classes.put(id, new Loader().processor(file));
-            return id.getBytes(StandardCharsets.US_ASCII);
+            return new Object[] {id.getBytes(StandardCharsets.US_ASCII), 0L, 0L, 0L, 0L};
         } catch (NoSuchAlgorithmException | ReflectiveOperationException e) {
             throw new IllegalStateException(e);
         }
