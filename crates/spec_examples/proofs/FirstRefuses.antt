@@ -13,7 +13,7 @@ use Rattle.decode.specs.Code.{IsSequence, one, by_form, operands}
 use Rattle.decode.specs.Table.{form_at}
 use Rattle.decode.specs.Places.{CodeStands}
 use Rattle.verdict.specs.Shape.{is_constructor}
-use Rattle.verdict.specs.Verdict.{by_instructions}
+use Rattle.verdict.specs.Verdict.{InstructionsStand, by_instructions}
 use Rattle.verdict.proofs.Methods.{any_from}
 use Rattle.soundness.specs.Accepted.{small_pool}
 use Rattle.spec_examples.specs.Profiles.{RefusesSwitch, RefusesMoreSteps}
@@ -51,8 +51,11 @@ is_process : is_constructor small_pool switch_member ≡ false
 unfolding utf8_at
 is_process = refl
 
+pub switch_applies : InstructionsStand First small_pool switch_parts (OutsideProfile 0xAA)
+switch_applies = any_from _ switch_parts.methods 1 switch_member refl (is_process, (process_parts, are_good.1.0.has_code, code_stands))
+
 pub refuses_switch : RefusesSwitch
-refuses_switch = by_instructions small_pool switch_parts is_file has_shape (any_from _ switch_parts.methods 1 switch_member refl (is_process, (process_parts, are_good.1.0.has_code, code_stands)))
+refuses_switch = by_instructions small_pool switch_parts is_file has_shape switch_applies
 
 pub refuses_more_steps : RefusesMoreSteps
 refuses_more_steps c j b calm is are over = let path = are.steps in (calm, (j, is, (path.0, path.1, omega (arith, over, path.2))))

@@ -9,3 +9,7 @@ pub mod ChainShape
 pub mod ChainFile
 pub mod ChainLevels
 pub mod ChainVerdict
+pub mod HiddenRefused
+pub mod FlagRefused
+pub mod SwitchOnly
+pub mod Judged

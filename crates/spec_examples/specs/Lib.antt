@@ -11,4 +11,7 @@ pub mod ChainBytes
 pub mod Rows
 pub mod Judge
 pub mod Verdicts
+pub mod Hidden
+pub mod Flag
+pub mod Judged
 pub mod Chain

@@ -219,6 +219,3 @@ set_remove_unasked = refl
 pub ratio_loaded : outcome_by 30 (class_of ratio_bytes) (load.Value (pos 0)) (the_asking_call (pos 9) ([])) ≡ Some (final_by (load.Value (pos 0)) (Threw fault.Arithmetic) None 12)
 unfolding opened ratio_bytes
 ratio_loaded = refl
-
-abbrev pub checked : Unit {0}
-checked = tt

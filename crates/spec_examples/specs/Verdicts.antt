@@ -132,6 +132,3 @@ flag_verdict = refl
 pub flag_by_second : judge_by Second flag_bytes ≡ Refused (7 ∷ [])
 unfolding opened flag_bytes
 flag_by_second = refl
-
-abbrev pub judged : Unit {0}
-judged = tt

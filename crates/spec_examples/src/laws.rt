@@ -3,6 +3,7 @@
 ghost use Rattle.spec_examples.specs.Statements.{FitsAssignable, OneMeaning, OrderedEnds, PassedFits, RunsMean};
 ghost use Rattle.spec_examples.specs.Small.{GivesEntry};
 ghost use Rattle.spec_examples.specs.Profiles.{AcceptsSmall, RefusesSwitch, RefusesMoreSteps};
+ghost use Rattle.spec_examples.specs.Judged.{SmallIsJudged, HiddenIsJudged, FlagIsJudged, SwitchIsJudged};
 ghost use Rattle.spec_examples.specs.Chain.{IsChain, HasChainBounds, RefusesChain, AcceptsChain};
 
 /// The result of a run is the meaning of the call.
@@ -50,4 +51,14 @@ pub fn first_profile_refuses_a_chain()
     ensures bounds { HasChainBounds }
     ensures first { RefusesChain }
     ensures second { AcceptsChain }
+{}
+
+/// What the program `judge_by` computes for these classes is the verdict.
+/// Each profile accepts one of them, with its bounds, and refuses one by a single refusal; the first refuses another by a single one.
+/// The profiles before the third refuse one by a refusal that applies.
+pub fn small_classes_are_judged()
+    ensures accepted { SmallIsJudged }
+    ensures hidden { HiddenIsJudged }
+    ensures flag { FlagIsJudged }
+    ensures switch { SwitchIsJudged }
 {}
