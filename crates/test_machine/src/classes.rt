@@ -2,6 +2,7 @@
 
 mod linking;
 mod loading;
+mod registers;
 mod steps;
 mod whole;
 
