@@ -1,14 +1,22 @@
-//! What is known of values in a class with loops, as code; no other crate uses it yet.
+//! Nodes of a class with loops as data, and what instructions leave known there; no other crate uses it yet.
 #![tactic(auto)]
 
 mod arithmetic;
 mod comparisons;
+mod effects;
 mod known;
+mod node;
+mod operands;
 mod values;
 
-pub use arithmetic::{of_one, of_two};
+pub use arithmetic::{of_one, of_two, of_unknown};
 pub use comparisons::compared;
+pub use effects::{
+    call, create_array, forget_top, increment, measure, result_known, store, takes_two,
+};
 pub use known::{Known, Length};
+pub use node::{Following, Node, local, set_local};
+pub use operands::{drop_top, peek, pop, pop_known, push, replace};
 pub use values::{
     forgotten, incremented, is_wide, kept, known_pushed, length_known, loaded, new_array,
     unknown_of,
