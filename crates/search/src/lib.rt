@@ -2,14 +2,17 @@
 #![tactic(auto)]
 
 mod arithmetic;
+mod branches;
 mod comparisons;
 mod effects;
 mod known;
 mod node;
 mod operands;
+mod stack_forms;
 mod values;
 
 pub use arithmetic::{of_one, of_two, of_unknown};
+pub use branches::{decided, drop_tested};
 pub use comparisons::compared;
 pub use effects::{
     call, create_array, forget_top, increment, measure, result_known, store, takes_two,
@@ -17,6 +20,7 @@ pub use effects::{
 pub use known::{Known, Length};
 pub use node::{Following, Node, local, set_local};
 pub use operands::{drop_top, peek, pop, pop_known, push, replace};
+pub use stack_forms::rearrange;
 pub use values::{
     forgotten, incremented, is_wide, kept, known_pushed, length_known, loaded, new_array,
     unknown_of,
