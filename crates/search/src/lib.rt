@@ -4,7 +4,9 @@
 mod arithmetic;
 mod branches;
 mod comparisons;
+mod edges;
 mod effects;
+mod jumps;
 mod known;
 mod node;
 mod operands;
@@ -14,9 +16,11 @@ mod values;
 pub use arithmetic::{of_one, of_two, of_unknown};
 pub use branches::{decided, drop_tested};
 pub use comparisons::compared;
+pub use edges::step;
 pub use effects::{
     call, create_array, forget_top, increment, measure, result_known, store, takes_two,
 };
+pub use jumps::{add, add_target, branch, goto};
 pub use known::{Known, Length};
 pub use node::{Following, Node, local, set_local};
 pub use operands::{drop_top, peek, pop, pop_known, push, replace};

@@ -19,6 +19,13 @@ pub struct Node {
 }
 
 impl Node {
+    /// Returns a copy.
+    pub fn copy(&self, alloc: Global) -> Result<Node, AllocError>
+        ensures { IfOk result (λ y. node_seen y ≡ node_seen self.now) }
+    {
+        self.at(alloc, self.place)
+    }
+
     /// Returns a node at a pc with what is known at this one.
     pub fn at(&self, alloc: Global, place: usize) -> Result<Node, AllocError>
         ensures { IfOk result (λ y. node_seen y ≡ graph.at (node_seen self.now) place (operands_seen self.now.operands.items)) }
