@@ -3,7 +3,6 @@ use Rattle.std.specs.Prelude.{◌≡◌, ◌<ℤ◌, ◌^◌, ℕ, ℤ, pos, Boo
 use Rattle.classfile.specs.View.{ClassView}
 use Rattle.decode.specs.declared.instruction.Instruction.{Instruction}
 use Rattle.decode.specs.declared.instruction.Instruction.TheVariants as instruction
-use Rattle.decode.specs.declared.instruction.Cases.{Cases}
 use Rattle.decode.specs.Places.{targets_in}
 use Rattle.unrolled.specs.Graph.{Node, Following, at, edges}
 
@@ -24,6 +23,9 @@ IsAfter v f i x y = (next : ℕ) → edges v f x next i ≡ at y next y.operands
 abbrev pub IsPlace : ℤ → Type 0
 IsPlace target = target <ℤ pos (2 ^ 64)
 
--- whether all targets of a switch do
-abbrev pub ArePlaces : ℤ → Cases → Type 0
-ArePlaces default cases = All IsPlace (default ∷ targets_in cases)
+-- `HasPlaces i` holds if all branch targets of the instruction do
+abbrev pub HasPlaces : Instruction → Type 0
+HasPlaces (instruction.Branch test target) = IsPlace target
+HasPlaces (instruction.Goto target) = IsPlace target
+HasPlaces (instruction.Switch default cases) = IsPlace default × All IsPlace (targets_in cases)
+HasPlaces i = Unit {0}

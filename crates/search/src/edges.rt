@@ -1,23 +1,25 @@
 //! The edges of a node by its instruction (JVMS §6.5).
 
-ghost use Rattle.std.specs.Prelude.{◌≡◌, ◌∷◌, true, map, IfOk, option_copied};
+ghost use Rattle.std.specs.Prelude.{◌≡◌, [], ◌∷◌, true, map, IfOk, option_copied};
 ghost use Rattle.classfile.specs.View.{ClassView};
 ghost use Rattle.transfer.specs.Transfer.{IsCalleeOf};
 ghost use Rattle.jtypes.specs.Types as types;
 ghost use Rattle.unrolled.specs.Known as spec;
 ghost use Rattle.unrolled.specs.Graph as graph;
 ghost use Rattle.search.specs.Seen.{known_seen, locals_seen, operands_seen, node_seen, following_seen};
-ghost use Rattle.search.specs.After.{goes_on, IsAfter};
+ghost use Rattle.search.specs.After.{goes_on, HasPlaces, IsAfter};
 
 use crate::effects::{
     call, create_array, forget_top, increment, measure, result_known, store, takes_two,
 };
+use crate::jumps::{branch, goto};
 use crate::known::Known;
 use crate::node::{Following, Node, local};
 use crate::operands::{drop_top, push, replace};
 use crate::stack_forms::rearrange;
+use crate::switches::switch;
 use crate::values::{known_pushed, loaded, unknown_of};
-use decode::Instruction;
+use decode::{Instruction, Placed};
 use frames::Callee;
 use jtypes::{ArrayKind, JType, Kind, Operation};
 use std::alloc::{AllocError, Global};
@@ -91,5 +93,65 @@ pub fn step(
         | Instruction::Switch(..)
         | Instruction::Return(_)
         | Instruction::ReturnVoid => Ok(()),
+    }
+}
+
+/// Returns a list of one node.
+fn one(alloc: Global, x: Node) -> Result<Vec<Node>, AllocError>
+    ensures { IfOk result (λ ys. map node_seen ys.items ≡ node_seen x ∷ []) }
+{
+    let mut to = Vec::new(alloc);
+    to.push(x)?;
+    Ok(to)
+}
+
+/// Returns the node after an instruction from which control goes on at the next one alone.
+fn one_edge(
+    alloc: Global,
+    x: &Node,
+    f: &Following,
+    p: &Placed,
+    callee: Option<&Callee>,
+) -> Result<Vec<Node>, AllocError>
+    ensures { (v : ClassView) → IsCalleeOf v p.now.instruction (option_copied callee.entry) → goes_on p.now.instruction ≡ true → IfOk result (λ ys. map node_seen ys.items ≡ graph.edges v (following_seen f.now) (node_seen x.now) p.now.next p.now.instruction) }
+{
+    let mut y = x.copy(alloc)?;
+    step(alloc, &mut y, f, &p.instruction, callee)?;
+    y.place = p.next;
+    one(alloc, y)
+}
+
+/// Returns the nodes after an instruction in the same method, none after a return. `callee` is the method that a call resolves to.
+/// The only error is that of memory.
+pub fn next_nodes(
+    alloc: Global,
+    x: &Node,
+    f: &Following,
+    p: &Placed,
+    callee: Option<&Callee>,
+) -> Result<Vec<Node>, AllocError>
+    requires { HasPlaces p.now.instruction }
+    ensures { (v : ClassView) → IsCalleeOf v p.now.instruction (option_copied callee.entry) → IfOk result (λ ys. map node_seen ys.items ≡ graph.edges v (following_seen f.now) (node_seen x.now) p.now.next p.now.instruction) }
+{
+    match &p.instruction {
+        Instruction::Branch(test, target) => branch(alloc, x, p.next, *test, *target),
+        Instruction::Goto(target) => goto(alloc, x, *target),
+        Instruction::Switch(default, cases) => switch(alloc, x, *default, cases),
+        Instruction::Return(_) | Instruction::ReturnVoid => Ok(Vec::new(alloc)),
+        Instruction::Nop
+        | Instruction::Push(_)
+        | Instruction::Load(..)
+        | Instruction::Store(..)
+        | Instruction::Increment(..)
+        | Instruction::Operate(_)
+        | Instruction::Rearrange(_)
+        | Instruction::Invoke(..)
+        | Instruction::NewArray(_)
+        | Instruction::ArrayLoad(_)
+        | Instruction::ArrayStore(_)
+        | Instruction::ReferenceLoad
+        | Instruction::ArrayLength
+        | Instruction::CheckCast(_)
+        | Instruction::InstanceOf(_) => one_edge(alloc, x, f, p, callee),
     }
 }

@@ -40,7 +40,7 @@ pub fn increment(locals: &mut [Known], n: u16, by: i16)
 }
 
 /// Returns the int at index `i` from the top, if it is known.
-fn number_at(operands: &[Known], i: usize) -> Option<i32>
+pub fn number_at(operands: &[Known], i: usize) -> Option<i32>
     ensures { result ≡ number_of (slice_get (operands_seen operands.now) i) }
 {
     match peek(operands, i) {
