@@ -1,5 +1,5 @@
 -- The node after an instruction that has one edge, and the nodes after each instruction.
-use Rattle.std.specs.Prelude.{◌≡◌, ◌<ℤ◌, ◌^◌, ℕ, ℤ, pos, Bool, true, false, List, [], ◌∷◌, All}
+use Rattle.std.specs.Prelude.{◌≡◌, ◌<ℤ◌, ◌^◌, ℕ, ℤ, pos, Bool, true, false, [], ◌∷◌, All}
 use Rattle.classfile.specs.View.{ClassView}
 use Rattle.decode.specs.declared.instruction.Instruction.{Instruction}
 use Rattle.decode.specs.declared.instruction.Instruction.TheVariants as instruction

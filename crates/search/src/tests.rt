@@ -1,5 +1,13 @@
-use crate::{Known, Length, compared, incremented, length_known, new_array, of_one, of_two};
-use jtypes::{Binary, Comparison, Conversion, Division, Operation, Shift};
+ghost use Rattle.search.specs.After.{HasPlaces};
+
+use crate::{
+    Following, Known, Length, Node, compared, incremented, length_known, new_array, next_nodes,
+    of_one, of_two,
+};
+use decode::{Instruction, Placed};
+use jtypes::{Binary, Comparison, Conversion, Division, Operation, Shift, Test};
+use std::alloc::{AllocError, Global};
+use std::test::Fail;
 
 #[test]
 fn iinc_wraps(rt: HostRuntime) {
@@ -38,4 +46,55 @@ fn known_ints_are_computed(rt: HostRuntime) {
     let byte = Operation::Convert(Conversion::IntToByte);
     assert!(rt; of_one(byte, 200) == Known::Number(-56));
     assert!(rt; of_one(Operation::Convert(Conversion::IntToLong), 1) == Known::Wide);
+}
+
+/// The node before `if_icmpge 13` at pc 4 of `for (int i = 0; i < 2; i++) {}`, whose `i` is local variable 1.
+fn loop_test(alloc: Global, i: i32) -> Result<Node, AllocError> {
+    let known = Known::Number(i);
+    Ok(Node {
+        place: 4,
+        locals: Vec::from_slice(alloc, &[Known::Narrow, known])?,
+        operands: Vec::from_slice(alloc, &[known, Known::Number(2)])?,
+    })
+}
+
+fn places_after(alloc: Global, x: &Node, instruction: Instruction) -> Result<Vec<usize>, AllocError>
+    requires { HasPlaces instruction }
+{
+    let f = Following {
+        values: true,
+        ints: Vec::new(alloc),
+    };
+    let p = Placed {
+        place: 4,
+        next: 7,
+        instruction,
+    };
+    let mut places = Vec::new(alloc);
+    for y in &next_nodes(alloc, x, &f, &p, None)? {
+        places.push(y.place)?;
+    }
+    Ok(places)
+}
+
+#[test]
+fn a_known_counter_has_one_way(rt: HostRuntime) -> Result<(), Fail> {
+    let at_least = Test::OfInts(Comparison::GreaterOrEqual);
+    for (i, place) in [(0, 7), (1, 7), (2, 13)] {
+        let x = loop_test(rt.alloc(), i)?;
+        let places = places_after(rt.alloc(), &x, Instruction::Branch(at_least, 13))?;
+        assert!(rt; places.as_slice() == [place].as_slice());
+    }
+    Ok(())
+}
+
+#[test]
+fn an_unknown_reference_has_both_ways(rt: HostRuntime) -> Result<(), Fail> {
+    let mut x = loop_test(rt.alloc(), 0)?;
+    x.operands.push(Known::Narrow)?;
+    let places = places_after(rt.alloc(), &x, Instruction::Branch(Test::IsNull, 13))?;
+    assert!(rt; places.as_slice() == [7, 13].as_slice());
+    let places = places_after(rt.alloc(), &x, Instruction::ReturnVoid)?;
+    assert!(rt; places.is_empty());
+    Ok(())
 }
