@@ -56,7 +56,7 @@ public class Tables {
         }
     }
 
-    /** Two grids at once, made anew in each pass. */
+    /** Two grids at once, made again in each pass. */
     public static class Product implements EntryProcessor<Long, Long, Long> {
         @Override
         public Long process(MutableEntry<Long, Long> entry, Object... arguments) {

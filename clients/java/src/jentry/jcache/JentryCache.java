@@ -88,7 +88,7 @@ public final class JentryCache implements Cache<Long, Long> {
     }
 
     /**
-     * Reads a value like {@link #get} without blocking, unless a loader or an expiry policy of one's own is called.
+     * Reads a value like {@link #get} without blocking, unless a loader or a custom expiry policy is called.
      *
      * @return a future with the value or null, or with the exception that {@link #get} would throw
      * @throws java.util.concurrent.RejectedExecutionException if the queue of waiting calls is full ({@code
@@ -101,7 +101,7 @@ public final class JentryCache implements Cache<Long, Long> {
     }
 
     /**
-     * Puts a value like {@link #put} without blocking, unless a writer, a listener or an expiry policy of one's own is
+     * Puts a value like {@link #put} without blocking, unless a writer, a listener or a custom expiry policy is
      * called. Two calls on one key may be done in either order while both are in progress.
      *
      * @return a future that ends after the value was put, or with the exception that {@link #put} would throw

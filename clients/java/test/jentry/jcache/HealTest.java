@@ -25,7 +25,7 @@ import org.junit.jupiter.api.Tag;
 import org.junit.jupiter.api.Test;
 import org.junit.jupiter.api.Timeout;
 
-/** Tests that a stream that has ended is made anew by the next call, and that one log line says so. */
+/** Tests that a stream that has ended is replaced by the next call, and that one log line says so. */
 @Timeout(120)
 class HealTest {
     private static final Logger LOG = Logger.getLogger("jentry.jcache");

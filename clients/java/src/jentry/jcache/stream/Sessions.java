@@ -7,7 +7,7 @@ import jentry.jcache.CallNotSentException;
 import jentry.jcache.impl.ProcessorFile;
 
 /**
- * The stream of a cache. When it has ended, the next call makes it anew: a new child process, or a new connection to
+ * The stream of a cache. When it has ended, the next call replaces it: a new child process, or a new connection to
  * the front. The call defines its class there again.
  */
 final class Sessions {
@@ -38,7 +38,7 @@ final class Sessions {
         current = new Session(connector.connect());
     }
 
-    /** Returns the stream, which is made anew if the last one has ended. */
+    /** Returns the stream, a new one if the last one has ended. */
     Session current() {
         Session session = current;
         return session.line.isBroken() ? renewed(session) : session;

@@ -175,7 +175,7 @@ class ExpiryTest {
         soon(() -> !cache.containsKey(on.key(0)));
     }
 
-    /** A policy of one's own, which counts its calls. */
+    /** A custom policy, which counts its calls. */
     private static final class Policy implements ExpiryPolicy {
         private final Duration created;
         private final Duration updated;
