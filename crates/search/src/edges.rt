@@ -53,7 +53,8 @@ fn element_type(kind: ArrayKind) -> JType
 }
 
 /// Changes what is known at a node to what is known after its instruction, from which control goes on at the next one alone.
-/// `callee` is the method that a call resolves to. Other instructions, which `successors` covers, change nothing.
+/// `callee` is the method that a call resolves to. Other instructions, whose edges `next_nodes` has, change nothing.
+/// The only error is that of memory; what it leaves in `x` isn't said.
 #[tactic(auto, using(crate::proofs::NodeLists::matched))]
 pub fn step(
     alloc: Global,
