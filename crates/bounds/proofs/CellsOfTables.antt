@@ -109,6 +109,7 @@ module _ (c : Class) (t : Costs) (row : Typed) (m : Method) (own : own_slots m â
   words_are place (instruction.Switch z s) = refl
   words_are place (instruction.Return k) = refl
   words_are place instruction.ReturnVoid = refl
+  words_are place (instruction.Throw x text) = refl
   words_are place instruction.Nop = refl
   words_are place (instruction.Push x) = refl
   words_are place (instruction.Load k x) = refl
@@ -141,6 +142,7 @@ module _ (c : Class) (t : Costs) (row : Typed) (m : Method) (own : own_slots m â
       â†’ cell_by row p cells known i â‰¡ capped (cost_by c t m row.number p.place p i)
   row_is p (instruction.Return k) cells e next target call is = return_is row m own
   row_is p instruction.ReturnVoid cells e next target call is = return_is row m own
+  row_is p (instruction.Throw x text) cells e next target call is = return_is row m own
   row_is p (instruction.Goto z) cells e next target call is = one_is 0 0 (cell_at_target cells z) (t row.number (place_of z)) refl (target z (inl refl))
   row_is p (instruction.Branch a z) cells e next target call is = branch_is (cell_at cells p.next) (cell_at_target cells z) (t row.number p.next) (t row.number (place_of z)) (next refl) (target z (inl refl))
   row_is p (instruction.Switch z s) cells e next target call is =

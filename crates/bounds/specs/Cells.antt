@@ -2,7 +2,7 @@
 use Rattle.std.specs.Prelude.{ℕ, suc, ◌+◌, min, max, List, [], ◌∷◌, replicate, get_or, slice_set, Option, Some, None, ℤ, pos, negsuc}
 use Rattle.jtypes.specs.Values.{words_of}
 use Rattle.decode.specs.declared.instruction.Instruction.{Instruction}
-use Rattle.decode.specs.declared.instruction.Instruction.TheVariants.{NewArray, Branch, Goto, Switch, Return, ReturnVoid, Invoke}
+use Rattle.decode.specs.declared.instruction.Instruction.TheVariants.{NewArray, Branch, Goto, Switch, Return, ReturnVoid, Invoke, Throw}
 use Rattle.decode.specs.declared.instruction.Placed.{Placed}
 use Rattle.decode.specs.Places.{pushed_before, targets_in}
 use Rattle.typecheck.specs.Typing.{own_of}
@@ -50,7 +50,7 @@ call_before own callee k = record {
 abbrev pub slots_of : Typed → ℕ
 slots_of m = m.environment.max_locals + m.environment.max_stack
 
--- the cell of a return
+-- the cell of a return or a throw
 abbrev pub last_cell : Typed → Cell
 last_cell m = record { steps = 1; words = 0; slots = cut (slots_of m); depth = 1 }
 
@@ -92,6 +92,7 @@ cell_among cells (z ∷ targets) k = either (cell_at_target cells z) (cell_among
 abbrev pub cell_by : Typed → Placed → List Cell → List (Option Cell) → Instruction → Cell
 cell_by m p cells known (Return k) = last_cell m
 cell_by m p cells known ReturnVoid = last_cell m
+cell_by m p cells known (Throw e text) = last_cell m
 cell_by m p cells known (Goto target) = one_before 0 (cell_at_target cells target)
 cell_by m p cells known (Branch test target) = one_before 0 (either (cell_at_target cells target) (cell_at cells p.next))
 cell_by m p cells known (Switch default cases) = one_before 0 (cell_among cells (targets_in cases) (cell_at_target cells default))

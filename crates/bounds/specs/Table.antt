@@ -1,7 +1,7 @@
 -- The maximum costs of all paths, as a table with a cost for each pc.
 use Rattle.std.specs.Prelude.{◌≡◌, ℕ, Bool, List, [], ◌∷◌, ◌<◌, max, true, Option, Some, None, IsSome, slice_get, ℤ, pos, negsuc}
 use Rattle.decode.specs.declared.instruction.Instruction.{Instruction}
-use Rattle.decode.specs.declared.instruction.Instruction.TheVariants.{Branch, Goto, Switch, Return, ReturnVoid}
+use Rattle.decode.specs.declared.instruction.Instruction.TheVariants.{Branch, Goto, Switch, Return, ReturnVoid, Throw}
 use Rattle.decode.specs.declared.instruction.Placed.{Placed}
 use Rattle.decode.specs.Places.{IsTarget, targets_in, falls_through}
 use Rattle.typecheck.specs.Typing.{Method, Class, instruction_at, call_of}
@@ -34,6 +34,7 @@ cost_through t m j place p (Some k) = after_call m (t k 0) (t j p.next)
 abbrev pub cost_by : Class → Costs → Method → (j place : ℕ) → Placed → Instruction → Cost
 cost_by c t m j place p (Return k) = last_cost m
 cost_by c t m j place p ReturnVoid = last_cost m
+cost_by c t m j place p (Throw e text) = last_cost m
 cost_by c t m j place p (Goto target) = after_one 0 (t j (place_of target))
 cost_by c t m j place p (Branch test target) = greater (after_one 0 (t j p.next)) (after_one 0 (t j (place_of target)))
 cost_by c t m j place p (Switch default cases) = after_one 0 (cost_among t j (targets_in cases) (t j (place_of default)))

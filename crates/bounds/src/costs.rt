@@ -184,7 +184,7 @@ fn cost_of(method: &Typed, p: &Placed, costs: &[Cost], known: &[Option<Cost>]) -
     let slots = own_slots(method);
     let next = cost_at(costs, p.next);
     match p.instruction {
-        Instruction::Return(_) | Instruction::ReturnVoid => Cost {
+        Instruction::Return(_) | Instruction::ReturnVoid | Instruction::Throw(..) => Cost {
             steps: 1,
             words: 0,
             slots,

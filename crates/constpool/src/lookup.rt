@@ -2,11 +2,11 @@
 
 ghost use Rattle.std.specs.Prelude.{◌≡◌, option_map, is_some};
 ghost use Rattle.std.specs.Option.{option_copied};
-ghost use Rattle.constpool.specs.Lookup.{constant_at, utf8_at, integer_at, long_at, class_at, class_index_at, pair_at, pair_index_at, as_method, as_interface_method, member_of, method_at, interface_method_at, names_member, constant_refers};
+ghost use Rattle.constpool.specs.Lookup.{constant_at, utf8_at, integer_at, long_at, class_at, class_index_at, pair_at, pair_index_at, as_field, as_method, as_interface_method, member_of, field_at, method_at, interface_method_at, names_member, constant_refers};
 
 use crate::{Constant, Pool};
 
-/// A method reference of the pool: the names of the class and the method, and the descriptor (JVMS §4.4.2).
+/// A reference of the pool to a field or a method: the names of the class and the member, and the descriptor (JVMS §4.4.2).
 #[derive(Clone, Copy)]
 pub struct MemberRef<'a> {
     pub class: &'a [u8],
@@ -100,6 +100,17 @@ impl Pool {
             name,
             descriptor,
         })
+    }
+
+    /// Returns the names and the descriptor of the `Fieldref` constant at an index (JVMS §4.4.2).
+    #[tactic(auto, unfolding(crate::specs::Lookup::field_at))]
+    pub fn field(&self, i: u16) -> Option<MemberRef<'_>>
+        ensures { option_map (λ m. record { class = m.class.now; name = m.name.now; descriptor = m.descriptor.now }) result ≡ field_at self.now i }
+    {
+        match self.constant(i) {
+            Some(Constant::Fieldref(class, pair)) => self.member(*class, *pair),
+            _ => None,
+        }
     }
 
     /// Returns the names and the descriptor of the `Methodref` constant at an index (JVMS §4.4.2).

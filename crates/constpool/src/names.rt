@@ -1,7 +1,7 @@
 //! The names that a class file of the profile may use, in internal form (JVMS §4.2.1).
 
 ghost use Rattle.std.specs.Prelude.{◌≡◌};
-ghost use Rattle.constpool.specs.Names.{object_name, number_name, long_name, integer_name, boolean_name, void_name, math_name, mutable_entry_name, entry_processor_name, cache_entry_name, int_array_name, long_array_name, object_array_name, init_name, clinit_name, process_name, process_descriptor, code_name, stack_map_name};
+ghost use Rattle.constpool.specs.Names.{object_name, number_name, long_name, integer_name, boolean_name, void_name, arithmetic_name, entry_processor_exception_name, illegal_argument_name, illegal_state_name, unsupported_operation_name, math_name, mutable_entry_name, entry_processor_name, cache_entry_name, int_array_name, long_array_name, object_array_name, init_name, clinit_name, process_name, process_descriptor, code_name, stack_map_name};
 
 /// `java.lang.Object`
 pub const OBJECT: &[u8] = b"java/lang/Object";
@@ -15,6 +15,16 @@ pub const INTEGER: &[u8] = b"java/lang/Integer";
 pub const BOOLEAN: &[u8] = b"java/lang/Boolean";
 /// `java.lang.Void`
 pub const VOID: &[u8] = b"java/lang/Void";
+/// `java.lang.ArithmeticException`
+pub const ARITHMETIC: &[u8] = b"java/lang/ArithmeticException";
+/// `javax.cache.processor.EntryProcessorException`
+pub const ENTRY_PROCESSOR_EXCEPTION: &[u8] = b"javax/cache/processor/EntryProcessorException";
+/// `java.lang.IllegalArgumentException`
+pub const ILLEGAL_ARGUMENT: &[u8] = b"java/lang/IllegalArgumentException";
+/// `java.lang.IllegalStateException`
+pub const ILLEGAL_STATE: &[u8] = b"java/lang/IllegalStateException";
+/// `java.lang.UnsupportedOperationException`
+pub const UNSUPPORTED_OPERATION: &[u8] = b"java/lang/UnsupportedOperationException";
 /// `java.lang.Math`
 pub const MATH: &[u8] = b"java/lang/Math";
 /// `javax.cache.processor.MutableEntry`
@@ -51,6 +61,11 @@ pub fn are_spelled_so()
     ensures of_integer { INTEGER.now ≡ integer_name }
     ensures of_boolean { BOOLEAN.now ≡ boolean_name }
     ensures of_void { VOID.now ≡ void_name }
+    ensures of_arithmetic { ARITHMETIC.now ≡ arithmetic_name }
+    ensures of_entry_processor_exception { ENTRY_PROCESSOR_EXCEPTION.now ≡ entry_processor_exception_name }
+    ensures of_illegal_argument { ILLEGAL_ARGUMENT.now ≡ illegal_argument_name }
+    ensures of_illegal_state { ILLEGAL_STATE.now ≡ illegal_state_name }
+    ensures of_unsupported_operation { UNSUPPORTED_OPERATION.now ≡ unsupported_operation_name }
     ensures of_math { MATH.now ≡ math_name }
     ensures of_mutable_entry { MUTABLE_ENTRY.now ≡ mutable_entry_name }
     ensures of_entry_processor { ENTRY_PROCESSOR.now ≡ entry_processor_name }

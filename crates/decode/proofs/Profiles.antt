@@ -12,7 +12,7 @@ use Rattle.jtypes.specs.Profile.{Profile, First, Second, Third}
 use Rattle.decode.specs.declared.instruction.Form.{Form}
 use Rattle.decode.specs.declared.instruction.Instruction.{Instruction}
 use Rattle.decode.specs.declared.instruction.Placed.{Placed}
-use Rattle.decode.specs.Table.{table, form_in, form_at}
+use Rattle.decode.specs.Table.{table, added, form_in, form_at}
 use Rattle.decode.specs.Profiles.{IsNext}
 use Rattle.decode.specs.Code.{one, by_form, IsSequence, StopsWith}
 use Rattle.decode.proofs.Runs.{takes_one}
@@ -39,7 +39,15 @@ second_agrees opcode = go (eqb 0xAA opcode) refl (eqb 0xAB opcode) refl (eqb 0xC
 
 third_agrees : (opcode : ℕ) → Agrees Second Third opcode
 unfolding form_at Agrees
-third_agrees opcode = inl refl
+third_agrees opcode = go (eqb 0xB2 opcode) refl (eqb 0xBB opcode) refl
+  where
+    outside : (n : ℕ) → (form_in (added ++ table) n ≡ None) × (ltb n 0xCA ≡ true) → eqb n opcode ≡ true → Agrees Second Third opcode
+    outside n h e = inr (subst (λ (o : ℕ). (form_in (added ++ table) o ≡ None) × (ltb o 0xCA ≡ true)) (eqb-true n opcode e) h)
+
+    go : (a : Bool) → eqb 0xB2 opcode ≡ a → (b : Bool) → eqb 0xBB opcode ≡ b → Agrees Second Third opcode
+    go true e b f = outside 0xB2 (refl, refl) e
+    go false e true f = outside 0xBB (refl, refl) f
+    go false e false f = inl (rw (e, f) refl)
 
 agree : (p q : Profile) → IsNext p q → (opcode : ℕ) → Agrees p q opcode
 agree First Second is opcode = second_agrees opcode

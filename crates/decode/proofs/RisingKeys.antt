@@ -1,11 +1,12 @@
 -- The keys of each `lookupswitch` in a sequence of instructions are strictly increasing.
 use Rattle.std.proofs.Common.{ℕ, zero, suc, ◌+◌, ◌<◌, Bool, true, false, List, [], ◌∷◌, length, get_or, Option, Some, None, refl, sym, subst, arith}
 use Rattle.std.specs.Prelude.{IsTrue}
+use Rattle.jtypes.specs.declared.types.Exception.{Exception}
 use Rattle.jtypes.specs.Layout.{Layout, known, part_or, followed, judged, stopped, chosen, ended, needed, IsLaidOut}
 use Rattle.jtypes.specs.declared.refusal.Refusal.TheVariants.{BadOperand}
 use Rattle.jtypes.specs.Profile.{Profile, Third}
 use Rattle.constpool.specs.declared.constant.Constant.TheVariants as constant
-use Rattle.constpool.specs.Lookup.{Slot, constant_at}
+use Rattle.constpool.specs.Lookup.{Slot, constant_at, class_at, field_at}
 use Rattle.decode.specs.declared.instruction.Instruction.{Instruction}
 use Rattle.decode.specs.declared.instruction.Single.{Single}
 use Rattle.decode.specs.declared.instruction.Single.TheVariants as single
@@ -13,7 +14,7 @@ use Rattle.decode.specs.declared.instruction.Form.{Form}
 use Rattle.decode.specs.declared.instruction.Form.TheVariants as form
 use Rattle.decode.specs.declared.instruction.Placed.{Placed}
 use Rattle.decode.specs.Table.{instruction_of, form_at}
-use Rattle.decode.specs.Code.{keys_rise, int_constant, long_constant, array_of_code, widened, operands, by_form, one, IsSequence}
+use Rattle.decode.specs.Code.{keys_rise, int_constant, long_constant, array_of_code, widened, operands, by_form, one, IsSequence, boolean_constant, static_constant, exception_of, thrown_if, made_and_thrown, thrown_with, thrown_by}
 use Rattle.decode.specs.Places.{has_rising_keys}
 use Rattle.decode.specs.Reading.{HaveRisingKeys}
 
@@ -78,6 +79,28 @@ wide_rises opcode (Some form.Increment) = λ x t h y u k. refl
 wide_rises opcode (Some f) = tt
 wide_rises opcode None = tt
 
+static_rises : (opcode : ℕ) (b : Option Bool) → AllAre (static_constant opcode b) Rises
+unfolding static_constant
+static_rises opcode None = tt
+static_rises opcode (Some b) = refl
+
+if_rises : (opcode text : ℕ) (e : Option Exception) → AllAre (thrown_if opcode text e) Rises
+unfolding thrown_if
+if_rises opcode text None = tt
+if_rises opcode text (Some e) = refl
+
+made_rises : (pool : List Slot) (opcode class text : ℕ) → AllAre (made_and_thrown pool opcode class text) Rises
+unfolding made_and_thrown
+made_rises pool opcode class text = λ m t h l t1 h1 u t2 h2. if_rises opcode text (exception_of (class_at pool class))
+
+text_rises : (pool : List Slot) (opcode class text : ℕ) → AllAre (thrown_with pool opcode class text) Rises
+unfolding thrown_with
+text_rises pool opcode class text = λ c t h u t1 h1. made_rises pool opcode class text
+
+thrown_rises : (pool : List Slot) (opcode class next : ℕ) → AllAre (thrown_by pool opcode class next) Rises
+unfolding thrown_by
+thrown_rises pool opcode class next = (made_rises pool opcode class 0, (λ t x h. text_rises pool opcode class t, (λ t x h. text_rises pool opcode class t, tt)))
+
 -- the test of `needed` is true if some text has the layout
 holds : (b : Bool) (text : List ℕ) (u : Unit {0}) → IsLaidOut (needed BadOperand b) text u → IsTrue b
 holds true text u h = refl
@@ -105,6 +128,8 @@ operands_rise pool at opcode form.InvokeInterface = λ i t h n t1 h1 z t2 h2 u t
 operands_rise pool at opcode form.NewArray = λ code t h. array_rises opcode code
 operands_rise pool at opcode form.CheckCast = λ i t h u t1 h1. refl
 operands_rise pool at opcode form.InstanceOf = λ i t h u t1 h1. refl
+operands_rise pool at opcode form.StaticField = λ i t h u t1 h1. static_rises opcode (boolean_constant (field_at pool i))
+operands_rise pool at opcode form.Throw = λ i t h u t1 h1 d t2 h2 v t3 h3 n t4 h4. thrown_rises pool opcode i n
 
 form_rises : (pool : List Slot) (at opcode : ℕ) (f : Option Form) → AllAre (by_form pool at opcode f) Rises
 unfolding by_form

@@ -3,12 +3,13 @@ use Rattle.std.specs.Int.{int_gap}
 use Rattle.std.proofs.Common.{zero, suc, pos, Bool, if◌then◌else◌, ◌≡◌, ℕ, true, false, List, Option, Some, None, inl, inr}
 use Rattle.jtypes.specs.declared.refusal.Refusal.{Refusal}
 use Rattle.jtypes.specs.declared.refusal.Refusal.TheVariants.{UnknownMember, OutsideProfile, BadOperand, TrailingBytes}
+use Rattle.jtypes.specs.declared.types.Exception.{Exception}
 use Rattle.jtypes.specs.Layout.{Layout, known, part_or, followed, judged, stopped, chosen, ended, operand, many, Stands}
 use Rattle.constpool.specs.declared.constant.Constant.TheVariants as constant
-use Rattle.constpool.specs.Lookup.{Slot, constant_at}
+use Rattle.constpool.specs.Lookup.{Slot, constant_at, class_at, field_at}
 use Rattle.decode.specs.declared.instruction.Form.{Form}
 use Rattle.decode.specs.declared.instruction.Form.TheVariants as form
-use Rattle.decode.specs.Code.{one, by_form, operands, signed_byte, signed_short, signed_word, far_target, switch_case, keys_between, is_wide_elsewhere, refused_wide, widened, int_constant, long_constant, array_of_code}
+use Rattle.decode.specs.Code.{one, by_form, operands, signed_byte, signed_short, signed_word, far_target, switch_case, keys_between, is_wide_elsewhere, refused_wide, widened, int_constant, long_constant, array_of_code, boolean_constant, static_constant, exception_of, thrown_if, made_and_thrown, thrown_with, thrown_by}
 use Rattle.decode.specs.Places.{CodeStands}
 use Rattle.decode.specs.Table.{form_at}
 use Rattle.jtypes.specs.Profile.{Profile, Third}
@@ -84,6 +85,29 @@ wide_never opcode (Some form.Increment) = (number_never 2, λ n. ((number_never 
 wide_never opcode (Some f) = refused_never opcode
 wide_never opcode None = refused_never opcode
 
+static_never : (opcode : ℕ) (b : Option Bool) → IsNever UnknownMember (static_constant opcode b)
+unfolding static_constant
+static_never opcode None = λ e. cc e
+static_never opcode (Some b) = tt
+
+if_never : (opcode text : ℕ) (e : Option Exception) → IsNever UnknownMember (thrown_if opcode text e)
+unfolding thrown_if
+if_never opcode text None = λ e. cc e
+if_never opcode text (Some e) = tt
+
+made_never : (pool : List Slot) (opcode class text : ℕ) → IsNever UnknownMember (made_and_thrown pool opcode class text)
+unfolding made_and_thrown
+made_never pool opcode class text = (number_never 2, λ m. (number_never 1, λ l. ((tt, λ e. cc e), λ u. if_never opcode text (exception_of (class_at pool class)))))
+
+text_never : (pool : List Slot) (opcode class text : ℕ) → IsNever UnknownMember (thrown_with pool opcode class text)
+unfolding thrown_with
+text_never pool opcode class text = (number_never 1, λ c. ((tt, λ e. cc e), λ u. made_never pool opcode class text))
+
+thrown_never : (pool : List Slot) (opcode class next : ℕ) → IsNever UnknownMember (thrown_by pool opcode class next)
+unfolding thrown_by
+thrown_never pool opcode class next =
+    (made_never pool opcode class 0, ((number_never 1, λ t. text_never pool opcode class t), ((number_never 2, λ t. text_never pool opcode class t), λ e. cc e)))
+
 operands_never : (pool : List Slot) (at opcode : ℕ) (f : Form) → IsNever UnknownMember (operands pool at opcode f)
 unfolding operands signed_byte signed_short signed_word array_of_code
 operands_never pool at opcode (form.Alone i) = tt
@@ -108,6 +132,8 @@ operands_never pool at opcode form.InvokeInterface = (number_never 2, λ i. (num
 operands_never pool at opcode form.NewArray = (number_never 1, λ code. (tt, (tt, ((λ e. cc e), λ e. cc e))))
 operands_never pool at opcode form.CheckCast = (number_never 2, λ i. ((tt, λ e. cc e), λ x. tt))
 operands_never pool at opcode form.InstanceOf = (number_never 2, λ i. ((tt, λ e. cc e), λ x. tt))
+operands_never pool at opcode form.StaticField = (number_never 2, λ i. ((tt, λ e. cc e), λ u. static_never opcode (boolean_constant (field_at pool i))))
+operands_never pool at opcode form.Throw = (number_never 2, λ i. ((tt, λ e. cc e), λ u. (number_never 1, λ d. ((tt, λ e. cc e), λ v. (number_never 1, λ n. thrown_never pool opcode i n)))))
 
 form_never : (pool : List Slot) (at opcode : ℕ) (f : Option Form) → IsNever UnknownMember (by_form pool at opcode f)
 unfolding by_form

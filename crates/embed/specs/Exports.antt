@@ -6,7 +6,7 @@ use Rattle.embedded.specs.declared.numbers.VerdictNumbers.{VerdictNumbers}
 use Rattle.embedded.specs.declared.numbers.ArgNumbers.{ArgNumbers}
 use Rattle.embedded.specs.declared.numbers.CallNumbers.{CallNumbers}
 use Rattle.embedded.specs.declared.numbers.DoneNumbers.{DoneNumbers}
-use Rattle.embedded.specs.Classes.{Classes, class_at}
+use Rattle.embedded.specs.Classes.{Classes, class_at, text_at}
 use Rattle.embedded.specs.Numbers.{refused_in, not_run}
 use Rattle.embedded.specs.Answers.{IsVerdict, IsAnswer}
 use Rattle.embed.specs.declared.handle.Handle.{Handle}
@@ -18,6 +18,11 @@ engine_where false classes = None
 -- The classes of a handle's engine if the handle is open.
 abbrev pub engine_of : Handle → Option Classes
 engine_of h = engine_where h.is_open h.engine
+
+-- The text at an index of the constant pool of the class with a number, if there is an engine that has one.
+abbrev pub engine_text : Option Classes → ℕ → ℕ → Option (List ℕ)
+engine_text (Some classes) number index = text_at classes number index
+engine_text None number index = None
 
 -- `IsOpened` holds if an engine without classes is made (0), there is no memory for it (1), or there is one already (2).
 abbrev pub IsOpened : Option Classes → ℕ → Option Classes → Type 0

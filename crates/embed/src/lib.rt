@@ -4,13 +4,14 @@
 ghost use Rattle.std.specs.Prelude.{◌≡◌, [], None, IfOk};
 ghost use Rattle.sha1.specs.Sha1.{sha1};
 ghost use Rattle.explain_text.specs.Texts.{IsWritten};
-ghost use Rattle.embed.specs.Exports.{engine_of, IsOpened, IsJudged, IsForgotten, IsRun};
+ghost use Rattle.embedded.specs.Texts.{IsCopied};
+ghost use Rattle.embed.specs.Exports.{engine_of, engine_text, IsOpened, IsJudged, IsForgotten, IsRun};
 
 mod handle;
 
 use embedded::{
     ArgNumbers, CallNumbers, DoneNumbers, Engine, NO_CLASS, VerdictNumbers, define, invoke,
-    not_run, refused,
+    not_run, refused, write_text,
 };
 use explain_text::write_explanation;
 pub use handle::Handle;
@@ -121,4 +122,27 @@ pub extern "C" fn jentry_explain(alloc: Global, bytes: &[u8], text: &mut [u8]) -
     ensures { IsWritten bytes.now text.old result text.new }
 {
     write_explanation(alloc, bytes, text)
+}
+
+/// Writes the text of the `String` constant at an index of a class's constant pool to `text`, in modified UTF-8 and cut to its length.
+/// Returns the length of the whole text in bytes, or 0 if there is no such class or constant. A handle that isn't open has no class.
+#[unsafe(no_mangle)]
+pub extern "C" fn jentry_text(
+    alloc: Global,
+    handle: &mut Handle,
+    number: u32,
+    index: u32,
+    text: &mut [u8],
+) -> usize
+    ensures written { IsCopied (engine_text (engine_of handle.old) number index) text.old result text.new }
+    ensures kept { engine_of handle.new ≡ engine_of handle.old }
+{
+    match handle.out(alloc) {
+        Some(engine) => {
+            let length = write_text(&engine, number, index, text);
+            handle.put(engine);
+            length
+        }
+        None => 0,
+    }
 }

@@ -1,3 +1,4 @@
 pub mod Lookups
 pub mod Reading
 pub mod Ends
+pub mod Copying

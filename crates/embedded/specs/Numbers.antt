@@ -7,6 +7,8 @@ use Rattle.jtypes.specs.Refusals.{number, detail, fault_number}
 use Rattle.jtypes.specs.declared.refusal.Refusal.{Refusal}
 use Rattle.jtypes.specs.declared.types.Arg.{Arg}
 use Rattle.jtypes.specs.declared.types.Arg.TheVariants.{Null, Long, Integer, Boolean}
+use Rattle.jtypes.specs.declared.types.JavaFault.{JavaFault}
+use Rattle.jtypes.specs.declared.types.JavaFault.TheVariants.{Thrown}
 use Rattle.jtypes.specs.declared.types.Outcome.{Outcome}
 use Rattle.jtypes.specs.declared.types.Outcome.TheVariants.{Returned, Threw}
 use Rattle.jtypes.specs.declared.types.Effect.{Effect}
@@ -61,13 +63,19 @@ invocation_in c args = record { key = c.key; args = args; before = before_in c; 
 
 -- ---- an end
 
-abbrev pub outcome_in : Outcome → ℕ × ℤ
-outcome_in (Returned Null) = (0, pos 0)
-outcome_in (Returned (Long x)) = (1, x)
-outcome_in (Returned (Integer x)) = (2, x)
-outcome_in (Returned (Boolean false)) = (7, pos 0)
-outcome_in (Returned (Boolean true)) = (7, pos 1)
-outcome_in (Threw fault) = (3, pos (fault_number fault))
+-- The text of an exception that the processor throws itself: its index in the constant pool, or -1 without one. 0 for any other exception.
+abbrev pub text_in : JavaFault → ℤ
+text_in (Thrown e text) = if text == 0 then negsuc 0 else pos text
+text_in fault = pos 0
+
+-- The kind of an outcome, its value, and the text of an exception.
+abbrev pub outcome_in : Outcome → ℕ × ℤ × ℤ
+outcome_in (Returned Null) = (0, pos 0, pos 0)
+outcome_in (Returned (Long x)) = (1, x, pos 0)
+outcome_in (Returned (Integer x)) = (2, x, pos 0)
+outcome_in (Returned (Boolean false)) = (7, pos 0, pos 0)
+outcome_in (Returned (Boolean true)) = (7, pos 1, pos 0)
+outcome_in (Threw fault) = (3, pos (fault_number fault), text_in fault)
 
 abbrev pub effect_in : Effect → ℕ × ℤ
 effect_in Keep = (0, pos 0)
@@ -82,8 +90,8 @@ left_in false None = 2
 
 -- The end of a run on this entry.
 abbrev pub done_in : Entry → Done → DoneNumbers
-done_in before d = record { outcome = (outcome_in d.outcome).0; effect = (effect_in d.effect).0; value = (outcome_in d.outcome).1; put = (effect_in d.effect).1; steps = d.steps; words = d.words; left = left_in d.untouched (after_effect d.effect before); unused = 0 }
+done_in before d = record { outcome = (outcome_in d.outcome).0; effect = (effect_in d.effect).0; value = (outcome_in d.outcome).1; put = (effect_in d.effect).1; steps = d.steps; words = d.words; left = left_in d.untouched (after_effect d.effect before); text = (outcome_in d.outcome).2 }
 
 -- The end of a call that was not run, with the reason as its outcome.
 abbrev pub not_run : ℕ → DoneNumbers
-not_run reason = record { outcome = reason; effect = 0; value = pos 0; put = pos 0; steps = 0; words = 0; left = 0; unused = 0 }
+not_run reason = record { outcome = reason; effect = 0; value = pos 0; put = pos 0; steps = 0; words = 0; left = 0; text = pos 0 }

@@ -2,8 +2,9 @@
 
 ghost use Rattle.std.specs.Prelude.{◌≡◌, nat_le};
 ghost use Rattle.sha1.specs.Sha1.{sha1};
-ghost use Rattle.embedded.specs.Classes.{class_at};
+ghost use Rattle.embedded.specs.Classes.{class_at, text_at};
 ghost use Rattle.embedded.specs.Answers.{IsVerdict, IsAnswer, reason_of};
+ghost use Rattle.embedded.specs.Texts.{IsCopied};
 
 use crate::args::args_of;
 use crate::engine::Engine;
@@ -50,5 +51,20 @@ pub fn invoke(engine: &mut Engine, call: &CallNumbers, args: &[ArgNumbers]) -> D
             None => not_run(NO_CLASS),
         },
         None => not_run(reason(engine, call.number, args.len())),
+    }
+}
+
+/// Writes the text of the `String` constant at an index of the constant pool of the class with a number to `room`, cut to its length.
+/// Returns the length of the whole text in bytes, or 0 if there is no such class or constant.
+pub fn write_text(engine: &Engine, number: u32, index: u32, room: &mut [u8]) -> usize
+    ensures { IsCopied (text_at engine.now number index) room.old result room.new }
+{
+    match engine.text(number, index) {
+        Some(whole) => {
+            let count = whole.len().min(room.len());
+            room[..count].copy_from_slice(&whole[..count]);
+            whole.len()
+        }
+        None => 0,
     }
 }

@@ -38,7 +38,8 @@ impl Engine {
     ghost use Rattle.typecheck.specs.Typing.{Class};
     ghost use Rattle.verdict.specs.Verdict.{IsRefused};
     ghost use Rattle.ended.specs.Ended.{IsMeant};
-    ghost use Rattle.embedded.specs.Classes.{class_at, IsDefined};
+    ghost use Rattle.std.specs.Option.{option_copied};
+    ghost use Rattle.embedded.specs.Classes.{class_at, text_at, IsDefined};
 
     /// Returns an engine without classes, or an error if memory is exhausted.
     pub fn new(alloc: Global) -> Result<Engine, AllocError>
@@ -107,5 +108,17 @@ impl Engine {
     {
         let class = self.classes.get(number as usize)?.as_ref()?;
         Some(run(class, key, before, args, &mut self.workspace, &NoLoader))
+    }
+
+    /// Returns the text of the `String` constant at an index of the constant pool of the class with a number, in modified UTF-8
+    /// (JVMS §4.4.7), or `None` if there is no such class or constant.
+    pub fn text(&self, number: u32, index: u32) -> Option<&[u8]>
+        ensures { option_copied result ≡ text_at self.now number index }
+    {
+        let class = self.classes.get(number as usize)?.as_ref()?;
+        match u16::try_from(index) {
+            Ok(index) => class.text(index),
+            Err(_) => None,
+        }
     }
 }

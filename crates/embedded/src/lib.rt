@@ -6,7 +6,7 @@ mod args;
 mod engine;
 mod numbers;
 
-pub use answers::{define, invoke};
+pub use answers::{define, invoke, write_text};
 pub use args::args_of;
 pub use engine::{Defined, Engine};
 pub use numbers::{

@@ -3,10 +3,10 @@
 ghost use Rattle.std.specs.Prelude.{◌≡◌};
 ghost use Rattle.sha1.specs.Sha1.{sha1};
 ghost use Rattle.jtypes.specs.Entry.{after_effect};
-ghost use Rattle.embedded.specs.Numbers.{accepted_in, refused_in, outcome_in, effect_in, left_in, done_in, before_in, not_run};
+ghost use Rattle.embedded.specs.Numbers.{accepted_in, refused_in, outcome_in, effect_in, text_in, left_in, done_in, before_in, not_run};
 
 use crate::engine::Defined;
-use jtypes::{Arg, Effect, Outcome, Refusal};
+use jtypes::{Arg, Effect, JavaFault, Outcome, Refusal};
 use machine::Done;
 use sha1::Sha1;
 
@@ -53,9 +53,12 @@ pub struct CallNumbers {
 }
 
 /// The end of a call.
-/// The outcome is null (0), a Long (1), an Integer (2), an exception (3, with its number as `value`), or why nothing was run (4 to 6).
+/// The outcome is null (0), a Long (1), an Integer (2), a Boolean (7), an exception (3, with its number as `value`),
+/// or why nothing was run (4 to 6).
 /// The effect is to keep (0), put (1) or delete (2) the entry; `put` is the value that is put.
 /// `left` is how the entry is left: untouched (0), set (1) or removed (2). A set of the value that was there has the effect to keep.
+/// `text` is 0 unless the processor threw the exception itself. Then it is the index of the exception's text in the class's constant pool,
+/// or -1 without a text.
 #[repr(C)]
 #[derive(Clone, Copy, Debug, PartialEq, Eq)]
 pub struct DoneNumbers {
@@ -66,7 +69,7 @@ pub struct DoneNumbers {
     pub steps: u32,
     pub words: u32,
     pub left: u32,
-    pub unused: u32,
+    pub text: i32,
 }
 
 /// Returns the verdict on an accepted class.
@@ -113,16 +116,27 @@ pub(crate) fn before_of(call: &CallNumbers) -> Option<i64>
     }
 }
 
-/// Returns the number of an outcome, and its value.
-fn outcome_numbers(outcome: Outcome) -> (u32, i64)
+/// Returns the text of an exception that the processor throws itself: its index, or -1 without one. Returns 0 for any other exception.
+fn text_number(fault: JavaFault) -> i32
+    ensures { result ≡ text_in fault }
+{
+    match fault {
+        JavaFault::Thrown(_, 0) => -1,
+        JavaFault::Thrown(_, text) => i32::from(text),
+        _ => 0,
+    }
+}
+
+/// Returns the number of an outcome, its value, and the text of an exception.
+fn outcome_numbers(outcome: Outcome) -> (u32, i64, i32)
     ensures { result ≡ outcome_in outcome }
 {
     match outcome {
-        Outcome::Returned(Arg::Null) => (0, 0),
-        Outcome::Returned(Arg::Long(value)) => (1, value),
-        Outcome::Returned(Arg::Integer(value)) => (2, i64::from(value)),
-        Outcome::Returned(Arg::Boolean(value)) => (7, i64::from(value)),
-        Outcome::Threw(fault) => (3, i64::from(fault.number())),
+        Outcome::Returned(Arg::Null) => (0, 0, 0),
+        Outcome::Returned(Arg::Long(value)) => (1, value, 0),
+        Outcome::Returned(Arg::Integer(value)) => (2, i64::from(value), 0),
+        Outcome::Returned(Arg::Boolean(value)) => (7, i64::from(value), 0),
+        Outcome::Threw(fault) => (3, i64::from(fault.number()), text_number(fault)),
     }
 }
 
@@ -154,7 +168,7 @@ fn left_numbers(done: &Done, before: Option<i64>) -> u32
 pub(crate) fn done_numbers(done: Done, before: Option<i64>) -> DoneNumbers
     ensures { result ≡ done_in before done }
 {
-    let (outcome, value) = outcome_numbers(done.outcome);
+    let (outcome, value, text) = outcome_numbers(done.outcome);
     let (effect, put) = effect_numbers(done.effect);
     DoneNumbers {
         outcome,
@@ -164,7 +178,7 @@ pub(crate) fn done_numbers(done: Done, before: Option<i64>) -> DoneNumbers
         steps: done.steps,
         words: done.words,
         left: left_numbers(&done, before),
-        unused: 0,
+        text,
     }
 }
 
@@ -180,6 +194,6 @@ pub fn not_run(reason: u32) -> DoneNumbers
         steps: 0,
         words: 0,
         left: 0,
-        unused: 0,
+        text: 0,
     }
 }

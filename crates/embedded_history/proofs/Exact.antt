@@ -1,17 +1,21 @@
 -- Outcomes and effects are determined by their numbers.
-use Rattle.std.proofs.Common.{◌≡◌, ℕ, ◌==◌, ℤ, pos, Bool, true, false, if◌then◌else◌, Some, None, refl, sym, ap, ◌∙◌}
+use Rattle.std.proofs.Common.{◌≡◌, ℕ, zero, suc, ◌==◌, ℤ, pos, negsuc, Bool, true, false, if◌then◌else◌, Some, None, refl, sym, ap, ◌∙◌}
+use Rattle.std.proofs.lemmas.Bool.{ne_eqb}
 use Rattle.std.proofs.lemmas.Bool.Decides.{Decides-int_eq}
 use Rattle.std.specs.Ordering.{int_eq}
 use Rattle.jtypes.specs.Entry.{Entry, effect, after_effect}
+use Rattle.jtypes.specs.Refusals.{exception_number}
 use Rattle.jtypes.specs.declared.types.Arg.TheVariants.{Null, Long, Integer, Boolean}
+use Rattle.jtypes.specs.declared.types.Exception.{Exception}
+use Rattle.jtypes.specs.declared.types.Exception.TheVariants as exception
 use Rattle.jtypes.specs.declared.types.JavaFault.{JavaFault}
-use Rattle.jtypes.specs.declared.types.JavaFault.TheVariants.{Arithmetic, ArrayIndexOutOfBounds, NullPointer, ClassCast, IncompatibleClassChange, CacheLoader}
+use Rattle.jtypes.specs.declared.types.JavaFault.TheVariants.{Arithmetic, ArrayIndexOutOfBounds, NullPointer, ClassCast, IncompatibleClassChange, CacheLoader, Thrown}
 use Rattle.jtypes.specs.declared.types.Outcome.{Outcome}
 use Rattle.jtypes.specs.declared.types.Outcome.TheVariants.{Returned, Threw}
 use Rattle.jtypes.specs.declared.types.Effect.{Effect}
 use Rattle.jtypes.specs.declared.types.Effect.TheVariants.{Keep, Put, Delete}
 use Rattle.ended.specs.declared.done.Done.{Done}
-use Rattle.embedded.specs.Numbers.{outcome_in, effect_in, done_in}
+use Rattle.embedded.specs.Numbers.{text_in, outcome_in, effect_in, done_in}
 use Rattle.embedded_history.specs.Conversation.{entry_by}
 use Rattle.embedded_history.specs.Statements.{OutcomesAreNumbered, EffectsAreNumbered}
 
@@ -22,10 +26,33 @@ fault_of n =
     if int_eq n (pos 1) then Arithmetic else if int_eq n (pos 2) then ArrayIndexOutOfBounds else if int_eq n (pos 3) then NullPointer
     else if int_eq n (pos 4) then ClassCast else if int_eq n (pos 5) then IncompatibleClassChange else CacheLoader
 
-abbrev outcome_of : ℕ × ℤ → Outcome
+abbrev exception_of : ℤ → Exception
+exception_of n =
+    if int_eq n (pos 1) then exception.Arithmetic else if int_eq n (pos 7) then exception.EntryProcessor else if int_eq n (pos 8) then exception.IllegalArgument
+    else if int_eq n (pos 9) then exception.IllegalState else exception.UnsupportedOperation
+
+abbrev thrown_of : (number text : ℤ) → JavaFault
+thrown_of n (pos zero) = fault_of n
+thrown_of n (pos (suc k)) = Thrown (exception_of n) (suc k)
+thrown_of n (negsuc k) = Thrown (exception_of n) 0
+
+abbrev outcome_of : ℕ × ℤ × ℤ → Outcome
 outcome_of p =
     if p.0 == 0 then Returned Null else if p.0 == 1 then Returned (Long p.1) else if p.0 == 2 then Returned (Integer p.1)
-    else if p.0 == 7 then Returned (Boolean (int_eq p.1 (pos 1))) else Threw (fault_of p.1)
+    else if p.0 == 7 then Returned (Boolean (int_eq p.1 (pos 1))) else Threw (thrown_of p.1 p.2)
+
+exception_back : (e : Exception) → exception_of (pos (exception_number e)) ≡ e
+exception_back exception.Arithmetic = refl
+exception_back exception.EntryProcessor = refl
+exception_back exception.IllegalArgument = refl
+exception_back exception.IllegalState = refl
+exception_back exception.UnsupportedOperation = refl
+
+thrown_back : (e : Exception) (text : ℕ) → thrown_of (pos (exception_number e)) (text_in (Thrown e text)) ≡ Thrown e text
+thrown_back e zero = ap (λ x. Thrown x 0) (exception_back e)
+thrown_back e (suc k) =
+    let some : (suc k == 0) ≡ false = ne_eqb (suc k) 0 (λ same. cc same) in
+    ap (λ b. thrown_of (pos (exception_number e)) (if b then negsuc 0 else pos (suc k))) some ∙ ap (λ x. Thrown x (suc k)) (exception_back e)
 
 outcome_back : (o : Outcome) → outcome_of (outcome_in o) ≡ o
 outcome_back (Returned Null) = refl
@@ -39,6 +66,7 @@ outcome_back (Threw NullPointer) = refl
 outcome_back (Threw ClassCast) = refl
 outcome_back (Threw IncompatibleClassChange) = refl
 outcome_back (Threw CacheLoader) = refl
+outcome_back (Threw (Thrown e text)) = ap Threw (thrown_back e text)
 
 pub outcomes_are_numbered : OutcomesAreNumbered
 outcomes_are_numbered o p e = sym (outcome_back o) ∙ ap outcome_of e ∙ outcome_back p

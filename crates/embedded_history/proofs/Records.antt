@@ -43,7 +43,7 @@ made_is t c args run h = record {
   runs = run;
   call = refl;
   reply = refl;
-  numbers = λ i. ((sym h.is i).outcome, (sym h.is i).value);
+  numbers = λ i. ((sym h.is i).outcome, (sym h.is i).value, (sym h.is i).text);
   after = refl;
   asked = refl;
 }
@@ -53,7 +53,7 @@ answers : (t : Turn) (r : Record) → HasAnswer t → IsRecordOf t r → Answers
 answers t r h is =
     let e = end_of t is.class is.args h is.runs in
     let outcome : is.outcome ≡ e.meant.final.outcome =
-    outcomes_are_numbered is.outcome e.done.outcome (is.numbers ∙ (λ i. ((e.is i).outcome, (e.is i).value))) ∙ e.meant.told.outcome in
+    outcomes_are_numbered is.outcome e.done.outcome (is.numbers ∙ (λ i. ((e.is i).outcome, (e.is i).value, (e.is i).text))) ∙ e.meant.told.outcome in
     let none : None ≡ e.meant.final.asked = sym (means_unasked is.class (invocation_in t.call is.args) e.meant.final refl e.meant.means) in
     subst (λ (x : Call). Answers false (before_in t.call) x r.reply r.after r.asked) (sym is.call)
     (e.meant.final, e.meant.means, is.reply ∙ ap Result outcome, is.after ∙ entry_of_end t is.class is.args e, is.asked ∙ none)

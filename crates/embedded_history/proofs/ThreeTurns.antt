@@ -95,7 +95,7 @@ last = (done (Some (pos 7)) (pos 8), meant (Some (pos 7)) (pos 8), refl)
 
 -- The record of a call that is run, which returned null.
 one_record : (t : Turn) (r : Record) (c : Class) (args : List Arg) → IsRunOf t c args → r.call ≡ Invoke c t.call.key args → r.reply ≡ Result (Returned arg.Null)
-    → outcome_in (Returned arg.Null) ≡ (t.answer.outcome, t.answer.value) → r.after ≡ entry_by t.answer (before_in t.call) → r.asked ≡ None → IsRecordOf t r
+    → outcome_in (Returned arg.Null) ≡ (t.answer.outcome, t.answer.value, t.answer.text) → r.after ≡ entry_by t.answer (before_in t.call) → r.asked ≡ None → IsRecordOf t r
 one_record t r c args run same reply numbers after asked =
     record { class = c; args = args; outcome = Returned arg.Null; runs = run; call = same; reply = reply; numbers = numbers; after = after; asked = asked }
 

@@ -60,7 +60,7 @@ pub record IsRecordOf (t : Turn) (r : Record) : Type 0 where
   pub runs : IsRunOf t class args
   pub call : r.call ≡ Invoke class t.call.key args
   pub reply : r.reply ≡ Result outcome
-  pub numbers : outcome_in outcome ≡ (t.answer.outcome, t.answer.value)
+  pub numbers : outcome_in outcome ≡ (t.answer.outcome, t.answer.value, t.answer.text)
   pub after : r.after ≡ entry_by t.answer (before_in t.call)
   pub asked : r.asked ≡ None
 

@@ -69,7 +69,7 @@ long value = record { kind = 1; unused = 0; value = value }
 
 -- The answer of a run that returned null, after seven instructions, and put this value.
 abbrev pub put : ℤ → DoneNumbers
-put value = record { outcome = 0; effect = 1; value = pos 0; put = value; steps = 7; words = 0; left = 1; unused = 0 }
+put value = record { outcome = 0; effect = 1; value = pos 0; put = value; steps = 7; words = 0; left = 1; text = pos 0 }
 
 abbrev turn : CallNumbers → ℤ → DoneNumbers → Turn
 turn c value d = record { classes = classes; call = c; args = long value ∷ []; answer = d }

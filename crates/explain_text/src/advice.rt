@@ -46,24 +46,25 @@ fn of_shape(refusal: Refusal) -> &'static str {
 fn of_opcode(opcode: u8) -> &'static str {
     match opcode {
         18 | 19 =>
-            "Texts, classes and floats aren't accepted as constants: use numbers as codes, or fixed point in `long`.",
+            "Texts other than those of exceptions that are thrown, classes and floats aren't accepted as constants: use numbers as codes, or fixed point in `long`.",
         165 | 166 =>
             "References can't be compared: compare numbers, as `a.longValue() == b.longValue()`.",
         178 | 179 => {
-            "Static fields and enums can't be used: use arguments, locals, the entry's value, or numbers as codes. jentry-compile makes constants of final fields."
+            "Static fields other than Boolean.TRUE and Boolean.FALSE, and enums, can't be used: use arguments, locals, the entry's value, or numbers as codes. jentry-compile makes constants of final fields."
         }
         180 | 181 => {
             "Fields can't be read or written: use arguments, locals or the entry's value. jentry-compile makes constants of final fields."
         }
         186 => "Lambdas and method references aren't accepted: write a method of the class.",
         187 =>
-            "Objects can't be made, texts joined or exceptions thrown: use locals, or a `long` that packs several numbers.",
+            "Texts can't be joined, and no object can be made but an exception that is thrown at once, without a text or with a constant one: ArithmeticException, EntryProcessorException, IllegalArgumentException, IllegalStateException or UnsupportedOperationException. Use locals, or a `long` that packs several numbers.",
         51..=53 | 84..=86 | 188 => {
             "Arrays are of int or long: write `int[]` or `long[]`. jentry-compile makes int arrays of byte, short, char and boolean arrays."
         }
         83 | 189 =>
             "Arrays of references can't be made or written: use `long[]`, `long...`, or parameters one by one.",
-        191 => "An exception can't be thrown by `throw`: let the code divide by zero.",
+        191 =>
+            "Only an exception that is made at once can be thrown: write `throw new IllegalStateException()`, or with a constant text in the parentheses.",
         194 | 195 => "Drop `synchronized`: each run has an instance of its own.",
         168 | 169 | 201 => UNSEEN,
         197 => "Use one array, with the index `width * i + j`.",

@@ -188,6 +188,7 @@ module _ (args : ℕ) (arrays : Arrays) where
   pushed_agrees (pushed.Int n) = refl
   pushed_agrees (pushed.Long n) = refl
   pushed_agrees pushed.Null = refl
+  pushed_agrees (pushed.Boolean b) = refl
 
   pub incremented_agrees : (k : Known) (v by : ℤ) → LocalAgrees arrays args k (Int v) → LocalAgrees arrays args (incremented by k) (Int (int_wrapping_add w32 v by))
   incremented_agrees Wide v by h = tt

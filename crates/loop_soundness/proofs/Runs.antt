@@ -260,6 +260,7 @@ module _ (c : Class) (rules : Rules) (inside : ℕ → Node → Bool) (rank : �
     return_good : (i : Instruction) → p.instruction ≡ i → is_return i ≡ true → NextGood s.call (act c s m.environment beyond h.below i)
     return_good (instruction.Return k) is e = value_returned k (ap is_return is ∙ e) m.environment.signature.result refl a.operands
     return_good instruction.ReturnVoid is e = void_returned (ap is_return is ∙ e) m.environment.signature.result refl
+    return_good (instruction.Throw t text) is e = tt
     return_good _ is e = cc
 
     -- ---- calls of own methods

@@ -386,6 +386,7 @@ module _ (c : Class) (f : Following) (s : State) (a : Activation) (below : List 
   act_fine plain e m (instruction.Switch default cases) r outside counted = switch_fine default cases
   act_fine plain e m (instruction.Return k) r outside counted = cc
   act_fine plain e m instruction.ReturnVoid r outside counted = cc
+  act_fine plain e m (instruction.Throw t text) r outside counted = cc
   act_fine plain e m (instruction.Invoke k i) r outside counted = library_fine plain k i outside
   act_fine plain e m (instruction.NewArray k) r outside counted = make_array_fine k (words_at m a.place (instruction.NewArray k)) (λ n vs g. counted k n vs refl g)
   act_fine plain e m (instruction.ArrayLoad k) r outside counted = load_item_fine k

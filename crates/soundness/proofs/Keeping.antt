@@ -281,6 +281,7 @@ module _ (c : Class) (s : State) where
   acts e a below (instruction.Switch default cases) = switches a below default cases a.operands
   acts e a below (instruction.Return k) = returns_value below k e.signature e.signature.result a.operands
   acts e a below instruction.ReturnVoid = returns_void below e.signature.result
+  acts e a below (instruction.Throw x text) = refl
   acts e a below (instruction.Invoke kind i) = invokes a below kind (callee_at c.view kind i)
   acts e a below (instruction.NewArray k) = makes a below k a.operands
   acts e a below (instruction.ArrayLoad k) = loads_items a below k a.operands

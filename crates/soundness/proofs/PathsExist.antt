@@ -41,6 +41,7 @@ ends_or_jumps (instruction.Goto target) h = inr (target, inl refl)
 ends_or_jumps (instruction.Switch default cases) h = inr (default, inl refl)
 ends_or_jumps (instruction.Return k) h = inl refl
 ends_or_jumps instruction.ReturnVoid h = inl refl
+ends_or_jumps (instruction.Throw x text) h = inl refl
 ends_or_jumps _ h = cc
 
 -- An own call has a callee in the class.

@@ -58,11 +58,13 @@ pub pushed_fits : (arrays : Arrays) (k : Pushed) → fits arrays (value_of_pushe
 pushed_fits arrays (pushed.Int n) = refl
 pushed_fits arrays (pushed.Long n) = refl
 pushed_fits arrays pushed.Null = refl
+pushed_fits arrays (pushed.Boolean b) = refl
 
 pub pushed_not_top : (k : Pushed) → is_top (type_of_pushed k) ≡ false
 pushed_not_top (pushed.Int n) = refl
 pushed_not_top (pushed.Long n) = refl
 pushed_not_top pushed.Null = refl
+pushed_not_top (pushed.Boolean b) = refl
 
 pub kind_not_top : (k : Kind) (t : JType) → assignable t (type_of_kind k) ≡ true → is_top t ≡ false
 kind_not_top kind.Int Top e = cc

@@ -135,6 +135,7 @@ module _ (c : Class) (b : Bounds) (ok : IsCheckedButForRoom c) (s : State) (a : 
           absurd bad.le
       counted (pushed.Long n) is = no_length m a.place p _ h.formed h.code (ap int_of is)
       counted pushed.Null is = no_length m a.place p _ h.formed h.code (ap int_of is)
+      counted (pushed.Boolean b) is = no_length m a.place p _ h.formed h.code (ap int_of is)
 
   load_safe : (k : Kind) (n : ℕ) (g : Frame) → IsHere c b s a below m p (instruction.Load k n) g → SafeNext c b s.steps s.now.asked s.call (load c s beyond below k n (slice_get a.locals n))
   load_safe k n g h = go (slice_get h.here.frame.locals n) refl h.moved
@@ -498,3 +499,4 @@ module _ (c : Class) (b : Bounds) (ok : IsCheckedButForRoom c) (s : State) (a : 
   act_safe instruction.ArrayLength g h = measure_safe g h
   act_safe (instruction.CheckCast n) g h = cast_safe n g h
   act_safe (instruction.InstanceOf n) g h = ask_safe n g h
+  act_safe (instruction.Throw x text) g h = throws_safe (instruction.Throw x text) g (fault.Thrown x text) h

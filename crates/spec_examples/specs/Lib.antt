@@ -7,6 +7,7 @@ pub mod Opened
 pub mod Bytes
 pub mod SwitchBytes
 pub mod BooleanBytes
+pub mod ThrownBytes
 pub mod ChainBytes
 pub mod Rows
 pub mod Judge

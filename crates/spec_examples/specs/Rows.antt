@@ -1,6 +1,7 @@
 -- Small classes, from their bytes to the final states of their calls.
 use Rattle.std.specs.Prelude.{◌≡◌, ℕ, true, false, [], ◌∷◌, Some, None, pos, negsuc, refl}
 use Rattle.jtypes.specs.declared.types.Arg.TheVariants as arg
+use Rattle.jtypes.specs.declared.types.Exception.TheVariants as exception
 use Rattle.jtypes.specs.declared.types.JavaFault.TheVariants as fault
 use Rattle.jtypes.specs.declared.types.Outcome.{Outcome}
 use Rattle.jtypes.specs.declared.types.Outcome.TheVariants.{Returned, Threw}
@@ -12,6 +13,7 @@ use Rattle.spec_examples.specs.Plain.{class_of, outcome_of, outcome_by, the_call
 use Rattle.spec_examples.specs.Opened.{opened}
 use Rattle.spec_examples.specs.SwitchBytes.{table_bytes, look_bytes, far_bytes, inc_bytes, jump_bytes}
 use Rattle.spec_examples.specs.BooleanBytes.{opposite_bytes}
+use Rattle.spec_examples.specs.ThrownBytes.{full_bytes}
 use Rattle.spec_examples.specs.Bytes.{arr_zero_bytes, bridge_bytes, counter_bytes, div_least_bytes, give_entry_bytes, loose_bytes, nest_fault_bytes, plus_bytes, ratio_bytes, rem_least_bytes, set_remove_bytes, shift64_bytes, shift_neg_bytes, unbox_bytes}
 
 -- The final state if neither `setValue` nor `remove` was called, or an exception undid their effect.
@@ -189,6 +191,16 @@ opposite_3 = refl
 pub opposite_4 : outcome_of 30 (class_of opposite_bytes) (the_call (pos 7) None (arg.Null ∷ [])) ≡ Some (final (Threw fault.NullPointer) None 5 0)
 unfolding opened opposite_bytes
 opposite_4 = refl
+
+-- ---- with an exception of the processor, whose text is constant 27: `setValue` has no effect
+
+pub full_1 : outcome_of 30 (class_of full_bytes) (the_call (pos 7) (Some (pos 41)) []) ≡ Some (final (Threw (fault.Thrown exception.IllegalState 27)) (Some (pos 41)) 8 0)
+unfolding opened full_bytes
+full_1 = refl
+
+pub full_2 : outcome_of 30 (class_of full_bytes) (the_call (pos 7) None []) ≡ Some (final (Returned (arg.Boolean true)) None 5 0)
+unfolding opened full_bytes
+full_2 = refl
 
 -- ---- with a loader, on absent keys
 

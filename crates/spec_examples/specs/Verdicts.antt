@@ -5,6 +5,7 @@ use Rattle.spec_examples.specs.Judge.{judge, judge_by, Accepted, Refused}
 use Rattle.spec_examples.specs.Opened.{opened}
 use Rattle.spec_examples.specs.SwitchBytes.{table_bytes, look_bytes, far_bytes, inc_bytes, jump_bytes}
 use Rattle.spec_examples.specs.BooleanBytes.{opposite_bytes, flag_bytes}
+use Rattle.spec_examples.specs.ThrownBytes.{full_bytes}
 use Rattle.spec_examples.specs.Bytes.{plus_bytes, counter_bytes, nest_fault_bytes, unbox_bytes, set_remove_bytes, div_least_bytes, rem_least_bytes, shift64_bytes, shift_neg_bytes, bridge_bytes, loose_bytes, arr_zero_bytes, ratio_bytes, give_entry_bytes}
 
 pub plus_verdict : judge plus_bytes ≡ Accepted 14 0 9 1
@@ -115,7 +116,7 @@ pub jump_by_first : judge_by First jump_bytes ≡ Refused (17 ∷ [])
 unfolding opened jump_bytes
 jump_by_first = refl
 
--- ---- with the type that the third profile adds
+-- ---- with the type and the instructions that the third profile adds
 
 pub opposite_verdict : judge opposite_bytes ≡ Accepted 10 0 5 1
 unfolding opened opposite_bytes
@@ -132,3 +133,11 @@ flag_verdict = refl
 pub flag_by_second : judge_by Second flag_bytes ≡ Refused (7 ∷ [])
 unfolding opened flag_bytes
 flag_by_second = refl
+
+pub full_verdict : judge full_bytes ≡ Accepted 8 0 6 1
+unfolding opened full_bytes
+full_verdict = refl
+
+pub full_by_second : judge_by Second full_bytes ≡ Refused (17 ∷ [])
+unfolding opened full_bytes
+full_by_second = refl

@@ -42,7 +42,7 @@ fn kept(outcome: u32, value: i64, steps: u32) -> DoneNumbers {
         steps,
         words: 0,
         left: 0,
-        unused: 0,
+        text: 0,
     }
 }
 

@@ -5,3 +5,5 @@
 mod calls;
 #[cfg(test)]
 mod classes;
+#[cfg(test)]
+mod texts;

@@ -5,7 +5,7 @@ ghost use Rattle.wire.specs.Frames.{IsReply};
 
 mod writers;
 
-use jtypes::{Arg, Items, JavaFault, Outcome, Refusal};
+use jtypes::{Arg, Exception, Items, JavaFault, Outcome, Refusal};
 use std::alloc::{AllocError, Global};
 use std::test::Fail;
 use wire::{Counted, Denial, JobOutcome, Reply, add_result, write_reply};
@@ -60,7 +60,7 @@ fn values_are_written(rt: HostRuntime) {
 }
 
 /// Outcomes of an invocation, each with its reply frame.
-static OUTCOMES: [(Outcome, &[u8]); 6] = [
+static OUTCOMES: [(Outcome, &[u8]); 10] = [
     (
         Outcome::Returned(Arg::Long(42)),
         &[0, 0, 0, 11, 6, 0, 1, 0, 0, 0, 0, 0, 0, 0, 0x2A],
@@ -79,6 +79,22 @@ static OUTCOMES: [(Outcome, &[u8]); 6] = [
         &[0, 0, 0, 3, 6, 0, 4],
     ),
     (Outcome::Threw(JavaFault::ClassCast), &[0, 0, 0, 3, 6, 1, 4]),
+    (
+        Outcome::Threw(JavaFault::Arithmetic),
+        &[0, 0, 0, 3, 6, 1, 1],
+    ),
+    (
+        Outcome::Threw(JavaFault::Thrown(Exception::Arithmetic, 0)),
+        &[0, 0, 0, 5, 6, 3, 1, 0, 0],
+    ),
+    (
+        Outcome::Threw(JavaFault::Thrown(Exception::IllegalArgument, 18)),
+        &[0, 0, 0, 5, 6, 3, 8, 0, 18],
+    ),
+    (
+        Outcome::Threw(JavaFault::Thrown(Exception::UnsupportedOperation, 0x1234)),
+        &[0, 0, 0, 5, 6, 3, 10, 0x12, 0x34],
+    ),
 ];
 
 #[test]
@@ -122,23 +138,27 @@ fn denials_are_written(rt: HostRuntime) {
     }
 }
 
-/// Returns the results of three keys: key 1 returned the `Long` 0, key 2 threw `Arithmetic`, key 3 was denied for out of memory.
+/// Returns the results of four keys: key 1 returned the `Long` 0, key 2 threw `Arithmetic`, key 3 was denied for out of memory,
+/// and the processor of key 4 threw an exception itself, with the text at index 65535.
 fn results(alloc: Global) -> Result<Reply, AllocError>
     ensures { IfOk result (λ r. IsReply r) }
 {
+    let thrown = JavaFault::Thrown(Exception::IllegalState, u16::MAX);
     let jobs = [
         (1, JobOutcome::Ended(Outcome::Returned(Arg::Long(0)))),
         (2, JobOutcome::Ended(Outcome::Threw(JavaFault::Arithmetic))),
         (3, JobOutcome::Denied(Denial::NoMemory)),
+        (4, JobOutcome::Ended(Outcome::Threw(thrown))),
     ];
     Ok(Reply::Results(Items::from_slice(alloc, &jobs)?))
 }
 
-static RESULTS: [u8; 45] = [
-    0, 0, 0, 0x29, 7, 0, 3, //
+static RESULTS: [u8; 57] = [
+    0, 0, 0, 0x35, 7, 0, 4, //
     0, 0, 0, 0, 0, 0, 0, 1, 0, 1, 0, 0, 0, 0, 0, 0, 0, 0, //
     0, 0, 0, 0, 0, 0, 0, 2, 1, 1, //
-    0, 0, 0, 0, 0, 0, 0, 3, 2, 3,
+    0, 0, 0, 0, 0, 0, 0, 3, 2, 3, //
+    0, 0, 0, 0, 0, 0, 0, 4, 3, 9, 255, 255,
 ];
 
 #[test]

@@ -86,7 +86,7 @@ fn lacks_target(declared: &[Declared], instruction: &Instruction) -> bool
     }
 }
 
-/// Checks whether a target of an instruction, or the instruction after a goto, a switch or a return, has no declared frame
+/// Checks whether a target of an instruction, or the instruction after a goto, a switch, a return or a throw, has no declared frame
 /// (JVMS §4.10.1).
 fn lacks_at(code: &Code, declared: &[Declared], p: &Placed) -> bool
     requires { AreInOrder declared.now }

@@ -72,6 +72,7 @@ edge_leads v f x y next (instruction.Goto target) n e = inr (inl (ap (λ w. Some
 edge_leads v f x y next (instruction.Switch default cases) n e = inr (key_target x y default cases x.operands n e)
 edge_leads v f x y next (instruction.Return k) n e = cc
 edge_leads v f x y next instruction.ReturnVoid n e = cc
+edge_leads v f x y next (instruction.Throw t text) n e = cc
 edge_leads v f x y next (instruction.Invoke k i) n e = inl (refl, one_place _ y n e)
 edge_leads v f x y next (instruction.NewArray k) n e = inl (refl, one_place _ y n e)
 edge_leads v f x y next (instruction.ArrayLoad k) n e = inl (refl, one_place _ y n e)

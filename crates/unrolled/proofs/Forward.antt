@@ -62,6 +62,7 @@ some_edge v f x next (instruction.Goto target) h e = target_edge x target x.oper
 some_edge v f x next (instruction.Switch default cases) h e = key_edge x default cases x.operands h
 some_edge v f x next (instruction.Return k) h e = cc
 some_edge v f x next instruction.ReturnVoid h e = cc
+some_edge v f x next (instruction.Throw t text) h e = cc
 some_edge v f x next (instruction.Invoke k i) h e = (_, refl)
 some_edge v f x next (instruction.NewArray k) h e = (_, refl)
 some_edge v f x next (instruction.ArrayLoad k) h e = (_, refl)

@@ -66,7 +66,7 @@ below_way : (g : Node → Cost) (none : Cost) (xs : List Node) (i : ℕ) (y : No
 below_way g none [] i y k e h = cc
 below_way g none (x ∷ xs) i y k e h = below_of g x xs i y k e h
 
--- Returns have no edge, and are no calls.
+-- Returns and throws have no edge, and are no calls.
 record Stops (v : ClassView) (f : Following) (x : Node) (next : ℕ) (i : Instruction) : Type 0 where
   none : edges v f x next i ≡ []
   outside : call_of v i ≡ None
@@ -74,6 +74,7 @@ record Stops (v : ClassView) (f : Following) (x : Node) (next : ℕ) (i : Instru
 stops : (v : ClassView) (f : Following) (x : Node) (next : ℕ) (i : Instruction) → is_return i ≡ true → Stops v f x next i
 stops v f x next (instruction.Return k) e = record { none = refl; outside = refl }
 stops v f x next instruction.ReturnVoid e = record { none = refl; outside = refl }
+stops v f x next (instruction.Throw t text) e = record { none = refl; outside = refl }
 stops v f x next _ e = cc
 
 module _ (c : Class) (rules : Rules) (inside : ℕ → Node → Bool) (rank : ℕ → Node → ℕ) (cover : IsCover c rules inside rank) where

@@ -129,6 +129,7 @@ fall_edge v f x next (instruction.Goto target) h e = cc
 fall_edge v f x next (instruction.Switch default cases) h e = cc
 fall_edge v f x next (instruction.Return k) h e = cc
 fall_edge v f x next instruction.ReturnVoid h e = cc
+fall_edge v f x next (instruction.Throw t text) h e = cc
 fall_edge v f x next (instruction.Invoke k i) h e = first_edge v f x next _ _ refl refl
 fall_edge v f x next (instruction.NewArray k) h e = first_edge v f x next _ _ refl refl
 fall_edge v f x next (instruction.ArrayLoad k) h e = first_edge v f x next _ _ refl refl

@@ -8,7 +8,7 @@ use Rattle.unrolled.specs.Graph.{Node, successors}
 use Rattle.unrolled.specs.Rules.{Rules}
 use Rattle.unrolled.specs.Paths.{callee_node}
 
--- `IsCover` holds if each node of the set has an instruction, only returns have no successor, and each successor and each own callee's start is in the
+-- `IsCover` holds if each node of the set has an instruction, only returns and throws have no successor, and each successor and each own callee's start is in the
 -- set at a lower rank.
 pub record IsCover (c : Class) (rules : Rules) (inside : ℕ → Node → Bool) (rank : ℕ → Node → ℕ) : Type 0 where
   pub stands : (j : ℕ) (x : Node) → inside j x ≡ true → (m : Method) × (p : Placed) × StandsAt c j x.place m p

@@ -74,6 +74,7 @@ abbrev pub known_pushed : Pushed → Known
 known_pushed (pushed.Int n) = Number n
 known_pushed (pushed.Long n) = Wide
 known_pushed pushed.Null = Narrow
+known_pushed (pushed.Boolean b) = Narrow
 
 -- the ints, if all of them are known
 abbrev pub all_numbers : List Known → Option (List Value)
@@ -179,6 +180,7 @@ edges v f x next (instruction.Goto target) = to_target x target x.operands
 edges v f x next (instruction.Switch default cases) = by_key x default cases x.operands
 edges v f x next (instruction.Return k) = []
 edges v f x next instruction.ReturnVoid = []
+edges v f x next (instruction.Throw e text) = []
 edges v f x next (instruction.Invoke k i) = at x next (called (callee_at v k i) x.operands) ∷ []
 edges v f x next (instruction.NewArray k) = at x next (with_array x.operands) ∷ []
 edges v f x next (instruction.ArrayLoad k) = at x next (unknown_of (element_type k) ∷ drop 2 x.operands) ∷ []

@@ -15,7 +15,7 @@ callee_node c rules k n p x = entered (rules k) n (arguments_by c.view p.instruc
 abbrev pub start_node : Rules → ℕ → Method → Node
 start_node rules j m = entered (rules j) m process_arguments
 
--- a path from a node of method `j` over edges to a return, with a path of the callee at each own call, and its cost
+-- a path from a node of method `j` over edges to a return or a throw, with a path of the callee at each own call, and its cost
 pub data Path (c : Class) (rules : Rules) : (j : ℕ) → Node → Cost → Type 0 where
   ends : {j : ℕ} {x : Node} (m : Method) (p : Placed) → StandsAt c j x.place m p → is_return p.instruction ≡ true → Path c rules j x (last_cost m)
   leads : {j : ℕ} {x : Node} {k : Cost} (m : Method) (p : Placed) (i : ℕ) (y : Node) → StandsAt c j x.place m p → call_of c.view p.instruction ≡ None

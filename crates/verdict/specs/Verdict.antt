@@ -1,18 +1,22 @@
 -- The verdict: the refusals that apply to the bytes of a class.
-use Rattle.std.specs.Prelude.{◌≡◌, ℕ, Bool, true, List, length, Any, Some, IsFalse, is_some, ◌⊎◌}
+use Rattle.std.specs.Prelude.{◌≡◌, ℕ, Bool, true, not, List, length, Any, Some, IsFalse, is_some, ◌⊎◌}
 use Rattle.std.specs.List.{AllZip}
 use Rattle.jtypes.specs.declared.refusal.Refusal.{Refusal}
 use Rattle.jtypes.specs.declared.refusal.Refusal.TheVariants.{BadDescriptor, UnknownMember, BadStackMap, TypeMismatch, FallsOff, LengthNotConstant, Recursive, StepLimit, WordLimit, FrameLimit}
+use Rattle.jtypes.specs.declared.types.Exception.{Exception}
+use Rattle.jtypes.specs.declared.types.Exception.TheVariants as exception
+use Rattle.jtypes.specs.Lists.{same_bytes}
 use Rattle.jtypes.specs.Profile.{Profile}
 use Rattle.jtypes.specs.Layout.{IsLaidOut, Stands}
 use Rattle.constpool.specs.Lookup.{Slot}
+use Rattle.constpool.specs.Names.{arithmetic_name, entry_processor_exception_name, illegal_argument_name, illegal_state_name, unsupported_operation_name}
 use Rattle.classfile.specs.declared.class_file.Member.{Member}
 use Rattle.classfile.specs.declared.class_file.Parts.{Parts}
 use Rattle.classfile.specs.declared.class_file.CodeParts.{CodeParts}
 use Rattle.classfile.specs.Class.{class_file}
 use Rattle.classfile.specs.View.{ClassView, method_view, view_of, tables_of}
 use Rattle.decode.specs.declared.instruction.Instruction.{Instruction}
-use Rattle.decode.specs.declared.instruction.Instruction.TheVariants.{Invoke, CheckCast, InstanceOf}
+use Rattle.decode.specs.declared.instruction.Instruction.TheVariants.{Invoke, CheckCast, InstanceOf, Throw}
 use Rattle.decode.specs.declared.instruction.Placed.{Placed}
 use Rattle.decode.specs.Code.{IsSequence}
 use Rattle.decode.specs.Places.{CodeStands}
@@ -47,11 +51,20 @@ pub record HasShape (pool : List Slot) (p : Parts) : Type 0 where
 abbrev pub SomeMethod : List Slot → Parts → (Member → Type 0) → Type 0
 SomeMethod pool p P = Any (λ m. IsFalse (is_constructor pool m) × P m) p.methods
 
--- Whether the member or type that an instruction names is known.
+-- The name of the class of an exception that a processor throws (JVMS §4.2.1).
+abbrev pub class_of_exception : Exception → List ℕ
+class_of_exception exception.Arithmetic = arithmetic_name
+class_of_exception exception.EntryProcessor = entry_processor_exception_name
+class_of_exception exception.IllegalArgument = illegal_argument_name
+class_of_exception exception.IllegalState = illegal_state_name
+class_of_exception exception.UnsupportedOperation = unsupported_operation_name
+
+-- Whether the member or type that an instruction names is known. A class that has the name of an exception means itself by it, and isn't that exception.
 abbrev pub is_known : ClassView → Instruction → Bool
 is_known v (Invoke kind i) = is_some (callee_at v kind i)
 is_known v (CheckCast i) = is_some (constant_type v i)
 is_known v (InstanceOf i) = is_some (constant_type v i)
+is_known v (Throw e text) = not (same_bytes (class_of_exception e) v.name)
 is_known v _ = true
 
 -- `NamesUnknown` holds if all bytes decode, and an instruction names an unknown member.

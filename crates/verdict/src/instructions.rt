@@ -1,9 +1,10 @@
 //! Decodes the code of a class's methods and resolves the members that it names.
 
 ghost use Rattle.std.specs.Prelude.{◌≡◌, ◌⊎◌, true, length, IfOk, IfErr};
+ghost use Rattle.jtypes.specs.Lists.{same_bytes};
 ghost use Rattle.jtypes.specs.declared.refusal.Refusal.{Refusal};
 ghost use Rattle.verdict.specs.declared.spot.Spot.{Spot};
-ghost use Rattle.verdict.specs.Verdict.{InstructionsStand, is_known};
+ghost use Rattle.verdict.specs.Verdict.{InstructionsStand, class_of_exception, is_known};
 ghost use Rattle.verdict.specs.Spots.{InstructionStandsAt, IsLocated};
 ghost use Rattle.verdict.specs.Judging.{AreFound, IsGoodCode, IsUnknownAt};
 ghost use Rattle.typecheck.specs.Calls.{AreCallsOf, call_at};
@@ -13,9 +14,10 @@ ghost use Rattle.jtypes.specs.Profile.{Third};
 
 use crate::spot::{Located, Spot};
 use classfile::{ClassFile, CodeParts};
+use constpool::{names, same_bytes};
 use decode::{Code, Fault, Instruction, Placed, decode_at};
 use frames::{MemberView, callee_at, constant_type};
-use jtypes::Refusal;
+use jtypes::{Exception, Refusal};
 use std::alloc::Global;
 use typecheck::Called;
 
@@ -38,8 +40,28 @@ fn unknown(p: &Placed) -> Fault
     }
 }
 
+/// Returns the name of an exception's class, in internal form (JVMS §4.2.1).
+fn class_of_exception(exception: Exception) -> &'static [u8]
+    ensures { result.now ≡ class_of_exception exception }
+{
+    match exception {
+        Exception::Arithmetic => names::ARITHMETIC,
+        Exception::EntryProcessor => names::ENTRY_PROCESSOR_EXCEPTION,
+        Exception::IllegalArgument => names::ILLEGAL_ARGUMENT,
+        Exception::IllegalState => names::ILLEGAL_STATE,
+        Exception::UnsupportedOperation => names::UNSUPPORTED_OPERATION,
+    }
+}
+
+/// Returns whether the class itself has the name of an exception's class.
+fn is_called_so(view: &MemberView<'_>, exception: Exception) -> bool
+    ensures { result ≡ same_bytes (class_of_exception exception) view.now.name }
+{
+    same_bytes(class_of_exception(exception), view.class().name())
+}
+
 /// Returns the resolved call if the instruction is an invoke, otherwise `None`.
-/// Fails with `UnknownMember` if a method or type that the instruction names is unknown.
+/// Fails with `UnknownMember` if a method or type that the instruction names is unknown, or if it throws an exception that has the name of the class.
 fn call_of(alloc: Global, view: &MemberView<'_>, p: &Placed) -> Result<Option<Called>, Fault>
     ensures call { IfOk result (λ call. call ≡ call_at view.now p.now) }
     ensures known { IfOk result (λ _. is_known view.now p.now.instruction ≡ true) }
@@ -59,6 +81,7 @@ fn call_of(alloc: Global, view: &MemberView<'_>, p: &Placed) -> Result<Option<Ca
                 None => Err(unknown(p)),
             }
         }
+        Instruction::Throw(exception, _) if is_called_so(view, exception) => Err(unknown(p)),
         _ => Ok(None),
     }
 }

@@ -6,3 +6,4 @@ pub mod Pushing
 pub mod Switched
 pub mod Linked
 pub mod Widths
+pub mod PoolOf

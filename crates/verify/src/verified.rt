@@ -1,6 +1,7 @@
 //! Verified classes.
 
 ghost use Rattle.std.specs.Prelude.{◌≡◌, ◌⊎◌, ℕ, IfOk, IfErr};
+ghost use Rattle.std.specs.Option.{option_copied};
 ghost use Rattle.jtypes.specs.declared.refusal.Refusal.{Refusal};
 ghost use Rattle.typecheck.specs.Typing.{Class, IsProcessOf};
 ghost use Rattle.bounds.specs.Limits.{IsWithinLimits};
@@ -12,10 +13,12 @@ ghost use Rattle.verdict.specs.Checked.{IsChecked};
 ghost use Rattle.vmcode.specs.Linking.{IsLinked, IsEntry};
 ghost use Rattle.vmcode.specs.Numbering.{index_of};
 ghost use Rattle.verify.specs.Earlier.{IsEarlier, HasStepsOf};
+ghost use Rattle.verify.specs.Texts.{string_at};
 ghost use Rattle.verify.specs.TheClass.{TheClass, TheClass-prop};
 ghost use Rattle.jtypes.specs.Profile.{Profile, Third};
 
 use crate::link::link;
+use crate::texts::string;
 use bounds::Bounds;
 use classfile::ClassFile;
 use jtypes::Refusal;
@@ -116,6 +119,14 @@ impl Verified {
         ensures process { IsEntry self.now (index_of self.now) result.now.process }
     {
         &self.linked
+    }
+
+    /// Returns the text of the `String` constant at an index of the constant pool, in modified UTF-8 (JVMS §4.4.3, §4.4.7).
+    /// Returns `None` if the constant there isn't a `String`.
+    pub fn text(&self, index: u16) -> Option<&[u8]>
+        ensures { option_copied result ≡ string_at self.now.view.pool index }
+    {
+        string(&self.file.pool, index)
     }
 }
 

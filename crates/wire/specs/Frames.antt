@@ -6,8 +6,10 @@ use Rattle.byteorder.specs.Endian.{big_bytes}
 use Rattle.jtypes.specs.declared.types.Arg.{Arg}
 use Rattle.jtypes.specs.declared.types.Arg.TheVariants as arg
 use Rattle.jtypes.specs.declared.types.Outcome.{Outcome}
+use Rattle.jtypes.specs.declared.types.JavaFault.{JavaFault}
+use Rattle.jtypes.specs.declared.types.JavaFault.TheVariants.{Thrown}
 use Rattle.jtypes.specs.declared.types.Outcome.TheVariants.{Returned, Threw}
-use Rattle.jtypes.specs.Refusals.{number, detail, fault_number}
+use Rattle.jtypes.specs.Refusals.{number, detail, fault_number, exception_number}
 use Rattle.wire.specs.Requests.{Request, Define, Put, Get, Remove, Contains, Invoke, InvokeAll}
 use Rattle.wire.specs.Requests as request
 use Rattle.wire.specs.declared.reply.Denial.{Denial}
@@ -60,9 +62,14 @@ denial_number NoMemory = 3
 denial_number TooManyClasses = 4
 denial_number TooManyJobs = 5
 
+-- The text of a fault. An exception that the processor throws itself has the index of its own text, in two bytes.
+abbrev pub fault_text : JavaFault → List ℕ
+fault_text (Thrown e text) = 3 ∷ exception_number e ∷ big_bytes 2 text
+fault_text fault = 1 ∷ fault_number fault ∷ []
+
 abbrev pub outcome_text : Outcome → List ℕ
 outcome_text (Returned a) = 0 ∷ arg_text a
-outcome_text (Threw fault) = 1 ∷ fault_number fault ∷ []
+outcome_text (Threw fault) = fault_text fault
 
 abbrev pub job_outcome_text : JobOutcome → List ℕ
 job_outcome_text (Ended o) = outcome_text o

@@ -2,13 +2,13 @@
 
 ghost use Rattle.std.specs.Prelude.{◌≡◌, ◌+◌, ◌≤◌, [], ◌∷◌, ◌++◌, length};
 ghost use Rattle.byteorder.specs.Endian.{big_bytes};
-ghost use Rattle.wire.specs.Frames.{long_text, arg_text, outcome_text, job_text, reply_text};
+ghost use Rattle.wire.specs.Frames.{long_text, arg_text, fault_text, outcome_text, job_text, reply_text};
 ghost use Rattle.wire.specs.declared.reply.Reply.TheVariants.{Defined, Refused, Value, Result};
 ghost use Rattle.std.specs.Prelude.{Some};
 
 use crate::JobOutcome;
 use crate::text::Text;
-use jtypes::{Arg, Outcome, Refusal};
+use jtypes::{Arg, JavaFault, Outcome, Refusal};
 
 /// Returns the text of a reply without a body.
 pub fn kind_text(kind: u8) -> Text
@@ -94,7 +94,21 @@ fn add_outcome(text: &mut Text, outcome: Outcome)
             text.byte(0);
             add_arg(text, arg);
         }
-        Outcome::Threw(fault) => {
+        Outcome::Threw(fault) => add_fault(text, fault),
+    }
+}
+
+fn add_fault(text: &mut Text, fault: JavaFault)
+    requires { length text.old ≤ 8 }
+    ensures { text.new ≡ text.old ++ fault_text fault }
+{
+    match fault {
+        JavaFault::Thrown(exception, index) => {
+            text.byte(3);
+            text.byte(exception.number());
+            text.u16(index);
+        }
+        _ => {
             text.byte(1);
             text.byte(fault.number());
         }

@@ -7,6 +7,15 @@ use jtypes::Refusal;
 use std::alloc::{AllocError, Global};
 use std::test::Fail;
 
+/// Returns an index at which `getstatic` finds a field, and `new` a class, in the constant pool `EACH_TAG`.
+fn index_for(opcode: u8) -> u8 {
+    match opcode {
+        0xB2 => 12,
+        0xBB => 8,
+        _ => 0,
+    }
+}
+
 #[test]
 fn refuses_other_opcodes(rt: HostRuntime) {
     let pool = each_tag(&rt);
@@ -22,11 +31,8 @@ fn refuses_other_opcodes(rt: HostRuntime) {
             } else {
                 Refusal::UnknownOpcode
             };
-            assert_eq!(rt;
-                refusal(&rt, &pool, &[0, opcode, 0, 0, 0, 0]),
-                Some(want),
-                "at {opcode}"
-            );
+            let bytes = [0, opcode, 0, index_for(opcode), 0, 0];
+            assert_eq!(rt; refusal(&rt, &pool, &bytes), Some(want), "at {opcode}");
         }
     }
 }
