@@ -13,6 +13,7 @@ goes_on (instruction.Goto target) = false
 goes_on (instruction.Switch default cases) = false
 goes_on (instruction.Return k) = false
 goes_on instruction.ReturnVoid = false
+goes_on (instruction.Throw e text) = false
 goes_on i = true
 
 -- `IsAfter v f i x y` holds if the only edge of the instruction leads to what is known at `y`

@@ -93,7 +93,8 @@ pub fn step(
         | Instruction::Goto(_)
         | Instruction::Switch(..)
         | Instruction::Return(_)
-        | Instruction::ReturnVoid => Ok(()),
+        | Instruction::ReturnVoid
+        | Instruction::Throw(..) => Ok(()),
     }
 }
 
@@ -122,7 +123,7 @@ fn one_edge(
     one(alloc, y)
 }
 
-/// Returns the nodes after an instruction in the same method, none after a return. `callee` is the method that a call resolves to.
+/// Returns the nodes after an instruction in the same method, none after a return or a throw. `callee` is the method that a call resolves to.
 /// The only error is that of memory.
 pub fn next_nodes(
     alloc: Global,
@@ -138,7 +139,9 @@ pub fn next_nodes(
         Instruction::Branch(test, target) => branch(alloc, x, p.next, *test, *target),
         Instruction::Goto(target) => goto(alloc, x, *target),
         Instruction::Switch(default, cases) => switch(alloc, x, *default, cases),
-        Instruction::Return(_) | Instruction::ReturnVoid => Ok(Vec::new(alloc)),
+        Instruction::Return(_) | Instruction::ReturnVoid | Instruction::Throw(..) => {
+            Ok(Vec::new(alloc))
+        }
         Instruction::Nop
         | Instruction::Push(_)
         | Instruction::Load(..)

@@ -9,7 +9,7 @@ use crate::known::Known;
 use std::alloc::{AllocError, Global};
 
 /// A pc with what is known of the local variables and operands before its instruction.
-#[derive(Drop, PartialEq, Eq)]
+#[derive(Drop, PartialEq, Eq, PartialOrd, Ord)]
 pub struct Node {
     pub place: usize,
     /// A long has two, the second of which is `Narrow`.

@@ -1,11 +1,11 @@
 ghost use Rattle.search.specs.After.{HasPlaces};
 
 use crate::{
-    Following, Known, Length, Node, compared, incremented, length_known, new_array, next_nodes,
-    of_one, of_two,
+    Following, Known, Length, Node, compared, entered, incremented, length_known, new_array,
+    next_nodes, of_one, of_two, successors, tested,
 };
 use decode::{Instruction, Placed};
-use jtypes::{Binary, Comparison, Conversion, Division, Operation, Shift, Test};
+use jtypes::{Binary, Comparison, Conversion, Division, Kind, Operation, Pushed, Shift, Test};
 use std::alloc::{AllocError, Global};
 use std::test::Fail;
 
@@ -96,5 +96,83 @@ fn an_unknown_reference_has_both_ways(rt: HostRuntime) -> Result<(), Fail> {
     assert!(rt; places.as_slice() == [7, 13].as_slice());
     let places = places_after(rt.alloc(), &x, Instruction::ReturnVoid)?;
     assert!(rt; places.is_empty());
+    Ok(())
+}
+
+#[test]
+fn an_int_is_followed_if_a_test_looks_at_it(rt: HostRuntime) -> Result<(), Fail> {
+    let at_least = Test::OfInts(Comparison::GreaterOrEqual);
+    let instructions = [
+        Instruction::Load(Kind::Int, 3),
+        Instruction::Return(Kind::Int),
+        Instruction::Load(Kind::Int, 1),
+        Instruction::Push(Pushed::Int(2)),
+        Instruction::Branch(at_least, 13),
+        Instruction::Load(Kind::Int, 2),
+        Instruction::Return(Kind::Int),
+    ];
+    let mut code = Vec::new(rt.alloc());
+    for instruction in instructions {
+        code.push(Placed {
+            place: 0,
+            next: 1,
+            instruction,
+        })?;
+    }
+    let ints = tested(rt.alloc(), &code)?;
+    assert!(rt; ints.as_slice() == [false, true].as_slice());
+    Ok(())
+}
+
+#[test]
+fn a_long_argument_takes_two_local_variables(rt: HostRuntime) -> Result<(), Fail> {
+    let arguments = [
+        Known::Narrow,
+        Known::Wide,
+        Known::Number(3),
+        Known::Number(4),
+    ];
+    let f = Following {
+        values: true,
+        ints: Vec::from_slice(rt.alloc(), &[false, false, false, true])?,
+    };
+    let x = entered(rt.alloc(), &f, 6, &arguments)?;
+    let kept = [
+        Known::Narrow,
+        Known::Narrow,
+        Known::Narrow,
+        Known::Number(3),
+        Known::Narrow,
+        Known::Narrow,
+    ];
+    assert!(rt; x.place == 0 && x.operands.is_empty() && x.locals.as_slice() == kept.as_slice());
+    let none = Following {
+        values: false,
+        ints: Vec::new(rt.alloc()),
+    };
+    assert!(rt; entered(rt.alloc(), &none, 6, &arguments)?.locals.is_empty());
+    Ok(())
+}
+
+#[test]
+fn where_no_values_are_followed_a_successor_has_only_longs(rt: HostRuntime) -> Result<(), Fail> {
+    let mut x = loop_test(rt.alloc(), 0)?;
+    x.operands.push(Known::Wide)?;
+    let f = Following {
+        values: false,
+        ints: Vec::new(rt.alloc()),
+    };
+    let p = Placed {
+        place: 4,
+        next: 5,
+        instruction: Instruction::Nop,
+    };
+    let operands = [Known::Narrow, Known::Narrow, Known::Wide];
+    let ys = successors(rt.alloc(), &x, &f, &p, None)?;
+    assert!(rt; ys.len() == 1);
+    for y in &ys {
+        assert!(rt; y.place == 5 && y.locals.is_empty());
+        assert!(rt; y.operands.as_slice() == operands.as_slice());
+    }
     Ok(())
 }

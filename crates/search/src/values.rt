@@ -74,7 +74,7 @@ pub fn known_pushed(pushed: Pushed) -> Known
     match pushed {
         Pushed::Int(n) => Known::Number(n),
         Pushed::Long(_) => Known::Wide,
-        Pushed::Null => Known::Narrow,
+        Pushed::Null | Pushed::Boolean(_) => Known::Narrow,
     }
 }
 
