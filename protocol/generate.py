@@ -216,7 +216,7 @@ def java_numbers(tables):
 
 def java_arms(rows):
     """Returns the arms of a switch by the number of an exception."""
-    return [f"case {row['number']}: return new {row['name']}(where);" for row in rows]
+    return [f"case {row['number']}: return new {row['name']}(message);" for row in rows]
 
 
 def numbers_in(text):
@@ -246,8 +246,13 @@ def python_module(tables):
     lines = [f"# Generated from {ALL} by {BY}.", '"""The numbers of the protocol, with their names, and its limits."""']
     for table in ("refusals", "exceptions", "denials"):
         lines += python_tuple(table.upper(), [None, *tables.names(table)])
-    for table, what in (("requests", "request"), ("replies", "reply"), ("values", "value")):
-        lines += ["", f"# The kinds of a {what}."]
+    for table, what in (
+        ("requests", "a request"),
+        ("replies", "a reply"),
+        ("outcomes", "an outcome"),
+        ("values", "a value"),
+    ):
+        lines += ["", f"# The kinds of {what}."]
         lines += [f"{row['constant']} = {row['number']}" for row in getattr(tables, table)]
     lines.append("")
     for row in tables.limits:
@@ -273,6 +278,7 @@ def rust_module(tables):
     for table, what in (
         ("requests", "requests"),
         ("replies", "replies"),
+        ("outcomes", "outcomes"),
         ("values", "values in arguments and results"),
     ):
         lines += [f"/// The kinds of {what}.", "#[allow(dead_code)]", *rust_numbers(table, getattr(tables, table)), ""]
@@ -368,6 +374,7 @@ PARTS = {
     ("docs/PROCESSORS.md", "refusals"): refusals_page,
     ("docs/PROTOCOL.md", "denials"): DENIALS,
     ("docs/PROTOCOL.md", "exceptions"): EXCEPTIONS,
+    ("docs/PROTOCOL.md", "outcomes"): page("outcomes", ("Outcome", "Kind", "Body"), KINDS),
     ("docs/PROTOCOL.md", "replies"): page("replies", ("Reply", "Kind", "Body"), KINDS),
     ("docs/PROTOCOL.md", "requests"): page("requests", ("Request", "Kind", "Body", "Reply"), (*KINDS, "reply")),
     ("docs/PROTOCOL.md", "values"): page("values", ("Argument", "Kind", "Body"), KINDS),
