@@ -8,6 +8,7 @@ Requests, one a line: define FILE, put KEY VALUE, get KEY, remove KEY, contains 
 invoke CLASS KEY [ARGS..], invokeall CLASS KEY,KEY,.. [ARGS..], end (of a round).
 CLASS is the number that the reply to the class's definition told. ARGS are decimal numbers
 (Long), numbers followed by i (Integer), true, false or null.
+A reply's text=N is the index of an exception's text in the constant pool of its class.
 """
 import struct
 import sys
@@ -20,6 +21,10 @@ FAULTS = {
     4: "ClassCastException",
     5: "IncompatibleClassChangeError",
     6: "CacheLoaderException",
+    7: "EntryProcessorException",
+    8: "IllegalArgumentException",
+    9: "IllegalStateException",
+    10: "UnsupportedOperationException",
 }
 DENIALS = {1: "UnknownClass", 2: "JournalFull", 3: "NoMemory", 4: "TooManyClasses", 5: "TooManyJobs"}
 # end of the generated part
@@ -79,6 +84,9 @@ def outcome_of(body):
         return arg_of(body[1:])
     if body[0] == 1:
         return f"threw {body[1]} {FAULTS[body[1]]}", body[2:]
+    if body[0] == 3:
+        number, text = struct.unpack_from(">BH", body, 1)
+        return f"threw {number} {FAULTS[number]}" + (f" text={text}" if text else ""), body[4:]
     return f"denied {body[1]} {DENIALS[body[1]]}", body[2:]
 
 
