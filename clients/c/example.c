@@ -12,6 +12,14 @@ static struct jentry_arg arg_of(const char *word) {
     return (struct jentry_arg){ .kind = JENTRY_LONG, .value = strtoll(word, NULL, 10) };
 }
 
+/* Prints the exception of a run of a class, with as much of its text as fits, if the processor gave it one. */
+static void print_exception(struct jentry_handle *engine, uint32_t number, const struct jentry_done *done) {
+    char text[256];
+    size_t length = jentry_text(engine, number, (uint32_t)done->text, (uint8_t *)text, sizeof text);
+    printf("threw %s", jentry_exception_name(done->value));
+    if (length > 0) printf(": %.*s", (int)(length < sizeof text ? length : sizeof text), text);
+}
+
 int main(int argc, char **argv) {
     static uint8_t bytes[65537];
     FILE *file = argc > 3 && argc < 13 ? fopen(argv[1], "rb") : NULL;
@@ -37,7 +45,7 @@ int main(int argc, char **argv) {
     struct jentry_call call = { .number = verdict.number, .present = 1, .key = strtoll(argv[2], NULL, 10), .before = strtoll(argv[3], NULL, 10) };
     struct jentry_done done;
     jentry_invoke(&engine, &call, args, count, &done);
-    if (done.outcome == JENTRY_THREW) printf("threw %s", jentry_exception_name(done.value));
+    if (done.outcome == JENTRY_THREW) print_exception(&engine, verdict.number, &done);
     else if (done.outcome == JENTRY_BOOLEAN) printf("returned %s", done.value ? "true" : "false");
     else printf("returned %" PRId64, done.value);
     printf(" in %" PRIu32 " of at most %" PRIu32 " instructions\n", done.steps, verdict.steps);

@@ -66,7 +66,7 @@ struct jentry_call {
 /* The other outcomes of a call. For 4 to 6 nothing was run, and all fields after `outcome` are 0. The class was run for 0 to 3 and for 7:
  * `outcome <= JENTRY_THREW` leaves out the runs that returned a Boolean. */
 enum {
-    JENTRY_THREW = 3,          /* `value` is the number of the exception, 1 to 5; the effect is JENTRY_KEEP */
+    JENTRY_THREW = 3,          /* `value` is the number of the exception, 1 to 5 or 7 to 10; the effect is JENTRY_KEEP */
     JENTRY_NO_CLASS = 4,       /* no class has the number, or the handle isn't open */
     JENTRY_MANY_ARGUMENTS = 5, /* more than eight arguments */
     JENTRY_NO_ARGUMENT = 6     /* an argument is invalid */
@@ -82,12 +82,14 @@ enum { JENTRY_KEEP = 0, JENTRY_PUT = 1, JENTRY_DELETE = 2 };
 enum { JENTRY_UNTOUCHED = 0, JENTRY_SET = 1, JENTRY_REMOVED = 2 };
 
 /* The result of a call: the kind of the returned value in `outcome` and its number in `value`, or the exception; the effect on the entry;
- * the instructions and array words that the run took; and in `left` what the processor did to the entry. */
+ * the instructions and array words that the run took; and in `left` what the processor did to the entry. `text` is 0 unless the processor
+ * threw the exception itself; then it is the index of the exception's text, for jentry_text, or -1 if the exception has none. */
 struct jentry_done {
     uint32_t outcome, effect;
     int64_t value, put;
     uint32_t steps, words;
-    uint32_t left, unused;
+    uint32_t left;
+    int32_t text;
 };
 
 /* Creates an engine. Returns 0, or 1 if memory is exhausted, or 2 if the handle is open already, which changes nothing. */
@@ -108,6 +110,12 @@ uint32_t jentry_forget(struct jentry_handle *handle, uint32_t number);
 void jentry_invoke(struct jentry_handle *handle, const struct jentry_call *call, const struct jentry_arg *args, size_t count,
                    struct jentry_done *done);
 
+/* Writes the text of an exception to `text`, at most `room` bytes of it and without a terminating zero. `number` is the class that threw,
+ * and `index` the field `text` of the result. The bytes are those of the String constant at that index of the class file, in modified
+ * UTF-8 (JVMS 4.4.7): ASCII characters but zero are themselves. Returns the length of the whole text in bytes, or 0 if no class has the
+ * number, if the class has no String at the index, as for 0 and -1, or if the text is empty. */
+size_t jentry_text(struct jentry_handle *handle, uint32_t number, uint32_t index, uint8_t *text, size_t room);
+
 /* Writes the output of `jentry explain` for a class file to `text`, at most `room` bytes of it and without a terminating zero.
  * Returns the length of the whole output, or 0 if memory is exhausted. */
 size_t jentry_explain(const uint8_t *bytes, size_t length, uint8_t *text, size_t room);
@@ -127,7 +135,7 @@ JENTRY_ASSERT(sizeof(struct jentry_handle) == 16 && offsetof(struct jentry_handl
 JENTRY_ASSERT(sizeof(struct jentry_verdict) == 48 && offsetof(struct jentry_verdict, id) == 28, "the layout of a verdict");
 JENTRY_ASSERT(sizeof(struct jentry_arg) == 16 && offsetof(struct jentry_arg, value) == 8, "the layout of an argument");
 JENTRY_ASSERT(sizeof(struct jentry_call) == 24 && offsetof(struct jentry_call, key) == 8, "the layout of a call");
-JENTRY_ASSERT(sizeof(struct jentry_done) == 40 && offsetof(struct jentry_done, left) == 32, "the layout of an end");
+JENTRY_ASSERT(sizeof(struct jentry_done) == 40 && offsetof(struct jentry_done, text) == 36, "the layout of an end");
 #undef JENTRY_ASSERT
 
 #ifdef __cplusplus

@@ -11,7 +11,8 @@ static const char *const refusals[] = {
 
 static const char *const exceptions[] = {
     "ArithmeticException", "ArrayIndexOutOfBoundsException", "NullPointerException", "ClassCastException",
-    "IncompatibleClassChangeError", "CacheLoaderException",
+    "IncompatibleClassChangeError", "CacheLoaderException", "EntryProcessorException", "IllegalArgumentException",
+    "IllegalStateException", "UnsupportedOperationException",
 };
 /* end of the generated part */
 

@@ -4,6 +4,8 @@
  *   answers calls                                                       runs each line `FILE KEY VALUE [ARG ..]` of the input
  *   answers edges ADD PLUS RESERVE                                      tests denied calls, handles that aren't open, and removed classes
  *   answers threads FILE                                                tests four handles at once, each on a thread of its own
+ *   answers thrown FILE                                                 runs a class that throws an exception itself, and prints that exception
+ *   answers texts ADD FIRST SECOND SILENT                               tests the texts of classes that throw: two have one, the third has none
  */
 #define _POSIX_C_SOURCE 200809L
 #include <errno.h>
@@ -186,7 +188,7 @@ static struct jentry_done on_41(struct jentry_handle *engine, uint32_t number, c
 
 static bool is_denied(struct jentry_done done, uint32_t outcome) {
     return done.outcome == outcome && done.effect == 0 && done.value == 0 && done.put == 0 && done.steps == 0 && done.words == 0 &&
-           done.left == JENTRY_UNTOUCHED && done.unused == 0;
+           done.left == JENTRY_UNTOUCHED && done.text == 0;
 }
 
 static void closed_handles(const uint8_t *bytes, size_t length) {
@@ -245,7 +247,7 @@ static void booleans(struct jentry_handle *engine, uint32_t reserve) {
     struct jentry_arg args[2] = { { .kind = JENTRY_LONG, .value = 40 }, { .kind = JENTRY_BOOLEAN, .value = 1 } };
     struct jentry_done done = on_41(engine, reserve, args, 2);
     HOLDS(done.outcome == JENTRY_BOOLEAN && done.value == 1 && done.effect == JENTRY_KEEP && done.left == JENTRY_UNTOUCHED);
-    HOLDS(done.steps == 48 && done.words == 0 && done.put == 0 && done.unused == 0);
+    HOLDS(done.steps == 48 && done.words == 0 && done.put == 0 && done.text == 0);
     args[1].value = 0;
     done = on_41(engine, reserve, args, 2);
     HOLDS(done.outcome == JENTRY_BOOLEAN && done.value == 1 && done.effect == JENTRY_PUT && done.put == 1 && done.left == JENTRY_SET);
@@ -270,7 +272,7 @@ static void ends(struct jentry_handle *engine, uint32_t add, uint32_t plus) {
     struct jentry_arg one = { .kind = JENTRY_LONG, .value = 1 }, zero = { .kind = JENTRY_LONG };
     struct jentry_done done = on_41(engine, add, &one, 1);
     HOLDS(done.outcome == JENTRY_LONG && done.value == 42 && done.effect == JENTRY_PUT && done.put == 42);
-    HOLDS(done.steps == 29 && done.words == 0 && done.left == JENTRY_SET && done.unused == 0);
+    HOLDS(done.steps == 29 && done.words == 0 && done.left == JENTRY_SET && done.text == 0);
     done = on_41(engine, add, &zero, 1);
     HOLDS(done.outcome == JENTRY_LONG && done.value == 41 && done.effect == JENTRY_KEEP && done.left == JENTRY_SET);
     done = on_41(engine, add, &zero, 0);
@@ -372,6 +374,76 @@ static int threads(const char *name) {
     return sum == THREADS * CALLS ? OK : OTHER;
 }
 
+enum { MOST_TEXT = 4096, ROOM = 16, MARK = 'x' };
+
+/* Prints the number and the name of the exception that a class throws on the entry 41, and its text if it has one. */
+static int thrown(const char *name) {
+    struct jentry_handle engine = {0};
+    uint8_t text[MOST_TEXT];
+    if (jentry_open(&engine) != 0) return OTHER;
+    uint32_t number = defined(&engine, name);
+    struct jentry_done done = on_41(&engine, number, &(struct jentry_arg){0}, 0);
+    size_t length = jentry_text(&engine, number, (uint32_t)done.text, text, sizeof text);
+    jentry_close(&engine);
+    HOLDS(done.outcome == JENTRY_THREW && done.effect == JENTRY_KEEP && done.put == 0 && done.left == JENTRY_UNTOUCHED);
+    HOLDS(done.text != 0 && length <= sizeof text);
+    if (failures) return OTHER;
+    printf("%" PRId64 " %s", done.value, jentry_exception_name(done.value));
+    if (done.text > 0) printf(" %.*s", (int)length, (const char *)text);
+    printf("\n");
+    return THREW;
+}
+
+/* Returns whether jentry_text returns this length, and writes the first `room` bytes of the text and nothing more. The block has exactly
+ * `room` bytes for the sanitizer, but one if there is no room. */
+static bool is_text(struct jentry_handle *engine, uint32_t number, uint32_t index, size_t room, const char *text) {
+    size_t length = strlen(text), written = length < room ? length : room;
+    uint8_t *block = malloc(room ? room : 1);
+    if (!block) exit(OTHER);
+    memset(block, MARK, room ? room : 1);
+    bool is_same = jentry_text(engine, number, index, block, room) == length && memcmp(block, text, written) == 0;
+    for (size_t i = written; i < (room ? room : 1); i++) is_same = is_same && block[i] == MARK;
+    free(block);
+    return is_same;
+}
+
+/* Tests the text of a class, for any size of the buffer and any index. Returns the index of the text. */
+static uint32_t text_of(struct jentry_handle *engine, uint32_t number, const char *text) {
+    struct jentry_done done = on_41(engine, number, &(struct jentry_arg){0}, 0);
+    HOLDS(done.outcome == JENTRY_THREW && done.text > 0 && done.text <= UINT16_MAX);
+    uint32_t at = (uint32_t)done.text;
+    for (size_t room = 0; room <= strlen(text) + 2; room++) HOLDS(is_text(engine, number, at, room, text));
+    /* The class has one String. An index is that of no String then, even if its low bits are those of one. */
+    for (uint32_t index = 0; index <= 2 * UINT16_MAX; index++) HOLDS(index == at || is_text(engine, number, index, ROOM, ""));
+    HOLDS(is_text(engine, number, UINT32_MAX, ROOM, ""));
+    return at;
+}
+
+static int texts(char **names) {
+    struct jentry_handle engine = {0}, other = {0};
+    HOLDS(is_text(&engine, 0, 1, ROOM, ""));
+    HOLDS(jentry_open(&engine) == 0 && jentry_open(&other) == 0);
+    uint32_t add = defined(&engine, names[0]), first = defined(&engine, names[1]);
+    uint32_t second = defined(&engine, names[2]), silent = defined(&engine, names[3]);
+    uint32_t index = text_of(&engine, first, "sold out");
+    text_of(&engine, second, "more than the stock has");
+    HOLDS(on_41(&engine, silent, &(struct jentry_arg){0}, 0).text == -1);
+    /* Add has no String, and its exceptions are those of the JVM. */
+    struct jentry_done done = on_41(&engine, add, &(struct jentry_arg){0}, 0);
+    HOLDS(done.outcome == JENTRY_THREW && done.value == 2 && done.text == 0);
+    for (uint32_t at = 0; at <= UINT16_MAX; at++) HOLDS(is_text(&engine, add, at, ROOM, ""));
+    HOLDS(is_text(&engine, UINT32_MAX, index, ROOM, "") && is_text(&engine, silent + 1, index, ROOM, ""));
+    HOLDS(is_text(&other, first, index, ROOM, ""));
+    HOLDS(jentry_forget(&engine, first) == 1);
+    HOLDS(is_text(&engine, first, index, ROOM, ""));
+    text_of(&engine, second, "more than the stock has");
+    jentry_close(&engine);
+    HOLDS(is_text(&engine, second, index, ROOM, ""));
+    jentry_close(&other);
+    printf("%d failures\n", failures);
+    return failures ? OTHER : OK;
+}
+
 static int edges(const char *add_name, const char *plus_name, const char *reserve_name) {
     struct jentry_handle engine = {0};
     size_t length;
@@ -387,7 +459,10 @@ static int edges(const char *add_name, const char *plus_name, const char *reserv
     two_engines(bytes, length);
     HOLDS(strcmp(jentry_refusal_name(0), "") == 0 && strcmp(jentry_refusal_name(31), "") == 0);
     HOLDS(strcmp(jentry_refusal_name(1), "TooLarge") == 0 && strcmp(jentry_refusal_name(30), "NoMemory") == 0);
-    HOLDS(strcmp(jentry_exception_name(0), "") == 0 && strcmp(jentry_exception_name(7), "") == 0 && strcmp(jentry_exception_name(-1), "") == 0);
+    HOLDS(strcmp(jentry_exception_name(0), "") == 0 && strcmp(jentry_exception_name(11), "") == 0 && strcmp(jentry_exception_name(-1), "") == 0);
+    HOLDS(strcmp(jentry_exception_name(INT64_MIN), "") == 0 && strcmp(jentry_exception_name(INT64_C(1) + UINT32_MAX), "") == 0);
+    HOLDS(strcmp(jentry_exception_name(1), "ArithmeticException") == 0);
+    HOLDS(strcmp(jentry_exception_name(10), "UnsupportedOperationException") == 0);
     free(bytes);
     printf("%d failures\n", failures);
     return failures ? 1 : 0;
@@ -400,6 +475,9 @@ int main(int argc, char **argv) {
     if (argc == 2 && strcmp(argv[1], "calls") == 0) return calls();
     if (argc == 5 && strcmp(argv[1], "edges") == 0) return edges(argv[2], argv[3], argv[4]);
     if (argc == 3 && strcmp(argv[1], "threads") == 0) return threads(argv[2]);
-    fprintf(stderr, "usage: answers check FILE | explain FILE | run FILE KEY VALUE [ARG ..] | calls | edges ADD PLUS RESERVE | threads FILE\n");
+    if (argc == 3 && strcmp(argv[1], "thrown") == 0) return thrown(argv[2]);
+    if (argc == 6 && strcmp(argv[1], "texts") == 0) return texts(argv + 2);
+    fprintf(stderr, "usage: answers check FILE | explain FILE | run FILE KEY VALUE [ARG ..] | calls | edges ADD PLUS RESERVE | threads FILE |"
+                    " thrown FILE | texts ADD FIRST SECOND SILENT\n");
     return USAGE;
 }

@@ -28,8 +28,11 @@ SANITIZED = [
 ]
 EMBED = os.environ.get("JENTRY_EMBED", os.path.join(TOP, "crates/embed/out/libembed.a"))
 PROGRAM = os.environ.get("JENTRY_PROGRAM")
-# This goes before clients/tests, which has another module `running`.
+# The first one goes before clients/tests, which has another module `running`.
 sys.path.insert(0, os.path.join(TOP, "tests/program"))
+sys.path.append(os.path.join(TOP, "clients/tests"))
+
+import throwing_classes  # noqa: E402  (it is in the clients' tests)
 
 
 def run(*words, given=None, status=None, **how):
@@ -75,6 +78,10 @@ class Built(unittest.TestCase):
             it.write(file)
         return path
 
+    def thrower(self, number, modified=None, **how):
+        """Writes a class that throws the exception with this number, and returns its path. `modified` is its text."""
+        return self.write("Thrower.class", throwing_classes.throwing(number, modified, **how))
+
     def same(self, *words):
         """Checks that the C program and `jentry` print the same, with the same status."""
         self.assertEqual(run(self.answers, *words), run(PROGRAM, *words), words)
@@ -84,7 +91,17 @@ class Library(Built):
     def test_exported_names(self):
         wanted = {
             "jentry_" + name
-            for name in ("open", "close", "define", "forget", "invoke", "explain", "refusal_name", "exception_name")
+            for name in (
+                "open",
+                "close",
+                "define",
+                "forget",
+                "invoke",
+                "text",
+                "explain",
+                "refusal_name",
+                "exception_name",
+            )
         }
         told, _ = run("nm", "-D", "--defined-only", os.path.join(self.out, "libjentry.so"), status=0)
         self.assertEqual({line.split()[-1] for line in told.splitlines()}, wanted)
@@ -108,7 +125,15 @@ class Library(Built):
             told = run(os.path.join(self.out, "example"), os.path.join(EXAMPLES, "Reserve.class"), 7, 41, *arguments)
             self.assertEqual(told, (wanted, 0))
         with open(os.path.join(HERE, "example.c"), encoding="utf-8") as source:
-            self.assertLessEqual(len(source.readlines()), 48)
+            self.assertLessEqual(len(source.readlines()), 56)
+
+    def test_example_prints_the_text_of_an_exception(self):
+        example = os.path.join(self.out, "example")
+        told = run(example, os.path.join(EXAMPLES, "Add.class"), 7, 41)
+        self.assertEqual(told, ("threw ArrayIndexOutOfBoundsException in 7 of at most 29 instructions\n", 0))
+        for modified, shown in ((None, ""), (b"sold out", ": sold out"), (b"n" * 300, ": " + "n" * 256)):
+            told, status = run(example, self.thrower(8, modified), 7, 41)
+            self.assertEqual((told.partition(" in ")[0], status), ("threw IllegalArgumentException" + shown, 0))
 
     def test_installed_and_shared(self):
         place = os.path.join(self.folder, "installed")
@@ -157,6 +182,43 @@ class Library(Built):
             status=0,
         )
         run(program, status=0)
+
+
+class Texts(Built):
+    """The exceptions that a processor throws itself, with their texts."""
+
+    def test_each_exception(self):
+        for number, of in throwing_classes.EXCEPTIONS.items():
+            name = of.rpartition("/")[2]
+            for modified in (None, b"sold out", b"n" * 4000):
+                for how in ({}, {"sets": True}, {"fillers": 300}):
+                    with self.subTest(number=number, modified=modified, how=how):
+                        told = run(self.answers, "thrown", self.thrower(number, modified, **how))
+                        text = "" if modified is None else " " + modified.decode()
+                        self.assertEqual(told, (f"{number} {name}{text}\n", 4))
+
+    @NEEDS_PROGRAM
+    def test_classes_that_throw_as_the_program_has_them(self):
+        for number in throwing_classes.EXCEPTIONS:
+            for modified, how in ((None, {}), (b"sold out", {"sets": True}), (b"sold out", {"fillers": 300})):
+                path = self.thrower(number, modified, **how)
+                for words in (("check", path), ("explain", path), ("run", path, 7, 41), ("run", path, 7, "none")):
+                    with self.subTest(number=number, modified=modified, how=how, words=words):
+                        self.same(*words)
+
+    def test_a_text_in_modified_utf_8(self):
+        """The character zero has two bytes, and one above U+FFFF is two surrogates of three bytes each (JVMS 4.4.7)."""
+        modified = b"a\xc0\x80b \xc3\xa9 \xe2\x82\xac \xed\xa0\xbd\xed\xb8\x80"
+        with subprocess.Popen([self.answers, "thrown", self.thrower(9, modified)], stdout=subprocess.PIPE) as ran:
+            told = ran.communicate(timeout=PATIENCE)[0]
+        self.assertEqual((told, ran.returncode), (b"9 IllegalStateException " + modified + b"\n", 4))
+
+    def test_rooms_numbers_and_indexes(self):
+        files = [os.path.join(EXAMPLES, "Add.class")]
+        for place, (modified, fillers) in enumerate(((b"sold out", 0), (b"more than the stock has", 300), (None, 0))):
+            file = throwing_classes.throwing(9, modified, fillers=fillers)
+            files.append(self.write(f"Thrower{place}.class", file))
+        self.assertEqual(run(self.answers, "texts", *files), ("0 failures\n", 0))
 
 
 class Answers(Built):
