@@ -2,14 +2,16 @@
 """test_frames: both clients write the requests and read the replies of protocol/frames.tsv."""
 import asyncio
 import os
+import re
 import sys
 import unittest
 
 HERE = os.path.dirname(os.path.abspath(__file__))
-sys.path[:0] = [HERE, os.path.join(HERE, "../../protocol")]
+sys.path[:0] = [HERE, os.path.join(HERE, "../tests"), os.path.join(HERE, "../../protocol")]
 import golden
 import jentry
 import jentry_aio
+from class_files import with_strings
 from jentry import requests, tables
 
 PATIENCE = 60
@@ -19,11 +21,19 @@ ASKED = {
     tables.DONE: requests.put(1, 1),
     tables.VALUE: requests.get(1),
     tables.FLAG: requests.remove(1),
-    tables.RESULT: requests.invoke(1, jentry.Class(0, 0, 0), ()),
-    tables.RESULTS: requests.invoke_all([1], jentry.Class(0, 0, 0), ()),
     tables.DENIED: requests.put(1, 1),
 }
-"""A request to which a reply of each kind may come."""
+"""A request to which a reply of each kind without outcomes may come."""
+
+
+def asked(row):
+    """Returns a request to which a reply may come. The class of an invocation has the text `text=N` at each index N that the line names."""
+    kind = row.frame[4]
+    if kind not in (tables.RESULT, tables.RESULTS):
+        return ASKED[kind]
+    strings = {int(index): b"text=%d" % int(index) for index in re.findall(r" text=(\d+)", row.line)}
+    processor = jentry.Class(0, 0, 0, with_strings(strings)) if strings else jentry.Class(0, 0, 0)
+    return requests.invoke(1, processor, ()) if kind == tables.RESULT else requests.invoke_all([1], processor, ())
 
 
 def argument_of(word):
@@ -72,8 +82,10 @@ def text_of(value):
     """Returns the words of a result, or of the exception in place of it."""
     if value is None or isinstance(value, bool):
         return {None: "null", True: "true", False: "false"}[value]
-    if isinstance(value, (jentry.ProcessorThrew, jentry.Denied)):
-        return f"{'denied' if isinstance(value, jentry.Denied) else 'threw'} {value.number} {value.name}"
+    if isinstance(value, jentry.ProcessorThrew):
+        return f"threw {value.number} {value.name} {value.text or ''}".rstrip()
+    if isinstance(value, jentry.Denied):
+        return f"denied {value.number} {value.name}"
     return f"{int(value)}i" if isinstance(value, jentry.Int) else str(value)
 
 
@@ -103,7 +115,7 @@ class Threads(unittest.TestCase):
     def test_replies_are_read(self):
         for row in received():
             with self.subTest(line=row.line):
-                answer = requests.read_answer(ASKED[row.frame[4]].kind, row.frame[4:])
+                answer = requests.read_answer(asked(row), row.frame[4:])
                 self.assertEqual(line_of(row.frame[4], answer), row.line)
         self.assertEqual([row.frame[4:] for row in golden.replies() if row.line == "end"], [requests.ENDED])
 
@@ -111,7 +123,7 @@ class Threads(unittest.TestCase):
         for row in received():
             for text in (row.frame[4:-1], row.frame[4:] + b"\0"):
                 with self.subTest(line=row.line), self.assertRaises(jentry.StreamEnded):
-                    requests.read_answer(ASKED[row.frame[4]].kind, text)
+                    requests.read_answer(asked(row), text)
 
 
 class Written:
@@ -157,7 +169,7 @@ class Loop(unittest.TestCase):
     def test_replies_are_read(self):
         for row in received():
             with self.subTest(line=row.line):
-                _, answer = self.exchanged(ASKED[row.frame[4]], row.frame)
+                _, answer = self.exchanged(asked(row), row.frame)
                 self.assertEqual(line_of(row.frame[4], answer), row.line)
 
 

@@ -3,6 +3,7 @@
 import io
 import os
 import signal
+import struct
 import subprocess
 import sys
 import tempfile
@@ -12,14 +13,16 @@ import unittest
 HERE = os.path.dirname(os.path.abspath(__file__))
 sys.path[:0] = [HERE, os.path.join(HERE, "../tests")]
 import jentry
-from class_files import EXAMPLES, heavy, plus, ratio
+from class_files import EXAMPLES, WITHDRAW_TEXTS, heavy, plus, ratio, with_strings, withdraw
 from jentry import requests
+from jentry.constant_pool import Strings
 from jentry.requests import read_answer
-from jentry.tables import CONTAINS, GET, INVOKE, INVOKE_ALL
 from python_cases import HAS_PROCESSORS, Endings, Threaded, wrong_calls
 from running import PATIENCE, PROGRAM, SERVER, STAND_IN
 
 LEAST, MOST = -(2**63), 2**63 - 1
+GET, CONTAINS = requests.get(7), requests.contains(7)
+INVOKE, INVOKE_ALL = requests.invoke(7, jentry.Class(0, 0, 0), ()), requests.invoke_all([7], jentry.Class(0, 0, 0), ())
 INTERRUPTED = """
 import signal, sys, threading
 sys.path.insert(0, sys.argv[1])
@@ -318,19 +321,36 @@ class Answers(unittest.TestCase):
             with self.subTest(text=text), self.assertRaises(jentry.StreamEnded):
                 read_answer(INVOKE, b"\6\0" + text)
 
+    def test_an_exception_that_the_processor_throws(self):
+        request = requests.invoke(7, jentry.Class(0, 0, 0, withdraw()), ())
+        for index in (0, 1, 15, 16, 32, 999, 65_535):
+            for number, name in ((1, "ArithmeticException"), (9, "IllegalStateException"), (77, "unknown")):
+                told = read_answer(request, b"\6\3" + struct.pack(">BH", number, index))
+                self.assertIsInstance(told, jentry.ProcessorThrew)
+                self.assertEqual((told.number, told.name, told.text), (number, name, WITHDRAW_TEXTS.get(index)))
+        self.assertEqual(str(read_answer(request, b"\6\3\x09\0\x20")), "IllegalStateException: insufficient funds")
+        self.assertEqual(str(read_answer(request, b"\6\3\x09\0\0")), "IllegalStateException")
+        told = read_answer(INVOKE, b"\6\3\x09\0\x20")
+        self.assertEqual((told.number, told.text, str(told)), (9, None, "IllegalStateException"))
+        for text in (b"\3", b"\3\x09", b"\3\x09\0", b"\3\x09\0\0\0", b"\4\x09\0\0"):
+            with self.subTest(text=text), self.assertRaises(jentry.StreamEnded):
+                read_answer(request, b"\6" + text)
+
     def test_a_get_whose_loader_failed(self):
         told = read_answer(GET, b"\6\1\6")
         self.assertIsInstance(told, jentry.ProcessorThrew)
-        self.assertEqual((told.number, told.name), (6, "CacheLoaderException"))
-        for text in (b"\6\0\0", b"\6\2\3", b"\6\1", b"\6\1\6\0"):
+        self.assertEqual((told.number, told.name, told.text), (6, "CacheLoaderException", None))
+        for text in (b"\6\0\0", b"\6\2\3", b"\6\1", b"\6\1\6\0", b"\6\3\6\0\0"):
             with self.subTest(text=text), self.assertRaises(jentry.StreamEnded):
                 read_answer(GET, text)
         with self.assertRaises(jentry.StreamEnded):
             read_answer(CONTAINS, b"\6\1\6")
 
     def test_names(self):
-        names = [jentry.ProcessorThrew(number).name for number in range(1, 8)]
-        self.assertEqual(names[4:], ["IncompatibleClassChangeError", "CacheLoaderException", "unknown"])
+        names = [jentry.ProcessorThrew(number).name for number in range(5, 12)]
+        self.assertEqual(names[:3], ["IncompatibleClassChangeError", "CacheLoaderException", "EntryProcessorException"])
+        self.assertEqual(names[3:5], ["IllegalArgumentException", "IllegalStateException"])
+        self.assertEqual(names[5:], ["UnsupportedOperationException", "unknown"])
         self.assertEqual(str(jentry.Refused(17, 186)), "refused: 17 OutsideProfile opcode 186")
         self.assertEqual(str(jentry.Refused(22, 9)), "refused: 22 TypeMismatch at 9")
         self.assertEqual(str(jentry.Denied(77)), "denied: 77 unknown")
@@ -343,6 +363,93 @@ class Answers(unittest.TestCase):
         for name, it in exceptions.items():
             self.assertTrue(issubclass(it, jentry.Error))
             self.assertEqual((it.__module__, it.__name__), ("jentry", name))
+
+
+EACH_KIND = [
+    b"\1\0\2ab",
+    b"\3\0\0\0\1",
+    b"\4\0\0\0\1",
+    b"\5" + bytes(8),
+    b"\6" + bytes(8),
+    *(bytes([tag, 0, 1]) for tag in (7, 8, 16)),
+    *(bytes([tag, 0, 1, 0, 1]) for tag in (9, 10, 11, 12, 18)),
+    b"\x0f\6\0\1",
+    b"\x08\0\1",
+]
+"""Constants of each kind. The Long and the Double take two indexes, so the last one, a String, has the index 17."""
+
+
+class Texts(unittest.TestCase):
+    """The texts in class files."""
+
+    def test_characters(self):
+        for text, wanted in (
+            (b"", ""),
+            (b"insufficient funds", "insufficient funds"),
+            (b"a\xc0\x80b", "a\0b"),
+            (b"\xc2\x80\xc3\xa9\xdf\xbf", "\x80\xe9\u07ff"),
+            (b"\xe0\xa0\x80\xe2\x82\xac\xef\xbf\xbf", "\u0800\u20ac\uffff"),
+            (b"\xed\xa0\xbd\xed\xb8\x80!", "\U0001f600!"),
+            (b"\xed\xaf\xbf\xed\xbf\xbf", "\U0010ffff"),
+            (b"\xed\xa0\xbd", "\ud83d"),
+            (b"\xed\xb8\x80\xed\xa0\xbd", "\ude00\ud83d"),
+            (b"a\xff\xe2\x82", "a\ufffd\ufffd"),
+        ):
+            with self.subTest(text=text):
+                self.assertEqual(Strings(with_strings({2: text})).at(2), wanted)
+
+    def test_constants_of_each_kind_are_stepped_over(self):
+        file = b"\xca\xfe\xba\xbe\0\0\0\x34" + struct.pack(">H", 18) + b"".join(EACH_KIND)
+        found = {index: Strings(file).at(index) for index in range(20)}
+        self.assertEqual({index: text for index, text in found.items() if text is not None}, {9: "ab", 17: "ab"})
+
+    def test_files_without_such_a_constant(self):
+        whole = with_strings({2: b"ab"})
+        for file in (*(whole[:end] for end in range(len(whole))), whole.replace(b"\x08\0\1", b"\x08\0\2")):
+            self.assertIsNone(Strings(file).at(2))
+        self.assertIsNone(Strings(whole[:10] + b"\2" + whole[11:]).at(2))
+
+
+class Thrown(unittest.TestCase):
+    """A server whose classes throw."""
+
+    def setUp(self):
+        self.cache = jentry.Cache.start(*STAND_IN, "--throw", "9:32")
+        self.addCleanup(self.cache.close)
+
+    def test_invoke(self):
+        processor = self.cache.define(withdraw())
+        with self.assertRaises(jentry.ProcessorThrew) as told:
+            self.cache.invoke(7, processor, 1)
+        self.assertEqual((told.exception.number, told.exception.name), (9, "IllegalStateException"))
+        self.assertEqual(told.exception.text, "insufficient funds")
+
+    def test_a_class_that_another_client_defined(self):
+        number = self.cache.define(withdraw()).number
+        with self.assertRaises(jentry.ProcessorThrew) as told:
+            self.cache.invoke(7, jentry.Class(number, 0, 0), 1)
+        self.assertEqual((told.exception.number, told.exception.text), (9, None))
+
+    def test_each_class_has_its_own_texts(self):
+        other = self.cache.define(with_strings({32: b"others"}))
+        first = self.cache.define(withdraw())
+        self.cache.put(8, 1)
+        with self.cache.round() as r:
+            answers = [r.invoke(7, other), r.invoke(7, first), r.invoke(8, first), r.invoke(7, other)]
+        self.assertEqual(answers[2].result(), 2)
+        told = []
+        for answer in (answers[0], answers[1], answers[3]):
+            with self.assertRaises(jentry.ProcessorThrew) as raised:
+                answer.result()
+            told.append(raised.exception.text)
+        self.assertEqual(told, ["others", "insufficient funds", "others"])
+
+    def test_invoke_all(self):
+        processor = self.cache.define(withdraw())
+        self.cache.put(8, 1)
+        told = self.cache.invoke_all([7, 8, 9], processor)
+        self.assertEqual(told[8], 2)
+        self.assertEqual([(told[key].number, told[key].text) for key in (7, 9)], 2 * [(9, "insufficient funds")])
 
 
 @unittest.skipUnless(PROGRAM, "the program isn't built")
@@ -374,6 +481,19 @@ class Machine(unittest.TestCase):
             with self.assertRaises(jentry.ProcessorThrew) as told:
                 self.cache.invoke(7, reserve, 1, wrong)
             self.assertTrue(told.exception.name.startswith(name))
+
+    def test_exceptions_that_a_class_throws(self):
+        processor = self.cache.define(withdraw())
+        self.cache.put(7, 41)
+        told = []
+        for amount in (0, 42):
+            with self.assertRaises(jentry.ProcessorThrew) as raised:
+                self.cache.invoke(7, processor, amount)
+            told.append((raised.exception.number, raised.exception.text))
+        self.assertEqual(told, [(8, WITHDRAW_TEXTS[15]), (9, WITHDRAW_TEXTS[32])])
+        results = self.cache.invoke_all([6, 7], processor, 40)
+        self.assertEqual((results[7], results[6].text), (1, WITHDRAW_TEXTS[32]))
+        self.assertEqual(self.cache.get(7), 1)
 
     def test_a_refused_class(self):
         with self.assertRaises(jentry.Refused) as told:

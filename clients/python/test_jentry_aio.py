@@ -9,9 +9,11 @@ HERE = os.path.dirname(os.path.abspath(__file__))
 sys.path[:0] = [HERE, os.path.join(HERE, "../tests")]
 import jentry
 import jentry_aio
-from class_files import EXAMPLES, heavy, plus
+from class_files import EXAMPLES, WITHDRAW_TEXTS, heavy, plus, with_strings, withdraw
 from python_cases import HAS_PROCESSORS, Endings, wrong_calls
 from running import PATIENCE, PROGRAM, SERVER, STAND_IN
+
+THREW_9 = (jentry.ProcessorThrew, 9, "IllegalStateException")
 
 
 class Loop(unittest.TestCase, Endings):
@@ -169,6 +171,37 @@ class Loop(unittest.TestCase, Endings):
             self.assertEqual(await cache.get(7), 41)
             self.assertEqual(await cache.invoke_all([7, 8], reserve, 40, False), {7: True})
             self.assertEqual(await cache.get(7), 1)
+
+        self.run_in_loop(work)
+
+    def test_exceptions_that_a_class_throws(self):
+        async def work(cache):
+            other = await cache.define(with_strings({32: b"others"}))
+            processor = await cache.define(withdraw())
+            await cache.put(8, 1)
+            told = await asyncio.gather(
+                cache.invoke(7, other),
+                cache.invoke(7, processor),
+                cache.invoke(7, jentry.Class(processor.number, 0, 0)),
+                cache.invoke(8, processor),
+                return_exceptions=True,
+            )
+            self.assertEqual([(type(it), it.number, it.name) for it in told[:3]], 3 * [THREW_9])
+            self.assertEqual([it.text for it in told[:3]], ["others", "insufficient funds", None])
+            self.assertEqual(told[3], 2)
+            told = await cache.invoke_all([7, 8], processor)
+            self.assertEqual((told[7].text, told[8]), ("insufficient funds", 3))
+
+        self.run_in_loop(work, STAND_IN + ["--throw", "9:32"])
+
+    @unittest.skipUnless(PROGRAM, "the program isn't built")
+    def test_exceptions_of_the_program(self):
+        async def work(cache):
+            processor = await cache.define(withdraw())
+            await cache.put(7, 41)
+            told = await asyncio.gather(*(cache.invoke(7, processor, it) for it in (0, 42)), return_exceptions=True)
+            self.assertEqual([(it.number, it.text) for it in told], [(8, WITHDRAW_TEXTS[15]), (9, WITHDRAW_TEXTS[32])])
+            self.assertEqual(await cache.get(7), 41)
 
         self.run_in_loop(work)
 

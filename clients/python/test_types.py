@@ -44,6 +44,8 @@ with jentry.Cache.connect(("localhost", 7), timeout=1, reconnect=10, requests=10
         print(error.was_sent)
     except jentry.Denied as error:
         print(error.number, error.name)
+    except jentry.ProcessorThrew as error:
+        print(error.number + 1, error.name.upper(), error.text.upper() if error.text is not None else "")
 """
 WRONG = (
     'cache.get("7")',
@@ -52,6 +54,7 @@ WRONG = (
     "cache.invoke(1, 0)",
     "cache.round().get(1) + 1",
     'cache.get(1, timeout="1")',
+    "jentry.ProcessorThrew(9).text.upper()",
 )
 
 

@@ -86,10 +86,13 @@ class Refused(Error):
 
 
 class ProcessorThrew(Error):
-    """A processor, or the server's loader in a get, threw the Java exception in `number` and `name`. The entry is unchanged."""
+    """A processor, or the server's loader in a get, threw the Java exception in `number` and `name`. The entry is unchanged.
+
+    `text` is the text of an exception that the processor threw by `throw`. It is None for one without a text, for other exceptions, and for a
+    class that wasn't defined by this client."""
 
     __module__ = "jentry"
 
-    def __init__(self, number: int) -> None:
-        self.number, self.name = number, _name(EXCEPTIONS, number)
-        super().__init__(self.name)
+    def __init__(self, number: int, text: Optional[str] = None) -> None:
+        self.number, self.name, self.text = number, _name(EXCEPTIONS, number), text
+        super().__init__(self.name if text is None else f"{self.name}: {text}")

@@ -166,7 +166,7 @@ class Exchanges:
             out.unsent = stream.send(out.unsent, deadline)
         stream.flush()
         while len(out.told) < len(out.calls):
-            out.told.append(read_answer(out.calls[len(out.told)][0].kind, stream.frame(deadline)))
+            out.told.append(read_answer(out.calls[len(out.told)][0], stream.frame(deadline)))
         if stream.frame(deadline) != ENDED:
             raise StreamEnded("the server told more replies than there were requests")
         with self._lock:
@@ -282,7 +282,7 @@ class Exchanges:
                 text = stream.send(text, deadline)
             stream.flush()
             for it in definitions:
-                told = read_answer(DEFINE, stream.frame(deadline))
+                told = read_answer(it, stream.frame(deadline))
                 if isinstance(told, Class):
                     self._classes.keep(it.file, told)
             if stream.frame(deadline) != ENDED:

@@ -5,6 +5,7 @@ import struct
 from typing import Any, Callable, Dict, Generic, Iterable, List, Optional, Tuple, TypeVar, Union, cast
 
 from jentry import tables
+from jentry.constant_pool import Strings
 from jentry.errors import Denied, Error, ProcessorThrew, Refused, StreamEnded, WrongArgument
 from jentry.tables import CONTAINS, DEFINE, DEFINED, DENIED, DONE, FLAG, GET, INVOKE, INVOKE_ALL, LONGEST
 from jentry.tables import MOST_ARGUMENTS, MOST_JOBS, PUT, REFUSED, REMOVE, RESULT, RESULTS, VALUE
@@ -24,10 +25,10 @@ class Int(int):
 
 class Class:
     """A class that the server has accepted. `number` identifies it on this stream. A run takes at most `steps` instructions and `words` array
-    words."""
+    words. `strings` has the String constants of its file, if this client has defined it."""
 
-    def __init__(self, number: int, steps: int, words: int) -> None:
-        self.number, self.steps, self.words = number, steps, words
+    def __init__(self, number: int, steps: int, words: int, file: bytes = b"") -> None:
+        self.number, self.steps, self.words, self.strings = number, steps, words, Strings(file)
 
 
 Outcome = Union[int, None, ProcessorThrew, Denied]
@@ -55,6 +56,10 @@ class Request(Generic[T]):
     def file(self) -> bytes:
         """The class file of a definition."""
         return self._body
+
+    def exception(self, number: int, index: int) -> ProcessorThrew:
+        """Returns an exception that the processor of this request threw, by the index of its text. No text is at index 0."""
+        return ProcessorThrew(number, self._processor.strings.at(index) if self._processor else None)
 
     def frame(self) -> bytes:
         """Returns the request as bytes, behind their length."""
@@ -189,31 +194,46 @@ def _argument(text: bytes, at: int) -> Tuple[Optional[int], int]:
     raise ValueError("no argument")
 
 
-def _value(text: bytes) -> Tuple[Optional[int], int]:
+def _defined(request: Request[Any], text: bytes) -> Tuple[Class, int]:
+    """Returns the class in a reply to a definition, and the offset after it."""
+    number, steps, words = struct.unpack_from(">III", text, 1)
+    return Class(number, steps, words, request.file), 13
+
+
+def _value(_: Request[Any], text: bytes) -> Tuple[Optional[int], int]:
     """Returns the Long or null in a reply to a get, and the offset after it."""
     if text[1] not in (tables.NULL, tables.LONG):
         raise ValueError("a value that is no Long")
     return _argument(text, 1)
 
 
-def _outcome(text: bytes, at: int) -> Tuple[Outcome, int]:
+def _outcome(request: Request[Any], text: bytes, at: int) -> Tuple[Outcome, int]:
     """Returns the outcome encoded at offset `at`, as a result or an exception object, and the offset after it."""
-    if text[at] == 0:
+    if text[at] == tables.RETURNED:
         return _argument(text, at + 1)
-    if text[at] == 1:
+    if text[at] == tables.THREW:
         return ProcessorThrew(text[at + 1]), at + 2
-    if text[at] == 2:
+    if text[at] == tables.NOT_RUN:
         return Denied(text[at + 1]), at + 2
+    if text[at] == tables.THROWN:
+        return request.exception(*struct.unpack_from(">BH", text, at + 1)), at + 4
     raise ValueError("no outcome")
 
 
-def _results(text: bytes) -> Tuple[Dict[int, Outcome], int]:
+def _result(request: Request[Any], text: bytes) -> Tuple[Outcome, int]:
+    """Returns the outcome in a reply to an invoke, or to a get whose loader failed, and the offset after it."""
+    if request.kind == GET and text[1] != tables.THREW:
+        raise ValueError("a result of a get that is no exception")
+    return _outcome(request, text, 1)
+
+
+def _results(request: Request[Any], text: bytes) -> Tuple[Dict[int, Outcome], int]:
     """Returns the outcomes in an invoke_all reply by key, and the offset after them."""
     told: Dict[int, Outcome] = {}
     at = 3
     for _ in range(*struct.unpack_from(">H", text, 1)):
         (key,) = struct.unpack_from(">q", text, at)
-        told[key], at = _outcome(text, at + 8)
+        told[key], at = _outcome(request, text, at + 8)
     return told, at
 
 
@@ -227,30 +247,28 @@ _REPLIES = {
     INVOKE: (RESULT,),
     INVOKE_ALL: (RESULTS,),
 }
-_READERS: Dict[int, Callable[[bytes], Tuple[object, int]]] = {
-    DEFINED: lambda text: (Class(*struct.unpack_from(">III", text, 1)), 13),
-    REFUSED: lambda text: (Refused(*struct.unpack_from(">BI", text, 1)), 6),
-    DONE: lambda text: (None, 1),
+_READERS: Dict[int, Callable[[Request[Any], bytes], Tuple[object, int]]] = {
+    DEFINED: _defined,
+    REFUSED: lambda _, text: (Refused(*struct.unpack_from(">BI", text, 1)), 6),
+    DONE: lambda _, text: (None, 1),
     VALUE: _value,
-    FLAG: lambda text: (text[1] == 1, 2),
-    RESULT: lambda text: _outcome(text, 1),
+    FLAG: lambda _, text: (text[1] == 1, 2),
+    RESULT: _result,
     RESULTS: _results,
-    DENIED: lambda text: (Denied(text[1]), 2),
+    DENIED: lambda _, text: (Denied(text[1]), 2),
 }
 
 
-def read_answer(request: int, text: bytes) -> object:
-    """Decodes the reply to a request of this kind. Returns the result, or the exception object that the call has to raise.
+def read_answer(request: Request[Any], text: bytes) -> object:
+    """Decodes the reply to a request. Returns the result, or the exception object that the call has to raise.
 
-    Raises StreamEnded if the text isn't a valid reply to such a request."""
+    Raises StreamEnded if the text isn't a valid reply to the request."""
     try:
-        if text[0] != DENIED and text[0] not in _REPLIES[request]:
+        if text[0] != DENIED and text[0] not in _REPLIES[request.kind]:
             raise ValueError("another kind")
-        told, end = _READERS[text[0]](text)
+        told, end = _READERS[text[0]](request, text)
         if end != len(text):
             raise ValueError("another length")
-        if request == GET and text[0] == RESULT and not isinstance(told, ProcessorThrew):
-            raise ValueError("a result of a get that is no exception")
         return told
     except (ValueError, IndexError, struct.error) as e:
         raise StreamEnded(f"the server told what is no reply to the request ({e})") from e

@@ -41,6 +41,10 @@ EXCEPTIONS = (
     "ClassCastException",
     "IncompatibleClassChangeError",
     "CacheLoaderException",
+    "EntryProcessorException",
+    "IllegalArgumentException",
+    "IllegalStateException",
+    "UnsupportedOperationException",
 )
 DENIALS = (None, "UnknownClass", "JournalFull", "NoMemory", "TooManyClasses", "TooManyJobs")
 
@@ -64,6 +68,12 @@ RESULT = 6
 RESULTS = 7
 DENIED = 8
 ENDED = 9
+
+# The kinds of an outcome.
+RETURNED = 0
+THREW = 1
+NOT_RUN = 2
+THROWN = 3
 
 # The kinds of a value.
 NULL = 0

@@ -165,7 +165,7 @@ class Stream:
                 if not self._sent:
                     raise StreamEnded("the server told a reply to no request")
                 for call in self._sent[0]:
-                    call.answer._tell(self._kept(call.request, read_answer(call.request.kind, text)))
+                    call.answer._tell(self._kept(call.request, read_answer(call.request, text)))
                     text = await _frame(self._in)
                 if text != ENDED:
                     raise StreamEnded("the server told more replies than there were requests")
@@ -228,7 +228,7 @@ class Stream:
         for definitions in rounds_of(self._classes.definitions(), self._most):
             writer.write(b"".join([it.frame() for it in definitions]) + END)
             for it in definitions:
-                self._kept(it, read_answer(DEFINE, await _frame(reader)))
+                self._kept(it, read_answer(it, await _frame(reader)))
             if await _frame(reader) != ENDED:
                 raise StreamEnded("the server told more replies than there were requests")
 
