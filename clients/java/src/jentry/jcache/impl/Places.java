@@ -34,13 +34,14 @@ public final class Places {
         }
     }
 
+    private final ConstantPool pool;
     private final DataInputStream in;
     private final List<String> places = new ArrayList<>();
     private final int number;
     private final int detail;
-    private String[] texts;
 
     private Places(byte[] file, int number, int detail) {
+        pool = new ConstantPool(file);
         in = new DataInputStream(new ByteArrayInputStream(file));
         this.number = number;
         this.detail = detail;
@@ -63,8 +64,7 @@ public final class Places {
     }
 
     private void read() throws IOException {
-        in.skipBytes(8);
-        readTexts();
+        in.skipBytes(pool.end());
         in.skipBytes(6);
         in.skipBytes(2 * in.readUnsignedShort());
         for (int fields = in.readUnsignedShort(); fields > 0; fields--) {
@@ -73,30 +73,15 @@ public final class Places {
         }
         for (int methods = in.readUnsignedShort(); methods > 0; methods--) {
             in.skipBytes(2);
-            String name = texts[in.readUnsignedShort()];
+            String name = pool.utf8(in.readUnsignedShort());
             in.skipBytes(2);
             readAttributes(name);
         }
     }
 
-    /** Reads the strings of the constant pool, by index. */
-    private void readTexts() throws IOException {
-        texts = new String[in.readUnsignedShort()];
-        for (int i = 1; i < texts.length; i++) {
-            int tag = in.readUnsignedByte();
-            switch (tag) {
-                case 1: texts[i] = in.readUTF(); break;
-                case 5: case 6: in.skipBytes(8); i++; break;
-                case 7: case 8: case 16: case 19: case 20: in.skipBytes(2); break;
-                case 15: in.skipBytes(3); break;
-                default: in.skipBytes(4);
-            }
-        }
-    }
-
     private void readAttributes(String method) throws IOException {
         for (int count = in.readUnsignedShort(); count > 0; count--) {
-            String name = texts[in.readUnsignedShort()];
+            String name = pool.utf8(in.readUnsignedShort());
             byte[] body = in.readNBytes(in.readInt());
             if (method != null && name.equals("Code")) {
                 readCode(method, new DataInputStream(new ByteArrayInputStream(body)));
@@ -125,7 +110,7 @@ public final class Places {
     private int[] linesOf(DataInputStream attributes, int length) throws IOException {
         int[] lines = new int[length + 1];
         for (int count = attributes.readUnsignedShort(); count > 0; count--) {
-            String name = texts[attributes.readUnsignedShort()];
+            String name = pool.utf8(attributes.readUnsignedShort());
             byte[] text = attributes.readNBytes(attributes.readInt());
             if (name.equals("LineNumberTable")) {
                 DataInputStream table = new DataInputStream(new ByteArrayInputStream(text));

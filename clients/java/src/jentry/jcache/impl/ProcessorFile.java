@@ -95,6 +95,7 @@ public final class ProcessorFile {
     private final String names;
     private final int hash;
     private volatile String id;
+    private volatile ConstantPool pool;
 
     /**
      * Creates a file from its bytes.
@@ -186,6 +187,16 @@ public final class ProcessorFile {
     /** Returns the bytes of the file, which the caller must not change. */
     public byte[] bytes() {
         return bytes;
+    }
+
+    /** Returns the text of the String constant of an index in the constant pool, or null if there is none (index 0). */
+    public String text(int index) {
+        ConstantPool found = pool;
+        if (found == null) {
+            found = new ConstantPool(bytes);
+            pool = found;
+        }
+        return found.string(index);
     }
 
     /** Returns the SHA-1 of the file in hexadecimal digits. */

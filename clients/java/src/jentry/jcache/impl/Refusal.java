@@ -88,21 +88,25 @@ public enum Refusal {
         "float and double aren't accepted: use fixed point in `long`, as `v * 119 / 100`.";
 
     static {
-        add("Texts, classes and floats aren't accepted as constants: use numbers as codes, or "
-                            + "fixed point in `long`.", 18, 19);
+        add("Texts other than those of exceptions that are thrown, classes and floats aren't "
+                            + "accepted as constants: use numbers as codes, or fixed point in `long`.", 18, 19);
         add("References can't be compared: compare numbers, as `a.longValue() == b.longValue()`.", 165, 166);
-        add("Static fields and enums can't be used: use arguments, locals, the entry's value, or "
-                            + "numbers as codes. jentry-compile makes constants of final fields.", 178, 179);
+        add("Static fields other than Boolean.TRUE and Boolean.FALSE, and enums, can't be used: "
+                            + "use arguments, locals, the entry's value, or numbers as codes. jentry-compile makes "
+                            + "constants of final fields.", 178, 179);
         add("Fields can't be read or written: use arguments, locals or the entry's value. "
                             + "jentry-compile makes constants of final fields.", 180, 181);
         add("Lambdas and method references aren't accepted: write a method of the class.", 186);
-        add("Objects can't be made, texts joined or exceptions thrown: use locals, or a `long` "
-                            + "that packs several numbers.", 187);
+        add("Texts can't be joined, and no object can be made but an exception that is thrown at "
+                            + "once, without a text or with a constant one: ArithmeticException, "
+                            + "EntryProcessorException, IllegalArgumentException, IllegalStateException or "
+                            + "UnsupportedOperationException. Use locals, or a `long` that packs several numbers.", 187);
         add("Arrays are of int or long: write `int[]` or `long[]`. jentry-compile makes int arrays "
                             + "of byte, short, char and boolean arrays.", 51, 52, 53, 84, 85, 86, 188);
         add("Arrays of references can't be made or written: use `long[]`, `long...`, or parameters "
                             + "one by one.", 83, 189);
-        add("An exception can't be thrown by `throw`: let the code divide by zero.", 191);
+        add("Only an exception that is made at once can be thrown: write `throw new "
+                            + "IllegalStateException()`, or with a constant text in the parentheses.", 191);
         add("Drop `synchronized`: each run has an instance of its own.", 194, 195);
         add("No Java source was seen to cause this: compile the class again.", 168, 169, 201);
         add("Use one array, with the index `width * i + j`.", 197);

@@ -1,5 +1,9 @@
 package jentry.jcache.redis;
 
+import java.io.ByteArrayInputStream;
+import java.io.DataInputStream;
+import java.io.IOException;
+import java.nio.ByteBuffer;
 import java.nio.charset.StandardCharsets;
 import java.util.Locale;
 import javax.cache.CacheException;
@@ -54,13 +58,36 @@ final class Replies {
     /** Converts the reply to JENTRY.APPLY: value, its kind, effect, before, after, steps, words. */
     static Invocation invocation(Object reply, ProcessorFile file) {
         if (reply instanceof Resp.Failure f && f.is("THREW")) {
-            int number = Integer.parseInt(f.text().split(" ")[1]);
-            return Invocation.failed(() -> ProcessorFaults.of(number, file.type()));
+            return thrown(f.text(), file);
         }
         Object[] row = (Object[]) checked(reply);
         Object result = result((Long) row[0], text(row[1]));
         Effect effect = Effect.valueOf(text(row[2]).toUpperCase(Locale.ROOT));
         return new Invocation(result, null, effect, value(row[3]), value(row[4]));
+    }
+
+    /**
+     * Converts THREW with the number, the name and perhaps the text of an exception. An ArithmeticException without a
+     * text may come from a throw of the processor or from a division.
+     */
+    private static Invocation thrown(String reply, ProcessorFile file) {
+        String[] words = reply.split(" ", 4);
+        int number = Integer.parseInt(words[1]);
+        if (words.length < 4 && number < ProcessorFaults.FIRST_THROWN) {
+            return Invocation.failed(() -> ProcessorFaults.of(number, file.type()));
+        }
+        String text = words.length < 4 ? null : decoded(words[3].getBytes(StandardCharsets.ISO_8859_1));
+        return Invocation.failed(() -> ProcessorFaults.thrown(number, text));
+    }
+
+    /** Decodes a text of a class file, which is modified UTF-8 or, if a server has converted it, UTF-8. */
+    private static String decoded(byte[] text) {
+        ByteBuffer utf = ByteBuffer.allocate(2 + text.length).putShort((short) text.length).put(text);
+        try {
+            return new DataInputStream(new ByteArrayInputStream(utf.array())).readUTF();
+        } catch (IOException e) {
+            return new String(text, StandardCharsets.UTF_8);
+        }
     }
 
     /** Returns the result of a run from its number, and the name of its type. */

@@ -18,6 +18,7 @@ final class Calls {
     static class One extends Call {
         private final int expected;
         private final String what;
+        private final ProcessorFile file;
         private Object told;
         private int denial;
         private int loaderFault;
@@ -27,9 +28,19 @@ final class Calls {
          * @param what the request, for messages
          */
         One(Wire.Out text, int expected, String what) {
+            this(text, expected, what, null);
+        }
+
+        /** @param file the class that the request, an invocation, runs */
+        One(Wire.Out text, ProcessorFile file) {
+            this(text, Wire.RESULT, file.type(), file);
+        }
+
+        private One(Wire.Out text, int expected, String what, ProcessorFile file) {
             super(text, 1, 1);
             this.expected = expected;
             this.what = what;
+            this.file = file;
         }
 
         @Override void reply(int request, int kind, Wire.In body) throws IOException {
@@ -40,7 +51,7 @@ final class Calls {
             } else if (kind != expected) {
                 throw unlike(kind);
             } else if (kind == Wire.RESULT) {
-                told = Outcome.read(body, what);
+                told = Outcome.read(body, file);
             } else {
                 told = simple(kind, body);
             }
@@ -77,8 +88,8 @@ final class Calls {
 
     /** An invocation. */
     static final class Invoke extends One {
-        Invoke(Wire.Out text, String what) {
-            super(text, Wire.RESULT, what);
+        Invoke(Wire.Out text, ProcessorFile file) {
+            super(text, file);
         }
 
         /** Returns the outcome of the run after the call has ended. Throws if the call failed. */
@@ -98,6 +109,10 @@ final class Calls {
 
         Async(Wire.Out text, int expected, String what) {
             super(text, expected, what);
+        }
+
+        Async(Wire.Out text, ProcessorFile file) {
+            super(text, file);
         }
 
         @Override void ended() {
@@ -160,14 +175,14 @@ final class Calls {
     /** An invokeAll. */
     static final class InvokeAll extends Call {
         private final long[] keys;
-        private final String processor;
+        private final ProcessorFile file;
         private final ObjLongConsumer<Invocation> taker;
         private int denial;
 
-        InvokeAll(Wire.Out text, long[] keys, String processor, ObjLongConsumer<Invocation> taker) {
+        InvokeAll(Wire.Out text, long[] keys, ProcessorFile file, ObjLongConsumer<Invocation> taker) {
             super(text, 1, keys.length);
             this.keys = keys;
-            this.processor = processor;
+            this.file = file;
             this.taker = taker;
         }
 
@@ -189,14 +204,14 @@ final class Calls {
                     throw new IOException("a result of the key " + key + ", which wasn't asked for, or not there");
                 }
                 at++;
-                taker.accept(Outcome.read(body, processor), key);
+                taker.accept(Outcome.read(body, file), key);
             }
         }
 
         void answer() {
             check();
             if (denial != 0) {
-                throw Outcome.denied(denial, processor);
+                throw Outcome.denied(denial, file.type());
             }
         }
     }

@@ -55,8 +55,7 @@ public final class StreamStore implements Store {
     }
 
     private Invocation invoke(ProcessorFile file, long key, byte[] arguments) {
-        return sessions.make(it -> new Calls.Invoke(invocation(it.number(file), key, arguments), file.type()))
-            .invocation();
+        return sessions.make(it -> new Calls.Invoke(invocation(it.number(file), key, arguments), file)).invocation();
     }
 
     /** Makes a call that may make the entry of a key. */
@@ -249,15 +248,14 @@ public final class StreamStore implements Store {
             long[] some = Arrays.copyOfRange(all, from, Math.min(all.length, from + BULK));
             int room = 11 + 8 * some.length + text.length;
             sessions.make(it -> new Calls.InvokeAll(new Wire.Out(room).invokeAll(it.number(file), some, text), some,
-                file.type(), taker)).answer();
+                file, taker)).answer();
         }
     }
 
     @Override public CompletableFuture<Invocation> runAsync(ProcessorFile file, long key, Object[] arguments,
         Durations durations) {
         byte[] text = arguments(arguments);
-        return makingAsync(key, session -> new Calls.Async<>(invocation(session.number(file), key, text), Wire.RESULT,
-            file.type()));
+        return makingAsync(key, session -> new Calls.Async<>(invocation(session.number(file), key, text), file));
     }
 
     /** Starts a call that may make the entry of a key. */

@@ -16,7 +16,9 @@ import java.util.Properties;
 import java.util.Set;
 import java.util.concurrent.ConcurrentHashMap;
 import java.util.concurrent.atomic.AtomicInteger;
+import javax.cache.integration.CacheLoaderException;
 import javax.cache.processor.EntryProcessor;
+import javax.cache.processor.EntryProcessorException;
 import jentry.jcache.impl.Options;
 
 /**
@@ -26,7 +28,8 @@ import jentry.jcache.impl.Options;
 final class StandInModule implements AutoCloseable {
     /** The exceptions of processors, by the module's numbers from 1 on. */
     private static final List<Class<?>> THROWN = List.of(ArithmeticException.class, ArrayIndexOutOfBoundsException.class, NullPointerException.class,
-        ClassCastException.class);
+        ClassCastException.class, IncompatibleClassChangeError.class, CacheLoaderException.class, EntryProcessorException.class,
+        IllegalArgumentException.class, IllegalStateException.class, UnsupportedOperationException.class);
     private static final byte[] NULL = "$-1\r\n".getBytes(StandardCharsets.US_ASCII);
 
     private final String server;
@@ -202,7 +205,8 @@ final class StandInModule implements AutoCloseable {
             return all(">", push.parts());
         }
         String line = reply instanceof Resp.Failure f ? "-" + f.text() : reply instanceof Resp.Status s ? "+" + s.text() : ":" + reply;
-        return (line + "\r\n").getBytes(StandardCharsets.UTF_8);
+        // The characters of a line that was read are its bytes.
+        return (line + "\r\n").getBytes(StandardCharsets.ISO_8859_1);
     }
 
     private static byte[] all(String kind, Object[] parts) {
@@ -266,7 +270,7 @@ final class StandInModule implements AutoCloseable {
         try {
             result = processor.process(entry, arguments);
         } catch (RuntimeException e) {
-            return new Resp.Failure("THREW " + (1 + THROWN.indexOf(e.getClass())) + " " + e.getClass().getSimpleName());
+            return failure(e);
         }
         String effect = entry.effect();
         int time = effect.equals("keep") ? 3 : before == null ? 1 : 2;
@@ -274,6 +278,14 @@ final class StandInModule implements AutoCloseable {
         String type = result == null ? "null" : result.getClass().getSimpleName();
         Long number = result instanceof Boolean is ? Long.valueOf(is ? 1 : 0) : result == null ? null : Long.valueOf(((Number) result).longValue());
         return new Object[] {number, text(type), text(effect), digits(before), isGone ? null : digits(entry.getValue()), 1L, 0L};
+    }
+
+    /** Returns the reply to a run that threw. What the JVM says of a fault is no text of the module; a division's isn't told from that of a throw. */
+    private static Resp.Failure failure(RuntimeException e) {
+        int number = 1 + THROWN.indexOf(e.getClass());
+        boolean hasText = e.getMessage() != null && (number == 1 ? !e.getMessage().equals("/ by zero") : number > 6);
+        String text = hasText ? " " + new String(e.getMessage().getBytes(StandardCharsets.UTF_8), StandardCharsets.ISO_8859_1) : "";
+        return new Resp.Failure("THREW " + number + " " + e.getClass().getSimpleName() + text);
     }
 
     private static byte[] text(String of) {

@@ -5,6 +5,7 @@ import static org.junit.jupiter.api.Assertions.assertEquals;
 import static org.junit.jupiter.api.Assertions.assertTrue;
 
 import java.io.ByteArrayOutputStream;
+import java.io.DataOutputStream;
 import java.io.IOException;
 import java.nio.file.Files;
 import java.nio.file.Path;
@@ -138,12 +139,34 @@ class FramesTest {
         return value instanceof Integer ? value + "i" : String.valueOf(value);
     }
 
+    /** Returns a class that has the text {@code text=N} at each index N that a line names so. */
+    private static ProcessorFile file(String line) throws IOException {
+        List<Integer> indexes = Pattern.compile("text=(\\d+)").matcher(line).results().map(it -> Integer.valueOf(it.group(1))).sorted().toList();
+        int most = indexes.isEmpty() ? 0 : indexes.get(indexes.size() - 1);
+        ByteArrayOutputStream bytes = new ByteArrayOutputStream();
+        DataOutputStream out = new DataOutputStream(bytes);
+        out.writeLong(0xCAFEBABE_0000_0034L);
+        out.writeShort(most + 1);
+        for (int i = 1; i <= most; i++) {
+            if (i <= indexes.size()) {
+                out.writeByte(1);
+                out.writeUTF("text=" + indexes.get(i - 1));
+            } else {
+                out.writeByte(8);
+                out.writeShort(Math.max(1, 1 + indexes.indexOf(i)));
+            }
+        }
+        return new ProcessorFile("a processor", bytes.toByteArray());
+    }
+
     /** Returns the words of a result or a failure. Those of an exception are without its number, which Java hasn't. */
     private static String text(Invocation invocation) {
         try {
             return text(invocation.result());
         } catch (EntryProcessorException e) {
-            return "threw " + e.getCause().getClass().getSimpleName();
+            Throwable own = e.getCause() == null ? e : e.getCause();
+            boolean hasText = own.getMessage() != null && own.getMessage().startsWith("text=");
+            return "threw " + own.getClass().getSimpleName() + (hasText ? " " + own.getMessage() : "");
         } catch (CacheException e) {
             return denial(e);
         }
@@ -166,7 +189,7 @@ class FramesTest {
     private static String results(String line, byte[] reply) throws IOException {
         long[] keys = Pattern.compile("(-?\\d+): ").matcher(line).results().mapToLong(it -> Long.parseLong(it.group(1))).toArray();
         List<String> found = new ArrayList<>();
-        told(new Calls.InvokeAll(new Wire.Out(0), keys, "a processor", (it, key) -> found.add(key + ": " + text(it))), reply).answer();
+        told(new Calls.InvokeAll(new Wire.Out(0), keys, file(line), (it, key) -> found.add(key + ": " + text(it))), reply).answer();
         return ("results " + String.join(", ", found)).strip();
     }
 
@@ -191,7 +214,7 @@ class FramesTest {
             case Wire.VALUE: return "value " + text(one(Wire.VALUE, reply).answer()).replace("null", "none");
             case Wire.FLAG: return "flag " + one(Wire.FLAG, reply).answer();
             case Wire.RESULT:
-                String result = text(told(new Calls.Invoke(new Wire.Out(0), "a processor"), reply).invocation());
+                String result = text(told(new Calls.Invoke(new Wire.Out(0), file(row.line)), reply).invocation());
                 return result.startsWith("threw ") ? result : "result " + result;
             case Wire.RESULTS: return results(row.line, reply);
             case Wire.DENIED: return denied(reply);
