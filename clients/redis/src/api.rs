@@ -70,7 +70,7 @@ pub struct Event {
 
 pub type Subscriber = unsafe extern "C" fn(*mut Context, Event, u64, *mut c_void);
 
-/// The methods of a data type. These are the members of version 2; later versions begin with them.
+/// The methods of a data type. These are the members of version 5, which Redis 7.2 has; a server takes those that it knows.
 #[repr(C)]
 pub struct TypeMethods {
     pub version: u64,
@@ -83,7 +83,13 @@ pub struct TypeMethods {
     pub aux_load: Option<AuxLoad>,
     pub aux_save: Option<AuxSave>,
     pub aux_save_triggers: c_int,
+    /// Four methods of version 3, and four of version 4.
+    pub others: [*const c_void; 8],
+    /// A file gets nothing of the module if this one saves nothing. It is called in place of `aux_save` where the server has it.
+    pub aux_save2: Option<AuxSave>,
 }
+
+const _: [(); 152] = [(); size_of::<TypeMethods>()];
 
 /// The search for a command's keys starts at the argument with this index.
 pub const BEGIN_INDEX: c_int = 2;
@@ -307,6 +313,8 @@ interface! {
     open_key "OpenKey": unsafe extern "C" fn(*mut Context, *mut Text, c_int) -> *mut Key;
     close_key "CloseKey": unsafe extern "C" fn(*mut Key);
     length "ValueLength": unsafe extern "C" fn(*mut Key) -> usize;
+    string_bytes "StringDMA": unsafe extern "C" fn(*mut Key, *mut usize, c_int) -> *mut u8;
+    truncate "StringTruncate": unsafe extern "C" fn(*mut Key, usize) -> c_int;
     expire "GetExpire": unsafe extern "C" fn(*mut Key) -> c_longlong;
     signal_modified "SignalModifiedKey": unsafe extern "C" fn(*mut Context, *mut Text) -> c_int;
     notify "NotifyKeyspaceEvent": unsafe extern "C" fn(*mut Context, c_int, *const c_char, *mut Text) -> c_int;

@@ -252,6 +252,15 @@ impl Classes {
         }
         done
     }
+
+    /// Returns the text of an exception that the class at a place threw, as a part of a line, or `None` if the exception has none.
+    pub fn text(&mut self, place: Place, index: i32) -> Option<String> {
+        if place.engine == self.engines {
+            self.engine.text(place.number, index)
+        } else {
+            None
+        }
+    }
 }
 
 /// Returns the parts of ` in METHOD line L: REMEDY` that `explain` reports for a refused class.

@@ -1,6 +1,8 @@
-//! The configuration: `max-steps`, the maximum number of instructions that a command may take on this server.
-use crate::api::{Context, Text, CONFIG_DEFAULT, OK};
+//! The configuration: `max-steps`, the maximum number of instructions that a command may take on this server, and how the module may read
+//! and write values itself.
+use crate::api::{Context, GetBool, SetBool, Text, CONFIG_DEFAULT, OK};
 use crate::direct;
+use crate::raw;
 use crate::rights;
 use crate::server::{api, Server, Words};
 use crate::words::long_of;
@@ -53,25 +55,49 @@ unsafe extern "C" fn set_direct(
     OK
 }
 
+unsafe extern "C" fn get_raw(_name: *const c_char, _data: *mut c_void) -> c_int {
+    raw::is_allowed().into()
+}
+
+unsafe extern "C" fn set_raw(
+    _name: *const c_char,
+    value: c_int,
+    _data: *mut c_void,
+    _error: *mut *mut Text,
+) -> c_int {
+    raw::allow(value != 0);
+    OK
+}
+
 /// What the module's arguments may say.
 struct Arguments {
     steps: u32,
     is_direct: bool,
+    is_raw: bool,
+}
+
+/// Parses `yes` or `no`.
+fn bool_of(word: &[u8]) -> Option<bool> {
+    match word {
+        b"yes" => Some(true),
+        b"no" => Some(false),
+        _ => None,
+    }
 }
 
 /// Parses the module's arguments, pairs of a name and a value. Returns `None` if they are invalid.
 fn read(words: Words) -> Option<Arguments> {
-    let mut read = Arguments { steps: DEFAULT_STEPS, is_direct: true };
+    let mut read = Arguments { steps: DEFAULT_STEPS, is_direct: true, is_raw: false };
     for place in (0..words.count()).step_by(2) {
         let name = words.bytes(place).ok()?.to_ascii_lowercase();
         let value = words.bytes(place + 1).ok()?;
-        match (&*name, value) {
-            (b"max-steps", number) => {
-                let number = long_of(number).and_then(|number| u32::try_from(number).ok());
+        match &*name {
+            b"max-steps" => {
+                let number = long_of(value).and_then(|number| u32::try_from(number).ok());
                 read.steps = number.filter(|number| (1..=MOST_STEPS).contains(number))?;
             }
-            (b"direct", b"yes") => read.is_direct = true,
-            (b"direct", b"no") => read.is_direct = false,
+            b"direct" => read.is_direct = bool_of(value)?,
+            b"raw" => read.is_raw = bool_of(value)?,
             _ => return None,
         }
     }
@@ -94,18 +120,16 @@ unsafe fn register_steps(context: *mut Context, steps: u32) -> bool {
     ) == OK
 }
 
-unsafe fn register_direct(context: *mut Context, is_direct: bool) -> bool {
-    let name = b"direct\0".as_ptr().cast();
-    (api().register_bool)(
-        context,
-        name,
-        is_direct.into(),
-        CONFIG_DEFAULT,
-        get_direct,
-        set_direct,
-        null_mut(),
-        null_mut(),
-    ) == OK
+unsafe fn register_bool(
+    context: *mut Context,
+    name: &'static [u8],
+    value: bool,
+    get: GetBool,
+    set: SetBool,
+) -> bool {
+    let (name, nothing) = (name.as_ptr().cast(), null_mut());
+    let register = api().register_bool;
+    register(context, name, value.into(), CONFIG_DEFAULT, get, set, nothing, null_mut()) == OK
 }
 
 /// Applies the module's arguments, and registers the settings for CONFIG. Returns whether that succeeded.
@@ -117,14 +141,16 @@ pub unsafe fn register(context: *mut Context, words: Words) -> bool {
     let arguments = match read(words) {
         Some(arguments) => arguments,
         None => {
-            server.warn("the module's words are `max-steps N`, where N is a number from 1 to 4000000, and `direct yes` or `direct no`");
+            server.warn("the module's words are `max-steps N`, where N is a number from 1 to 4000000, and `direct` and `raw`, with `yes` or `no`");
             return false;
         }
     };
     MAX_STEPS.store(arguments.steps, Ordering::Relaxed);
     direct::allow(arguments.is_direct);
+    raw::allow(arguments.is_raw);
     register_steps(context, arguments.steps)
-        && register_direct(context, arguments.is_direct)
+        && register_bool(context, b"direct\0", arguments.is_direct, get_direct, set_direct)
+        && register_bool(context, b"raw\0", arguments.is_raw, get_raw, set_raw)
         && rights::register(context)
         && (api().load_configs)(context) == OK
 }

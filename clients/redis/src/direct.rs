@@ -12,6 +12,7 @@
 //! `Replicate` looks up its command and copies its arguments, which costs as much as the run. `ReplicateVerbatim` uses the arguments of the
 //! running command as they are. So the module temporarily replaces them with those of a SET, if the number of arguments is the same.
 use crate::api::{Key, Text, OK};
+use crate::raw;
 use crate::server::{Server, Words};
 use crate::shared::{self, Sharing};
 use std::mem::size_of;
@@ -20,14 +21,14 @@ use std::ptr::{null_mut, read_volatile, NonNull};
 use std::sync::atomic::{AtomicBool, AtomicPtr, AtomicU32, Ordering};
 
 /// The `OpenKey` modes for reading and for writing.
-const READ: c_int = 1;
-const WRITE: c_int = 1 << 1;
+pub const READ: c_int = 1;
+pub const WRITE: c_int = 1 << 1;
 /// A key on which the layout of handles is checked; it exists only during that check.
 const SCRATCH: &[u8] = b"jentry:layout";
 /// The string event class, for `NotifyKeyspaceEvent`.
-const OF_STRINGS: c_int = 1 << 3;
+pub const OF_STRINGS: c_int = 1 << 3;
 /// The result of `GetExpire` if an entry has no time to live.
-const NO_EXPIRE: i64 = -1;
+pub const NO_EXPIRE: i64 = -1;
 /// The release with this layout, in the form of `GetServerVersion` without the last byte.
 const RELEASE: i32 = 0x0700;
 /// The number of direct reads that are checked against GET.
@@ -209,7 +210,7 @@ pub fn is_checked() -> bool {
 fn end(server: Server) {
     IS_KNOWN.store(false, Ordering::Relaxed);
     CHECKS_LEFT.store(NEVER, Ordering::Relaxed);
-    server.warn("this server keeps integers otherwise than Redis 7.0: each value is read by GET from now on");
+    server.warn("this server keeps integers otherwise than Redis 7.0: the module no longer reads them in place");
 }
 
 /// Counts a direct read that was checked against GET, or disables direct reads after a mismatch.
@@ -267,11 +268,14 @@ pub unsafe fn begin(server: Server) {
     }
     IS_KNOWN.store(hindrance.is_none(), Ordering::Relaxed);
     allow(is_allowed());
+    let ways = if raw::is_allowed() {
+        "integers are read and written as raw strings (jentry.raw)"
+    } else {
+        "integers are read by GET and written by SET"
+    };
     match hindrance.or(if is_allowed() { None } else { Some("jentry.direct is no") }) {
         None => server.notice("integers are read and written in place, as in Redis 7.0"),
-        Some(why) => {
-            server.notice(&format!("integers are read by GET and written by SET: {why}"));
-        }
+        Some(why) => server.notice(&format!("{ways}: {why}")),
     }
 }
 

@@ -1,5 +1,6 @@
 //! The verified core, through the interface of `clients/c/jentry.h`.
 use crate::protocol::{EXCEPTIONS, REFUSALS};
+use crate::texts::{line_of, MOST_TEXT};
 use std::ffi::c_void;
 use std::mem::size_of;
 use std::ptr::null_mut;
@@ -48,7 +49,8 @@ pub struct Done {
     pub steps: u32,
     pub words: u32,
     pub left: u32,
-    pub unused: u32,
+    /// The index of the text of an exception that the processor itself threw, -1 without a text, or 0 for any other end.
+    pub text: i32,
 }
 
 pub const NULL: u32 = 0;
@@ -89,6 +91,13 @@ extern "C" {
         count: usize,
         done: *mut Done,
     );
+    fn jentry_text(
+        handle: *mut Handle,
+        number: u32,
+        index: u32,
+        text: *mut u8,
+        room: usize,
+    ) -> usize;
     fn jentry_explain(bytes: *const u8, length: usize, text: *mut u8, room: usize) -> usize;
 }
 
@@ -133,6 +142,17 @@ impl Engine {
         // SAFETY: the handle is the engine's own, and a slice's pointer is never null.
         unsafe { jentry_invoke(&mut self.handle, call, args.as_ptr(), args.len(), &mut done) };
         done
+    }
+
+    /// Returns the text of an exception that the class with this number threw, as a part of a line, or `None` if the exception has none.
+    pub fn text(&mut self, number: u32, index: i32) -> Option<String> {
+        let index = u32::try_from(index).ok().filter(|index| *index > 0)?;
+        let mut bytes = [0; MOST_TEXT];
+        // SAFETY: the handle is the engine's own, and the array has this length.
+        let length = unsafe {
+            jentry_text(&mut self.handle, number, index, bytes.as_mut_ptr(), bytes.len())
+        };
+        Some(line_of(bytes.get(..length).unwrap_or(&bytes), length))
     }
 }
 

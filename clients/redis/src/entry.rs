@@ -3,16 +3,22 @@
 //! Redis runs one command at a time, so nothing else happens between the read and the write of a run.
 use crate::api::{Text, REPLY_NULL, REPLY_TEXT};
 pub use crate::direct::Access;
-use crate::direct::{self, Found, Place};
+use crate::direct::{self, Found};
+use crate::raw;
 use crate::server::{Called, Failure, Server, Words};
 use crate::words::long_of;
+
+/// Where the module may write the value of an entry itself.
+enum Place {
+    Direct(direct::Place),
+    Raw(raw::Place),
+}
 
 /// The entry at a key.
 pub struct Entry {
     pub value: Option<i64>,
     /// Whether it has a time to live, or may have one.
     may_expire: bool,
-    /// Where the module may write it itself.
     place: Option<Place>,
 }
 
@@ -35,7 +41,23 @@ unsafe fn get(server: Server, key: *mut Text) -> Result<Entry, Failure> {
         }
         _ => return Err("ERR the entry can't be read".into()),
     };
-    Ok(Entry { value, may_expire: true, place: None })
+    Ok(Entry { value, may_expire: value.is_some(), place: None })
+}
+
+/// Reads the entry of a key whose value isn't read in place.
+///
+/// # Safety
+/// `key` must be a string of the server.
+unsafe fn read_anew(server: Server, key: *mut Text, access: Access) -> Result<Entry, Failure> {
+    let raw = if access == Access::Write { raw::look(server, key) } else { None };
+    match raw {
+        Some(place) => Ok(Entry {
+            value: Some(place.value()),
+            may_expire: true,
+            place: Some(Place::Raw(place)),
+        }),
+        None => get(server, key),
+    }
 }
 
 /// Reads the entry of a key, which may be written afterwards if the command is one that writes.
@@ -44,11 +66,13 @@ unsafe fn get(server: Server, key: *mut Text) -> Result<Entry, Failure> {
 /// `key` must be a string of the server. The result must be dropped before anything else is done with the key.
 pub unsafe fn read(server: Server, key: *mut Text, access: Access) -> Result<Entry, Failure> {
     let entry = match direct::look(server, key, access) {
-        Found::Unknown => return get(server, key),
+        Found::Unknown => return read_anew(server, key, access),
         Found::Absent => Entry { value: None, may_expire: false, place: None },
-        Found::Place(place) => {
-            Entry { value: place.value(), may_expire: place.may_expire, place: Some(place) }
-        }
+        Found::Place(place) => Entry {
+            value: place.value(),
+            may_expire: place.may_expire,
+            place: Some(Place::Direct(place)),
+        },
     };
     if direct::is_checked() {
         let Entry { value, may_expire, place } = entry;
@@ -106,10 +130,15 @@ pub unsafe fn set(
     value: i64,
     lifetime: Lifetime,
 ) -> Result<(), Failure> {
-    if let (Some(place), Lifetime::Keep) = (entry.place, lifetime) {
-        if direct::write(server, words, key, place, value) {
-            return Ok(());
+    let is_written = match (entry.place, lifetime) {
+        (Some(Place::Direct(place)), Lifetime::Keep) => {
+            direct::write(server, words, key, place, value)
         }
+        (Some(Place::Raw(place)), Lifetime::Keep) => raw::write(server, key, place, value),
+        _ => false,
+    };
+    if is_written {
+        return Ok(());
     }
     set_anew(server, key, entry.may_expire, value, lifetime)?;
     direct::learn(server, key, value);

@@ -15,12 +15,14 @@ mod entry;
 mod names;
 mod persistence;
 mod protocol;
+mod raw;
 mod rights;
 mod run;
 mod server;
 mod shared;
 mod state;
 mod syntax;
+mod texts;
 mod words;
 
 use api::{Api, Context, Text, API_VERSION, ERR, HANDLE_IO_ERRORS, NO_IMPLICIT_SIGNALS, OK};

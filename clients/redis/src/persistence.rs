@@ -8,7 +8,9 @@ use crate::server::{api, Server};
 use crate::state::with_state;
 use std::ffi::{c_void, CString};
 use std::os::raw::c_int;
+use std::ptr::null;
 use std::slice;
+use std::sync::atomic::{AtomicBool, Ordering};
 
 /// The data type's name, for which Redis requires nine letters, and its version. Version 1 had the class files alone.
 const NAME: &[u8] = b"jentrycls\0";
@@ -16,6 +18,15 @@ const VERSION: c_int = 2;
 /// The server event for a child process, and that it was born.
 const CHILD: Event = Event { number: 13, version: 1 };
 const IS_BORN: u64 = 0;
+/// The server event for a load, and its kinds: an RDB file or a master's data begins, an AOF begins, and the end of either.
+const LOADING: Event = Event { number: 3, version: 1 };
+const FILE_BEGINS: u64 = 0;
+const AOF_BEGINS: u64 = 1;
+const MASTER_BEGINS: u64 = 2;
+const LOAD_ENDS: u64 = 3;
+
+/// Whether the data that is being loaded may be without classes, and has had none so far.
+static IS_WITHOUT: AtomicBool = AtomicBool::new(false);
 
 /// Writes the number of classes, and of each its file, who defined it, and when.
 unsafe extern "C" fn save(io: *mut Io, _when: c_int) {
@@ -28,6 +39,13 @@ unsafe extern "C" fn save(io: *mut Io, _when: c_int) {
             (api().save_unsigned)(io, class.origin.time.unsigned_abs());
         }
     });
+}
+
+/// Writes the classes if there are some, so that a file without classes can be read without the module.
+unsafe extern "C" fn save_if_some(io: *mut Io, when: c_int) {
+    if with_state(|state| !state.classes.all().is_empty()) {
+        save(io, when);
+    }
 }
 
 /// Reads the bytes of a class file, or of a name. Returns `None` if reading fails.
@@ -75,6 +93,7 @@ unsafe extern "C" fn load(io: *mut Io, version: c_int, _when: c_int) -> c_int {
     if (api.is_io_error)(io) != 0 {
         return ERR;
     }
+    IS_WITHOUT.store(false, Ordering::Relaxed);
     with_state(|state| {
         state.classes.replace(files, |denial| {
             let text = CString::new(format!("a class of the file is left out: {}", denial.text()))
@@ -121,13 +140,30 @@ unsafe extern "C" fn child_changed(
     });
 }
 
+/// Forgets all classes at the end of a load whose data had none. Those of an AOF may also be in its commands.
+unsafe extern "C" fn load_changed(
+    _context: *mut Context,
+    _event: Event,
+    what: u64,
+    _data: *mut c_void,
+) {
+    match what {
+        FILE_BEGINS | MASTER_BEGINS => IS_WITHOUT.store(true, Ordering::Relaxed),
+        AOF_BEGINS => IS_WITHOUT.store(false, Ordering::Relaxed),
+        LOAD_ENDS if IS_WITHOUT.swap(false, Ordering::Relaxed) => {
+            with_state(|state| state.classes.replace(Vec::new(), |_| {}));
+        }
+        _ => {}
+    }
+}
+
 /// Registers the functions that save and load the classes. Returns whether that succeeded.
 ///
 /// # Safety
 /// `context` must be the one of the module's load.
 pub unsafe fn register(context: *mut Context) -> bool {
     let mut methods = TypeMethods {
-        version: 2,
+        version: 5,
         rdb_load: None,
         rdb_save: None,
         aof_rewrite: None,
@@ -137,7 +173,10 @@ pub unsafe fn register(context: *mut Context) -> bool {
         aux_load: Some(load),
         aux_save: Some(save),
         aux_save_triggers: BEFORE_RDB,
+        others: [null(); 8],
+        aux_save2: Some(save_if_some),
     };
     !(api().create_data_type)(context, NAME.as_ptr().cast(), VERSION, &mut methods).is_null()
         && (api().subscribe)(context, CHILD, child_changed) == OK
+        && (api().subscribe)(context, LOADING, load_changed) == OK
 }

@@ -35,11 +35,15 @@ pub const REFUSALS: [&str; 30] = [
 ];
 
 /// The names of the exceptions, from number 1 on.
-pub const EXCEPTIONS: [&str; 6] = [
+pub const EXCEPTIONS: [&str; 10] = [
     "ArithmeticException",
     "ArrayIndexOutOfBoundsException",
     "NullPointerException",
     "ClassCastException",
     "IncompatibleClassChangeError",
     "CacheLoaderException",
+    "EntryProcessorException",
+    "IllegalArgumentException",
+    "IllegalStateException",
+    "UnsupportedOperationException",
 ];

@@ -73,9 +73,21 @@ impl Plan {
         }
         match done.outcome {
             NULL | LONG | INTEGER | BOOLEAN => Ok(done),
-            THREW => Err(format!("THREW {} {}", done.value, exception_name(done.value)).into()),
+            THREW => Err(self.thrown(&done).into()),
             NO_CLASS => Err(NO_CLASS_HERE.into()),
             denied => Err(format!("ERR the engine denied the call ({denied})").into()),
+        }
+    }
+
+    /// Returns the error for an exception: its number, its name, and the text that the processor gave it, if there is one. An empty text leaves a
+    /// space behind the name.
+    fn thrown(&self, done: &Done) -> String {
+        // SAFETY: commands run on the main thread, after the load.
+        let text = unsafe { with_state(|state| state.classes.text(self.place, done.text)) };
+        let told = format!("THREW {} {}", done.value, exception_name(done.value));
+        match text {
+            Some(text) => format!("{told} {text}"),
+            None => told,
         }
     }
 }

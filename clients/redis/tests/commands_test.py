@@ -471,10 +471,12 @@ def random_call():
 
 
 def lines_of(told, entry):
-    """Returns the lines that `jentry run` prints for a reply of DETAIL and the entry. The steps of a run that threw aren't reported."""
+    """Returns the lines that `jentry run` prints for a reply of DETAIL and the entry. The steps of a run that threw aren't reported, and `jentry run`
+    doesn't print the text of an exception."""
     value = "none" if entry is None else entry.decode()
     if isinstance(told, ReplyError):
-        return str(told).replace("THREW", "threw") + f"\nvalue {value}\n"
+        _, number, name, *_ = str(told).split(" ")
+        return f"threw {number} {name}\nvalue {value}\n"
     words = {b"null": "null", b"Integer": f"{told[0]}i", b"Boolean": "true" if told[0] else "false"}
     result = words.get(told[1], str(told[0]))
     return f"result {result}\nvalue {value}\nsteps {told[3]} words {told[4]}\n"

@@ -12,6 +12,8 @@ LACKS = (
     else None
 )
 NEEDS_PROGRAM = unittest.skipIf(PROGRAM is None, "there is no built jentry")
+OLDEST = "7.0."
+"""How the version begins of the Redis that keeps integers where the module reads and writes them itself, and has no categories of ACLs for modules."""
 NO_CLASS = "NOCLASS no class of this id here: JENTRY.DEFINE it"
 
 
@@ -21,6 +23,14 @@ class ModuleTest(unittest.TestCase):
         """Checks that a reply is an error with exactly this text."""
         self.assertIsInstance(told, ReplyError, told)
         self.assertEqual(str(told), text)
+
+    def is_oldest(self, line):
+        """Returns whether the server is Redis 7.0."""
+        return line.info("server")["redis_version"].startswith(OLDEST)
+
+    def needs_oldest(self, line):
+        if not self.is_oldest(line):
+            self.skipTest("this isn't Redis 7.0")
 
     def define(self, line, name):
         """Defines an example, and returns its id."""

@@ -81,6 +81,31 @@ class Restarts(ModuleTest):
             self.assertEqual(ids_of(line), sorted([add, plus]))
             self.assertEqual(line.ask("JENTRY.INVOKE", add, "v:1", 1), 42)
 
+    def test_a_load_without_classes_leaves_none(self):
+        with Server("--enable-debug-command", "yes") as server, server.open() as line:
+            line.get("SAVE")
+            self.define(line, "Add")
+            line.get("DEBUG", "RELOAD", "NOSAVE")
+            self.assertEqual(ids_of(line), [])
+            add = self.define(line, "Add")
+            line.get("DEBUG", "RELOAD")
+            self.assertEqual(ids_of(line), [add])
+
+    def test_classes_of_an_aof_that_begins_without_classes(self):
+        options = ("--appendonly", "yes", "--appendfsync", "always", "--enable-debug-command", "yes")
+        with Server(*options) as server:
+            with server.open() as line:
+                rewrite(line)
+                add, plus = self.fill(line)
+            for _ in range(2):
+                server.restart("kill")
+                self.holds(server, add, plus)
+                with server.open() as line:
+                    line.get("JENTRY.INVOKE", add, "v:1", -1)
+            with server.open() as line:
+                line.get("DEBUG", "LOADAOF")
+            self.holds(server, add, plus)
+
     def test_a_class_that_is_refused_now_is_left_out(self):
         with Server("--rdbcompression", "no", "--rdbchecksum", "no") as server:
             with server.open() as line:
@@ -219,16 +244,39 @@ class Origins(ModuleTest):
 
 
 class Pitfalls(ModuleTest):
-    def test_a_file_with_the_module_is_not_read_without_it(self):
+    def not_read_without_the_module(self, server, ids):
+        """Restarts a server without the module, which has to fail, and then with it."""
+        server.module = False
+        with self.assertRaises(RuntimeError) as told:
+            server.restart()
+        self.assertIn("AUX module data I can't load", str(told.exception))
+        server.module = True
+        server.start()
+        with server.open() as line:
+            self.assertEqual(ids_of(line), ids)
+
+    def test_a_file_with_classes_is_not_read_without_the_module(self):
         with Server() as server:
             with server.open() as line:
+                add = self.define(line, "Add")
                 line.get("SAVE")
-            server.module = False
-            with self.assertRaises(RuntimeError) as told:
-                server.restart()
-            self.assertIn("AUX module data I can't load", str(told.exception))
-            server.module = True
-            server.start()
+            self.not_read_without_the_module(server, [add])
+
+    def test_a_file_without_classes(self):
+        """Redis 7.0 can't read it without the module; a server with aux_save2 can."""
+        with Server() as server:
+            with server.open() as line:
+                line.get("JENTRY.FORGET", self.define(line, "Add"))
+                line.get("SET", "v:1", 41)
+                line.get("SAVE")
+                is_oldest = self.is_oldest(line)
+            if is_oldest:
+                return self.not_read_without_the_module(server, [])
+            for module in (False, True):
+                server.module = module
+                server.restart("kill")
+                with server.open() as line:
+                    self.assertEqual(line.get("GET", "v:1"), b"41")
             with server.open() as line:
                 self.assertEqual(ids_of(line), [])
 
@@ -266,6 +314,14 @@ class Replicas(ModuleTest):
             other.get("REPLICAOF", "127.0.0.1", master.port)
             wait_for(lambda: other.info("replication").get("master_link_status") == "up", "the link")
             self.assertEqual(ids_of(other), [add])
+
+    def test_a_replica_of_a_master_without_classes_has_none(self):
+        with Server() as master, Server() as replica, master.open() as line, replica.open() as other:
+            self.define(other, "Plus")
+            line.get("SET", "v:1", 41)
+            other.get("REPLICAOF", "127.0.0.1", master.port)
+            wait_for(lambda: other.info("replication").get("master_link_status") == "up", "the link")
+            self.assertEqual([ids_of(other), other.get("GET", "v:1")], [[], b"41"])
 
     def test_what_is_sent(self):
         """Replicas receive plain commands: never a call of a processor, and nothing for a run that leaves the entry unchanged."""

@@ -7,7 +7,7 @@ import unittest
 
 from commands_test import OneServer
 from module_test import ModuleTest
-from servers import MODULE, REDIS, ReplyError, Server, class_file, wait_for
+from servers import MODULE, ReplyError, Server, class_file, wait_for
 
 
 class Around(OneServer):
@@ -134,8 +134,7 @@ class Looks(OneServer):
         return [int(self.ask("GET", f"v:{number}")) for number in range(len(values))], gets
 
     def test_integers_and_texts(self):
-        if not self.line.info("server")["redis_version"].startswith("7.0."):
-            self.skipTest("this isn't Redis 7.0")
+        self.needs_oldest(self.line)
         self.add_to([1] * 64)
         digits = [sign * int("9876543210987654321"[:count]) for count in range(1, 19) for sign in (1, -1)]
         values = [0, 9, 10, 9_999, 10_000, 2**63 - 2, -(2**63), *digits]
@@ -230,8 +229,7 @@ class Limits(ModuleTest):
         with Server("--enable-module-command", "yes") as server, server.open() as line:
             self.assertIsInstance(line.ask("MODULE", "LOAD", MODULE), ReplyError)
             self.assertIsInstance(line.ask("MODULE", "UNLOAD", "jentry"), ReplyError)
-            self.define(line, "Add")
-            self.assertIn("redis-server", REDIS)
+            self.assertEqual(line.ask("JENTRY.INVOKE", self.define(line, "Add"), "v:1", 3), 3)
 
     def test_module_load_at_run_time(self):
         with Server("--enable-module-command", "yes", module=False) as server, server.open() as line:

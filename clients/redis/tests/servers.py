@@ -1,7 +1,8 @@
 """Redis servers with the module on their own ports, and a connection that speaks RESP.
 
-JENTRY_REDIS_MODULE names the built module, and JENTRY_PROGRAM the built `jentry`, if there is one. JENTRY_PRELOAD is a library to preload
-into the servers, such as the runtime of the address sanitizer with which the module was built.
+JENTRY_REDIS_MODULE names the built module, and JENTRY_PROGRAM the built `jentry`, if there is one. JENTRY_REDIS_SERVER is the server to be tested, by
+default redis-server. JENTRY_PRELOAD is a library to preload into the servers, such as the runtime of the address sanitizer with which the module
+was built.
 """
 import importlib
 import os
@@ -17,7 +18,7 @@ HERE = os.path.dirname(os.path.abspath(__file__))
 EXAMPLES = os.path.join(HERE, "../../../examples")
 MODULE = os.environ.get("JENTRY_REDIS_MODULE")
 PROGRAM = os.environ.get("JENTRY_PROGRAM")
-REDIS = shutil.which("redis-server")
+REDIS = shutil.which(os.environ.get("JENTRY_REDIS_SERVER", "redis-server"))
 PRELOAD = os.environ.get("JENTRY_PRELOAD")
 PRELOADED = {"LD_PRELOAD": PRELOAD, "ASAN_OPTIONS": "detect_leaks=0:abort_on_error=1"} if PRELOAD else {}
 """Redis itself doesn't free all at its end."""

@@ -31,7 +31,7 @@ class Counted(OneServer):
                 },
             )
             self.assertLess(told_steps(told), 2 * 29)
-            self.assertEqual(len(told), 4 + 6 + 30 + 1)
+            self.assertEqual(len(told), 4 + 10 + 30 + 1)
             line.get("JENTRY.FORGET", add)
             self.assertEqual(line.info("jentry")["jentry_class_bytes"], "0")
 
@@ -114,6 +114,8 @@ class Costly(ModuleTest):
             ("max-steps", 4_000_001),
             ("direct", "maybe"),
             ("direct",),
+            ("raw", "maybe"),
+            ("raw",),
         ):
             with self.assertRaises(RuntimeError) as told:
                 Server(arguments=words).__exit__()
@@ -149,13 +151,15 @@ class Direct(ModuleTest):
 
     def test_the_log_says_which_way_is_taken(self):
         with Server() as server, server.open() as line:
-            if line.info("server")["redis_version"].startswith("7.0."):
+            is_oldest = self.is_oldest(line)
+            if is_oldest:
                 self.assertIn("integers are read and written in place, as in Redis 7.0", server.log())
             else:
                 self.assertIn("integers are read by GET and written by SET: this isn't Redis 7.0", server.log())
             self.assertEqual(line.get("DBSIZE"), 0)
         with Server(arguments=("direct", "no", "max-steps", 5)) as server, server.open() as line:
-            self.assertIn("integers are read by GET and written by SET: jentry.direct is no", server.log())
+            why = "jentry.direct is no" if is_oldest else "this isn't Redis 7.0"
+            self.assertIn(f"integers are read by GET and written by SET: {why}", server.log())
             self.assertEqual(line.get("CONFIG", "GET", "jentry.direct"), [b"jentry.direct", b"no"])
 
     def test_it_can_be_switched_off(self):
@@ -163,7 +167,7 @@ class Direct(ModuleTest):
             add = self.define(line, "Add")
             self.assertEqual(self.runs(line, add, 100), [100, 100])
             line.get("CONFIG", "SET", "jentry.direct", "yes")
-            if line.info("server")["redis_version"].startswith("7.0."):
+            if self.is_oldest(line):
                 line.get("SET", "v:1", 20_000)
                 self.assertEqual(self.runs(line, add, 100)[0], 64)
                 self.assertEqual(self.runs(line, add, 100), [0, 0])

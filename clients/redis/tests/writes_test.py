@@ -17,8 +17,7 @@ CHECKS = 64
 class Writes(OneServer):
     def setUp(self):
         super().setUp()
-        if not self.line.info("server")["redis_version"].startswith("7.0."):
-            self.skipTest("this isn't Redis 7.0")
+        self.needs_oldest(self.line)
         self.warm(self.line, self.add)
 
     def warm(self, line, add):
