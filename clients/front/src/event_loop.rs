@@ -5,12 +5,14 @@
 //! Events are edge-triggered: each reports only once that a socket became ready. A connection that
 //! wasn't read to its end is put in the backlog, and continues after the others.
 
+mod controlling;
 mod delivery;
 mod publishing;
 mod timers;
 
 use crate::batch::Queued;
 use crate::connection::{Connection, Step, Traffic};
+use crate::control::Control;
 use crate::listen::{Acceptor, Stream};
 use crate::logging::LogLimit;
 use crate::peers::Peer;
@@ -87,6 +89,7 @@ pub struct EventLoop {
     direct_reads: u32,
     timers: Timers,
     publisher: Option<Publisher>,
+    control: Option<Arc<Control>>,
     log_limit: LogLimit,
 }
 
@@ -128,14 +131,22 @@ impl EventLoop {
             direct_reads: 0,
             timers: Timers::new(times),
             publisher,
+            control: None,
             log_limit: LogLimit::default(),
         })
     }
 
+    /// Has the event loop also serve what operators ask for.
+    pub fn with_control(self, control: Option<Arc<Control>>) -> EventLoop {
+        EventLoop { control, ..self }
+    }
+
     /// Serves until the server ends or its replies are invalid. Then it closes the server's input
-    /// and all connections, including those that arrive before the process ends.
+    /// and all connections. Those that haven't been accepted stay with their listener: the next
+    /// front on a socket of systemd answers them.
     pub fn run(mut self) -> ! {
         while self.turn().is_ok() {}
+        self.acceptor.stop();
         self.publish();
         let EventLoop { mut poll, acceptor, mut events, scheduler, connections, .. } = self;
         drop((scheduler, connections));
@@ -281,7 +292,7 @@ impl EventLoop {
         Ok(done)
     }
 
-    /// Handles new connections and requests for the counts.
+    /// Handles new connections, requests for the counts, and what operators ask for.
     fn on_wake(&mut self) {
         for stream in self.acceptor.take_arrived() {
             self.open(stream);
@@ -289,7 +300,8 @@ impl EventLoop {
         if self.publisher.as_ref().map_or(false, Publisher::is_wanted) {
             self.publish();
         }
-        if self.acceptor.is_stopped() {
+        self.serve_operators();
+        if self.acceptor.is_draining() {
             self.begin_drain();
         }
     }
@@ -451,7 +463,7 @@ impl EventLoop {
             Closed::Invalid => "no request, or too many in a round",
             Closed::Slow => "its round or its replies took longer than --round",
             Closed::Large => "all rounds took more than --round-bytes, and its the most",
-            Closed::Ended | Closed::Idle | Closed::Drained => return,
+            Closed::Ended | Closed::Idle | Closed::Drained | Closed::Kicked => return,
         };
         if self.log_limit.allows(self.shared.now) {
             let requests = connection.open_requests();

@@ -117,8 +117,8 @@ fn replies_are_counted_by_kind() {
     }
 }
 
-/// Returns the numbers that were counted, in the words of a line.
-fn counted(tally: &Tally) -> Vec<String> {
+/// Returns the numbers that were counted, in the words of a line, each with its count.
+fn counted(tally: &Tally) -> Vec<(String, u64)> {
     let refusals = (0..).zip(tally.refusals).map(|it| (it, format!("refused {},", it.0)));
     let exceptions = (0..).zip(tally.exceptions);
     let exceptions =
@@ -126,7 +126,7 @@ fn counted(tally: &Tally) -> Vec<String> {
     let denials = (0..).zip(tally.denials);
     let denials = denials.map(|it| (it, format!("denied {} {}", it.0, name(&DENIALS, it.0))));
     let all = refusals.chain(exceptions).chain(denials);
-    all.filter(|((_, count), _)| *count > 0).map(|(_, words)| words).collect()
+    all.filter(|((_, count), _)| *count > 0).map(|((_, count), words)| (words, count)).collect()
 }
 
 #[test]
@@ -135,8 +135,11 @@ fn refusals_exceptions_and_denials_are_counted_by_number() {
         let words = counted(&tally_of(&it));
         let of_line =
             ["refused ", "threw ", "denied "].iter().map(|word| it.line.matches(word).count());
-        assert_eq!(words.len(), of_line.sum::<usize>(), "{}: {:?}", it.line, words);
-        assert!(words.iter().all(|words| it.line.contains(words)), "{}: {:?}", it.line, words);
+        let all: u64 = words.iter().map(|(_, count)| count).sum();
+        assert_eq!(all, of_line.sum::<usize>() as u64, "{}: {:?}", it.line, words);
+        for (words, count) in words {
+            assert_eq!(it.line.matches(&words).count() as u64, count, "{}: {}", it.line, words);
+        }
     }
 }
 

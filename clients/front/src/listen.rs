@@ -9,7 +9,7 @@ use mio::{Interest, Registry, Token, Waker};
 use nix::poll::{poll, PollFd, PollFlags};
 use nix::sys::resource::{getrlimit, Resource};
 use nix::sys::socket::sockopt::{
-    KeepAlive, PeerCredentials, TcpKeepCount, TcpKeepIdle, TcpKeepInterval,
+    AcceptConn, KeepAlive, PeerCredentials, TcpKeepCount, TcpKeepIdle, TcpKeepInterval,
 };
 use nix::sys::socket::{getsockopt, setsockopt};
 use std::io::{self, Read, Write};
@@ -141,7 +141,9 @@ impl Source for Stream {
 
 /// Passes connections from the accepting threads to the event loop, and limits their number.
 pub struct Acceptor {
-    limit: usize,
+    limit: AtomicUsize,
+    /// The most that this limit can be, by the limit of open files.
+    most: usize,
     count: AtomicUsize,
     rejected: AtomicU64,
     arrived: Mutex<Vec<Stream>>,
@@ -149,6 +151,8 @@ pub struct Acceptor {
     /// Two connected sockets. The accepting threads end when the first is shut down.
     stop: (StdUnixStream, StdUnixStream),
     is_stopped: AtomicBool,
+    /// Whether the front is to end once it has answered what was sent.
+    is_draining: AtomicBool,
     /// Whether all connections have ended after that.
     is_drained: Mutex<bool>,
     drained: Condvar,
@@ -156,35 +160,42 @@ pub struct Acceptor {
 
 impl Acceptor {
     /// Creates an acceptor that allows at most `limit` connections at a time, and wakes the event
-    /// loop for each.
-    pub fn new(limit: usize, waker: Arc<Waker>) -> io::Result<Acceptor> {
+    /// loop for each. The limit can be changed up to `most`.
+    pub fn new(limit: usize, most: usize, waker: Arc<Waker>) -> io::Result<Acceptor> {
         Ok(Acceptor {
-            limit,
+            limit: AtomicUsize::new(limit),
+            most,
             count: AtomicUsize::new(0),
             rejected: AtomicU64::new(0),
             arrived: Mutex::default(),
             waker,
             stop: StdUnixStream::pair()?,
             is_stopped: AtomicBool::new(false),
+            is_draining: AtomicBool::new(false),
             is_drained: Mutex::new(false),
             drained: Condvar::new(),
         })
     }
 
-    /// Ends the accepting threads, and wakes the event loop. Connections that haven't been accepted
-    /// stay with their listener.
+    /// Ends the accepting threads. Connections that haven't been accepted stay with their listener.
     pub fn stop(&self) {
         self.is_stopped.store(true, Ordering::SeqCst);
         let _ = self.stop.0.shutdown(Shutdown::Both);
+    }
+
+    /// Does the same, and has the event loop answer what the connections have sent.
+    pub fn drain(&self) {
+        self.stop();
+        self.is_draining.store(true, Ordering::SeqCst);
         let _ = self.waker.wake();
     }
 
-    /// Returns whether [`Acceptor::stop`] was called.
-    pub fn is_stopped(&self) -> bool {
-        self.is_stopped.load(Ordering::SeqCst)
+    /// Returns whether [`Acceptor::drain`] was called.
+    pub fn is_draining(&self) -> bool {
+        self.is_draining.load(Ordering::SeqCst)
     }
 
-    /// Notes that all connections have ended after [`Acceptor::stop`].
+    /// Notes that all connections have ended after [`Acceptor::drain`].
     pub fn set_drained(&self) {
         if let Ok(mut it) = self.is_drained.lock() {
             *it = true;
@@ -208,12 +219,12 @@ impl Acceptor {
             .map(|it| PollFd::new(it, PollFlags::POLLIN));
         // An error is a signal that interrupted it.
         let _ = poll(&mut files, -1);
-        !self.is_stopped()
+        !self.is_stopped.load(Ordering::SeqCst)
     }
 
     /// Passes a connection to the event loop, or closes it if the limit is reached.
     fn hand_over(&self, stream: Stream) {
-        if self.count.fetch_add(1, Ordering::SeqCst) >= self.limit {
+        if self.count.fetch_add(1, Ordering::SeqCst) >= self.limit() {
             self.release();
             self.rejected.fetch_add(1, Ordering::Relaxed);
             return;
@@ -227,7 +238,17 @@ impl Acceptor {
 
     /// Returns the maximum number of connections at a time.
     pub fn limit(&self) -> usize {
-        self.limit
+        self.limit.load(Ordering::Relaxed)
+    }
+
+    /// Returns the most that the maximum number of connections can be.
+    pub fn most(&self) -> usize {
+        self.most
+    }
+
+    /// Changes the maximum number of connections. Those that are open stay.
+    pub fn set_limit(&self, limit: usize) {
+        self.limit.store(limit, Ordering::Relaxed);
     }
 
     /// Returns the number of connections that were closed at once because the limit was reached.
@@ -273,6 +294,10 @@ pub fn open(address: &Address, rights: Rights) -> io::Result<Opened> {
 /// Returns standard input as a listening socket, as systemd passes it.
 fn inherited() -> io::Result<Listener> {
     let socket: OwnedFd = io::stdin().as_fd().try_clone_to_owned()?;
+    if !getsockopt(socket.as_raw_fd(), AcceptConn)? {
+        let reason = "it is a socket that doesn't listen (a unit of systemd needs Accept=no)";
+        return Err(io::Error::new(io::ErrorKind::InvalidInput, reason));
+    }
     let listener = TcpListener::from(socket);
     if listener.local_addr().is_ok() {
         return Ok(Listener::Tcp(listener));

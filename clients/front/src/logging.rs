@@ -29,6 +29,8 @@ const PATIENCE: Duration = Duration::from_secs(1);
 
 static QUEUE_INPUT: Mutex<Option<SyncSender<Entry>>> = Mutex::new(None);
 static DROPPED: AtomicUsize = AtomicUsize::new(0);
+/// Whether the file is to be opened again, where the queue had no room for [`Entry::Reopen`].
+static REOPENS: AtomicBool = AtomicBool::new(false);
 static IS_JSON: AtomicBool = AtomicBool::new(false);
 
 /// The target of events with fields.
@@ -182,10 +184,11 @@ fn queue() -> Option<SyncSender<Entry>> {
     QUEUE_INPUT.lock().ok().and_then(|it| it.clone())
 }
 
-/// Opens the file of the log again, after the lines so far.
+/// Opens the file of the log again, after the lines so far, or before them if nobody takes them. It
+/// doesn't wait: the thread that calls it also handles the signals that end the front.
 pub fn reopen() {
-    if let Some(queue) = queue() {
-        let _ = queue.send(Entry::Reopen);
+    if queue().map_or(false, |it| it.try_send(Entry::Reopen).is_err()) {
+        REOPENS.store(true, Ordering::Relaxed);
     }
 }
 
@@ -227,6 +230,9 @@ impl LogLimit {
 
 fn write_lines<W: Write>(queue: &Receiver<Entry>, out: &mut W, reopen: fn(&mut W)) {
     for entry in queue {
+        if REOPENS.swap(false, Ordering::Relaxed) {
+            reopen(out);
+        }
         match entry {
             Entry::Reopen => reopen(out),
             Entry::Line(line) => {

@@ -11,6 +11,7 @@ mod builtins;
 mod class_name;
 mod classes;
 mod connection;
+mod control;
 mod definition_log;
 mod event_loop;
 #[cfg(test)]
@@ -22,6 +23,7 @@ mod metrics;
 mod options;
 mod peers;
 mod protocol;
+mod quotas;
 mod request;
 mod scheduler;
 mod server;
@@ -34,13 +36,14 @@ mod sub_batch;
 mod systemd;
 mod tally;
 
+use control::Control;
 use event_loop::{EventLoop, WAKER};
 use http::Hosts;
 use listen::{Acceptor, Opened};
 use log::{error, info, warn};
 use mio::{Poll, Waker};
 use nix::unistd::gethostname as hostname;
-use options::{Address, Options};
+use options::Options;
 use prometheus::Registry;
 use scheduler::Scheduler;
 use serde_json::{json, Value};
@@ -50,8 +53,11 @@ use signal_hook::iterator::Signals;
 use signal_hook::low_level::{emulate_default_handler, signal_name};
 use socket_file::SocketFile;
 use status::{Board, Publisher};
+use std::ffi::OsString;
+use std::fmt::Display;
 use std::io;
 use std::net::TcpListener;
+use std::os::unix::net::UnixListener;
 use std::process::{exit, id};
 use std::sync::{Arc, Mutex, PoisonError};
 use std::thread;
@@ -70,19 +76,20 @@ const FAREWELL: Duration = Duration::from_millis(500);
 /// The jobs of a round that clients send.
 const CLIENTS_JOBS: usize = 4_096;
 
-/// Returns the maximum number of connections, limited by the number of files that this process may
-/// open.
-fn connection_limit(options: &Options) -> usize {
+/// Returns the maximum number of connections, and the most that it can be by the number of files
+/// that this process may open.
+fn connection_limits(options: &Options) -> (usize, usize) {
     let http = if options.http.is_some() { http::MOST_CONNECTIONS } else { 0 };
-    match listen::connections_by_files(http) {
+    let control = if options.control.is_some() { control::MOST_CONNECTIONS + 1 } else { 0 };
+    match listen::connections_by_files(http + control) {
         Some(most) if most < options.connections => {
             warn!(
                 "at most {} connections, since this process may not open more files (ulimit -n)",
                 most
             );
-            most
+            (most, most)
         }
-        _ => options.connections,
+        most => (options.connections, most.unwrap_or(usize::MAX)),
     }
 }
 
@@ -113,7 +120,7 @@ impl Ending {
         systemd::notify("STOPPING=1");
         self.board.set_draining();
         self.files.iter().for_each(SocketFile::remove);
-        self.acceptor.stop();
+        self.acceptor.drain();
         let left = self.acceptor.wait_drained(self.drain);
         info!("ended by {}, with {} open connections", name_of(signal), left);
         logging::flush();
@@ -151,50 +158,87 @@ fn handle_signals(ending: Ending) -> io::Result<()> {
 struct Listeners {
     front: Vec<Opened>,
     http: Option<TcpListener>,
+    control: Option<(UnixListener, SocketFile)>,
+}
+
+impl Listeners {
+    /// Opens the sockets of the options. If one can't be opened, no file is left of the others.
+    fn new(options: &Options) -> Result<Listeners, Failure> {
+        let mut it = Listeners { front: Vec::new(), http: None, control: None };
+        match it.open(options) {
+            Ok(()) => Ok(it),
+            Err(failure) => {
+                it.files().iter().for_each(SocketFile::remove);
+                Err(failure)
+            }
+        }
+    }
+
+    fn open(&mut self, options: &Options) -> Result<(), Failure> {
+        if let Some((path, rights)) = &options.control {
+            let opened = socket_file::bind(path, *rights);
+            self.control = Some(opened.map_err(|e| cannot_listen(path, &e))?);
+        }
+        for address in &options.addresses {
+            let opened = listen::open(address, options.rights);
+            self.front.push(opened.map_err(|e| cannot_listen(address, &e))?);
+        }
+        if let Some(address) = &options.http {
+            self.http = Some(TcpListener::bind(address).map_err(|e| cannot_listen(address, &e))?);
+        }
+        Ok(())
+    }
+
+    /// Returns the files of all unix sockets.
+    fn files(&self) -> Vec<SocketFile> {
+        let of_control = self.control.iter().map(|it| it.1.clone());
+        self.front.iter().filter_map(|it| it.file.clone()).chain(of_control).collect()
+    }
 }
 
 /// Returns why a socket can't be opened. A file that may not be replaced is an error of the command
 /// line.
-fn cannot_listen(address: &Address, e: &io::Error) -> Failure {
+fn cannot_listen(address: &impl Display, e: &io::Error) -> Failure {
     let is_usage = e.kind() == io::ErrorKind::AlreadyExists;
     let reason = format!("can't listen on {}: {}", address, e);
     Failure { reason, status: if is_usage { USAGE_STATUS } else { START_STATUS } }
 }
 
-fn open_listeners(options: &Options) -> Result<Listeners, Failure> {
-    let mut front = Vec::new();
-    for address in &options.addresses {
-        front.push(listen::open(address, options.rights).map_err(|e| cannot_listen(address, &e))?);
-    }
-    let http = options.http.as_ref().map(|address| {
-        TcpListener::bind(address).map_err(|e| format!("can't listen on {}: {}", address, e))
-    });
-    Ok(Listeners { front, http: http.transpose()? })
-}
-
 /// Listens, starts the server, and serves until it ends. Returns an error if it fails before that.
 fn run(options: Options) -> Result<(), Failure> {
-    let limit = connection_limit(&options);
+    let (limit, most) = connection_limits(&options);
     if options.limits.requests < CLIENTS_JOBS {
         warn!(
             "--requests {}: the clients send rounds of up to {} requests, and larger ones end them",
             options.limits.requests, CLIENTS_JOBS
         );
     }
-    let Listeners { front, http } = open_listeners(&options)?;
-    let files: Vec<SocketFile> = front.iter().filter_map(|it| it.file.clone()).collect();
+    let listeners = Listeners::new(&options)?;
+    let files = listeners.files();
+    serve(options, listeners, (limit, most)).map_err(|reason| {
+        files.iter().for_each(SocketFile::remove);
+        reason.into()
+    })
+}
+
+/// Starts the server, and serves until it ends.
+fn serve(options: Options, listeners: Listeners, limits: (usize, usize)) -> Result<(), String> {
+    let files = listeners.files();
+    let Listeners { front, http, control } = listeners;
+    let (limit, most) = limits;
     let poll = Poll::new().map_err(setup_failed)?;
     let waker = Arc::new(Waker::new(poll.registry(), WAKER).map_err(setup_failed)?);
     let board = Arc::new(Board::new(Registry::new(), waker.clone()));
-    let acceptor = Arc::new(Acceptor::new(limit, waker).map_err(setup_failed)?);
+    let acceptor = Arc::new(Acceptor::new(limit, most, waker.clone()).map_err(setup_failed)?);
     let (drain, stall) = (options.drain, options.times.stall);
     let (names, about) = (http_names(&options), about(&options, &front));
     let ending =
         Ending { files: files.clone(), acceptor: acceptor.clone(), board: board.clone(), drain };
     handle_signals(ending).map_err(setup_failed)?;
     let (http_waker, for_end) = (Arc::new(Mutex::new(None::<Waker>)), board.clone());
-    let waker_for_end = http_waker.clone();
+    let (waker_for_end, acceptor_for_end) = (http_waker.clone(), acceptor.clone());
     let mut server = server::start(&options.program, move |how| {
+        acceptor_for_end.stop();
         files.iter().for_each(SocketFile::remove);
         say_ended(&for_end, &waker_for_end, how);
     })
@@ -209,14 +253,16 @@ fn run(options: Options) -> Result<(), Failure> {
     }
     let publisher = publisher(&board, http.is_some(), stall)?;
     if let Some(listener) = http {
-        let settings = http::Settings { stall, hosts: Hosts(names), about };
+        let settings = http::Settings { stall, hosts: Hosts(names), about: about.clone() };
         let waker = http::start(listener, board, server.process, settings).map_err(setup_failed)?;
         *http_waker.lock().unwrap_or_else(PoisonError::into_inner) = Some(waker);
     }
+    let control = control.map(|(listener, _)| start_control(listener, waker, about));
     let scheduler = Scheduler::new(server, options.steps).map_err(setup_failed)?;
     let event_loop =
         EventLoop::new(poll, acceptor.clone(), scheduler, shared, options.times, publisher)
-            .map_err(setup_failed)?;
+            .map_err(setup_failed)?
+            .with_control(control);
     for Opened { listener, name, .. } in front {
         let acceptor = acceptor.clone();
         info!("listening on {}", name);
@@ -224,6 +270,14 @@ fn run(options: Options) -> Result<(), Failure> {
     }
     systemd::notify("READY=1");
     event_loop.run()
+}
+
+/// Starts to serve operators.
+fn start_control(listener: UnixListener, waker: Arc<Waker>, about: Value) -> Arc<Control> {
+    let control = Arc::new(Control::new(waker, about));
+    let served = control.clone();
+    thread::spawn(move || control::run(&listener, &served));
+    control
 }
 
 /// Returns the names by which the HTTP server may be called: those of the options, and the host
@@ -283,7 +337,16 @@ fn setup_failed(e: io::Error) -> String {
 }
 
 fn main() {
-    let options = options::parse(std::env::args_os()).unwrap_or_else(|e| {
+    let words: Vec<OsString> = std::env::args_os().collect();
+    match words.get(1).and_then(|it| it.to_str()) {
+        Some("ctl") => exit(control::client::run(words.into_iter().skip(1))),
+        Some(server::BECOME) => {
+            eprintln!("{}", server::become_server(&words[2..]));
+            exit(START_STATUS);
+        }
+        _ => {}
+    }
+    let options = options::parse(words).unwrap_or_else(|e| {
         let _ = e.print();
         exit(if e.use_stderr() { USAGE_STATUS } else { 0 });
     });

@@ -17,12 +17,17 @@ use std::time::Duration;
 /// The permissions of a unix socket that has a group.
 const GROUP_MODE: u32 = 0o660;
 
+/// The permissions of the control socket.
+const CONTROL_MODE: &str = "0600";
+
 const USAGE: &str = "jentry-front [OPTIONS] <--unix PATH | --tcp [HOST:]PORT | --stdin> \
                      PROGRAM [WORDS]...";
 
 const AFTER_HELP: &str = "\
 Options come before PROGRAM. What comes after it is the server's. \
 The server speaks the frames of `jentry serve` on its standard streams.
+
+`jentry-front ctl --help` says how a front that runs is controlled.
 
 Example: jentry-front --unix /run/jentry.sock jentry serve";
 
@@ -62,6 +67,8 @@ pub struct Options {
     pub http: Option<String>,
     /// The names by which that server may be called.
     pub http_names: Vec<String>,
+    /// The path and the permissions of the control socket, if there is one.
+    pub control: Option<(String, Rights)>,
     pub log: Settings,
     /// How long the front answers what was sent after a signal that ends it.
     pub drain: Duration,
@@ -99,6 +106,7 @@ fn command() -> Command {
                 .action(ArgAction::Append)
                 .help("A name with dots by which browsers may call that server; can be repeated"),
         )
+        .args(control_args())
         .args(log_args())
         .arg(
             Arg::new("program")
@@ -131,6 +139,21 @@ fn address_args() -> [Arg; 3] {
         .action(ArgAction::SetTrue)
         .help("Listen on the socket that is the standard input, as systemd passes it");
     [unix, tcp, stdin]
+}
+
+fn control_args() -> [Arg; 2] {
+    let path = Arg::new("control")
+        .long("control")
+        .value_name("PATH")
+        .overrides_with("control")
+        .help("Listen on a unix socket for `jentry-front ctl`; the last PATH counts");
+    let mode = Arg::new("control-mode")
+        .long("control-mode")
+        .value_name("OCTAL")
+        .value_parser(file_mode)
+        .default_value(CONTROL_MODE)
+        .help("The permissions of that socket; whoever may connect may end the front");
+    [path, mode]
 }
 
 fn log_args() -> [Arg; 3] {
@@ -264,6 +287,11 @@ fn limit_args() -> impl Iterator<Item = Arg> {
     })
 }
 
+/// Returns the least and the most value of a number's option.
+pub fn range(name: &str) -> (u64, u64) {
+    NUMBERS.iter().find(|it| it.0 == name).map_or((0, 0), |it| (it.2, it.3))
+}
+
 fn rights_args() -> [Arg; 3] {
     let mode =
         Arg::new("mode").long("mode").value_name("OCTAL").value_parser(file_mode).help(
@@ -293,7 +321,8 @@ fn group_id(text: &str) -> Result<u32, String> {
     text.parse().ok().or_else(found).ok_or_else(|| "there is no such group".to_string())
 }
 
-fn user_id(text: &str) -> Result<u32, String> {
+/// Returns the number of a user, given by name or number.
+pub fn user_id(text: &str) -> Result<u32, String> {
     let found = || User::from_name(text).ok().flatten().map(|it| it.uid.as_raw());
     text.parse().ok().or_else(found).ok_or_else(|| "there is no such user".to_string())
 }
@@ -331,6 +360,11 @@ fn rights(matches: &ArgMatches) -> Rights {
     Rights { mode, group }
 }
 
+fn control(matches: &ArgMatches) -> Option<(String, Rights)> {
+    let mode = matches.get_one::<u32>("control-mode").copied();
+    matches.get_one::<String>("control").map(|it| (it.clone(), Rights { mode, group: None }))
+}
+
 fn log_settings(matches: &ArgMatches) -> Settings {
     let text = |name: &str| matches.get_one::<String>(name).cloned().unwrap_or_default();
     Settings {
@@ -362,6 +396,7 @@ fn options(matches: &ArgMatches) -> Options {
         rights: rights(matches),
         http: texts("http").next(),
         http_names: texts("http-name").collect(),
+        control: control(matches),
         log: log_settings(matches),
         drain: Duration::from_secs(number("drain")),
         program: matches.get_many::<OsString>("program").into_iter().flatten().cloned().collect(),
@@ -423,6 +458,15 @@ mod tests {
         assert_eq!(it.rights, Rights { mode: Some(0o600), group: None });
         assert!(error("--unix a --mode 999 jentry").contains("expected permissions"));
         assert!(error("--unix a --group nobody-has-this jentry").contains("no such group"));
+    }
+
+    #[test]
+    fn the_control_socket_is_the_owners() {
+        assert_eq!(parse_line("--unix a jentry").expect("options").control, None);
+        let it = parse_line("--unix a --control b --control c jentry").expect("options");
+        let rights = Rights { mode: Some(0o600), group: None };
+        assert_eq!(it.control, Some(("c".to_string(), rights)));
+        assert_eq!((range("steps"), range("none")), ((1, 1_000_000_000), (0, 0)));
     }
 
     #[test]

@@ -1,7 +1,9 @@
 //! Peers: the users and addresses that connections come from. Connections cost a peer nothing, so
 //! limits by peer hold where those by connection don't.
 
+use crate::options::user_id;
 use std::collections::HashMap;
+use std::fmt::{self, Display, Formatter};
 use std::net::{IpAddr, Ipv6Addr};
 use std::time::{Duration, Instant};
 
@@ -29,6 +31,41 @@ impl Peer {
             },
         }
     }
+}
+
+impl Display for Peer {
+    fn fmt(&self, out: &mut Formatter<'_>) -> fmt::Result {
+        match self {
+            Peer::User(user) => write!(out, "uid:{}", user),
+            Peer::Address(it @ IpAddr::V4(_)) => write!(out, "{}", it),
+            Peer::Address(it @ IpAddr::V6(_)) => write!(out, "{}/64", it),
+            Peer::Unknown => out.write_str("unknown"),
+        }
+    }
+}
+
+impl Peer {
+    /// Reads a peer as it is displayed; a user may also have a name.
+    pub fn parse(text: &str) -> Result<Peer, String> {
+        if let Some(user) = text.strip_prefix("uid:") {
+            return user_id(user).map(Peer::User);
+        }
+        match text.strip_suffix("/64").unwrap_or(text).parse() {
+            Ok(address) => Ok(Peer::at(address)),
+            Err(_) if text == "unknown" => Ok(Peer::Unknown),
+            Err(_) => Err("expected a peer, such as uid:1000 or 10.0.0.5".to_string()),
+        }
+    }
+}
+
+/// What a peer has, for `jentry-front ctl`.
+#[derive(Clone, Copy, Debug, PartialEq, Eq)]
+pub struct PeerRow {
+    pub peer: Peer,
+    pub connections: usize,
+    pub classes: usize,
+    /// The instructions of its rounds that wait.
+    pub steps: u64,
 }
 
 /// The limits of each peer.
@@ -71,6 +108,22 @@ impl Peers {
     /// Creates the peers, which have nothing yet.
     pub fn new(limits: PeerLimits) -> Peers {
         Peers { limits, accounts: HashMap::new() }
+    }
+
+    /// Changes the limits. What a peer has already it keeps.
+    pub fn set_limits(&mut self, limits: PeerLimits) {
+        self.limits = limits;
+    }
+
+    /// Returns what each peer has, in the order of the peers.
+    pub fn rows(&self) -> Vec<PeerRow> {
+        let row = |(peer, it): (&Peer, &Account)| {
+            let (connections, classes, steps) = (it.connections, it.classes, it.steps);
+            PeerRow { peer: *peer, connections, classes, steps }
+        };
+        let mut rows: Vec<PeerRow> = self.accounts.iter().map(row).collect();
+        rows.sort_by_key(|it| it.peer);
+        rows
     }
 
     fn burst(&self) -> u64 {
@@ -240,6 +293,18 @@ mod tests {
         peers.done(ONE, 60);
         peers.sweep(now);
         assert_eq!(peers.accounts.len(), 0);
+    }
+
+    #[test]
+    fn a_peer_is_read_as_it_is_displayed() {
+        for text in ["uid:1000", "10.0.0.5", "2001:db8:0:1::/64", "unknown"] {
+            assert_eq!(Peer::parse(text).expect(text).to_string(), text);
+        }
+        assert_eq!(Peer::parse("uid:root"), Ok(Peer::User(0)));
+        assert_eq!(Peer::parse("2001:db8:0:1::9"), Peer::parse("2001:db8:0:1::/64"));
+        for text in ["", "uid:", "uid:-1", "1000", "10.0.0", "uid:nobody-has-this"] {
+            assert!(Peer::parse(text).is_err(), "{}", text);
+        }
     }
 
     #[test]

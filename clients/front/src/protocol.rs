@@ -25,7 +25,7 @@ pub const DENIALS: [&str; 6] =
     ["", "UnknownClass", "JournalFull", "NoMemory", "TooManyClasses", "TooManyJobs"];
 
 /// The names of the ways in which a processor ends without a result, by number.
-pub const EXCEPTIONS: [&str; 7] = [
+pub const EXCEPTIONS: [&str; 11] = [
     "",
     "ArithmeticException",
     "ArrayIndexOutOfBoundsException",
@@ -33,6 +33,10 @@ pub const EXCEPTIONS: [&str; 7] = [
     "ClassCastException",
     "IncompatibleClassChangeError",
     "CacheLoaderException",
+    "EntryProcessorException",
+    "IllegalArgumentException",
+    "IllegalStateException",
+    "UnsupportedOperationException",
 ];
 
 /// The names of the reasons for which the server refuses a class, by number.
@@ -95,6 +99,15 @@ pub mod replies {
     pub const RESULTS: u8 = 7;
     pub const DENIED: u8 = 8;
     pub const ENDED: u8 = 9;
+}
+
+/// The kinds of outcomes.
+#[allow(dead_code)]
+pub mod outcomes {
+    pub const RETURNED: u8 = 0;
+    pub const THREW: u8 = 1;
+    pub const NOT_RUN: u8 = 2;
+    pub const THROWN: u8 = 3;
 }
 
 /// The kinds of values in arguments and results.

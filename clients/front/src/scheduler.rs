@@ -101,6 +101,16 @@ impl Scheduler {
         &mut self.output
     }
 
+    /// Returns the limit on the instructions of a batch.
+    pub fn steps(&self) -> u64 {
+        self.steps
+    }
+
+    /// Changes the limit on the instructions of a batch.
+    pub fn set_steps(&mut self, steps: u64) {
+        self.steps = steps;
+    }
+
     /// Returns whether a batch is at the server.
     pub fn is_in_flight(&self) -> bool {
         self.in_flight.is_some()

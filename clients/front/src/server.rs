@@ -3,9 +3,11 @@
 
 use crate::logging;
 use log::{error, warn};
+use nix::unistd::{setpgid, Pid};
 use std::env;
 use std::ffi::OsString;
 use std::io::{self, BufRead, BufReader};
+use std::os::unix::process::CommandExt;
 use std::process::{exit, Child, ChildStderr, ChildStdin, ChildStdout, Command, Stdio};
 use std::sync::mpsc::{channel, Receiver};
 use std::thread;
@@ -13,6 +15,9 @@ use std::time::Duration;
 
 /// The front's exit status after the server has ended.
 const STATUS: i32 = 3;
+
+/// The first word of the command line by which the front starts itself to become the server.
+pub const BECOME: &str = "become-server";
 
 /// How long the front waits for the server to end after the end of its replies, and for its last
 /// message after its end.
@@ -30,14 +35,36 @@ pub struct Server {
     pub process: u32,
 }
 
+/// Becomes the server, in a process group of its own: a signal of a terminal, which all processes of
+/// a group get, ends the front alone, and that needs the server to answer what was sent. Returns
+/// only if it fails, with the reason.
+pub fn become_server(words: &[OsString]) -> String {
+    let no_process = Pid::from_raw(0);
+    let error = match (setpgid(no_process, no_process), words.split_first()) {
+        (Err(e), _) => e.to_string(),
+        (Ok(()), Some((program, words))) => Command::new(program).args(words).exec().to_string(),
+        (Ok(()), None) => "there is no program".to_string(),
+    };
+    format!(
+        "can't start {}: {}",
+        words.first().cloned().unwrap_or_default().to_string_lossy(),
+        error
+    )
+}
+
 /// Starts the server, and a thread that ends the front when the server ends. `before_exit` is
 /// called right before that, with the server's status and last message.
 pub fn start(
     program: &[OsString],
     before_exit: impl Fn(String) + Send + 'static,
 ) -> io::Result<Server> {
-    let mut command = Command::new(&program[0]);
-    command.args(&program[1..]).stdin(Stdio::piped()).stdout(Stdio::piped()).stderr(Stdio::piped());
+    let mut command = Command::new(env::current_exe()?);
+    command
+        .arg(BECOME)
+        .args(program)
+        .stdin(Stdio::piped())
+        .stdout(Stdio::piped())
+        .stderr(Stdio::piped());
     let unset = MALLOC_SETTINGS.iter().filter(|(name, _)| env::var_os(name).is_none());
     command.envs(unset.copied());
     let mut child = command.spawn()?;

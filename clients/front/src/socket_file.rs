@@ -52,13 +52,21 @@ pub fn bind(path: &str, rights: Rights) -> io::Result<(UnixListener, SocketFile)
         it => it?,
     };
     let file = SocketFile::of(path)?;
+    give(path, rights).map_err(|e| {
+        file.remove();
+        e
+    })?;
+    Ok((listener, file))
+}
+
+fn give(path: &str, rights: Rights) -> io::Result<()> {
     if let Some(group) = rights.group {
         chown(path, None, Some(Gid::from_raw(group)))?;
     }
     if let Some(mode) = rights.mode {
         fs::set_permissions(path, Permissions::from_mode(mode))?;
     }
-    Ok((listener, file))
+    Ok(())
 }
 
 /// Binds a socket. If it is given permissions, only its owner may connect until it has its group.

@@ -1,8 +1,10 @@
 //! The counts of the event loop: plain numbers without locks or atomics, so that counting has no
 //! measurable cost for calls. [`crate::metrics`] publishes them on request.
 
+use crate::protocol::outcomes::{NOT_RUN, RETURNED, THREW, THROWN};
 use crate::protocol::replies::{DENIED, FLAG, REFUSED, RESULT, RESULTS, VALUE};
 use crate::protocol::requests::{DEFINE, REMOVE};
+use crate::protocol::values::{FALSE, INTEGER, LONG, NULL, TRUE};
 use crate::protocol::MOST_CLASSES;
 pub use crate::protocol::{DENIALS, EXCEPTIONS, REFUSALS, REPLIES, REQUESTS};
 
@@ -21,10 +23,12 @@ pub enum Closed {
     Large = 4,
     /// The front was to end.
     Drained = 5,
+    /// An operator closed it.
+    Kicked = 6,
 }
 
 /// The labels of [`Closed`].
-pub const CLOSED: [&str; 6] = ["ended", "invalid", "idle", "slow", "large", "drained"];
+pub const CLOSED: [&str; 7] = ["ended", "invalid", "idle", "slow", "large", "drained", "kicked"];
 
 /// The class number of requests that run no class.
 pub const NO_CLASS: u32 = u32::MAX;
@@ -125,7 +129,7 @@ impl Tally {
     /// [`Tally::own_reply`] for each connection that receives them.
     pub fn reply(&mut self, asked: Asked, reply: &[u8]) {
         let kind = reply[0];
-        if let (RESULT, Some(0), true) = (kind, reply.get(1), asked.class != NO_CLASS) {
+        if let (RESULT, Some(&RETURNED), true) = (kind, reply.get(1), asked.class != NO_CLASS) {
             // This is by far the most frequent reply.
             self.replies[usize::from(RESULT)] += 1;
             return self.runs(asked.class, 1, 0);
@@ -140,7 +144,7 @@ impl Tally {
                 self.removes[usize::from(*flag != 0)] += 1
             }
             (RESULT, Some(_)) => self.outcome(asked.class, &reply[1..]),
-            (RESULTS, Some(_)) => self.results(asked, &reply[3..]),
+            (RESULTS, Some(_)) => self.results(asked, reply.get(3..).unwrap_or_default()),
             (DENIED, Some(number)) => count(&mut self.denials, *number),
             _ => {}
         }
@@ -164,12 +168,12 @@ impl Tally {
     /// Counts the outcome of one run, or of a get whose loader failed.
     fn outcome(&mut self, class: u32, outcome: &[u8]) {
         match outcome {
-            [0, ..] => self.runs(class, 1, 0),
-            [1, number, ..] => {
+            [RETURNED, ..] => self.runs(class, 1, 0),
+            [THREW | THROWN, number, ..] => {
                 count(&mut self.exceptions, *number);
                 self.runs(class, 1, 1);
             }
-            [2, number, ..] => count(&mut self.denials, *number),
+            [NOT_RUN, number, ..] => count(&mut self.denials, *number),
             _ => {}
         }
     }
@@ -179,15 +183,16 @@ impl Tally {
         let (mut runs, mut exceptions) = (u64::from(asked.keys), 0);
         while let Some(outcome) = results.get(8..) {
             let length = match outcome {
-                [0, 0 | 3 | 4, ..] => 2,
-                [0, 1, ..] => 10,
-                [0, 2, ..] => 6,
-                [1, number, ..] => {
+                [RETURNED, NULL | FALSE | TRUE, ..] => 2,
+                [RETURNED, LONG, ..] => 10,
+                [RETURNED, INTEGER, ..] => 6,
+                [THREW | THROWN, number, ..] => {
                     count(&mut self.exceptions, *number);
                     exceptions += 1;
-                    2
+                    // The index of the text is behind the number of an exception that was thrown.
+                    2 + 2 * usize::from(outcome[0] == THROWN)
                 }
-                [2, number, ..] => {
+                [NOT_RUN, number, ..] => {
                     count(&mut self.denials, *number);
                     runs = runs.saturating_sub(1);
                     2
@@ -266,6 +271,48 @@ mod tests {
         tally.reply(asked(7, 0, 4), &reply);
         assert_eq!((tally.runs, tally.exceptions[1], tally.denials[3]), (3, 1, 1));
         assert_eq!(tally.classes[0], ClassTally { steps: 14, runs: 3, exceptions: 1 });
+    }
+
+    #[test]
+    fn an_outcome_after_a_thrown_exception_is_counted() {
+        let mut tally = with_class();
+        let mut reply = vec![7, 0, 5];
+        for outcome in [&[3, 9, 0, 32][..], &[3, 1, 2, 3], &[0, 4], &[1, 1], &[3, 10, 0, 0]] {
+            reply.extend_from_slice(&[0; 8]);
+            reply.extend_from_slice(outcome);
+        }
+        tally.reply(asked(7, 0, 5), &reply);
+        assert_eq!((tally.runs, tally.steps), (5, 70));
+        assert_eq!([1, 9, 10].map(|it| tally.exceptions[it]), [2, 1, 1]);
+        assert_eq!((tally.exceptions.iter().sum(), tally.denials), (4u64, [0; 6]));
+        assert_eq!(tally.classes[0], ClassTally { steps: 14, runs: 5, exceptions: 4 });
+    }
+
+    #[test]
+    fn a_thrown_exception_is_counted_by_its_number() {
+        let mut tally = with_class();
+        tally.reply(asked(6, 0, 0), &[6, 3, 9, 0, 32]);
+        tally.reply(asked(6, 0, 0), &[6, 3, 1, 0, 0]);
+        tally.reply(asked(6, 0, 0), &[6, 3, 77, 0, 0]);
+        assert_eq!([0, 1, 9].map(|it| tally.exceptions[it]), [1, 1, 1]);
+        assert_eq!((tally.runs, tally.replies[6]), (3, 3));
+        assert_eq!(tally.classes[0], ClassTally { steps: 14, runs: 3, exceptions: 3 });
+    }
+
+    #[test]
+    fn cut_results_are_counted_as_far_as_they_go() {
+        let mut whole = vec![7, 0, 2];
+        for outcome in [[3, 9, 0, 32], [3, 8, 0, 15]] {
+            whole.extend_from_slice(&[0; 8]);
+            whole.extend_from_slice(&outcome);
+        }
+        for end in 1..=whole.len() {
+            let mut tally = with_class();
+            tally.reply(asked(7, 0, 2), &whole[..end]);
+            let wanted = [usize::from(end >= 13), usize::from(end >= 25)];
+            assert_eq!([9, 8].map(|it| tally.exceptions[it] as usize), wanted, "{} bytes", end);
+            assert_eq!(tally.replies[7], 1);
+        }
     }
 
     #[test]

@@ -1,6 +1,7 @@
 //! What the event loop publishes: metrics, and the tables of the page.
 
-use super::EventLoop;
+use super::{Entry, EventLoop};
+use crate::classes::Accepted;
 use crate::metrics::Gauges;
 use crate::status::{top, ClassRow, ConnectionRow, Tables};
 use std::time::Duration;
@@ -28,21 +29,32 @@ impl EventLoop {
     }
 
     fn tables(&self) -> Tables {
-        let accepted = self.shared.classes.accepted().iter();
-        let rows = accepted.map(|it| (it, self.shared.tally.class_tally(it.class.number)));
+        let mut classes = self.class_rows();
         // The clients' built-in processors are shown once they have run.
-        let shown = rows.filter(|(it, tally)| it.connection != 0 || tally.runs > 0);
-        let classes = shown.map(|(it, tally)| ClassRow { accepted: it.clone(), tally });
-        let connections = self.connections.iter().map(|(number, entry)| ConnectionRow {
+        classes.retain(|it| it.accepted.connection != 0 || it.tally.runs > 0);
+        let class_number = |it: &ClassRow| u64::from(it.accepted.class.number);
+        Tables {
+            classes: top(classes, |it| it.tally.cost(), class_number),
+            connections: top(self.connection_rows(), slowness, |it| it.number),
+        }
+    }
+
+    /// Returns all classes.
+    pub(super) fn class_rows(&self) -> Vec<ClassRow> {
+        let accepted = self.shared.classes.accepted().iter();
+        let tally = |number| self.shared.tally.class_tally(number);
+        let row = |it: &Accepted| ClassRow { accepted: it.clone(), tally: tally(it.class.number) };
+        accepted.map(row).collect()
+    }
+
+    /// Returns all connections.
+    pub(super) fn connection_rows(&self) -> Vec<ConnectionRow> {
+        let row = |(number, entry): (&u64, &Entry)| ConnectionRow {
             number: *number,
             traffic: entry.connection.traffic().clone(),
             state: entry.connection.state(),
-        });
-        let class_number = |it: &ClassRow| u64::from(it.accepted.class.number);
-        Tables {
-            classes: top(classes.collect(), |it| it.tally.cost(), class_number),
-            connections: top(connections.collect(), slowness, |it| it.number),
-        }
+        };
+        self.connections.iter().map(row).collect()
     }
 
     pub(super) fn count_batch(&mut self) {

@@ -44,6 +44,17 @@ impl Timers {
         Timers { times, swept, is_timed: false, is_stalled: false, is_draining: false }
     }
 
+    /// Returns the time limits.
+    pub fn limits(&self) -> Times {
+        self.times
+    }
+
+    /// Changes the time limits. Connections may exceed them already.
+    pub fn set_limits(&mut self, times: Times) {
+        self.times = times;
+        self.is_timed = true;
+    }
+
     /// Notes that the server has answered a batch.
     pub fn on_completed(&mut self, batch: &Completed, now: Instant) {
         if self.is_stalled {
