@@ -185,9 +185,22 @@ public final class ProcessorCompiler {
         }
     }
 
+    /** Links a class; where objects that it makes are in the way, once more with numbers in place of the small ones. */
     private CompiledClass linked(ClassNode root, String source, Holder holder, ClassNode... more) throws CompileException {
         try {
-            Linker.Linked linked = Linker.link(root, program, holder, more);
+            return linked(root, source, holder, false, more);
+        } catch (CompileException e) {
+            try {
+                return linked(root, source, holder, true, more);
+            } catch (CompileException ignored) {
+                throw e;
+            }
+        }
+    }
+
+    private CompiledClass linked(ClassNode root, String source, Holder holder, boolean packs, ClassNode... more) throws CompileException {
+        try {
+            Linker.Linked linked = Linker.link(root, program, holder, packs, more);
             int hidden = linked.captures().hidden().size();
             if (hidden > MOST_ARGUMENTS) {
                 refuse(List.of(Instructions.problem(root, "it holds " + hidden + " values that change, and an invocation takes " + MOST_ARGUMENTS

@@ -18,8 +18,8 @@ import org.junit.jupiter.api.Test;
 class ExamplesTest {
     private static final Path TOP = Javac.HERE.resolve("../..");
     private static final List<String> COMPILED = List.of("Assertion", "BoxedConstant", "ByteArray", "DeclaredComparable", "DoubleParameter",
-        "EqualsOfBoolean", "ExtendsAnother", "FieldInitialiser", "Loop", "Main", "NewerVersion", "OneInstance", "StaticTable", "TextOfItself", "TooLarge",
-        "TryCatch", "UnknownCall", "VariableLength", "WithParameter");
+        "EqualsOfBoolean", "ExtendsAnother", "FieldInitialiser", "Loop", "Main", "NewerVersion", "OneInstance", "StaticTable", "TextOfItself", "Throws",
+        "TooLarge", "TryCatch", "UnknownCall", "VariableLength", "WithParameter");
 
     private static Map<String, byte[]> classesOf(String folder) throws IOException {
         Map<String, byte[]> classes = new TreeMap<>();

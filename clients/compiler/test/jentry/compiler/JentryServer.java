@@ -14,7 +14,8 @@ import jentry.compiler.compare.Outcome;
 /** Runs `jentry serve` as a child process, and speaks the protocol of docs/PROTOCOL.md. */
 final class JentryServer implements AutoCloseable {
     private static final String[] EXCEPTIONS = {"", "ArithmeticException", "ArrayIndexOutOfBoundsException", "NullPointerException", "ClassCastException",
-        "IncompatibleClassChangeError"};
+        "IncompatibleClassChangeError", "CacheLoaderException", "EntryProcessorException", "IllegalArgumentException", "IllegalStateException",
+        "UnsupportedOperationException"};
     private static final int DEFINE = 1, PUT = 2, GET = 3, REMOVE = 4, INVOKE = 6, END = 8;
     private static final int DEFINED = 1, REFUSED = 2, RESULT = 6, DENIED = 8;
 
@@ -150,7 +151,7 @@ final class JentryServer implements AutoCloseable {
         }
         return switch (reply.readUnsignedByte()) {
             case 0 -> new Object[] {null, argument(reply)};
-            case 1 -> new Object[] {EXCEPTIONS[reply.readUnsignedByte()], null};
+            case 1, 3 -> new Object[] {EXCEPTIONS[reply.readUnsignedByte()], null};
             default -> throw new IOException("an invocation is denied");
         };
     }

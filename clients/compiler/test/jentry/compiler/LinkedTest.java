@@ -81,7 +81,7 @@ class LinkedTest {
     @ParameterizedTest
     @CsvSource({"Held$AddN,n (long)", "Held$Arguments,limit (long);isNegated (boolean)", "Held$Sorted,limit (long)", "Held$Checked,window (long);share (long)",
         "Held$Nested,pair.first.low (long);pair.first.high (long);pair.shift (int);pair.second.low (long);pair.second.high (long)",
-        "Held$Inner,this$0.rate (long);mine (long)", "Bases$Clamped,limit (long)", "Bases$Further,", "Bases$Statics,", "Bases$Tax,", "Enums$Machine,",
+        "Held$Inner,this$0.rate (long);mine (long)", "Bases$Clamped,limit (long)", "Bases$Further,", "Bases$Statics,", "Bases$Tax,", "Enums$Machine,", "Values$Moves,",
         "Enums$Moves,to (Enums$State)"})
     void whatIsPassed(String name, String values) {
         List<String> hidden = COMPILED.get(name).captures().hidden().stream().map(Capture::toString).toList();
@@ -117,6 +117,34 @@ class LinkedTest {
     void whatEachInstanceHasOfItsOwnIsPassed(String members, String values) throws Exception {
         CompiledClass compiled = compiled(members, "return n;");
         assertEquals(values == null ? List.of() : List.of(values), compiled.captures().hidden().stream().map(Capture::toString).toList());
+    }
+
+    /** Objects of small classes are numbers as long as nothing uses them as objects. */
+    @ParameterizedTest
+    @CsvSource(delimiter = '|', value = {
+        "record P(int x, int y) { } | P p = new P(1, 2); P q = new P(1, 2); return p == q ? 1 : 2; | ",
+        "record P(int x, int y) { } | return new P(1, 2).equals(new P(1, 2)) ? 1 : 2; | ",
+        "record P(int x, int y) { } | return new P(1, 2).hashCode(); | ",
+        "record P(int x, int y) { } | Object p = new P(1, 2); return p.equals(args[0]) ? 1 : 2; | ",
+        "record P(int x, int y) { } | Object p = new P(1, 2); return java.util.Objects.equals(p, args[0]) ? 1 : 2; | ",
+        "record P(int x, int y) { } | return new P(1, 2); | ",
+        "record P(int x, int y) { } | Object p = args[0]; return p instanceof P q ? q.x() : 2; | ",
+        "record P(int x, int y) { } | P p = (P) args[0]; return p.x(); | ",
+        "record P(int x, int y) { } | Object p = entry.exists() ? new P(1, 2) : entry.getKey(); return p == null ? 1 : 2; | ",
+        "record P(int x, int y) { } | P[] all = {new P(1, 2)}; return all[0].x(); | ",
+        "record P(int x, int y) { } | args[0] = new P(1, 2); return args[0]; | ",
+        "record P(int x, int y) { } | synchronized (new P(1, 2)) { return 1; } | ",
+        "record P(int x, int y) { } final P held = new P(1, 2); | return held.x() + new P(3, 4).x(); | ",
+        "record P(long x, int y) { } | return new P(1, 2).x(); | ",
+        "record P(int x, int y) { static long made; P { made++; } } | return new P(1, 2).x(); | ",
+        "record P(int x, int y) { P { hit(this); } static void hit(P p) { } } | return new P(1, 2).x(); | ",
+        "static class P { int x; P(int x) { this.x = x; } } static class Q extends P { Q() { super(2); } } | P p = new Q(); return p.x; | ",
+        "interface I { int x(); } record P(int x) implements I { } | I p = new P(1); return p.x(); | ",
+        "static final class P { int x; P(int x) { this.x = x; } } | P p = new P(1); p.x = 5; return p.x; | ",
+        "static final class P { final int x; P(int x) { this.x = x; } protected void finalize() { } } | return args.length + System.identityHashCode(new P(1)); |"})
+    void objectsThatStayObjectsAreRefused(String members, String body, String none) throws Exception {
+        String refusal = refusal(members, body);
+        assertTrue(refusal.startsWith("R."), body + ": " + refusal);
     }
 
     private static String refusal(String members, String body) throws Exception {

@@ -35,7 +35,7 @@ class RefusalTest {
         "Runnable r = () -> { }; r.run(); return 1; | R.process, line 4: a lambda",
         "return entry.getKey() == (Long) args[0] ? 1 : 0; | R.process, line 4: references are compared",
         "Object[] copy = new Object[2]; copy[0] = 1; return copy[0]; | R.process, line 4: a new array of java.lang.Object",
-        "throw new IllegalStateException(); | R.process, line 4: throw new java.lang.IllegalStateException; divide by zero",
+        "throw new IllegalMonitorStateException(); | R.process, line 4: throw new java.lang.IllegalMonitorStateException; throw a new IllegalArgumentException",
         "return Arrays.stream(args).sorted().count(); | R.process, line 4: ",
         "java.util.stream.LongStream s = java.util.stream.LongStream.range(0, 3); if (args.length > 0) { s = s.map(x -> x); } return s.sum(); "
             + "| R.process, line 4: it isn't known at compile time which object this is",

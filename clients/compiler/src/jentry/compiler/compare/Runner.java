@@ -18,6 +18,7 @@ public final class Runner {
     private final Object proxy;
     private MethodHandle process;
     private Object[] hidden = {};
+    private String text;
 
     /**
      * Loads a class file.
@@ -84,6 +85,7 @@ public final class Runner {
         }
         entry.key = call.key();
         entry.value = call.value();
+        text = null;
         try {
             Object result = (Object) process.invokeExact(proxy, call.behind(hidden).arguments());
             boolean isKnown = result == null || result instanceof Number || result instanceof Boolean;
@@ -91,9 +93,15 @@ public final class Runner {
         } catch (VirtualMachineError e) {
             throw e;
         } catch (Throwable e) {
+            text = e.getMessage();
             // a processor at the server has no DateTimeException: what is compiled divides by zero in its place
             return new Outcome(e instanceof DateTimeException ? "ArithmeticException" : e.getClass().getSimpleName(), null, call.value());
         }
+    }
+
+    /** Returns the text of the exception with which the last call ended, or null. */
+    String text() {
+        return text;
     }
 
     /** The entry, reused for each call. */

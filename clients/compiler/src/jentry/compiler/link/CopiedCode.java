@@ -67,6 +67,9 @@ final class CopiedCode implements Opcodes {
                 labels.put(label, new LabelNode());
             }
         }
+        if (!Instructions.isStatic(method) && linker.packed().isPacked(source.owner().name)) {
+            PackedObjects.addTestOfReceiver(copy.instructions);
+        }
         for (int i = 0; i < frames.length; i++) {
             AbstractInsnNode at = method.instructions.get(i);
             frame = frames[i];
@@ -119,9 +122,15 @@ final class CopiedCode implements Opcodes {
             && frame.getLocal(((VarInsnNode) at).var).getType().getSort() == Type.ARRAY) {
             throw problem(at, "it isn't known at compile time which array this is", "use one array, with the index width * i + j");
         }
+        if (at instanceof FieldInsnNode field && linker.packed().isPacked(Type.getType(field.desc))) {
+            throw problem(at, "the field " + field.name + " has an object of " + Type.getType(field.desc).getClassName(), "keep it in a local");
+        }
         for (int below = 0; below < operands(at); below++) {
             Known.Place place = Known.place(operand(below));
-            if (place instanceof Known.Lost) {
+            if (linker.packed().isPacked(operand(below).getType()) && !PackedObjects.allows(at, below, operand(below).getType(), source.node())) {
+                throw problem(at, "an object of " + operand(below).getType().getClassName() + " is used as more than its fields and methods",
+                    "hand on the numbers in it");
+            } else if (place instanceof Known.Lost) {
                 throw problem(at, "it isn't known at compile time which object this is", "read the numbers that you need before you choose between objects");
             } else if (place != null && place.isAbstract() && !isUnderstood(at)) {
                 boolean isOfArrays = place instanceof Grids.Grid || place instanceof Grids.Row;
@@ -195,6 +204,12 @@ final class CopiedCode implements Opcodes {
             return code;
         } else if (at instanceof InvokeDynamicInsnNode it && Streams.lambda(it, captured(it)) != null) {
             streams.lambda(it, code);
+        } else if (linker.packed().isMaking(at)) {
+            return code;
+        } else if (linker.packed().isConstructor(at)) {
+            make((MethodInsnNode) at, code);
+        } else if (linker.packed().isField(at)) {
+            linker.packed().addRead((FieldInsnNode) at, code);
         } else if (at instanceof FieldInsnNode field && (opcode == GETSTATIC || opcode == GETFIELD)) {
             field(field, code);
         } else if (at instanceof MethodInsnNode call) {
@@ -212,6 +227,16 @@ final class CopiedCode implements Opcodes {
             code.add(at.clone(labels));
         }
         return code;
+    }
+
+    /** Adds the call that makes the number of a packed object. */
+    private void make(MethodInsnNode at, InsnList code) throws ProblemException {
+        Classes.Method constructor = linker.packed().constructor(at);
+        if (constructor == null) {
+            throw problem(at, "the constructor of " + Instructions.nameOf(at.owner) + " does more than set its fields", "compute in a static method");
+        }
+        MethodNode callee = linker.copy(constructor, List.of());
+        code.add(new MethodInsnNode(INVOKESTATIC, linker.made().name, callee.name, callee.desc, false));
     }
 
     private boolean isEnums(BasicValue array) {
@@ -448,6 +473,9 @@ final class CopiedCode implements Opcodes {
 
     private void type(TypeInsnNode at, InsnList code) throws ProblemException {
         Type type = Type.getObjectType(at.desc);
+        if (linker.packed().isPacked(type) && !type.equals(operand(0).getType())) {
+            throw problem(at, "a cast to, or a test for, " + Instructions.nameOf(at.desc), "declare the local as this type");
+        }
         Known.Place place = Known.place(operand(0));
         boolean isObject = place != null && place.isAbstract();
         if (!isObject) {

@@ -146,6 +146,6 @@ final class FoundPlaces implements KnownValues.Places, Opcodes {
             return classes.get(type) == null ? null : classes.virtual(type, at.name, at.desc);
         }
         boolean isFinal = declared != null && (classes.get(at.owner).access & ACC_FINAL) != 0;
-        return isFinal && classes.isEnum(at.owner) ? declared : null;
+        return isFinal && classes.isEnum(at.owner) || linker.packed().isPacked(at.owner) ? declared : null;
     }
 }

@@ -25,6 +25,7 @@ import jentry.compiler.profile.Problem;
 import jentry.compiler.profile.ProblemException;
 import jentry.compiler.rewrite.Lambdas;
 import jentry.compiler.rewrite.TailCalls;
+import jentry.compiler.rewrite.ThrownTexts;
 
 /**
  * Makes one class of a processor and of what it uses of other classes: methods that it inherits, static methods of others, and methods of the objects
@@ -53,6 +54,7 @@ public final class Linker implements Opcodes {
     private final ClassNode made = new ClassNode();
     private final Classes classes;
     private final Statics statics;
+    private final PackedObjects packed;
     private final Representation representation;
     private final Holder holder;
     private final Leaves leaves;
@@ -61,14 +63,16 @@ public final class Linker implements Opcodes {
     private final Set<Key> open = new HashSet<>();
     private final Set<String> names = new HashSet<>();
     private final Set<String> copied = new TreeSet<>();
+    private int texts;
 
-    private Linker(ClassNode root, ProgramClasses program, Holder holder, ClassNode... more) {
+    private Linker(ClassNode root, ProgramClasses program, Holder holder, boolean packs, ClassNode... more) {
         this.root = root;
         this.holder = holder;
         classes = new Classes(program, more);
         classes.add(root);
         statics = new Statics(classes);
-        representation = new Representation(classes);
+        packed = new PackedObjects(classes, packs);
+        representation = new Representation(classes, packed);
         leaves = new Leaves(made, holder);
     }
 
@@ -108,11 +112,12 @@ public final class Linker implements Opcodes {
      * Links a class.
      *
      * @param root the processor's class
+     * @param packs whether objects of small classes become numbers
      * @param more other classes that were read already
      * @throws ProblemException if the class uses an object in a way that can't be followed
      */
-    public static Linked link(ClassNode root, ProgramClasses program, Holder holder, ClassNode... more) throws ProblemException {
-        return new Linker(root, program, holder, more).link();
+    public static Linked link(ClassNode root, ProgramClasses program, Holder holder, boolean packs, ClassNode... more) throws ProblemException {
+        return new Linker(root, program, holder, packs, more).link();
     }
 
     private Linked link() throws ProblemException {
@@ -130,6 +135,9 @@ public final class Linker implements Opcodes {
         }
         if (!copied.isEmpty()) {
             notes.add("methods of other classes copied in: " + String.join(", ", copied));
+        }
+        if (texts > 0) {
+            notes.add("texts of exceptions of which the constant parts stay: " + texts);
         }
         return new Linked(made, new Captures(captures, leaves.guards()), leaves.constants(), notes);
     }
@@ -217,8 +225,15 @@ public final class Linker implements Opcodes {
         if (!method.owner().name.equals(root.name)) {
             copied.add(Instructions.nameOf(method.owner().name) + "." + method.node().name);
         }
+        texts += ThrownTexts.simplify(method.owner(), method.node(), this::isPlainEnum);
         new CopiedCode(this, method, significant, copy).write();
         return copy;
+    }
+
+    /** Returns whether a class is an enum whose constants have their names as texts. */
+    private boolean isPlainEnum(String type) {
+        ClassNode node = classes.isEnum(type) ? classes.get(type) : null;
+        return node != null && (node.access & ACC_FINAL) != 0 && classes.virtual(type, "toString", "()Ljava/lang/String;") == null;
     }
 
     /** Returns the copy of a method that a lambda refers to. */
@@ -299,6 +314,10 @@ public final class Linker implements Opcodes {
 
     Statics statics() {
         return statics;
+    }
+
+    PackedObjects packed() {
+        return packed;
     }
 
     Representation representation() {

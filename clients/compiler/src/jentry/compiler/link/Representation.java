@@ -4,7 +4,10 @@ import java.util.Set;
 import org.objectweb.asm.Type;
 import jentry.compiler.ProgramClasses;
 
-/** The types that stand in the linked class for types that the server doesn't have: an enum becomes its ordinal, and a date its epoch day, boxed. */
+/**
+ * The types that stand in the linked class for types that the server doesn't have: an enum becomes its ordinal, a date its epoch day, and a packed object
+ * its fields, boxed.
+ */
 final class Representation {
     private static final Type BOX = Type.getObjectType("java/lang/Integer");
     private static final Type OBJECT = Type.getObjectType("java/lang/Object");
@@ -15,9 +18,11 @@ final class Representation {
         "java/math/BigDecimal", "java/math/BigInteger", "java/time/LocalTime");
 
     private final Classes classes;
+    private final PackedObjects packed;
 
-    Representation(Classes classes) {
+    Representation(Classes classes, PackedObjects packed) {
         this.classes = classes;
+        this.packed = packed;
     }
 
     /** Returns whether a type is an enum whose constants become their ordinals. */
@@ -32,7 +37,8 @@ final class Representation {
 
     /** Returns whether a value of a type is a number in the linked class. */
     boolean isNumber(Type type) {
-        return type != null && type.getSort() == Type.OBJECT && (isEnum(type.getInternalName()) || isDate(type.getInternalName()));
+        return type != null && type.getSort() == Type.OBJECT && (isEnum(type.getInternalName()) || isDate(type.getInternalName())
+            || packed.isPacked(type));
     }
 
     static boolean isDate(String name) {
@@ -48,6 +54,8 @@ final class Representation {
             return BOX;
         } else if (isDate(type.getInternalName())) {
             return DATE;
+        } else if (packed.isPacked(type)) {
+            return PackedObjects.BOX;
         }
         boolean isProgram = !ProgramClasses.isOfPlatform(type.getInternalName()) && classes.get(type.getInternalName()) != null;
         return isProgram || VALUES.contains(type.getInternalName()) ? OBJECT : type;

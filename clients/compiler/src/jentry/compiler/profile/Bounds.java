@@ -89,7 +89,7 @@ public record Bounds(long steps, long words, long slots, long depth) {
             MethodNode callee = Instructions.callee(owner, at);
             Bounds inside = callee == null ? NOTHING : method(callee);
             Bounds most = most(onward, new Bounds(0, 0, inside.slots, inside.depth));
-            Bounds own = new Bounds(inside.steps + 1, inside.words + words(at), 0, 0);
+            Bounds own = new Bounds(inside.steps + Throws.steps(at), inside.words + words(at), 0, 0);
             return sum(own, most);
         }
 

@@ -4,6 +4,7 @@ import java.util.Set;
 import org.objectweb.asm.Opcodes;
 import org.objectweb.asm.Type;
 import org.objectweb.asm.tree.ClassNode;
+import org.objectweb.asm.tree.FieldInsnNode;
 import org.objectweb.asm.tree.MethodInsnNode;
 import org.objectweb.asm.tree.MethodNode;
 
@@ -39,6 +40,11 @@ public final class Members implements Opcodes {
             case Type.OBJECT -> type.getInternalName().equals(owner) || CLASSES.contains(type.getInternalName());
             default -> false;
         };
+    }
+
+    /** Returns whether a static field is one that the server knows: Boolean.TRUE or FALSE. */
+    public static boolean isConstant(FieldInsnNode field) {
+        return field.owner.equals(BOOLEAN) && field.desc.equals("L" + BOOLEAN + ";") && (field.name.equals("TRUE") || field.name.equals("FALSE"));
     }
 
     /** Returns whether a call's target is supported. */

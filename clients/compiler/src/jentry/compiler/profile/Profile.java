@@ -7,6 +7,7 @@ import org.objectweb.asm.Opcodes;
 import org.objectweb.asm.Type;
 import org.objectweb.asm.tree.AbstractInsnNode;
 import org.objectweb.asm.tree.ClassNode;
+import org.objectweb.asm.tree.FieldInsnNode;
 import org.objectweb.asm.tree.FrameNode;
 import org.objectweb.asm.tree.IntInsnNode;
 import org.objectweb.asm.tree.JumpInsnNode;
@@ -109,9 +110,10 @@ public final class Profile implements Opcodes {
                 handlers(method);
             }
             int before = problems.size();
+            Set<AbstractInsnNode> accepted = Throws.ofAccepted(owner, method);
             Set<AbstractInsnNode> inThrow = Throws.inside(method);
             for (AbstractInsnNode at : method.instructions) {
-                if (!isAccepted(at) && !inThrow.contains(at) && !belongsToHandler(method, at) && !belongsToNew(at)) {
+                if (!isAccepted(at) && !accepted.contains(at) && !inThrow.contains(at) && !belongsToHandler(method, at) && !belongsToNew(at)) {
                     add(Instructions.problem(owner, method, at, Remedies.what(at), Remedies.remedy(at)));
                 }
             }
@@ -185,6 +187,8 @@ public final class Profile implements Opcodes {
         } else if (opcode == NEWARRAY) {
             int kind = ((IntInsnNode) at).operand;
             return kind == T_INT || kind == T_LONG;
+        } else if (opcode == GETSTATIC) {
+            return Members.isConstant((FieldInsnNode) at);
         } else if (opcode == CHECKCAST || opcode == INSTANCEOF) {
             return Members.isKnown(owner.name, ((TypeInsnNode) at).desc);
         }
@@ -198,7 +202,7 @@ public final class Profile implements Opcodes {
             case FADD, DADD, FSUB, DSUB, FMUL, DMUL, FDIV, DDIV, FREM, DREM, FNEG, DNEG -> false;
             case I2F, I2D, L2F, L2D, F2I, F2L, F2D, D2I, D2L, D2F, FCMPL, FCMPG, DCMPL, DCMPG -> false;
             case IF_ACMPEQ, IF_ACMPNE, JSR, RET, FRETURN, DRETURN -> false;
-            case GETSTATIC, PUTSTATIC, GETFIELD, PUTFIELD, INVOKEDYNAMIC, NEW, ANEWARRAY, ATHROW -> false;
+            case PUTSTATIC, GETFIELD, PUTFIELD, INVOKEDYNAMIC, NEW, ANEWARRAY, ATHROW -> false;
             case MONITORENTER, MONITOREXIT, MULTIANEWARRAY -> false;
             default -> true;
         };

@@ -15,7 +15,10 @@ import org.objectweb.asm.tree.TypeInsnNode;
 final class Remedies implements Opcodes {
     private static final String FIXED_POINT = "reckon in long with a fixed point, as v * 119 / 100";
     private static final Set<String> READS_CLOCK = Set.of("now", "millis", "instant", "systemUTC", "systemDefaultZone");
-    private static final String THROW = "divide by zero, or return a code";
+    private static final String THROW = "throw a new IllegalArgumentException, IllegalStateException, UnsupportedOperationException, ArithmeticException or "
+        + "EntryProcessorException";
+    private static final String TEXT = "hand it nothing, or one text of constants and numbers that are joined there; a cause can't be handed on";
+    private static final String RETHROW = "throw a new exception at once, or return a code";
 
     private Remedies() { }
 
@@ -72,7 +75,7 @@ final class Remedies implements Opcodes {
             return ofField(field);
         } else if (at instanceof TypeInsnNode && at.getOpcode() != ANEWARRAY) {
             return at.getOpcode() != NEW ? "cast to Long, Integer, Number or Object"
-                : Throws.isThrown(at) ? THROW : "use locals, or a long that packs several numbers";
+                : Throws.isThrown(at) ? Throws.ACCEPTED.contains(((TypeInsnNode) at).desc) ? TEXT : THROW : "use locals, or a long that packs several numbers";
         } else if (at instanceof InvokeDynamicInsnNode) {
             return "write a method of the class; use numbers as codes in place of texts";
         } else if (at instanceof LdcInsnNode it) {
@@ -82,7 +85,7 @@ final class Remedies implements Opcodes {
             case IF_ACMPEQ, IF_ACMPNE -> "compare by equals, or by longValue()";
             case ANEWARRAY, AASTORE -> "use long[], long... or parameters one by one";
             case MULTIANEWARRAY -> "use one array, with the index width * i + j";
-            case ATHROW -> THROW;
+            case ATHROW -> RETHROW;
             case MONITORENTER, MONITOREXIT -> "drop synchronized: each run has an instance of its own";
             case JSR, RET -> "compile with javac --release 8 or later";
             default -> FIXED_POINT;

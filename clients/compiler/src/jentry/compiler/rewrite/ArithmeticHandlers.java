@@ -26,11 +26,12 @@ import org.objectweb.asm.tree.analysis.Frame;
 import jentry.compiler.profile.CallGraph;
 import jentry.compiler.profile.Instructions;
 import jentry.compiler.profile.ProblemException;
+import jentry.compiler.profile.Throws;
 
 /**
- * Replaces `catch (ArithmeticException e)` by a test before each division in the range.
+ * Replaces `catch (ArithmeticException e)` by a test before each division in the range, and by a jump for each throw of that exception.
  *
- * <p>A method that is called in the range and may divide by zero is inlined. The exception variable must be unused.
+ * <p>A method that is called in the range and may divide by zero, or throw it, is inlined. The exception variable must be unused.
  */
 final class ArithmeticHandlers implements Opcodes {
     private static final String CAUGHT = "java/lang/ArithmeticException";
@@ -54,6 +55,7 @@ final class ArithmeticHandlers implements Opcodes {
                 handlers.refuseUses(method);
                 handlers.inlineCalls(method);
                 handlers.guard(method);
+                handlers.jump(method);
                 method.tryCatchBlocks.clear();
                 UnreachableCode.dropUnreached(method);
             }
@@ -89,14 +91,50 @@ final class ArithmeticHandlers implements Opcodes {
         return isDivision && !(Instructions.pushed(at.getPrevious()) instanceof Number divisor && divisor.longValue() != 0);
     }
 
-    private boolean mayDivide(MethodNode method) {
+    /** Returns whether a method may end with an ArithmeticException. */
+    private boolean mayThrow(MethodNode method) {
+        if (!throwsOf(method).isEmpty()) {
+            return true;
+        }
         for (AbstractInsnNode at : method.instructions) {
             MethodNode callee = Instructions.callee(owner, at);
-            if (divides(at) || callee != null && mayDivide(callee)) {
+            if (divides(at) || callee != null && mayThrow(callee)) {
                 return true;
             }
         }
         return false;
+    }
+
+    private List<Throws.Form> throwsOf(MethodNode method) {
+        return Throws.accepted(owner, method).stream().filter(it -> it.type().equals(CAUGHT)).toList();
+    }
+
+    /** Replaces each throw in a range by a jump to the handler, with null in place of the exception. */
+    private void jump(MethodNode method) {
+        Frame<BasicValue>[] frames = frames(method);
+        Map<Throws.Form, InsnList> jumps = new HashMap<>();
+        for (Throws.Form form : throwsOf(method)) {
+            AbstractInsnNode first = form.instructions().get(0);
+            TryCatchBlockNode handler = handlerOf(method, first);
+            Frame<BasicValue> frame = frames[method.instructions.indexOf(first)];
+            if (handler != null && frame != null) {
+                InsnList code = new InsnList();
+                dropOperands(code, frame);
+                code.add(new InsnNode(ACONST_NULL));
+                code.add(new JumpInsnNode(GOTO, handler.handler));
+                jumps.put(form, code);
+            }
+        }
+        jumps.forEach((form, code) -> {
+            method.instructions.insertBefore(form.instructions().get(0), code);
+            form.instructions().forEach(method.instructions::remove);
+        });
+    }
+
+    private static void dropOperands(InsnList code, Frame<BasicValue> frame) {
+        for (int operand = frame.getStackSize() - 1; operand >= 0; operand--) {
+            code.add(Instructions.pop(frame.getStack(operand).getSize()));
+        }
     }
 
     private void guard(MethodNode method) {
@@ -131,9 +169,7 @@ final class ArithmeticHandlers implements Opcodes {
             code.add(new InsnNode(LCMP));
         }
         code.add(new JumpInsnNode(IFNE, divides));
-        for (int operand = frame.getStackSize() - 1; operand >= 0; operand--) {
-            code.add(Instructions.pop(frame.getStack(operand).getSize()));
-        }
+        dropOperands(code, frame);
         code.add(new InsnNode(ACONST_NULL));
         code.add(new JumpInsnNode(GOTO, handler));
         code.add(divides);
@@ -147,7 +183,7 @@ final class ArithmeticHandlers implements Opcodes {
             changed = false;
             for (AbstractInsnNode at : method.instructions.toArray()) {
                 MethodNode callee = Instructions.callee(owner, at);
-                if (callee != null && handlerOf(method, at) != null && mayDivide(callee)) {
+                if (callee != null && handlerOf(method, at) != null && mayThrow(callee)) {
                     inline(method, at, callee);
                     changed = true;
                 }

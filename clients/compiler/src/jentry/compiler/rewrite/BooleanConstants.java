@@ -9,24 +9,18 @@ import org.objectweb.asm.tree.MethodInsnNode;
 import org.objectweb.asm.tree.MethodNode;
 import jentry.compiler.profile.Members;
 
-/** Replaces Boolean.TRUE and Boolean.FALSE by boxed constants. */
+/** Replaces Boolean.TRUE and Boolean.FALSE by boxed constants, which the other passes know the values of. */
 final class BooleanConstants implements Opcodes {
     private BooleanConstants() { }
 
     static void replace(ClassNode owner) {
         for (MethodNode method : owner.methods) {
             for (AbstractInsnNode at : method.instructions.toArray()) {
-                boolean reads = at instanceof FieldInsnNode field && at.getOpcode() == GETSTATIC && field.owner.equals(Members.BOOLEAN);
-                if (reads && (named(at, "TRUE") || named(at, "FALSE"))) {
-                    method.instructions.insertBefore(at, new InsnNode(named(at, "TRUE") ? ICONST_1 : ICONST_0));
+                if (at instanceof FieldInsnNode field && at.getOpcode() == GETSTATIC && Members.isConstant(field)) {
+                    method.instructions.insertBefore(at, new InsnNode(field.name.equals("TRUE") ? ICONST_1 : ICONST_0));
                     method.instructions.set(at, new MethodInsnNode(INVOKESTATIC, Members.BOOLEAN, "valueOf", "(Z)Ljava/lang/Boolean;", false));
                 }
             }
         }
-    }
-
-    private static boolean named(AbstractInsnNode at, String name) {
-        FieldInsnNode field = (FieldInsnNode) at;
-        return field.name.equals(name) && field.desc.equals("Ljava/lang/Boolean;");
     }
 }

@@ -24,6 +24,10 @@ public final class Rewriter {
         List<String> notes = new ArrayList<>();
         owner.methods.forEach(it -> it.localVariables = null);
         ClassVersion.lower(owner);
+        int texts = owner.methods.stream().mapToInt(it -> ThrownTexts.simplify(owner, it, type -> false)).sum();
+        if (texts > 0) {
+            notes.add("texts of exceptions of which the constant parts stay: " + texts);
+        }
         SmallTypes.widen(owner);
         int tailCalls = TailCalls.replace(owner);
         if (tailCalls > 0) {

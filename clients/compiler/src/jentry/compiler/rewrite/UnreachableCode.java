@@ -58,7 +58,8 @@ final class UnreachableCode implements Opcodes {
         return folds;
     }
 
-    private static Set<LabelNode> targets(MethodNode method) {
+    /** Returns the labels to which branches lead. */
+    static Set<LabelNode> targets(MethodNode method) {
         Set<LabelNode> all = new HashSet<>();
         for (AbstractInsnNode at : method.instructions) {
             if (at instanceof JumpInsnNode jump) {

@@ -73,7 +73,7 @@ public final class CodeWriter implements Opcodes {
 
     private void add(State state, State behind) {
         AbstractInsnNode at = state.instruction();
-        if (state.opcode() == ATHROW) {
+        if (state.isGuard()) {
             addGuard();
         } else if (state.isDecided && form != Form.VERBATIM) {
             addDecided(state, behind);

@@ -18,6 +18,7 @@ import jentry.compiler.profile.Instructions;
 import jentry.compiler.profile.Members;
 import jentry.compiler.profile.Problem;
 import jentry.compiler.profile.ProblemException;
+import jentry.compiler.profile.Throws;
 
 /**
  * Unrolls the counted loops in all methods of a class.
@@ -148,7 +149,7 @@ public final class LoopUnroller implements Opcodes {
             State state = graph.order().get(i);
             long best = state.next.stream().mapToLong(most::get).max().orElse(0);
             MethodNode callee = Instructions.callee(owner, state.instruction());
-            behind = best + 1 + (callee == null ? 0 : known.get(callee));
+            behind = best + Throws.steps(state.instruction()) + (callee == null ? 0 : known.get(callee));
             most.put(state, behind);
         }
         return behind;

@@ -6,6 +6,9 @@ import org.objectweb.asm.tree.analysis.Frame;
 
 /** An instruction together with the values of the counters of the loops around it: one copy of it in the unrolled code. */
 final class State {
+    /** Stands for the counters of a guard. */
+    static final String GUARD = "past the limit";
+
     /**
      * The identity of a state.
      *
@@ -57,6 +60,11 @@ final class State {
 
     int place() {
         return key.place();
+    }
+
+    /** Returns whether it is none of the code, but where a run ends that goes on past the limit of a loop. */
+    boolean isGuard() {
+        return key.counters().equals(List.of(GUARD));
     }
 
     int number() {

@@ -29,7 +29,6 @@ final class UnrolledGraph implements Opcodes {
     static final int MOST_STATES = 60_000;
 
     private static final int MERGES_BEFORE_WIDENING = 4;
-    private static final String GUARD = "past the limit";
 
     private final ControlFlowGraph graph;
     private final List<PassLimit> limits;
@@ -85,7 +84,7 @@ final class UnrolledGraph implements Opcodes {
     /** Returns the total number of iterations of a loop: the number of copies of a latch, which occurs once in each iteration. */
     int passes(Loop loop) {
         Map<Integer, Integer> copies = new HashMap<>();
-        order.stream().filter(it -> loop.latches().get(it.place()) && it.opcode() != ATHROW).forEach(it -> copies.merge(it.place(), 1, Integer::sum));
+        order.stream().filter(it -> loop.latches().get(it.place()) && !it.isGuard()).forEach(it -> copies.merge(it.place(), 1, Integer::sum));
         return copies.values().stream().mapToInt(it -> it).max().orElse(0);
     }
 
@@ -178,7 +177,7 @@ final class UnrolledGraph implements Opcodes {
 
     /** Returns the state that a run comes to which goes on past the limit of a loop. */
     private State guard(State test) {
-        return states.computeIfAbsent(new State.Key(test.place(), List.of(GUARD)), key -> {
+        return states.computeIfAbsent(new State.Key(test.place(), List.of(State.GUARD)), key -> {
             State guard = new State(key, states.size(), new InsnNode(ATHROW), test.frame);
             byNumber.add(guard);
             return guard;
