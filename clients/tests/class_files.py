@@ -4,6 +4,8 @@ import struct
 
 EXAMPLES = os.path.join(os.path.dirname(os.path.abspath(__file__)), "../../examples")
 NAME = b"\1\0\3Row"
+WITHDRAW_TEXTS = {15: "the amount must be positive", 32: "insufficient funds"}
+"""The String constants of examples/Withdraw.class by their indexes."""
 
 
 def plus():
@@ -15,6 +17,12 @@ def plus():
 def ratio():
     """A class that divides 1 by its entry, and returns null if the entry is 1."""
     with open(os.path.join(EXAMPLES, "Ratio.class"), "rb") as file:
+        return file.read()
+
+
+def withdraw():
+    """A class that withdraws its argument from its entry. It throws exceptions 8 and 9 with the texts of WITHDRAW_TEXTS."""
+    with open(os.path.join(EXAMPLES, "Withdraw.class"), "rb") as file:
         return file.read()
 
 
@@ -45,6 +53,17 @@ class Pool:
     def method(self, of, name, descriptor):
         both = self.add(struct.pack(">BHH", 12, self.text(name), self.text(descriptor)))
         return self.add(struct.pack(">BHH", 10, of, both))
+
+
+def with_strings(strings):
+    """The constant pool of a class file with these String constants: their bytes by their indexes, which have to leave room for as many more in front
+    of them."""
+    pool = Pool()
+    utf8 = {index: pool.add(struct.pack(">BH", 1, len(text)) + text) for index, text in strings.items()}
+    while len(pool.constants) < max(strings):
+        index = len(pool.constants) + 1
+        pool.add(struct.pack(">BH", 8, utf8[index]) if index in utf8 else struct.pack(">Bi", 3, index))
+    return b"\xca\xfe\xba\xbe" + struct.pack(">HHH", 0, 52, len(pool.constants) + 1) + b"".join(pool.constants)
 
 
 def method(pool, code_name, flags, name, descriptor, slots, code):

@@ -3,12 +3,13 @@
 clients whose server fails. It accepts every class that begins like a class file, and each class adds one to its entry.
 
     fake_server.py [--die N] [--wrong N] [--short N] [--other N] [--huge N] [--empty N] [--slow SECONDS]
-                   [--classes N] [--pace SECONDS]
+                   [--classes N] [--pace SECONDS] [--throw NUMBER:INDEX]
 
 --die N exits in round N, before the replies to that round; --wrong N sends one reply too many in round N; --short N leaves out the last
 reply of round N. The other options replace that reply: --other N by one of an unknown kind, --huge N by a frame of 1 MB, --empty N by a
 frame of length 0. Rounds that only define classes don't count. With --slow each round takes SECONDS. With --classes the server denies each
 class after N. With --pace each instruction takes SECONDS, and a class RowN (class_files.another) has 100 * N of them.
+With --throw each run on a key without an entry ends by the exception NUMBER that the class throws itself, whose text is its constant INDEX.
 """
 import argparse
 import re
@@ -29,13 +30,14 @@ def long(it):
 class Server:
     """The entries of a cache, and the replies to the requests of a round."""
 
-    def __init__(self, most_classes, has_pace):
+    def __init__(self, most_classes, has_pace, throws=None):
         self.entries, self.steps, self.jobs, self.most_classes = {}, [], 0, most_classes
         self.spent, self.has_pace = 0, has_pace
+        self.threw = b"\1\3" if throws is None else struct.pack(">BBH", 3, *map(int, throws.split(":")))
 
     def plus(self, key):
         if key not in self.entries:
-            return b"\1\3"
+            return self.threw
         self.entries[key] += 1
         return b"\0" + long(self.entries[key])
 
@@ -92,7 +94,7 @@ def end(words):
 
 
 def serve(options, read, write):
-    server, rounds, out, is_counted = Server(options.classes, options.pace > 0), 0, [], False
+    server, rounds, out, is_counted = Server(options.classes, options.pace > 0, options.throw), 0, [], False
     while head := read.read(4):
         text = read.read(int.from_bytes(head, "big"))
         if text != b"\x08":
@@ -126,6 +128,7 @@ if __name__ == "__main__":
     parser.add_argument("--slow", type=float, default=0)
     parser.add_argument("--pace", type=float, default=0)
     parser.add_argument("--classes", type=int, default=4_096)
+    parser.add_argument("--throw", metavar="NUMBER:INDEX")
     try:
         serve(parser.parse_args(), sys.stdin.buffer, sys.stdout.buffer)
     except (BrokenPipeError, KeyboardInterrupt):

@@ -5,6 +5,7 @@ import signal
 import socket
 import struct
 import subprocess
+import tempfile
 import time
 import unittest
 
@@ -230,6 +231,30 @@ class Begins(FrontTest):
                 finally:
                     front.kill()
                     front.wait(PATIENCE)
+
+    def test_a_socket_that_does_not_listen_is_refused(self):
+        one, other = socket.socketpair()
+        with one, other:
+            words = [FRONT, "--stdin", *SERVER]
+            told = subprocess.run(words, stdin=one, stderr=subprocess.PIPE, text=True, timeout=PATIENCE)
+        self.assertEqual(told.returncode, 3)
+        self.assertIn("can't listen on the standard input: it is a socket that doesn't listen", told.stderr)
+
+    def test_a_start_that_fails_leaves_no_socket(self):
+        with tempfile.TemporaryDirectory() as folder:
+            first = ["--unix", folder + "/first", "--control", folder + "/control"]
+            for words, wanted in (
+                ([*first, "--unix", folder + "/none/second", *SERVER], "can't listen on"),
+                ([*first, "--tcp", "256.0.0.1:1", *SERVER], "can't listen on"),
+                ([*first, "--http", "256.0.0.1:1", *SERVER], "can't listen on"),
+                ([*first, folder + "/jentry", "serve"], f"can't start {folder}/jentry: No such file or directory"),
+                ([*first, "false"], "the server has ended (exit status: 1)"),
+            ):
+                with self.subTest(words=words[4:6]):
+                    told = self.tried(*words)
+                    self.assertEqual(told.returncode, 3, told.stderr)
+                    self.assertIn(wanted, told.stderr)
+                    self.assertEqual(os.listdir(folder), [])
 
     def tried(self, *words):
         return subprocess.run(

@@ -21,7 +21,8 @@ wait $! || true
 cat >/etc/default/jentry-front <<'END'
 {}END
 echo deploy:x:6390:6390::/:/bin/false >>/etc/passwd
-jentry-front --unix /run/again.sock $(sed -n s/^JENTRY_FRONT_OPTIONS=//p /etc/default/jentry-front) jentry serve &
+mkdir /run/jentry-front
+jentry-front --unix /run/again.sock --control /run/jentry-front/control $(sed -n s/^JENTRY_FRONT_OPTIONS=//p /etc/default/jentry-front) jentry serve &
 """
 """Ends the front that runs, and starts another with the options of the page's file, and with the user whom it names."""
 SETTINGS = "mkdir /etc/systemd/system/jentry-front.service.d\ncat >/etc/systemd/system/jentry-front.service.d/a.conf <<'END'\n{}END\n"
@@ -39,8 +40,10 @@ echo read in the package
 class Pages(Pasting):
     @unittest.skipUnless(shutil.which("systemd-analyze"), "it needs systemd-analyze (apt-get install systemd)")
     def test_the_front_is_built_shared_and_installed(self):
-        """Two clients share the front, both programs are installed and started by their names, also with the options of OPERATIONS, and systemd
-        reads the units, with the settings of OPERATIONS, too, and as bin/release puts them into the package."""
+        """Two clients share the front, both programs are installed and started by their names, also with the options of OPERATIONS.
+
+        An operator asks the front. Systemd reads the units, with the settings of OPERATIONS too, and as bin/release puts them into the package.
+        """
         told = self.paste(
             block(CLIENTS, 1),
             LISTENS.format("/tmp/jentry.sock"),
@@ -52,6 +55,7 @@ class Pages(Pasting):
             OPTIONS.format(block(OPERATIONS, 1)),
             LISTENS.format("/run/again.sock"),
             UP,
+            block(OPERATIONS, 6),
             SETTINGS.format(block(OPERATIONS, 2)),
             "systemctl enable --now jentry-front.socket\necho read with the settings\n",
             PACKAGE,
@@ -60,7 +64,9 @@ class Pages(Pasting):
         self.assertIn("listening on /tmp/jentry.sock\n", told)
         self.assertIn("\n41 False\n", told)
         self.assertEqual(told.count("\njentry_server_up 1\n"), 2, told)
-        self.assertTrue(told.endswith("jentry_server_up 1\nread with the settings\nread in the package\n"), told)
+        self.assertIn("\njentry_server_up 1\nPEER  CONNECTIONS  CLASSES  WAITING-STEPS\nNUMBER  ID ", told)
+        self.assertIn("\npeer-classes       128\n", told)
+        self.assertTrue(told.endswith("\nread with the settings\nread in the package\n"), told)
 
 
 if __name__ == "__main__":

@@ -102,6 +102,26 @@ class HangUp(FrontTest):
             self.ask(a, get(1) + END, value(5) + ENDED)
             self.assertIsNone(front.process.poll())
 
+    def test_sighup_waits_for_no_reader_of_the_log(self):
+        """The reader of standard error takes nothing, so that no more lines fit into the queue; SIGTERM ends the front all the same."""
+        with tempfile.TemporaryDirectory() as folder:
+            place = os.path.join(folder, "socket")
+            words = [FRONT, "--unix", place, "--log", "debug", *STAND_IN]
+            with subprocess.Popen(words, stderr=subprocess.PIPE) as front:
+                try:
+                    self.assertTrue(wait_until(lambda: os.path.exists(place)))
+                    for _ in range(2_000):
+                        with socket.socket(socket.AF_UNIX) as line:
+                            line.settimeout(PATIENCE)
+                            line.connect(place)
+                            self.ask(line, END, ENDED)
+                    front.send_signal(signal.SIGHUP)
+                    time.sleep(0.5)
+                    front.terminate()
+                    self.assertEqual(front.wait(PATIENCE), -signal.SIGTERM)
+                finally:
+                    front.kill()
+
     def test_sighup_reopens_the_log(self):
         with tempfile.TemporaryDirectory() as folder:
             log, place = os.path.join(folder, "log"), os.path.join(folder, "socket")

@@ -100,6 +100,22 @@ class Drains(FrontTest):
                 self.assertEqual(front.process.wait(PATIENCE), -number)
                 self.assertIn("with 0 open connections", front.logged("ended by ")[0])
 
+    def test_a_signal_of_the_terminal_ends_the_front_alone(self):
+        """All processes of a group get it; the server has to answer first."""
+        for number in (signal.SIGINT, signal.SIGTERM):
+            with self.subTest(number=number), slow(1, start_new_session=True) as front, front.open() as a:
+                a.sendall(put(1, 1) + END + get(1) + END)
+                self.wait_for_round(front)
+                os.killpg(front.process.pid, number)
+                self.told(a, DONE + ENDED + value(1) + ENDED)
+                self.assertEqual(front.process.wait(PATIENCE), -number)
+                self.assertIn("with 0 open connections", front.logged("ended by ")[0])
+
+    def wait_for_round(self, front):
+        deadline = time.monotonic() + PATIENCE
+        while front.metrics()["jentry_waiting_rounds"] < 1 and time.monotonic() < deadline:
+            time.sleep(0.01)
+
     def test_a_round_that_has_begun_may_come_to_its_end(self):
         with Running() as front, front.open() as a:
             a.sendall(put(1, 1) + get(2)[:5])
@@ -136,6 +152,7 @@ class Drains(FrontTest):
             listener.bind(os.path.join(folder, "socket"))
             listener.listen()
             first = Inherited(listener)
+            self.addCleanup(first.kill)
             with first.open() as a:
                 self.ask(a, put(2, 2) + END, DONE + ENDED)
                 a.sendall(put(1, 1))
@@ -147,18 +164,40 @@ class Drains(FrontTest):
                     self.ask(a, END, DONE + ENDED)
                     first.process.wait(PATIENCE)
                     second = Inherited(listener)
+                    self.addCleanup(second.kill)
                     self.told(b, value(None) + ENDED)
-            second.process.kill()
-            second.process.wait(PATIENCE)
+
+    def test_connections_behind_the_servers_end_stay_with_an_inherited_socket(self):
+        """The server closes its replies, and takes two seconds more to end."""
+        server = ["sh", "-c", f"{' '.join(STAND_IN)} --die 2; exec >&-; sleep 2"]
+        with tempfile.TemporaryDirectory() as folder, socket.socket(socket.AF_UNIX) as listener:
+            listener.bind(os.path.join(folder, "socket"))
+            listener.listen()
+            first = Inherited(listener, server)
+            self.addCleanup(first.kill)
+            with first.open() as a:
+                self.ask(a, put(1, 1) + END, DONE + ENDED)
+                a.sendall(put(1, 1) + END)
+                self.assertTrue(is_ended(a))
+            with first.open() as b:
+                b.sendall(get(1) + END)
+                self.assertEqual(first.process.wait(PATIENCE), 3)
+                second = Inherited(listener)
+                self.addCleanup(second.kill)
+                self.told(b, value(None) + ENDED)
 
 
 class Inherited(Running):
     """A front on a listening socket that it inherits."""
 
-    def __init__(self, listener):
+    def __init__(self, listener, server=None):
         self.place = listener.getsockname()
-        words = [FRONT, "--stdin", *STAND_IN]
+        words = [FRONT, "--stdin", *(server or STAND_IN)]
         self.process = subprocess.Popen(words, stdin=listener, stderr=subprocess.DEVNULL)
+
+    def kill(self):
+        self.process.kill()
+        self.process.wait(PATIENCE)
 
 
 class Limits(FrontTest):

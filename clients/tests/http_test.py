@@ -69,6 +69,13 @@ def drip(address, count, seconds):
         time.sleep(max(0, 1 - (time.monotonic() - begun)))
 
 
+def first_event(front):
+    """Returns the data of the page's first event."""
+    with connect(front.http_address()) as line, line.makefile("rb") as lines:
+        line.sendall(b"GET /events HTTP/1.1\r\nHost: a\r\n\r\n")
+        return next(json.loads(it[len(b"data: ") :]) for it in lines if it.startswith(b"data: "))
+
+
 class Metrics(FrontTest):
     def seen(self, front, before, wanted):
         rose = increase(before, front.metrics())
@@ -130,6 +137,34 @@ class Metrics(FrontTest):
                         "jentry_batch_requests_count": 5 if options else 1,
                     },
                 )
+
+    def test_exceptions_that_a_class_throws_are_counted_and_named(self):
+        """Also where an invokeAll is sent in parts, whose outcomes of several lengths the front puts together again."""
+        thrown, one, two, three = b"\3\x09\0\x20", *(struct.pack(">q", key) for key in (1, 2, 3))
+        results = frame(b"\7\0\3" + one + thrown + two + b"\0\1" + three + three + thrown)
+        for options in ((), ("--steps", "1")):
+            with self.subTest(options=options), Running(
+                "--http", "0", *options, server=STAND_IN + ["--throw", "9:32"]
+            ) as front, front.open() as a:
+                self.define(a, plus(), 0)
+                self.ask(a, put(2, 2) + END, DONE + ENDED)
+                before = front.metrics()
+                self.ask(a, invoke(0, 7) + END, frame(b"\6" + thrown) + ENDED)
+                self.ask(a, invoke_all(0, [1, 2, 3]) + END, results + ENDED)
+                self.ask(a, get(2) + END, value(3) + ENDED)
+                self.seen(
+                    front,
+                    before,
+                    {
+                        'jentry_exceptions_total{number="9"}': 3,
+                        'jentry_exceptions_total{number="other"}': 0,
+                        'jentry_replies_total{kind="result"}': 1,
+                        'jentry_replies_total{kind="results"}': 1,
+                        "jentry_runs_total": 4,
+                    },
+                )
+                named = {"number": "9", "name": "IllegalStateException", "count": 3}
+                self.assertEqual(first_event(front)["exceptions"], [named])
 
     def test_limits_are_counted(self):
         with Running(
