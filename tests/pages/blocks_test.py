@@ -34,6 +34,10 @@ void jentry_invoke(struct jentry_handle *handle, const struct jentry_call *call,
     int64_t sum = (call->present ? call->before : 0) + args[0].value;
     *done = (struct jentry_done){ .outcome = JENTRY_LONG, .effect = JENTRY_PUT, .value = sum, .put = sum, .steps = 29, .left = JENTRY_SET };
 }
+size_t jentry_text(struct jentry_handle *handle, uint32_t number, uint32_t index, uint8_t *text, size_t room) {
+    (void)handle, (void)number, (void)index, (void)text, (void)room;
+    return 0;
+}
 size_t jentry_explain(const uint8_t *bytes, size_t length, uint8_t *text, size_t room) {
     (void)bytes, (void)length, (void)text, (void)room;
     return 0;

@@ -39,6 +39,19 @@ class Golden(unittest.TestCase):
         results = [row.frame[6] for row in golden.replies() if row.frame[4:6] == b"\6\0"]
         self.assertEqual((set(arguments), set(results)), (kinds, kinds))
 
+    def test_each_kind_of_outcome_is_there(self):
+        words = {0: "result ", 1: "threw ", 3: "threw "}
+        by_kind = {row.frame[5]: row.line for row in golden.replies() if row.frame[4] == 6}
+        self.assertTrue(all(line.startswith(words[kind]) for kind, line in by_kind.items()))
+        in_results = {row.frame[15] for row in golden.replies() if row.frame[4] == 7 and len(row.frame) > 7}
+        kinds = {int(row["number"]) for row in rows_of("outcomes")}
+        self.assertEqual((set(by_kind) | {2}, in_results | {2}), (kinds, kinds))
+        thrown = [row for row in golden.replies() if row.frame[4:6] == b"\6\3"]
+        self.assertEqual({row.frame[6] for row in thrown}, {1, 7, 8, 9, 10})
+        self.assertEqual({row.frame[7:9] == b"\0\0" for row in thrown}, {" text=" not in row.line for row in thrown})
+        for row in thrown:
+            self.assertEqual(row.line.partition(" text=")[2], str(int.from_bytes(row.frame[7:9], "big") or ""))
+
     def test_the_example_client_writes_the_requests(self):
         with tempfile.TemporaryDirectory() as folder:
             for row in golden.requests():

@@ -17,7 +17,7 @@ STRUCTS = {
     "jentry_done": ("crates/embedded/src/numbers.rt", "DoneNumbers"),
 }
 """The struct of the crates that each struct of the header is, with its file."""
-TYPES = {"u8": "uint8_t", "u32": "uint32_t", "i64": "int64_t", "bool": "bool", "*mut ()": "void *"}
+TYPES = {"u8": "uint8_t", "u32": "uint32_t", "i32": "int32_t", "i64": "int64_t", "bool": "bool", "*mut ()": "void *"}
 RENAMED = {"is_open": "open"}
 
 

@@ -31,6 +31,7 @@ PASTED = {
         "apt-get install ./jentry_*_amd64.deb",
         "systemctl enable --now jentry-front.service",
         "apt-get remove jentry",
+        "jentry-front ctl peers",
     ],
 }
 """What the blocks begin with that blocks_test.py here and clients/tests/front_pages_test.py paste."""

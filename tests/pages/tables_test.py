@@ -25,17 +25,22 @@ LIMITS = {
 
 SOURCES = {
     "refusals": ("crates/jtypes/src/refusal.rt", "Refusal"),
-    "exceptions": ("crates/jtypes/src/types.rt", "JavaFault"),
+    "exceptions": ("crates/jtypes/src/types.rt", "JavaFault", "Exception"),
 }
-"""Where the server's sources have numbers and names: the file and the enum."""
+"""Where the server's sources have numbers and names: the file and the enums."""
+
+
+def named_by_the_enum(path, kind):
+    """Returns the numbers and names of an enum in the server's sources."""
+    numbered = re.findall(rf"\b{kind}::(\w+)(?:\(_\))? => (\d+),", text_of(path))
+    named = dict(re.findall(rf"\b{kind}::(\w+)(?:\(_\))? => \"(\w+)\",", text_of(path)))
+    return [(int(number), named[it]) for it, number in numbered]
 
 
 def named_by_the_server(table):
-    """Returns the numbers and names in the server's sources."""
-    path, kind = SOURCES[table]
-    numbered = re.findall(rf"{kind}::(\w+)(?:\(_\))? => (\d+),", text_of(path))
-    named = dict(re.findall(rf"{kind}::(\w+)(?:\(_\))? => \"(\w+)\",", text_of(path)))
-    return [(int(number), named[it]) for it, number in numbered]
+    """Returns the numbers and names in the server's sources. Two enums may have the same one."""
+    path, *kinds = SOURCES[table]
+    return list(dict.fromkeys(it for kind in kinds for it in named_by_the_enum(path, kind)))
 
 
 def names(table):
@@ -66,20 +71,36 @@ class Server(unittest.TestCase):
     """The server's sources have what the tables have."""
 
     def test_numbers_rise(self):
-        for table, first in (
-            ("refusals", 1),
-            ("exceptions", 1),
-            ("denials", 1),
-            ("requests", 1),
-            ("replies", 1),
-            ("values", 0),
+        for table, first, least in (
+            ("refusals", 1, 30),
+            ("exceptions", 1, 10),
+            ("denials", 1, 5),
+            ("requests", 1, 8),
+            ("replies", 1, 9),
+            ("outcomes", 0, 4),
+            ("values", 0, 5),
         ):
             self.assertEqual(numbers(table), list(range(first, first + len(numbers(table)))), table)
-            self.assertGreater(len(numbers(table)), 4)
+            self.assertGreaterEqual(len(numbers(table)), least)
 
     def test_refusals_and_exceptions(self):
         for table in SOURCES:
             self.assertEqual(named_by_the_server(table), list(zip(numbers(table), names(table))))
+
+    def test_exceptions_that_a_class_may_throw(self):
+        """The server knows the constructors of those that the table says a processor throws, by the names of their classes."""
+        known = {it.replace("/", ".") for it in re.findall(r'b"([\w/]+)";', text_of("crates/constpool/src/names.rt"))}
+        thrown = [row for row in rows_of("exceptions") if "thrown by the processor" in row["where"]]
+        self.assertTrue({row["class"] for row in thrown} <= known)
+        by_number = sorted(named_by_the_enum("crates/jtypes/src/types.rt", "Exception"))
+        self.assertEqual([(int(row["number"]), row["name"]) for row in thrown], by_number)
+
+    def test_outcomes(self):
+        """The server's definitions of frames have the kinds of outcomes."""
+        text = text_of("crates/wire/specs/Frames.antt")
+        patterns = (r"\(Returned a\)", "fault", r"\(job\.Denied d\)", r"\(Thrown e text\)")
+        found = [re.search(rf"_text {it} = (\d) ∷", text) for it in patterns]
+        self.assertEqual([it and int(it[1]) for it in found], numbers("outcomes"))
 
     def test_denials(self):
         denials = re.findall(r"Denial::(\w+) => (\d+),", text_of("crates/wire/src/reply.rt"))

@@ -197,7 +197,7 @@ class Explain(Runs):
             ("33", "Arrays are of int or long"),
             ("53", "Arrays of references"),
             ("a8", "No Java source"),
-            ("b2", "Static fields and enums"),
+            ("b3", "Static fields other than"),
             ("b4", "Fields"),
             ("c5", "Use one array"),
         ]:
