@@ -1,8 +1,12 @@
 #!/usr/bin/env python3
 """run: runs test modules and prints their counts in one line. `run.py NAME MODULE..`; the last line is `NAME: N passed`, then `, M failed`
-if tests failed, and `, K skipped: WHY` if tests were skipped."""
+if tests failed, and `, K skipped: WHY` if tests were skipped. Before it is a line `failed: NAME: TEST: WHY` for each failed test."""
+import os
 import sys
 import unittest
+
+sys.path.append(os.path.join(os.path.dirname(os.path.abspath(__file__)), "../../tests/program"))
+from failed import lines_of
 
 
 class Counting(unittest.TextTestResult):
@@ -27,7 +31,7 @@ def main(name, modules):
         line += f", {int(failed)} failed"
     if told.skipped:
         line += f", {len(told.skipped)} skipped: " + "; ".join(sorted({why for _, why in told.skipped}))
-    print(line)
+    print("\n".join([*lines_of(name, told), line]))
     return 1 if failed or not told.wasSuccessful() else 0
 
 

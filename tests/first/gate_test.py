@@ -31,18 +31,40 @@ class Gate(unittest.TestCase):
     def test_sums_are_of_last_lines_and_no_failure_is_lost(self):
         counted = self.test.Sum()
         for status, output in ((0, "1 passed, 1 failed\nmore\n12 passed, 0 failed\n"), (0, "3 passed, 0 failed\n")):
-            counted.add(status, output)
+            counted.add(status, output, "a part")
         self.assertEqual((counted.passed, counted.failed, counted.status), (15, 0, 0))
-        counted.add(2, "killed without a last line\n")
-        counted.add(1, "5 passed, 4 failed\n")
-        counted.add(7, "5 passed, 0 failed\n")
+        counted.add(2, "killed without a last line\n", "a part")
+        counted.add(1, "5 passed, 4 failed\n", "a part")
+        counted.add(7, "5 passed, 0 failed\n", "a part")
         with contextlib.redirect_stdout(io.StringIO()) as printed:
             self.assertEqual(counted.report(), 2)
-        self.assertEqual(printed.getvalue(), "25 passed, 6 failed\n")
+        self.assertEqual(printed.getvalue().splitlines()[-1], "25 passed, 6 failed")
+
+    def test_what_failed_is_named_before_the_last_line(self):
+        counted = self.test.Sum()
+        counted.add(0, "failed: a/part: an.old.test: of a log\n3 passed, 0 failed\n", "a/part")
+        counted.add(1, "failed: b: shown\nmore\nfailed: b: one: why\nfailed: b: two\n5 passed, 2 failed\n", "b/test")
+        counted.add(1, "newcomer: the first command fails\n0 passed, 1 failed\n", "tests/first/newcomer")
+        counted.add(3, "no last line\n", "bin/library")
+        with contextlib.redirect_stdout(io.StringIO()) as printed:
+            self.assertEqual(counted.report(), 1)
+        self.assertEqual(
+            printed.getvalue(),
+            "failed: b: one: why\nfailed: b: two\nfailed: tests/first/newcomer: status 1: newcomer: the first command fails\n"
+            "failed: bin/library: status 3: no last line\n8 passed, 4 failed\n",
+        )
+
+    def test_crates_that_are_not_proved_are_named(self):
+        counted = self.test.Sum()
+        with mock.patch.object(self.test, "run", lambda words, **_: (1, LOG)), mock.patch.object(
+            self.test, "machine", lambda _: "a machine"
+        ), contextlib.redirect_stdout(io.StringIO()):
+            self.test.prove(counted)
+        self.assertEqual(counted.lines, ["failed: rt ci: middle NOT PROVED"])
 
     def test_a_failed_sum_has_a_status(self):
         counted = self.test.Sum()
-        counted.add(0, "5 passed, 1 failed\n")
+        counted.add(0, "5 passed, 1 failed\n", "a part")
         with contextlib.redirect_stdout(io.StringIO()):
             self.assertEqual(counted.report(), 1)
 
