@@ -13,10 +13,14 @@ import jentry.jcache.impl.Watch;
  * the server's when the last PING with a reply was sent, or later. Values are returned for two seconds after that.
  */
 final class Invalidations implements MasterSockets.User, Watch.Watched, AutoCloseable {
-    private static final long TRUST_NANOS = TimeUnit.SECONDS.toNanos(2);
+    /** How long values are returned without word from the server. */
+    static final long TRUST_NANOS = TimeUnit.SECONDS.toNanos(2);
 
     /** {@link Watch} calls after a tenth of this time. */
     private static final long WATCH_NANOS = TimeUnit.SECONDS.toNanos(2);
+
+    // Tests set a longer time, because on a busy machine the reply to a PING can take more than two seconds.
+    private static volatile long trustNanos = TRUST_NANOS;
 
     private final Keys keys;
     private final String prefix;
@@ -38,7 +42,7 @@ final class Invalidations implements MasterSockets.User, Watch.Watched, AutoClos
         }
 
         @Override public boolean isTrusted(long now) {
-            return isOpen && now - confirmed < TRUST_NANOS;
+            return isOpen && now - confirmed < trustNanos;
         }
 
         private void confirm() {
@@ -59,6 +63,11 @@ final class Invalidations implements MasterSockets.User, Watch.Watched, AutoClos
         sockets = new MasterSockets(cluster, "invalidations", this);
         sockets.open();
         Watch.add(this);
+    }
+
+    /** Sets how long values are returned without word from the server, in nanoseconds. */
+    static void trust(long nanos) {
+        trustNanos = nanos;
     }
 
     /** Returns the source of the messages of a node, or null if values that are read there can't be kept now. */
@@ -129,7 +138,7 @@ final class Invalidations implements MasterSockets.User, Watch.Watched, AutoClos
                 } catch (IOException e) {
                     link.socket.close();
                 }
-            } else if (now - link.pinged > TRUST_NANOS) {
+            } else if (now - link.pinged > trustNanos) {
                 link.socket.close();
             }
         });

@@ -4,6 +4,8 @@ import static org.junit.jupiter.api.Assertions.assertEquals;
 import static org.junit.jupiter.api.Assertions.assertTrue;
 
 import javax.cache.Cache;
+import org.junit.jupiter.api.AfterEach;
+import org.junit.jupiter.api.BeforeEach;
 import org.junit.jupiter.api.Test;
 
 /** Tests the near cache of a cache on three masters. */
@@ -11,6 +13,14 @@ class NearOnNodesTest extends WithRedis {
     private static final int KEYS = 30;
 
     private RedisNodes nodes;
+
+    @BeforeEach void trustForLong() {
+        Invalidations.trust(NearTest.PATIENT_NANOS);
+    }
+
+    @AfterEach void trustAsByDefault() {
+        Invalidations.trust(Invalidations.TRUST_NANOS);
+    }
 
     /** Sets an entry at the master that has its slot; the others redirect. */
     private void set(long key, long value) {

@@ -31,6 +31,7 @@ import jentry.jcache.JentryCache;
 import jentry.jcache.Renewing;
 import jentry.jcache.Team;
 import jentry.jcache.impl.Options;
+import org.junit.jupiter.api.AfterEach;
 import org.junit.jupiter.api.BeforeEach;
 import org.junit.jupiter.api.Test;
 
@@ -40,9 +41,17 @@ class NearTest extends WithStandInModule {
 
     private Cache<Long, Long> near;
 
+    /** Where the machine is busy the server's word may take long, and the tests count the reads that a trusted near cache spares. */
+    static final long PATIENT_NANOS = TimeUnit.MINUTES.toNanos(10);
+
     @BeforeEach void fill() {
+        Invalidations.trust(PATIENT_NANOS);
         server.ask("MSET", K + 1, 5, K + 2, 6);
         near = cache("jentry.near", "100");
+    }
+
+    @AfterEach void trustAsByDefault() {
+        Invalidations.trust(Invalidations.TRUST_NANOS);
     }
 
     private static MutableConfiguration<Long, Long> types() {
@@ -225,17 +234,18 @@ class NearTest extends WithStandInModule {
 
     /** The messages stop without an end of the connection, as where a network is broken. */
     @Test void aValueIsReturnedForTwoSecondsWithoutWordFromTheServer() throws Exception {
+        Invalidations.trust(Invalidations.TRUST_NANOS);
         get(near, false, 5L, 1);
         module.hold(true);
-        long begin = System.nanoTime();
+        long begin = System.nanoTime(), last = begin;
         server.ask("SET", K + 1, 6);
-        long last = begin;
-        while (near.get(1L) == 5) {
-            last = System.nanoTime();
+        // Each get is counted from its begin: what a busy machine takes between its reading of the clock and its end isn't the near cache's.
+        for (long from = begin; near.get(1L) == 5; from = System.nanoTime()) {
+            last = from;
             assertTrue(last - begin < TimeUnit.SECONDS.toNanos(30), "still the value from before");
             Thread.sleep(1);
         }
-        assertTrue(last - begin <= TimeUnit.MILLISECONDS.toNanos(2_100), (last - begin) / 1_000_000 + " ms");
+        assertTrue(last - begin <= TimeUnit.MILLISECONDS.toNanos(2_000), (last - begin) / 1_000_000 + " ms");
     }
 
     @Test void aServerThatIsStartedAgainIsUsedAgain() throws Exception {
