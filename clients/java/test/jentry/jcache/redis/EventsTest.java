@@ -7,8 +7,11 @@ import static org.junit.jupiter.api.Assertions.assertTrue;
 import java.util.List;
 import java.util.Set;
 import java.util.concurrent.TimeUnit;
+import java.util.function.Consumer;
+import java.util.function.Function;
 import javax.cache.Cache;
 import javax.cache.CacheException;
+import javax.cache.CacheManager;
 import javax.cache.configuration.Factory;
 import javax.cache.expiry.CreatedExpiryPolicy;
 import javax.cache.expiry.Duration;
@@ -20,6 +23,8 @@ import org.junit.jupiter.api.Test;
 
 /** Tests listeners to the changes of any client, by the keyspace notifications of Redis. */
 class EventsTest extends WithRedis {
+    private static final long FIRST_MILLIS = 150, MOST_MILLIS = 20_000;
+
     private final Heard heard = new Heard(0);
 
     private Cache<Long, Long> listening(RedisServer server, String events) {
@@ -52,53 +57,86 @@ class EventsTest extends WithRedis {
         hears("CREATED 2 2 null");
         other.clear();
         hears("REMOVED 2 null null");
-        server.ask("SET", "app:test:3", 3, "PX", 50);
-        hears("CREATED 3 3 null", "EXPIRED 3 null null");
+        server.ask("SET", "app:test:3", 3);
+        hears("CREATED 3 3 null");
+        server.ask("PEXPIRE", "app:test:3", 200);
+        hears("EXPIRED 3 null null");
         server.ask("SET", "app:other:1", 1);
         server.ask("SET", "app:test:x", 1);
         server.ask("SET", "app:test:4", 4);
         hears("CREATED 4 4 null");
     }
 
-    @Test void ownChangesAndExpiries() throws InterruptedException {
-        RedisServer server = open(new RedisServer("--notify-keyspace-events", "Kx"));
-        Cache<Long, Long> listening = manager(server, "jentry.events", "expired").createCache("test",
-            types().setExpiryPolicyFactory(CreatedExpiryPolicy.factoryOf(new Duration(TimeUnit.MILLISECONDS, 100)))
-                .addCacheEntryListenerConfiguration(heard.by(true, true)));
-        Cache<Long, Long> other = cache(server);
-        other.put(2L, 1L);
-        listening.put(1L, 5L);
-        hears("CREATED 1 5 null", "EXPIRED 1 5 5");
+    /** Calls, and the events of them and of the expiry that follows. */
+    private record Step(Consumer<Cache<Long, Long>> calls, List<String> events) { }
+
+    private static Step step(Consumer<Cache<Long, Long>> calls, String... events) {
+        return new Step(calls, List.of(events));
     }
 
-    private static Factory<ExpiryPolicy> touched(long millis) {
-        return TouchedExpiryPolicy.factoryOf(new Duration(TimeUnit.MILLISECONDS, millis));
+    /**
+     * Checks the events of a cache that hears of expiries and whose entries expire after a short time. Where the machine is too busy for the calls of a step
+     * within that time, it begins again with twice the time.
+     */
+    private void hearsExpiries(RedisServer server, Function<Duration, Factory<? extends ExpiryPolicy>> by, boolean wantsOld, Step... steps)
+        throws InterruptedException {
+        long millis = FIRST_MILLIS;
+        while (!isHeardInTime(server, by.apply(new Duration(TimeUnit.MILLISECONDS, millis)), wantsOld, millis, steps)) {
+            millis *= 2;
+            assertTrue(millis <= MOST_MILLIS, "the machine is too busy");
+        }
+    }
+
+    private static boolean isHeardInTime(RedisServer server, Factory<? extends ExpiryPolicy> policy, boolean wantsOld, long millis, Step... steps)
+        throws InterruptedException {
+        server.ask("FLUSHALL");
+        Heard own = new Heard(0);
+        try (CacheManager manager = server.manager("app", "jentry.events", "expired")) {
+            Cache<Long, Long> listening = manager.createCache("test",
+                types().setExpiryPolicyFactory(policy).addCacheEntryListenerConfiguration(own.by(wantsOld, true)));
+            for (Step step : steps) {
+                long from = System.nanoTime();
+                step.calls.accept(listening);
+                if (System.nanoTime() - from >= TimeUnit.MILLISECONDS.toNanos(millis)) {
+                    return false;
+                }
+                RedisNodes.await(() -> own.all.size() >= step.events.size(), "events that don't come");
+                assertEquals(step.events, own.all);
+                own.all.clear();
+            }
+        }
+        return true;
+    }
+
+    @Test void ownChangesAndExpiries() throws InterruptedException {
+        RedisServer server = open(new RedisServer("--notify-keyspace-events", "Kx"));
+        Cache<Long, Long> other = cache(server);
+        hearsExpiries(server, CreatedExpiryPolicy::factoryOf, true, step(it -> {
+            other.put(2L, 1L);
+            it.put(1L, 5L);
+        }, "CREATED 1 5 null", "EXPIRED 1 5 5"));
     }
 
     @Test void anExpiryHasTheOldValueThatIsRequired() throws InterruptedException {
         RedisServer server = open(new RedisServer("--notify-keyspace-events", "Kx"));
-        Cache<Long, Long> listening = manager(server, "jentry.events", "expired").createCache("test",
-            types().setExpiryPolicyFactory(touched(150)).addCacheEntryListenerConfiguration(heard.by(true, true)));
-        listening.put(1L, 5L);
-        listening.put(1L, 6L);
-        hears("CREATED 1 5 null", "UPDATED 1 6 5", "EXPIRED 1 6 6");
-        listening.invoke(1L, new Renewing.Add(), 7L);
-        hears("CREATED 1 7 null", "EXPIRED 1 7 7");
-        listening.putAll(java.util.Map.of(1L, 8L));
-        listening.remove(1L);
-        server.ask("SET", "app:test:1", 9, "PX", 50);
-        hears("CREATED 1 8 null", "REMOVED 1 8 8", "EXPIRED 1 null null");
-        server.ask("SET", "app:test:1", 9);
-        assertEquals(9L, listening.get(1L));
-        hears("EXPIRED 1 9 9");
+        hearsExpiries(server, TouchedExpiryPolicy::factoryOf, true, step(it -> {
+            it.put(1L, 5L);
+            it.put(1L, 6L);
+        }, "CREATED 1 5 null", "UPDATED 1 6 5", "EXPIRED 1 6 6"), step(it -> {
+            it.invoke(1L, new Renewing.Add(), 7L);
+        }, "CREATED 1 7 null", "EXPIRED 1 7 7"), step(it -> {
+            it.putAll(java.util.Map.of(1L, 8L));
+            it.remove(1L);
+            server.ask("SET", "app:test:1", 9, "PX", 50);
+        }, "CREATED 1 8 null", "REMOVED 1 8 8", "EXPIRED 1 null null"), step(it -> {
+            server.ask("SET", "app:test:1", 9);
+            assertEquals(9L, it.get(1L));
+        }, "EXPIRED 1 9 9"));
     }
 
     @Test void anExpiryHasNoOldValueWhereNobodyRequiresIt() throws InterruptedException {
         RedisServer server = open(new RedisServer("--notify-keyspace-events", "Kx"));
-        Cache<Long, Long> listening = manager(server, "jentry.events", "expired").createCache("test",
-            types().setExpiryPolicyFactory(touched(100)).addCacheEntryListenerConfiguration(heard.by(false, true)));
-        listening.put(1L, 5L);
-        hears("CREATED 1 5 null", "EXPIRED 1 null null");
+        hearsExpiries(server, TouchedExpiryPolicy::factoryOf, false, step(it -> it.put(1L, 5L), "CREATED 1 5 null", "EXPIRED 1 null null"));
     }
 
     @Test void aServerThatSendsTooLittleIsNamed() {
