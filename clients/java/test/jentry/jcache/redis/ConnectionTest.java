@@ -31,8 +31,10 @@ import org.junit.jupiter.api.Test;
 import org.junit.jupiter.api.Timeout;
 
 /** Tests who reads the replies of a connection, with a stand-in for Redis that replies to {@code ECHO NUMBER}. */
-@Timeout(60)
+@Timeout(600)
 class ConnectionTest {
+    private static final long MOST_TIMEOUT = 20_000;
+
     /** Replies as long as it has a permit for each. */
     private final Semaphore permits = new Semaphore(1_000_000);
     private ServerSocket listener;
@@ -40,14 +42,27 @@ class ConnectionTest {
     private RedisConnection connection;
 
     @BeforeEach void connect() throws IOException {
-        connect("jentry.timeout", "30000");
+        connect(300_000);
     }
 
-    private void connect(String... words) throws IOException {
+    /** Connects with a short timeout: twice as long where the machine was too busy for the first replies within it, and so on. */
+    private void connectWithAShortTimeout(long millis) throws IOException {
+        for (long timeout = millis;; timeout *= 2) {
+            try {
+                connect(timeout);
+                return;
+            } catch (CallOutcomeUnknownException e) {
+                assertTrue(timeout < MOST_TIMEOUT, e.getMessage());
+            }
+        }
+    }
+
+    /** Connects, and makes calls until the callers read their own replies. */
+    private void connect(long timeout) throws IOException {
         close();
         listener = new ServerSocket(0, 5, InetAddress.getLoopbackAddress());
         Properties properties = new Properties();
-        properties.setProperty(words[0], words[1]);
+        properties.setProperty("jentry.timeout", "" + timeout);
         String node = "127.0.0.1:" + listener.getLocalPort();
         Thread thread = new Thread(this::serve);
         thread.setDaemon(true);
@@ -231,7 +246,7 @@ class ConnectionTest {
     }
 
     @Test void aTimeoutEndsTheCallerThatReadsAndThoseThatWaitBesideIt() throws Exception {
-        connect("jentry.timeout", "500");
+        connectWithAShortTimeout(500);
         permits.drainPermits();
         Team all = Team.of(4, t -> assertThrows(CallOutcomeUnknownException.class, () -> echo(t)));
         all.join();
@@ -241,7 +256,7 @@ class ConnectionTest {
     }
 
     @Test void aLoneCallerWhoseReplyDoesntCome() throws Exception {
-        connect("jentry.timeout", "200");
+        connectWithAShortTimeout(200);
         permits.drainPermits();
         assertThrows(CallOutcomeUnknownException.class, () -> echo(1));
         assertTrue(connection.isBroken());

@@ -176,35 +176,40 @@ class ExpiryTest extends WithRedis {
         assertNull(onAccess.get(1L));
     }
 
-    /** Long enough for the steps in between, even on a busy machine; if they take longer, the test starts again. */
+    /** Long enough for the steps in between. On a busy machine they may take longer: then the test begins again with twice the time. */
     private static final long SHORT_MILLIS = 1_200;
-    private static final int TRIES = 10;
-    private static final Duration SHORT = new Duration(TimeUnit.MILLISECONDS, SHORT_MILLIS);
+    private static final long MOST_MILLIS = 40_000;
 
     /** The policies, each with those of six keys that exist when the time has passed since their creation, but not since the later calls. */
-    private static Map<Factory<? extends ExpiryPolicy>, String> clockRows() {
-        return Map.of(CreatedExpiryPolicy.factoryOf(SHORT), "------", ModifiedExpiryPolicy.factoryOf(SHORT), "-2-4-6",
-            AccessedExpiryPolicy.factoryOf(SHORT), "1---5-", TouchedExpiryPolicy.factoryOf(SHORT), "12-456",
-            EternalExpiryPolicy.factoryOf(), "123456", () -> new Own(SHORT), "12-456");
+    private static Map<Factory<? extends ExpiryPolicy>, String> clockRows(Duration time) {
+        return Map.of(CreatedExpiryPolicy.factoryOf(time), "------", ModifiedExpiryPolicy.factoryOf(time), "-2-4-6",
+            AccessedExpiryPolicy.factoryOf(time), "1---5-", TouchedExpiryPolicy.factoryOf(time), "12-456",
+            EternalExpiryPolicy.factoryOf(), "123456", () -> new Own(time), "12-456");
     }
 
     @Test void entriesExpireByTheServersClock() throws InterruptedException {
+        for (long millis = SHORT_MILLIS; !expireInTime(millis); millis *= 2) {
+            assertTrue(millis < MOST_MILLIS, "the machine is too busy");
+        }
+    }
+
+    /** Checks which entries exist at the end. Returns false if the calls took too long. */
+    private boolean expireInTime(long millis) throws InterruptedException {
         List<Cache<Long, Long>> caches = new ArrayList<>();
         List<String> wanted = new ArrayList<>();
-        clockRows().forEach((policy, live) -> {
-            caches.add(manager.createCache("clock" + caches.size(), types().setExpiryPolicyFactory(policy)));
+        clockRows(new Duration(TimeUnit.MILLISECONDS, millis)).forEach((policy, live) -> {
+            caches.add(manager.createCache("clock" + caches.size() + "of" + millis, types().setExpiryPolicyFactory(policy)));
             wanted.add(live);
         });
-        List<String> seen = null;
-        for (int tries = 0; seen == null; tries++) {
-            assertTrue(tries < TRIES, "the machine is too busy");
-            seen = seenOf(caches);
+        List<String> seen = seenOf(caches, millis);
+        if (seen != null) {
+            assertEquals(wanted, seen);
         }
-        assertEquals(wanted, seen);
+        return seen != null;
     }
 
     /** Creates the keys, makes the calls, and returns which keys exist at the end, or null if this took too long. */
-    private static List<String> seenOf(List<Cache<Long, Long>> caches) throws InterruptedException {
+    private static List<String> seenOf(List<Cache<Long, Long>> caches, long millis) throws InterruptedException {
         long from = System.nanoTime();
         for (Cache<Long, Long> it : caches) {
             it.clear();
@@ -212,7 +217,7 @@ class ExpiryTest extends WithRedis {
             it.invoke(4L, new Renewing.Add(), 1L);
             it.putAll(Map.of(5L, 1L, 6L, 1L));
         }
-        Thread.sleep(SHORT_MILLIS * 5 / 8);
+        Thread.sleep(millis * 5 / 8);
         long called = System.nanoTime();
         for (Cache<Long, Long> it : caches) {
             it.get(1L);
@@ -221,10 +226,10 @@ class ExpiryTest extends WithRedis {
             it.getAll(Set.of(5L));
             it.replace(6L, 1L, 2L);
         }
-        boolean isEarly = System.nanoTime() - from < TimeUnit.MILLISECONDS.toNanos(SHORT_MILLIS);
-        Thread.sleep(SHORT_MILLIS * 5 / 8);
+        boolean isEarly = System.nanoTime() - from < TimeUnit.MILLISECONDS.toNanos(millis);
+        Thread.sleep(millis * 5 / 8);
         List<String> seen = caches.stream().map(ExpiryTest::live).toList();
-        return isEarly && System.nanoTime() - called < TimeUnit.MILLISECONDS.toNanos(SHORT_MILLIS) ? seen : null;
+        return isEarly && System.nanoTime() - called < TimeUnit.MILLISECONDS.toNanos(millis) ? seen : null;
     }
 
     private static String live(Cache<Long, Long> cache) {

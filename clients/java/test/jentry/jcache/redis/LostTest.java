@@ -28,6 +28,7 @@ import org.junit.jupiter.api.Test;
 /** Tests what a caller gets if a server ends, pauses, has no module, or replies wrongly. */
 class LostTest extends WithRedis {
     private static final int CALLS = 100;
+    private static final long MOST_TIMEOUT = 20_000;
 
     @Test void aServerThatIsNotThere() {
         try (CacheManager manager = RedisServer.manager(URI.create("jentry+redis://127.0.0.1:1/"))) {
@@ -70,17 +71,32 @@ class LostTest extends WithRedis {
         assertTrue(unknown.get() <= 8, "one call of each thread was out");
     }
 
+    /** Where the machine is too busy for the other calls within the timeout, the test begins again with twice the time. */
     @Test void aPauseLongerThanTheTimeout() {
         RedisServer server = open(new RedisServer());
-        Cache<Long, Long> cache = cache(server, "jentry.timeout", "300");
-        cache.put(1L, 1L);
-        server.ask("CLIENT", "PAUSE", 100_000, "WRITE");
-        CallOutcomeUnknownException e = assertThrows(CallOutcomeUnknownException.class, () -> cache.put(1L, 2L));
-        assertTrue(e.getMessage().contains("no reply within 300 ms"), e.getMessage());
-        server.ask("CLIENT", "UNPAUSE");
-        assertTrue(List.of(1L, 2L).contains(cache.get(1L)));
-        cache.put(1L, 3L);
-        assertEquals(3L, cache.get(1L));
+        for (long millis = 300; !isOnlyThePauseLongerThan(server, millis); millis *= 2) {
+            assertTrue(millis < MOST_TIMEOUT, "the machine is too busy");
+        }
+    }
+
+    /** Returns false if a call got no reply in time although the server wasn't paused. */
+    private static boolean isOnlyThePauseLongerThan(RedisServer server, long millis) {
+        String late = "no reply within " + millis + " ms";
+        try (CacheManager manager = server.manager("app", "jentry.timeout", "" + millis)) {
+            Cache<Long, Long> cache = manager.createCache("test", types());
+            cache.put(1L, 1L);
+            server.ask("CLIENT", "PAUSE", 100_000, "WRITE");
+            String message = assertThrows(CallOutcomeUnknownException.class, () -> cache.put(1L, 2L)).getMessage();
+            server.ask("CLIENT", "UNPAUSE");
+            assertTrue(message.contains(late), message);
+            assertTrue(List.of(1L, 2L).contains(cache.get(1L)));
+            cache.put(1L, 3L);
+            assertEquals(3L, cache.get(1L));
+            return true;
+        } catch (CallOutcomeUnknownException e) {
+            assertTrue(e.getMessage().contains(late), e.getMessage());
+            return false;
+        }
     }
 
     @Test void aReadIsMadeOnceMore() {
