@@ -34,7 +34,7 @@ import org.junit.jupiter.api.Timeout;
 import org.junit.jupiter.api.function.Executable;
 
 /** Tests what a caller gets if the server ends, doesn't reply or replies wrongly, with a stand-in for the server. */
-@Timeout(60)
+@Timeout(600)
 class BrokenTest {
     private static final String NOT_KNOWN = "whether this call has run is not known";
     private static final String NOT_SENT = "this call was not sent";
@@ -171,21 +171,34 @@ class BrokenTest {
         return Caching.getCachingProvider().getCacheManager(URI.create("jentry:" + program), null, StandIn.properties(properties));
     }
 
+    /**
+     * Makes calls, each of which ends a new child, until one has told the child's last words, and returns what it said. The client waits a quarter of a second
+     * for the words; a busy machine may take longer.
+     */
+    private static String failureWith(String words, Runnable call) {
+        String message = failure(call);
+        for (int tries = 1; tries < 100 && !message.contains(words); tries++) {
+            message = failure(call);
+        }
+        assertTrue(message.contains(words), message);
+        return message;
+    }
+
     @Test void theLastWordsOfAChild() throws IOException {
         try (CacheManager manager = child("head -c 26 >/dev/null; echo 'serve fault 5 NoMemory' >&2; exit 3")) {
             Cache<Long, Long> cache = manager.createCache("a", Server.types());
-            String message = failure(() -> cache.put(1L, 1L));
-            assertTrue(message.contains("serve fault 5 NoMemory") && message.contains(NOT_KNOWN), message);
-            message = failure(() -> cache.put(1L, 1L));
-            assertTrue(message.contains("serve fault 5 NoMemory") && message.contains(NOT_KNOWN), "a new child ends like the first: " + message);
+            for (String why : new String[] {"the first child", "a new child ends like the first"}) {
+                String message = failureWith("serve fault 5 NoMemory", () -> cache.put(1L, 1L));
+                assertTrue(message.contains(NOT_KNOWN), why + ": " + message);
+            }
         }
     }
 
     @Test void aChildThatWritesMuchOnStandardErrorIsNotHeldUp() throws IOException {
         try (CacheManager manager = child("head -c 300000 /dev/zero | tr '\\0' 'x' >&2; echo ' the last line' >&2; exit 3")) {
             Cache<Long, Long> cache = manager.createCache("a", Server.types());
-            String message = failure(() -> cache.get(1L));
-            assertTrue(message.contains("xxx the last line") && message.length() < 2_000, message);
+            String message = failureWith("xxx the last line", () -> cache.get(1L));
+            assertTrue(message.length() < 2_000, message);
         }
     }
 
@@ -215,12 +228,20 @@ class BrokenTest {
         never.countDown();
     }
 
-    @Test void aSilentChildIsEndedByTheTimeout() throws IOException {
+    private static boolean isAsleep(ProcessHandle it) {
+        return it.isAlive() && it.info().commandLine().orElse("").contains("sleep 600");
+    }
+
+    @Test void aSilentChildIsEndedByTheTimeout() throws Exception {
         try (CacheManager manager = child("sleep 600", "jentry.timeout", "300")) {
             Cache<Long, Long> cache = manager.createCache("a", Server.types());
             String message = failure(() -> cache.get(1L));
             assertTrue(message.contains("took longer than 300 ms") && message.contains(NOT_KNOWN), message);
-            assertTrue(ProcessHandle.current().descendants().noneMatch(it -> it.isAlive() && it.info().commandLine().orElse("").contains("sleep 600")));
+            // A process that was killed ends when it gets a processor.
+            for (int i = 0; ProcessHandle.current().descendants().anyMatch(BrokenTest::isAsleep); i++) {
+                assertTrue(i < 30_000, "a child that sleeps on");
+                Thread.sleep(1);
+            }
         }
     }
 

@@ -9,6 +9,7 @@ import static org.junit.jupiter.api.Assumptions.assumeFalse;
 
 import java.nio.file.Files;
 import java.nio.file.Path;
+import java.util.Arrays;
 import java.util.List;
 import java.util.Map;
 import java.util.concurrent.CopyOnWriteArrayList;
@@ -26,7 +27,7 @@ import org.junit.jupiter.api.Test;
 import org.junit.jupiter.api.Timeout;
 
 /** Tests that a stream that has ended is replaced by the next call, and that one log line says so. */
-@Timeout(120)
+@Timeout(600)
 class HealTest {
     private static final Logger LOG = Logger.getLogger("jentry.jcache");
     private final List<String> logged = new CopyOnWriteArrayList<>();
@@ -55,14 +56,18 @@ class HealTest {
         logged.clear();
     }
 
+    /** Returns whether a thread of the JVM waits for the end of a process, or has to tell its {@link Process} that it has ended. */
+    private static boolean isAwaited() {
+        return Thread.getAllStackTraces().values().stream().flatMap(Arrays::stream)
+            .anyMatch(it -> it.getClassName().startsWith("java.lang.ProcessHandleImpl"));
+    }
+
+    /** Kills the children, and waits until their Process objects know it and the streams have been idle for long enough to be looked at. */
     private static void killChildren() throws InterruptedException {
-        List<ProcessHandle> children = ProcessHandle.current().children().filter(ProcessHandle::isAlive).toList();
-        children.forEach(ProcessHandle::destroyForcibly);
-        for (ProcessHandle it : children) {
-            for (int i = 0; it.isAlive(); i++) {
-                assertTrue(i < 30_000, "a child that lives");
-                Thread.sleep(1);
-            }
+        ProcessHandle.current().children().filter(ProcessHandle::isAlive).forEach(ProcessHandle::destroyForcibly);
+        for (int i = 0; isAwaited() || ProcessHandle.current().children().anyMatch(ProcessHandle::isAlive); i++) {
+            assertTrue(i < 30_000, "a child that lives");
+            Thread.sleep(1);
         }
         Thread.sleep(50);
     }

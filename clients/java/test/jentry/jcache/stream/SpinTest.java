@@ -36,10 +36,15 @@ class SpinTest {
     }
 
     @Test void whoLostTheProcessorRests() throws InterruptedException {
-        Spin spin = new Spin();
-        assertTrue(spin.begins());
-        Thread.sleep(5);
-        assertFalse(spin.goesOn(true));
-        assertFalse(spin.begins());
+        boolean rests = false;
+        // Several attempts, because the rest is over if this thread loses the processor for a second behind it.
+        for (int i = 0; i < 100 && !rests; i++) {
+            Spin spin = new Spin();
+            assertTrue(spin.begins());
+            Thread.sleep(5);
+            assertFalse(spin.goesOn(true));
+            rests = !spin.begins();
+        }
+        assertTrue(rests);
     }
 }
