@@ -17,7 +17,7 @@ import org.junit.jupiter.api.Test;
 import org.junit.jupiter.api.Timeout;
 
 /** Tests that two names on one front aren't two caches with the same entries: the second name is refused. */
-@Timeout(60)
+@Timeout(600)
 class FrontNameTest {
     private static final StandIn.Script RIGHT = (it, round, requests) -> it.right(requests);
 

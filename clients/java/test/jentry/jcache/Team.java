@@ -13,7 +13,7 @@ import java.util.function.LongSupplier;
 /** Threads that run the same code, and whose failures fail the test. */
 public final class Team {
     /** How long a thread may take, in milliseconds; a busy machine needs more. */
-    static final long PATIENCE_MILLIS = Long.getLong("jentry.test.patience", 60_000);
+    static final long PATIENCE_MILLIS = Long.getLong("jentry.test.patience", 300_000);
 
     private final List<Thread> threads = new ArrayList<>();
     private final List<Throwable> wrong = Collections.synchronizedList(new ArrayList<>());

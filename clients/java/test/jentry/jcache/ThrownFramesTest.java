@@ -21,7 +21,7 @@ import org.junit.jupiter.api.Test;
 import org.junit.jupiter.api.Timeout;
 
 /** Tests that replies with an exception of the processor are read, with the bytes that a server sends. */
-@Timeout(60)
+@Timeout(600)
 class ThrownFramesTest {
     private static final int NEW = 0xBB, DUP = 0x59, LDC = 0x12, LDC_W = 0x13, INVOKESPECIAL = 0xB7, ATHROW = 0xBF;
     private static final int THROWN = 3;

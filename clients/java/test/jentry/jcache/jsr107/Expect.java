@@ -13,7 +13,7 @@ import org.junit.jupiter.api.function.Executable;
 /** Assertions that are counted. */
 final class Expect {
     static final AtomicInteger COUNT = new AtomicInteger();
-    private static final long PATIENCE_NANOS = TimeUnit.SECONDS.toNanos(20);
+    private static final long PATIENCE_NANOS = TimeUnit.SECONDS.toNanos(60);
 
     private Expect() { }
 

@@ -56,7 +56,7 @@ final class Monitor implements AutoCloseable {
         server.ask("ECHO", MARK);
         List<String> all = new ArrayList<>();
         while (true) {
-            String next = told.poll(30, TimeUnit.SECONDS);
+            String next = told.poll(5, TimeUnit.MINUTES);
             if (next == null || next.equals("ECHO " + MARK)) {
                 return all;
             }

@@ -13,7 +13,7 @@ import java.util.stream.Collectors;
 final class RedisNodes implements AutoCloseable {
     private static final int MASTERS = 3;
     private static final int SLOTS = 16_384;
-    private static final long PATIENCE_MILLIS = Long.getLong("jentry.test.patience", 60_000);
+    private static final long PATIENCE_MILLIS = Long.getLong("jentry.test.patience", 300_000);
 
     /** The cluster-node-timeout in ms: short where a replica must take over, but longer than the pauses of a busy machine. */
     private static final String SOON = System.getProperty("jentry.test.node", "5000");

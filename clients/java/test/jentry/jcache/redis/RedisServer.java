@@ -20,7 +20,7 @@ import jentry.jcache.impl.Options;
 /** A redis-server for one test, with the module, on a free port. */
 public final class RedisServer implements AutoCloseable {
     private static final String MODULE = System.getProperty("jentry.test.module", "");
-    private static final int START_MILLIS = 30_000;
+    private static final long START_MILLIS = Long.getLong("jentry.test.patience", 300_000);
 
     final int port;
     final Path folder = Temporary.folder();
@@ -44,7 +44,7 @@ public final class RedisServer implements AutoCloseable {
     }
 
     /** Returns a free port such that the port of the cluster bus, 10,000 higher, is free too. */
-    private static int freePort() {
+    static int freePort() {
         for (int tries = 0; tries < 100; tries++) {
             try (ServerSocket one = new ServerSocket(0)) {
                 int port = one.getLocalPort();

@@ -88,8 +88,7 @@ class SecureTest extends WithRedis {
             "subjectAltName=DNS:localhost,IP:127.0.0.1", "-keyout", key, "-out", certificate);
         run(System.getProperty("java.home") + File.separator + "bin" + File.separator + "keytool", "-importcert", "-noprompt",
             "-alias", "redis", "-file", certificate, "-keystore", trusted.toString(), "-storepass", "secret1");
-        RedisServer plain = open(new RedisServer());
-        int port = plain.port + 5_000;
+        int port = RedisServer.freePort();
         open(new RedisServer("--tls-port", "" + port, "--tls-cert-file", certificate, "--tls-key-file", key,
             "--tls-ca-cert-file", certificate, "--tls-auth-clients", "no"));
         assertEquals("value 6\n", byTls(trusted, port, "127.0.0.1"));

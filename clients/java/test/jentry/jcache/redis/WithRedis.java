@@ -17,7 +17,7 @@ import org.junit.jupiter.api.Timeout;
 
 /** The base of tests that start their own redis-servers; they are skipped without a redis-server or the module. */
 @Tag("redis")
-@Timeout(300)
+@Timeout(1_800)
 abstract class WithRedis {
     private final List<AutoCloseable> opened = new ArrayList<>();
 

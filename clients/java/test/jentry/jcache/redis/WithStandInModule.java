@@ -16,7 +16,7 @@ import org.junit.jupiter.api.Timeout;
  * The base of tests on a redis-server behind {@link StandInModule}, which answers the commands of the module where there is none. They are skipped without a
  * redis-server.
  */
-@Timeout(120)
+@Timeout(1_800)
 abstract class WithStandInModule {
     RedisServer server;
     StandInModule module;

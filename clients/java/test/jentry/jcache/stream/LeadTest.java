@@ -13,7 +13,7 @@ import org.junit.jupiter.api.Test;
 import org.junit.jupiter.api.Timeout;
 
 /** Tests the outcome of a leader's own call if the next round can't be sent, and of the calls of that round. */
-@Timeout(60)
+@Timeout(600)
 class LeadTest {
     /** A transport that replies Done to one put and ends the round once it is released; the second round can't be written. */
     private static final class OneRound implements Transport {
