@@ -187,7 +187,7 @@ class Kicks(FrontTest):
 
     def test_who_waits_for_a_class_of_another(self):
         """The verdict still comes to those who weren't kicked."""
-        with controlled(server=STAND_IN + ["--slow", "0.5"]) as front, front.open() as a, front.open() as b:
+        with controlled(server=STAND_IN + ["--slow", "3"]) as front, front.open() as a, front.open() as b:
             a.sendall(define(plus()) + END)
             time.sleep(0.1)
             b.sendall(define(plus()) + END)

@@ -361,7 +361,7 @@ class Waits(FrontTest):
 
     def test_who_leaves_while_its_round_runs(self):
         """The first round is at the server when its peer leaves, and the others aren't sent there any more."""
-        with self.slow(1) as front, front.open() as b:
+        with self.slow(2) as front, front.open() as b:
             for at in range(3):
                 with front.open() as a:
                     a.sendall(put(at, at) + END + put(at, 77) + put(9, 9))

@@ -5,6 +5,7 @@ import signal
 import socket
 import subprocess
 import tempfile
+import threading
 import time
 import unittest
 
@@ -15,6 +16,13 @@ from running import FRONT, PATIENCE, STAND_IN, FrontTest, Running, is_ended
 
 def slow(seconds, *options, **started):
     return Running("--http", "0", *options, server=STAND_IN + ["--slow", str(seconds)], **started)
+
+
+def wait_for(front, name="jentry_waiting_rounds"):
+    """Waits until a metric isn't 0."""
+    deadline = time.monotonic() + PATIENCE
+    while front.metrics()[name] < 1 and time.monotonic() < deadline:
+        time.sleep(0.01)
 
 
 class Stalls(FrontTest):
@@ -63,21 +71,27 @@ class Notified(FrontTest):
                 pass
         return found
 
+    def hears(self, wanted):
+        """Waits for a message."""
+        self.socket.settimeout(PATIENCE)
+        while self.socket.recv(4_096).decode() != wanted:
+            pass
+
     def test_systemd_hears_of_the_start_the_end_and_that_the_server_answers(self):
         asked = {**os.environ, "NOTIFY_SOCKET": self.path, "WATCHDOG_USEC": "600000"}
         with Running("--stall", "1", env=asked) as front, front.open() as a:
-            found = self.messages(1.5)
-            self.assertIn("READY=1", found)
-            self.assertGreaterEqual(found.count("WATCHDOG=1"), 3)
+            for wanted in ("READY=1", *(3 * ["WATCHDOG=1"])):
+                self.hears(wanted)
             os.kill(front.server(), signal.SIGSTOP)
             a.sendall(get(1) + END)
-            self.messages(1.5)
+            front.logged("WARN .*the server hasn't answered a batch for 1 s")
+            self.messages(0.5)
             self.assertEqual(self.messages(1), [], "the watchdog of a server that hangs")
             os.kill(front.server(), signal.SIGCONT)
             self.told(a, value(None) + ENDED)
-            self.assertIn("WATCHDOG=1", self.messages(1))
+            self.hears("WATCHDOG=1")
             front.process.terminate()
-            self.assertIn("STOPPING=1", self.messages(1))
+            self.hears("STOPPING=1")
 
 
 class Drains(FrontTest):
@@ -85,7 +99,7 @@ class Drains(FrontTest):
 
     def test_rounds_that_were_sent_are_answered(self):
         for number in (signal.SIGTERM, signal.SIGINT):
-            with self.subTest(number=number), slow(0.5) as front, front.open() as a, front.open() as b:
+            with self.subTest(number=number), slow(1.5) as front, front.open() as a, front.open() as b:
                 idle = front.open()
                 a.sendall(put(1, 1) + END + get(1) + END)
                 time.sleep(0.1)
@@ -105,21 +119,16 @@ class Drains(FrontTest):
         for number in (signal.SIGINT, signal.SIGTERM):
             with self.subTest(number=number), slow(1, start_new_session=True) as front, front.open() as a:
                 a.sendall(put(1, 1) + END + get(1) + END)
-                self.wait_for_round(front)
+                wait_for(front)
                 os.killpg(front.process.pid, number)
                 self.told(a, DONE + ENDED + value(1) + ENDED)
                 self.assertEqual(front.process.wait(PATIENCE), -number)
                 self.assertIn("with 0 open connections", front.logged("ended by ")[0])
 
-    def wait_for_round(self, front):
-        deadline = time.monotonic() + PATIENCE
-        while front.metrics()["jentry_waiting_rounds"] < 1 and time.monotonic() < deadline:
-            time.sleep(0.01)
-
     def test_a_round_that_has_begun_may_come_to_its_end(self):
-        with Running() as front, front.open() as a:
+        with Running("--http", "0") as front, front.open() as a:
             a.sendall(put(1, 1) + get(2)[:5])
-            time.sleep(0.1)
+            wait_for(front, "jentry_round_bytes")
             front.process.terminate()
             time.sleep(0.5)
             self.ask(a, get(2)[5:] + END, DONE + value(None) + ENDED)
@@ -128,9 +137,10 @@ class Drains(FrontTest):
 
     def test_it_ends_within_its_time(self):
         with slow(30, "--drain", "1") as front, front.open() as a, front.open() as b:
-            a.sendall(put(1, 1) + END)
             b.sendall(put(2, 2))
-            time.sleep(0.2)
+            wait_for(front, "jentry_round_bytes")
+            a.sendall(put(1, 1) + END)
+            wait_for(front)
             begun = time.monotonic()
             front.process.terminate()
             self.assertEqual(front.process.wait(PATIENCE), -signal.SIGTERM)
@@ -140,7 +150,7 @@ class Drains(FrontTest):
     def test_a_second_signal_ends_it_at_once(self):
         with slow(30, "--drain", "60") as front, front.open() as a:
             a.sendall(put(1, 1) + END)
-            time.sleep(0.2)
+            wait_for(front)
             front.process.terminate()
             front.logged("answering what 1 connections have sent")
             front.process.terminate()
@@ -156,9 +166,9 @@ class Drains(FrontTest):
             with first.open() as a:
                 self.ask(a, put(2, 2) + END, DONE + ENDED)
                 a.sendall(put(1, 1))
-                time.sleep(0.1)
+                wait_for(first, "jentry_round_bytes")
                 first.process.terminate()
-                time.sleep(0.3)
+                first.logged("answering what 1 connections have sent")
                 with first.open() as b:
                     b.sendall(get(1) + END)
                     self.ask(a, END, DONE + ENDED)
@@ -191,13 +201,16 @@ class Inherited(Running):
     """A front on a listening socket that it inherits."""
 
     def __init__(self, listener, server=None):
-        self.place = listener.getsockname()
-        words = [FRONT, "--stdin", *(server or STAND_IN)]
-        self.process = subprocess.Popen(words, stdin=listener, stderr=subprocess.DEVNULL)
+        self.place, self.words = listener.getsockname(), []
+        words = [FRONT, "--stdin", "--http", "0", *(server or STAND_IN)]
+        self.process = subprocess.Popen(words, stdin=listener, stderr=subprocess.PIPE, text=True)
+        self._listener = threading.Thread(target=self._listen, daemon=True)
+        self._listener.start()
+        self.logged(" http on ")
 
     def kill(self):
         self.process.kill()
-        self.process.wait(PATIENCE)
+        self.end()
 
 
 class Limits(FrontTest):

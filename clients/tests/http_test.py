@@ -200,13 +200,19 @@ class Metrics(FrontTest):
             self.assertEqual(len(lines), 1, lines)
             self.assertRegex(lines[0], r" WARN .*number=3 name=BadMagic .*sha1=[0-9a-f]{40} ")
 
+    def wait_for_rounds(self, front, count):
+        """Waits until this number of rounds waits. Returns the metrics then."""
+        end = time.monotonic() + PATIENCE
+        while (metrics := front.metrics())["jentry_waiting_rounds"] < count and time.monotonic() < end:
+            time.sleep(0.02)
+        return metrics
+
     def test_waiting_requests_are_seen(self):
-        with Running("--http", "0", server=STAND_IN + ["--slow", "1"]) as front, front.open() as a, front.open() as b:
+        with Running("--http", "0", server=STAND_IN + ["--slow", "3"]) as front, front.open() as a, front.open() as b:
             a.sendall(put(1, 1) + END)
-            time.sleep(0.2)
+            self.wait_for_rounds(front, 1)
             b.sendall(3 * get(1) + END)
-            time.sleep(0.2)
-            metrics = front.metrics()
+            metrics = self.wait_for_rounds(front, 2)
             self.assertEqual((metrics["jentry_waiting_rounds"], metrics["jentry_waiting_requests"]), (2, 3))
             self.told(a, DONE + ENDED)
             self.told(b, 3 * value(1) + ENDED)
@@ -324,13 +330,13 @@ class Answers(FrontTest):
             self.define(a, plus(), 0)
             for n in range(100):
                 self.ask(a, put(n, n) + END, DONE + ENDED)
-            text, end = b"", time.monotonic() + 3.5
-            while time.monotonic() < end:
+            text, begun, events = b"", time.monotonic(), []
+            while time.monotonic() - begun < 3.5 or len(events) < 3 and time.monotonic() - begun < PATIENCE:
                 if select.select([line], [], [], 0.1)[0]:
                     text += line.recv(65_536)
-            events = [
-                json.loads(it.split("data: ")[1]) for it in text.decode().split("\n\n") if it.startswith("event: state")
-            ]
+                # The last one may not be whole.
+                whole = [it for it in text.decode(errors="replace").split("\n\n")[:-1] if it.startswith("event: state")]
+                events = [json.loads(it.split("data: ")[1]) for it in whole]
             self.assertGreaterEqual(len(events), 3)
             self.assertEqual(events[-1]["totals"]["jentry_requests_total"], 101)
             self.assertEqual([(it["number"], it["steps"], it["runs"]) for it in events[-1]["classes"]], [(7, 14, 0)])
@@ -360,7 +366,8 @@ class Hostile(FrontTest):
         with Running("--http", "0") as front, front.open() as a:
             self.rate(a, 0.5)
             memory, alone, beside, answered = front.memory(), [], [], []
-            for _ in range(3):
+            # A machine whose processors others use differently from second to second has more tries.
+            while len(alone) < 3 or len(alone) < 9 and statistics.median(beside) <= 0.5 * statistics.median(alone):
                 alone.append(self.rate(a, 1.5))
                 dripper = multiprocessing.Process(target=drip, args=(front.http_address(), 1_000, 4), daemon=True)
                 dripper.start()
