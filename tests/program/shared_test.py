@@ -14,6 +14,8 @@ from running import LIMIT, Row, Runs
 ROUND_END = bytes([0, 0, 0, 1, 8])
 JOBS, ROUNDS, KEYS = 48, 150, 24
 """The number of requests in a round, of rounds in a stream, and of keys."""
+TRIES = 10
+"""How often threads are looked for that a busy machine may hide."""
 
 Call = namedtuple("Call", "kind key number")
 """A call on a key: its kind, and the number that it puts or adds."""
@@ -181,7 +183,11 @@ class Shared(Runs):
                 chance = random.Random(100 * workers + stripes)
                 rounds = [[any_request(chance) for _ in range(JOBS)] for _ in range(ROUNDS)]
                 given = define + b"".join(b"".join(map(frame_of, requests)) + ROUND_END for requests in rounds)
-                output, threads = self.served(given, ["--workers", str(workers), "--stripes", str(stripes)])
+                words = ["--workers", str(workers), "--stripes", str(stripes)]
+                output, threads = self.served(given, words)
+                # Where this process waited for a processor while the threads ran, it looks again.
+                for _ in range(TRIES if workers > 1 else 0):
+                    threads = threads if threads > 2 else self.served(given, words)[1]
                 self.assertEqual(output[:22], bytes.fromhex("0000000d0100000000000dbba000000000" "0000000109"))
                 self.assertTrue(threads < 2 if workers == 1 else threads > 2, f"{threads} threads")
                 replies = Replies(output[22:])

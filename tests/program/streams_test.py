@@ -9,6 +9,8 @@ import row_classes as rows
 from running import LIMIT, Row, Runs, Told, proved_only, side_by_side, told
 
 WORKERS = ["0", "1", "4", "16"]
+TRIES = 10
+"""How often threads are looked for that a busy machine may hide."""
 ROUND_END = bytes([0, 0, 0, 1, 8])
 ENDED = bytes([0, 0, 0, 1, 9])
 ACCEPTED_PLUS = bytes([0, 0, 0, 13, 1, 0, 0, 0, 0, 0, 0, 0, 14, 0, 0, 0, 0])
@@ -261,8 +263,17 @@ class Requests(Runs):
         for at in range(22, len(output), REPLIES_BESIDE):
             self.are_in_some_order(output[at : at + REPLIES_BESIDE])
 
-    def most_threads(self, given, count):
-        """Returns the highest number of threads that was seen while the program served this input with `count` workers."""
+    def most_threads(self, given, count, wanted):
+        """Returns the highest number of threads that was seen while the program served this input with `count` workers. Where this process waited for
+        a processor while the threads ran, it saw fewer than it wants, and looks again."""
+        most = 0
+        for _ in range(TRIES):
+            most = max(most, self.seen_threads(given, count))
+            if most >= wanted:
+                break
+        return most
+
+    def seen_threads(self, given, count):
         with subprocess.Popen(
             [self.program, "serve", "--workers", count], stdin=subprocess.PIPE, stdout=subprocess.DEVNULL
         ) as it:
@@ -284,8 +295,8 @@ class Requests(Runs):
         for count in WORKERS[1:]:
             with self.subTest(workers=count):
                 threads = int(count) + 1 if int(count) > 1 else 1
-                self.assertEqual(self.most_threads(long + jobs + ROUND_END, count), threads)
-                self.assertEqual(self.most_threads(long + jobs[:18] + ROUND_END, count), 1)
+                self.assertEqual(self.most_threads(long + jobs + ROUND_END, count, threads), threads)
+                self.assertEqual(self.most_threads(long + jobs[:18] + ROUND_END, count, 1), 1)
 
 
 def threads_of(process):
