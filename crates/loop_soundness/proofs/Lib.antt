@@ -10,3 +10,13 @@ pub mod GoodStates
 pub mod Steps
 pub mod Safe
 pub mod LoopChecked
+pub mod BackwardBranches
+pub mod CoverExcludes
+pub mod ConstructorCode
+pub mod ShapedClasses
+pub mod TypedClasses
+pub mod AcceptedClasses
+pub mod AcceptedBounds
+pub mod KeptClasses
+pub mod NeverBackward
+pub mod ForwardClasses

@@ -2,3 +2,5 @@ pub mod Runs
 pub mod Checked
 pub mod Sound
 pub mod Example
+pub mod Accepted
+pub mod Promise

@@ -1,6 +1,13 @@
-//! The theorems about runs of classes with loops. They are about the definitions only: no call accepts a class with a loop.
+//! The theorems about classes with loops. They are about the definitions only: no call accepts a class with a loop.
 
 ghost use Rattle.loop_soundness.specs.Example.{LoopIsSafe};
+ghost use Rattle.loop_soundness.specs.Promise.{
+  AcceptedHasBounds,
+  AcceptedIsKept,
+  AcceptedIsSafe,
+  AcceptedKeepsBounds,
+  ForwardIsAccepted,
+};
 ghost use Rattle.loop_soundness.specs.Runs.{RunsStayWithin};
 ghost use Rattle.loop_soundness.specs.Sound.{SoundnessForward, SoundnessOfUnrolled, SoundnessWithLoops};
 
@@ -25,4 +32,21 @@ pub fn sound_with_loops()
 /// its nodes are listed, and it is safe within its bounds. So type soundness isn't vacuous for classes with loops.
 pub fn loop_is_safe()
     ensures { LoopIsSafe }
+{}
+
+/// Type soundness with bounds of accepted classes with loops: the bytes of a class are accepted with loops if no refusal applies, where
+/// the nodes of `process` take the place of its pcs, and if the nodes have a list within the limits.
+/// - safe: for each invocation with at most eight arguments such a class never gets stuck, stays within its bounds, and ends.
+/// - bounds: it has `process` and its bounds, which are within the limits of an invocation.
+pub fn accepted_with_loops()
+    ensures safe { AcceptedIsSafe }
+    ensures bounds { AcceptedHasBounds }
+{}
+
+/// The third profile is kept: what it accepts is accepted with loops, and has over nodes the bounds that it has over pcs.
+/// Of the classes in which no branch leads back, those that it refuses aren't accepted with loops either.
+pub fn third_profile_is_kept()
+    ensures accepted { AcceptedIsKept }
+    ensures bounds { AcceptedKeepsBounds }
+    ensures forward { ForwardIsAccepted }
 {}

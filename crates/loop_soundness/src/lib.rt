@@ -3,4 +3,6 @@
 
 mod laws;
 
-pub use laws::{loop_is_safe, runs_stay_within, sound_with_loops};
+pub use laws::{
+    accepted_with_loops, loop_is_safe, runs_stay_within, sound_with_loops, third_profile_is_kept,
+};

@@ -1,0 +1,8 @@
+use Rattle.loop_soundness.proofs.AcceptedBounds.{accepted_is_safe, accepted_has_bounds}
+use Rattle.loop_soundness.proofs.laws.accepted_with_loops.Goals as goal
+
+pub returns-clause-safe : goal.returns-clause-safe
+returns-clause-safe c = accepted_is_safe
+
+pub returns-clause-bounds : goal.returns-clause-bounds
+returns-clause-bounds c = accepted_has_bounds
