@@ -1,31 +1,22 @@
 -- A class that the third profile accepts has no branch that leads back, and is accepted with loops.
-use Rattle.std.proofs.Common.{◌≡◌, ℕ, Bool, true, false, List, Some, refl, sym, ◌∙◌, subst, inl, inr}
-use Rattle.std.specs.Prelude.{slice_get, IsFalse, Any}
-use Rattle.std.proofs.lemmas.Bool.{false≢true, false_from_ne_true}
+use Rattle.std.proofs.Common.{◌≡◌, ℕ, false, List, Some, sym, ◌∙◌, subst, inl, inr}
+use Rattle.std.specs.Prelude.{slice_get}
+use Rattle.std.proofs.lemmas.Bool.{false≢true}
 use Rattle.jtypes.specs.Profile.{Third}
 use Rattle.jtypes.specs.declared.refusal.Refusal.{Refusal}
-use Rattle.jtypes.specs.declared.refusal.Refusal.TheVariants.{BackwardBranch, ConstructorForm, Recursive, StepLimit, WordLimit, FrameLimit}
+use Rattle.jtypes.specs.declared.refusal.Refusal.TheVariants.{BackwardBranch, Recursive, StepLimit, WordLimit, FrameLimit}
 use Rattle.constpool.specs.Lookup.{Slot}
-use Rattle.classfile.specs.declared.class_file.Member.{Member}
 use Rattle.classfile.specs.declared.class_file.Parts.{Parts}
-use Rattle.classfile.specs.declared.class_file.CodeParts.{CodeParts}
-use Rattle.classfile.specs.View.{view_of}
-use Rattle.decode.specs.Code.{IsSequence}
-use Rattle.decode.specs.Places.{HasBackwardTarget}
 use Rattle.typecheck.specs.Typing.{Method, Class, IsProcessOf}
 use Rattle.bounds.specs.Paths.{Cost, step_limit, word_limit, slot_limit, depth_limit}
 use Rattle.bounds.specs.Paths as places
-use Rattle.verdict.specs.Shape.{is_constructor, HasCode, HasConstructor}
 use Rattle.verdict.specs.Verdict.{IsAccepted, IsClassOf, IsClassFile, HasShape, HasInstructions, InstructionStands, InstructionsStand, HasTypes, IsMethodOf, IsClassOfFile, BoundStands, ClassStands}
 use Rattle.verdict.specs.Verdict as verdict
 use Rattle.verdict.specs.Checked.{IsChecked, members}
-use Rattle.verdict.proofs.Methods.{zip_back, any_from}
-use Rattle.verdict.proofs.OnlyOne.{the_only}
 use Rattle.soundness.proofs.AcceptedRanks.{accepted_has_ranks}
 use Rattle.soundness.proofs.TypedMethods.{accepted_is_checked}
 use Rattle.soundness.proofs.BoundsExist.{checked_leads_on}
-use Rattle.soundness.proofs.OneClass.{code_once}
-use Rattle.unrolled.specs.Rules.{leads_back, has_loops, rules_of}
+use Rattle.unrolled.specs.Rules.{has_loops, rules_of}
 use Rattle.unrolled.specs.Paths.{start_node}
 use Rattle.unrolled.specs.Limits.{start_point, IsTooLarge, by_nodes, by_values}
 use Rattle.unrolled.specs.Circles.{IsCircle}
@@ -34,9 +25,8 @@ use Rattle.unrolled.proofs.Forward.{forward_is_covered}
 use Rattle.unrolled.proofs.SameBounds.{to_places, bounds_are_kept}
 use Rattle.loop_soundness.specs.Accepted.{SomePathExceeds, NodesStand, ClassStandsWithLoops, IsRefusedWithLoops, as_before, by_types, by_class}
 use Rattle.loop_soundness.specs.Promise.{AcceptedIsKept, AcceptedKeepsBounds}
-use Rattle.loop_soundness.proofs.BackwardBranches.{back_found, no_loops}
+use Rattle.loop_soundness.proofs.NoLoops.{file_has_no_loops}
 use Rattle.loop_soundness.proofs.CoverExcludes.{cover_has_no_circle}
-use Rattle.loop_soundness.proofs.ConstructorCode.{constructor_leads_on}
 use Rattle.loop_soundness.proofs.AcceptedBounds.{process_starts}
 
 module _ (bytes : List ℕ) (ok : IsAccepted Third bytes) (pool : List Slot) (p : Parts) (file : IsClassFile bytes pool p) where
@@ -48,31 +38,6 @@ module _ (bytes : List ℕ) (ok : IsAccepted Third bytes) (pool : List Slot) (p 
 
   types : HasTypes Third pool p
   types = record { none_stands = λ r s. ok r (verdict.by_types pool p file shape instructions s) }
-
-  -- ---- no branch leads back
-
-  constructor_forward : (k : ℕ) (item : Member) (m : Method) → slice_get p.methods k ≡ Some item → IsMethodOf Third pool p item m → is_constructor pool item ≡ true → HasConstructor pool p → leads_back m.code ≡ false
-  constructor_forward k item m at is e has =
-      let same : item ≡ has.0 = the_only (is_constructor pool) p.methods has.0 has.1 k item at e in
-      let form = has.2 in
-      let has_code : HasCode pool item form.parts = subst (λ (x : Member). HasCode pool x form.parts) (sym same) form.has_code in
-      let parts : is.body.parts ≡ form.parts = code_once pool item is.body.parts form.parts is.body.has_code has_code in
-      constructor_leads_on pool form.parts m.code form.code (subst (λ (x : CodeParts). IsSequence Third pool 0 x.code m.code) parts is.body.sequence)
-
-  method_forward : (k : ℕ) (item : Member) (m : Method) → slice_get p.methods k ≡ Some item → IsMethodOf Third pool p item m → leads_back m.code ≡ false
-  method_forward k item m at is = false_from_ne_true (leads_back m.code) (λ back. go back (is_constructor pool item) refl)
-    where
-      go : leads_back m.code ≡ true → (b : Bool) → is_constructor pool item ≡ b → ⊥
-      go back true e = shape.none_stands ConstructorForm (λ has. false≢true (sym (constructor_forward k item m at is e has) ∙ back))
-      go back false e =
-          let branch : Any HasBackwardTarget m.code = back_found m.code back in
-          let stands : InstructionsStand Third pool p BackwardBranch = any_from (λ y. IsFalse (is_constructor pool y) × ((z : CodeParts) × HasCode pool y z × InstructionStands Third (view_of pool p) z.code BackwardBranch)) p.methods k item at (e, (is.body.parts, is.body.has_code, inr (m.code, is.body.sequence, branch))) in
-          instructions.none_stands BackwardBranch stands
-
-  file_has_no_loops : (c : Class) → IsClassOfFile Third pool p c → has_loops c.methods ≡ false
-  file_has_no_loops c of = no_loops c.methods (λ j m known. let x = zip_back (IsMethodOf Third pool p) p.methods c.methods j m of.methods known in method_forward j x.0 m x.1 x.2)
-
-  -- ---- no refusal of the nodes applies
 
   class_of : (c : Class) → IsClassOfFile Third pool p c → IsClassOf Third bytes c
   class_of c of = record { pool = pool; parts = p; file = file; class = of }
@@ -86,9 +51,12 @@ module _ (bytes : List ℕ) (ok : IsAccepted Third bytes) (pool : List Slot) (p 
       let w = forward_is_covered c (rules_of c) (members c) (checked_leads_on c (checked c of)) in
       cover_has_no_circle c (rules_of c) w.inside w.rank w.cover (start_point c j m) (w.starts j m start.member known start.starts)
 
+  no_loops : (c : Class) → IsClassOfFile Third pool p c → has_loops c.methods ≡ false
+  no_loops c of = file_has_no_loops pool p shape instructions c of
+
   not_large : (c : Class) → IsClassOfFile Third pool p c → (j : ℕ) (m : Method) → IsTooLarge c j m → ⊥
-  not_large c of j m (by_nodes xs loops reached more) = false≢true (sym (file_has_no_loops c of) ∙ loops)
-  not_large c of j m (by_values xs loops reached more) = false≢true (sym (file_has_no_loops c of) ∙ loops)
+  not_large c of j m (by_nodes xs loops reached more) = false≢true (sym (no_loops c of) ∙ loops)
+  not_large c of j m (by_values xs loops reached more) = false≢true (sym (no_loops c of) ∙ loops)
 
   over_places : (c : Class) (j : ℕ) (m : Method) (measure : Cost → ℕ) (limit : ℕ) → SomePathExceeds c j m measure limit → places.SomePathExceeds c j measure limit
   over_places c j m measure limit (k, path, more) =
@@ -109,7 +77,7 @@ module _ (bytes : List ℕ) (ok : IsAccepted Third bytes) (pool : List Slot) (p 
   class_stands c of r (ranked, (j, m, is, known, h)) = (ranked, (j, is, nodes_stand c of j m is known r h))
 
 pub kept_has_no_loops : (bytes : List ℕ) (c : Class) → IsAccepted Third bytes → IsClassOf Third bytes c → has_loops c.methods ≡ false
-kept_has_no_loops bytes c ok of = file_has_no_loops bytes ok of.pool of.parts of.file c of.class
+kept_has_no_loops bytes c ok of = no_loops bytes ok of.pool of.parts of.file c of.class
 
 not_refused : (bytes : List ℕ) → IsAccepted Third bytes → (r : Refusal) → IsRefusedWithLoops bytes r → ⊥
 not_refused bytes ok r (as_before s other) = ok r s

@@ -17,6 +17,8 @@ pub mod ShapedClasses
 pub mod TypedClasses
 pub mod AcceptedClasses
 pub mod AcceptedBounds
+pub mod NoLoops
 pub mod KeptClasses
 pub mod NeverBackward
 pub mod ForwardClasses
+pub mod ListedClasses

@@ -7,6 +7,7 @@ ghost use Rattle.loop_soundness.specs.Promise.{
   AcceptedIsSafe,
   AcceptedKeepsBounds,
   ForwardIsAccepted,
+  ListedIsAccepted,
 };
 ghost use Rattle.loop_soundness.specs.Runs.{RunsStayWithin};
 ghost use Rattle.loop_soundness.specs.Sound.{SoundnessForward, SoundnessOfUnrolled, SoundnessWithLoops};
@@ -38,9 +39,12 @@ pub fn loop_is_safe()
 /// the nodes of `process` take the place of its pcs, and if the nodes have a list within the limits.
 /// - safe: for each invocation with at most eight arguments such a class never gets stuck, stays within its bounds, and ends.
 /// - bounds: it has `process` and its bounds, which are within the limits of an invocation.
+/// - listed: a class to which no refusal applies before those of the nodes is accepted if its nodes have a list and its bounds are
+///   within the limits.
 pub fn accepted_with_loops()
     ensures safe { AcceptedIsSafe }
     ensures bounds { AcceptedHasBounds }
+    ensures listed { ListedIsAccepted }
 {}
 
 /// The third profile is kept: what it accepts is accepted with loops, and has over nodes the bounds that it has over pcs.
