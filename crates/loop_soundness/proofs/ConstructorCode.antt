@@ -53,7 +53,7 @@ code_with i =
     ∷ record { place = 1; next = 4; instruction = instruction.Invoke invoke.Special i }
     ∷ record { place = 4; next = 5; instruction = instruction.ReturnVoid } ∷ []
 
-sequence_with : (pool : List Slot) (high low : ℕ) → is_some (method_at pool (big_number 2 (high ∷ low ∷ []))) ≡ true → IsSequence Third pool 0 (0x2A ∷ 0xB7 ∷ high ∷ low ∷ 0xB1 ∷ []) (code_with (big_number 2 (high ∷ low ∷ [])))
+pub sequence_with : (pool : List Slot) (high low : ℕ) → is_some (method_at pool (big_number 2 (high ∷ low ∷ []))) ≡ true → IsSequence Third pool 0 (0x2A ∷ 0xB7 ∷ high ∷ low ∷ 0xB1 ∷ []) (code_with (big_number 2 (high ∷ low ∷ [])))
 sequence_with pool high low some =
     let rest : IsSequence Third pool 4 (0xB1 ∷ []) (record { place = 4; next = 5; instruction = instruction.ReturnVoid } ∷ []) = (refl, 0xB1 ∷ [], [], refl, refl, return_laid_out pool, refl) in
     (refl, 0x2A ∷ [], 0xB7 ∷ high ∷ low ∷ 0xB1 ∷ [], refl, refl, load_laid_out pool, (refl, 0xB7 ∷ high ∷ low ∷ [], 0xB1 ∷ [], refl, refl, call_laid_out pool high low some, rest))

@@ -22,3 +22,8 @@ pub mod KeptClasses
 pub mod NeverBackward
 pub mod ForwardClasses
 pub mod ListedClasses
+pub mod LoopBytes
+pub mod LonePaths
+pub mod LoopInstructions
+pub mod LoopTypes
+pub mod LoopAccepted

@@ -39,7 +39,7 @@ frames =
 fits : FrameAssignable loop_frame loop_frame
 fits = record { locals = (refl, (refl, (refl, (refl, tt)))); stack = tt }
 
-to_only : (target : ℤ) (t : ℤ) → (Some target ≡ Some t) ⊎ ((k : ℕ) × (None ≡ Some t)) → t ≡ target
+pub to_only : (target : ℤ) (t : ℤ) → (Some target ≡ Some t) ⊎ ((k : ℕ) × (None ≡ Some t)) → t ≡ target
 to_only target t (inl e) = cc e
 to_only target t (inr (k, e)) = cc e
 
@@ -71,7 +71,7 @@ outcomes = (
 )
 
 -- A frame is declared at 2 and at 13.
-declared_is : (p : ℕ) (d : Frame) → declared_at loop_method p ≡ Some d → (loop_frame ≡ d) × ((2 ≡ p) ⊎ (13 ≡ p))
+pub declared_is : (p : ℕ) (d : Frame) → declared_at loop_method p ≡ Some d → (loop_frame ≡ d) × ((2 ≡ p) ⊎ (13 ≡ p))
 declared_is p d h = go (2 == p) refl (13 == p) refl h
   where
     go : (a : Bool) → (2 == p) ≡ a → (b : Bool) → (13 == p) ≡ b → cond a (Some loop_frame) (cond b (Some loop_frame) None) ≡ Some d → (loop_frame ≡ d) × ((2 ≡ p) ⊎ (13 ≡ p))
@@ -97,7 +97,7 @@ typing = record {
 
 -- ---- the other premises
 
-formed : IsFormedWithLoops loop_method
+pub formed : IsFormedWithLoops loop_method
 formed = record {
   params = ((λ h. cc h), ((λ h. cc h), ((λ h. cc h), tt)));
   result = ((λ h. cc h), tt);

@@ -4,3 +4,4 @@ pub mod Sound
 pub mod Example
 pub mod Accepted
 pub mod Promise
+pub mod ExampleBytes

@@ -1,6 +1,7 @@
 //! The theorems about classes with loops. They are about the definitions only: no call accepts a class with a loop.
 
 ghost use Rattle.loop_soundness.specs.Example.{LoopIsSafe};
+ghost use Rattle.loop_soundness.specs.ExampleBytes.{LoopIsAccepted};
 ghost use Rattle.loop_soundness.specs.Promise.{
   AcceptedHasBounds,
   AcceptedIsKept,
@@ -53,4 +54,10 @@ pub fn third_profile_is_kept()
     ensures accepted { AcceptedIsKept }
     ensures bounds { AcceptedKeepsBounds }
     ensures forward { ForwardIsAccepted }
+{}
+
+/// The bytes of a small class with a loop of two passes are accepted with loops, and the third profile refuses them by the branch that
+/// leads back. So the laws of accepted bytes aren't vacuous for classes with loops.
+pub fn loop_is_accepted()
+    ensures { LoopIsAccepted }
 {}
