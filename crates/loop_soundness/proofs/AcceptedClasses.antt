@@ -12,6 +12,7 @@ use Rattle.soundness.proofs.Callees.{HasSignatures}
 use Rattle.unrolled.specs.Rules.{has_loops}
 use Rattle.loop_soundness.specs.Checked.{IsCheckedWithLoops}
 use Rattle.loop_soundness.specs.Accepted.{HasInstructionsWithLoops, IsAcceptedWithLoops, as_before, by_types, by_class}
+use Rattle.loop_soundness.specs.Promise.{AcceptedIsChecked}
 use Rattle.loop_soundness.proofs.ShapedClasses.{shaped_signatures}
 use Rattle.loop_soundness.proofs.TypedClasses.{shaped_room, typed, formed}
 use Rattle.loop_soundness.proofs.BackwardBranches.{leads_forward}
@@ -64,3 +65,6 @@ module _ (bytes : List ℕ) (ok : IsAcceptedWithLoops bytes) (c : Class) (of : I
     };
     ordered = ordered;
   }
+
+pub accepted_is_checked : AcceptedIsChecked
+accepted_is_checked bytes c ok of = checked_with_loops bytes ok c of

@@ -9,6 +9,7 @@ pub mod Signatures
 pub mod GoodStates
 pub mod Steps
 pub mod Safe
+pub mod Counted
 pub mod LoopChecked
 pub mod BackwardBranches
 pub mod CoverExcludes

@@ -50,7 +50,7 @@ use Rattle.loop_soundness.proofs.Steps.{act_safe}
 again : (c : Class) (b n : ℕ) (s : State) → IsGood c b s → IsGood c n s
 again c b n s h = record { top = h.top; below = h.below; m = h.m; activations = h.activations; here = h.here; awaits = h.awaits }
 
-step_safe : (c : Class) → IsCheckedWithLoops c → (s : State) → IsGood c s.words s → SafeNext c s.words s.steps s.now.asked s.call (step c s)
+pub step_safe : (c : Class) → IsCheckedWithLoops c → (s : State) → IsGood c s.words s → SafeNext c s.words s.steps s.now.asked s.call (step c s)
 step_safe c ok s h =
     let b = s.words in
     let m = h.m in
@@ -111,10 +111,10 @@ counted_at c b s h = record { counted = λ a below m p k e at is. go a below m p
         (q.count, (q.rest, ap (λ (y : Activation). y.operands) (sym top) ∙ q.top), ap (λ y. pushed_before y.code a.place) (sym same) ∙ ap (λ (y : Activation). pushed_before h.m.code y.place) (sym top) ∙ q.before)
 
 module _ (c : Class) (ok : IsCheckedWithLoops c) where
-  Good : State → Type 0
+  unfoldable pub Good : State → Type 0
   Good s = IsGood c s.words s
 
-  good_informed : (a : LoadAnswer) (s : State) → Good s → Good (informed a s)
+  pub good_informed : (a : LoadAnswer) (s : State) → Good s → Good (informed a s)
   unfolding Good
   good_informed a s h = record { top = h.top; below = h.below; m = h.m; activations = h.activations; here = h.here; awaits = h.awaits }
 
@@ -145,7 +145,7 @@ module _ (c : Class) (ok : IsCheckedWithLoops c) where
   good_next : (s u : State) (a : LoadAnswer) → Good s → step_with c a s ≡ Some (Goes u) → Good u × (u.steps ≡ suc s.steps) × (u.call ≡ s.call)
   good_next s u a h e = subst (Fits s) e (good_with s a h)
 
-  good_reached : (s t : State) → Good s → Reaches c s t → Good t
+  pub good_reached : (s t : State) → Good s → Reaches c s t → Good t
   good_reached s t h here = h
   good_reached s t h (onward {t = x} a r e) = (good_next x t a (good_reached s x h r) e).0
 
@@ -170,7 +170,7 @@ module _ (c : Class) (ok : IsCheckedWithLoops c) where
       let at_start : IsAt c [] m a = arrive c [] m entry.view typed.0 a (first_frame m.environment) formed entry.member typed.1 typed.1.first (first_locals [] m.environment.max_locals given m.environment.signature.params args') tt (omega arith) (no_length_first m [] formed) in
       record { top = a; below = []; m = m; activations = refl; here = at_start; awaits = (Ref ref.Object, entry.result) }
 
-  good_begin : (j : ℕ) → IsProcessOf c j → (m : Method) → slice_get c.methods j ≡ Some m → (call : Invocation) (s : State) → start c call ≡ Some s → Good s
+  pub good_begin : (j : ℕ) → IsProcessOf c j → (m : Method) → slice_get c.methods j ≡ Some m → (call : Invocation) (s : State) → start c call ≡ Some s → Good s
   good_begin j is m known call s e =
       let begun : start c call ≡ Some (start_of j m call) = ap (λ o. o >>= λ i. option_map (λ n. start_of i n call) (slice_get c.methods i)) is ∙ ap (option_map (λ n. start_of j n call)) known in
       let same : start_of j m call ≡ s = cc (begun, e) in

@@ -5,3 +5,4 @@ pub mod Example
 pub mod Accepted
 pub mod Promise
 pub mod ExampleBytes
+pub mod Counting

@@ -12,6 +12,7 @@ use Rattle.unrolled.specs.Rules.{has_loops, rules_of}
 use Rattle.unrolled.specs.Paths.{start_node, AreBounds}
 use Rattle.unrolled.specs.Certificates.{Point}
 use Rattle.unrolled.specs.Limits.{IsUnrolled}
+use Rattle.loop_soundness.specs.Checked.{IsCheckedWithLoops}
 use Rattle.loop_soundness.specs.Sound.{IsSafeWithArguments}
 use Rattle.loop_soundness.specs.Accepted.{HasInstructionsWithLoops, IsAcceptedWithLoops}
 
@@ -61,6 +62,10 @@ abbrev pub ListedIsAccepted : Type 0
 ListedIsAccepted =
     (bytes : List ℕ) (c : Class) (j : ℕ) (m : Method) (ks : List Point) (b : Bounds) → IsReadyForNodes bytes c → IsProcessOf c j → slice_get c.methods j ≡ Some m
     → IsUnrolled c j m ks → AreBounds c (rules_of c) j (start_node (rules_of c) j m) b → AreWithinLimits b → IsAcceptedWithLoops bytes
+
+-- An accepted class is checked but for the direction of branches.
+abbrev pub AcceptedIsChecked : Type 0
+AcceptedIsChecked = (bytes : List ℕ) (c : Class) → IsAcceptedWithLoops bytes → IsClassOf Third bytes c → IsCheckedWithLoops c
 
 -- Type soundness with bounds: each accepted class is safe within its bounds over nodes.
 abbrev pub AcceptedIsSafe : Type 0

@@ -1,9 +1,11 @@
 //! The theorems about classes with loops. They are about the definitions only: no call accepts a class with a loop.
 
+ghost use Rattle.loop_soundness.specs.Counting.{EachCallStarts, EachStepCounts};
 ghost use Rattle.loop_soundness.specs.Example.{LoopIsSafe};
 ghost use Rattle.loop_soundness.specs.ExampleBytes.{LoopIsAccepted};
 ghost use Rattle.loop_soundness.specs.Promise.{
   AcceptedHasBounds,
+  AcceptedIsChecked,
   AcceptedIsKept,
   AcceptedIsSafe,
   AcceptedKeepsBounds,
@@ -30,6 +32,13 @@ pub fn sound_with_loops()
     ensures forward { SoundnessForward }
 {}
 
+/// Each invocation of a class that is checked but for the direction of branches has a start state, so type soundness says something of it.
+/// Each step that doesn't end the invocation adds one to the steps.
+pub fn starts_and_counts()
+    ensures starts { EachCallStarts }
+    ensures counts { EachStepCounts }
+{}
+
 /// A small class whose `process` has a loop of two passes satisfies the premises: it is checked except for the direction of branches,
 /// its nodes are listed, and it is safe within its bounds. So type soundness isn't vacuous for classes with loops.
 pub fn loop_is_safe()
@@ -40,11 +49,13 @@ pub fn loop_is_safe()
 /// the nodes of `process` take the place of its pcs, and if the nodes have a list within the limits.
 /// - safe: for each invocation with at most eight arguments such a class never gets stuck, stays within its bounds, and ends.
 /// - bounds: it has `process` and its bounds, which are within the limits of an invocation.
+/// - checked: it is checked but for the direction of branches.
 /// - listed: a class to which no refusal applies before those of the nodes is accepted if its nodes have a list and its bounds are
 ///   within the limits.
 pub fn accepted_with_loops()
     ensures safe { AcceptedIsSafe }
     ensures bounds { AcceptedHasBounds }
+    ensures checked { AcceptedIsChecked }
     ensures listed { ListedIsAccepted }
 {}
 

@@ -5,5 +5,5 @@ mod laws;
 
 pub use laws::{
     accepted_with_loops, loop_is_accepted, loop_is_safe, runs_stay_within, sound_with_loops,
-    third_profile_is_kept,
+    starts_and_counts, third_profile_is_kept,
 };
