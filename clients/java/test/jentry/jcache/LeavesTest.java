@@ -55,6 +55,13 @@ class LeavesTest {
         boolean holds() throws IOException;
     }
 
+    private static void awaitNoThreads() throws Exception {
+        for (int i = 0; !threads().isEmpty(); i++) {
+            assertTrue(i < PATIENCE, () -> "threads that stay: " + threads());
+            Thread.sleep(1);
+        }
+    }
+
     private static void await(Condition condition, String otherwise) throws Exception {
         for (int i = 0; !condition.holds(); i++) {
             assertTrue(i < PATIENCE, otherwise);
@@ -66,7 +73,7 @@ class LeavesTest {
         try (Server first = new Server()) {
             use(first.cache);
         }
-        await(() -> threads().isEmpty(), "threads that stay");
+        awaitNoThreads();
         long files = openFiles(), processes = children();
         for (int i = 0; i < 5; i++) {
             try (Server server = new Server()) {
@@ -75,7 +82,7 @@ class LeavesTest {
                 assertFalse(threads().isEmpty());
             }
         }
-        await(() -> threads().isEmpty(), "threads that stay");
+        awaitNoThreads();
         await(() -> openFiles() <= files && children() <= processes, "files or processes that stay");
     }
 

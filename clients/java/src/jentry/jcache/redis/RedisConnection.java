@@ -124,12 +124,13 @@ final class RedisConnection implements Watch.Watched {
         this.node = node;
         at = new RedisSocket(node, options);
         timeoutNanos = TimeUnit.MILLISECONDS.toNanos(options.timeoutMillis());
-        Thread reader = new Thread(this::read, "jentry-redis-" + node);
-        reader.setDaemon(true);
-        reader.start();
+        // This comes before the start of the reader thread, which ends the watch if it finds the connection ended.
         if (timeoutNanos > 0) {
             Watch.add(this);
         }
+        Thread reader = new Thread(this::read, "jentry-redis-" + node);
+        reader.setDaemon(true);
+        reader.start();
     }
 
     boolean isBroken() {

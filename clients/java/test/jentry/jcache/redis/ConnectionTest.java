@@ -207,6 +207,30 @@ class ConnectionTest {
         await(() -> Thread.getAllStackTraces().keySet().stream().noneMatch(it -> it.getName().endsWith(":" + listener.getLocalPort())), "a reader that stays");
     }
 
+    private static boolean isWatching() {
+        return Thread.getAllStackTraces().keySet().stream().anyMatch(it -> it.getName().equals("jentry-watch"));
+    }
+
+    /** The reader thread may see the end before the constructor has returned. */
+    @Test void connectionsThatEndAtOnceLeaveNothingToWatch() throws Exception {
+        close();
+        try (ServerSocket closing = new ServerSocket(0, 5, InetAddress.getLoopbackAddress())) {
+            Team closes = Team.of(1, t -> {
+                for (int i = 0; i < 1_000; i++) {
+                    closing.accept().close();
+                }
+            });
+            String node = "127.0.0.1:" + closing.getLocalPort();
+            Options options = new Options(URI.create("jentry+redis://" + node), new Properties());
+            for (int i = 0; i < 1_000; i++) {
+                RedisConnection ended = new RedisConnection(node, options);
+                await(ended::isBroken, "nobody has seen the end");
+            }
+            closes.join();
+        }
+        await(() -> !isWatching(), "a thread that watches");
+    }
+
     @Test void closeLetsACallEndThatIsOut() throws Exception {
         permits.drainPermits();
         Team out = Team.of(3, t -> assertEquals(5L + t, echo(5L + t)));
