@@ -1,15 +1,24 @@
 package jentry.compiler.profile;
 
+import java.util.ArrayList;
+import java.util.HashSet;
+import java.util.List;
+import java.util.Set;
 import org.objectweb.asm.Opcodes;
 import org.objectweb.asm.Type;
 import org.objectweb.asm.tree.AbstractInsnNode;
 import org.objectweb.asm.tree.ClassNode;
+import org.objectweb.asm.tree.InsnList;
 import org.objectweb.asm.tree.InsnNode;
 import org.objectweb.asm.tree.IntInsnNode;
+import org.objectweb.asm.tree.JumpInsnNode;
+import org.objectweb.asm.tree.LabelNode;
 import org.objectweb.asm.tree.LdcInsnNode;
 import org.objectweb.asm.tree.LineNumberNode;
+import org.objectweb.asm.tree.LookupSwitchInsnNode;
 import org.objectweb.asm.tree.MethodInsnNode;
 import org.objectweb.asm.tree.MethodNode;
+import org.objectweb.asm.tree.TableSwitchInsnNode;
 
 /** Helpers to inspect and create instructions. */
 public final class Instructions implements Opcodes {
@@ -31,6 +40,43 @@ public final class Instructions implements Opcodes {
             found = found.getPrevious();
         }
         return found;
+    }
+
+    /** Returns the previous instruction as {@link #previous(AbstractInsnNode)} does, or null if one of these labels, to which branches lead, is between. */
+    public static AbstractInsnNode previous(AbstractInsnNode at, Set<LabelNode> targets) {
+        AbstractInsnNode found = at.getPrevious();
+        while (found != null && found.getOpcode() < 0) {
+            if (found instanceof LabelNode label && targets.contains(label)) {
+                return null;
+            }
+            found = found.getPrevious();
+        }
+        return found;
+    }
+
+    /** Returns the labels to which an instruction branches, the default of a switch last. */
+    public static List<LabelNode> targets(AbstractInsnNode at) {
+        if (at instanceof JumpInsnNode jump) {
+            return List.of(jump.label);
+        } else if (at instanceof TableSwitchInsnNode it) {
+            return withLast(it.labels, it.dflt);
+        }
+        return at instanceof LookupSwitchInsnNode it ? withLast(it.labels, it.dflt) : List.of();
+    }
+
+    private static List<LabelNode> withLast(List<LabelNode> labels, LabelNode last) {
+        List<LabelNode> all = new ArrayList<>(labels);
+        all.add(last);
+        return all;
+    }
+
+    /** Returns the labels to which the branches of some code lead; the handlers of exceptions aren't among them. */
+    public static Set<LabelNode> targets(InsnList code) {
+        Set<LabelNode> all = new HashSet<>();
+        for (AbstractInsnNode at : code) {
+            all.addAll(targets(at));
+        }
+        return all;
     }
 
     /** Returns the source line of an instruction, or -1. */

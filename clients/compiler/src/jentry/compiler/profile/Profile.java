@@ -10,12 +10,8 @@ import org.objectweb.asm.tree.ClassNode;
 import org.objectweb.asm.tree.FieldInsnNode;
 import org.objectweb.asm.tree.FrameNode;
 import org.objectweb.asm.tree.IntInsnNode;
-import org.objectweb.asm.tree.JumpInsnNode;
-import org.objectweb.asm.tree.LabelNode;
-import org.objectweb.asm.tree.LookupSwitchInsnNode;
 import org.objectweb.asm.tree.MethodInsnNode;
 import org.objectweb.asm.tree.MethodNode;
-import org.objectweb.asm.tree.TableSwitchInsnNode;
 import org.objectweb.asm.tree.TryCatchBlockNode;
 import org.objectweb.asm.tree.TypeInsnNode;
 
@@ -226,17 +222,7 @@ public final class Profile implements Opcodes {
 
     private static boolean leadsBack(MethodNode method, AbstractInsnNode at) {
         int place = method.instructions.indexOf(at);
-        List<LabelNode> targets = new ArrayList<>();
-        if (at instanceof JumpInsnNode jump) {
-            targets.add(jump.label);
-        } else if (at instanceof TableSwitchInsnNode it) {
-            targets.addAll(it.labels);
-            targets.add(it.dflt);
-        } else if (at instanceof LookupSwitchInsnNode it) {
-            targets.addAll(it.labels);
-            targets.add(it.dflt);
-        }
-        return targets.stream().anyMatch(it -> method.instructions.indexOf(it) < place);
+        return Instructions.targets(at).stream().anyMatch(it -> method.instructions.indexOf(it) < place);
     }
 
     private void frame(MethodNode method, FrameNode frame) {

@@ -2,7 +2,6 @@ package jentry.compiler.profile;
 
 import java.util.ArrayList;
 import java.util.Collections;
-import java.util.HashSet;
 import java.util.IdentityHashMap;
 import java.util.List;
 import java.util.Set;
@@ -10,13 +9,10 @@ import org.objectweb.asm.Opcodes;
 import org.objectweb.asm.tree.AbstractInsnNode;
 import org.objectweb.asm.tree.ClassNode;
 import org.objectweb.asm.tree.FrameNode;
-import org.objectweb.asm.tree.JumpInsnNode;
 import org.objectweb.asm.tree.LabelNode;
 import org.objectweb.asm.tree.LdcInsnNode;
-import org.objectweb.asm.tree.LookupSwitchInsnNode;
 import org.objectweb.asm.tree.MethodInsnNode;
 import org.objectweb.asm.tree.MethodNode;
-import org.objectweb.asm.tree.TableSwitchInsnNode;
 import org.objectweb.asm.tree.TypeInsnNode;
 
 /**
@@ -46,7 +42,7 @@ public final class Throws implements Opcodes {
         Set<LabelNode> targets = null;
         for (AbstractInsnNode at : method.instructions) {
             if (at.getOpcode() == NEW && isAccepted(owner, ((TypeInsnNode) at).desc)) {
-                targets = targets == null ? targets(method) : targets;
+                targets = targets == null ? Instructions.targets(method.instructions) : targets;
                 Form form = form((TypeInsnNode) at, targets);
                 if (form != null) {
                     all.add(form);
@@ -92,22 +88,6 @@ public final class Throws implements Opcodes {
 
     private static boolean isConstructor(AbstractInsnNode at, String type, String descriptor) {
         return at instanceof MethodInsnNode call && call.name.equals("<init>") && call.owner.equals(type) && call.desc.equals(descriptor);
-    }
-
-    private static Set<LabelNode> targets(MethodNode method) {
-        Set<LabelNode> all = new HashSet<>();
-        for (AbstractInsnNode at : method.instructions) {
-            if (at instanceof JumpInsnNode jump) {
-                all.add(jump.label);
-            } else if (at instanceof TableSwitchInsnNode it) {
-                all.add(it.dflt);
-                all.addAll(it.labels);
-            } else if (at instanceof LookupSwitchInsnNode it) {
-                all.add(it.dflt);
-                all.addAll(it.labels);
-            }
-        }
-        return all;
     }
 
     /** Returns the steps of an instruction of an accepted class, without those of a method that it calls: a throw is one step, which its ATHROW has. */

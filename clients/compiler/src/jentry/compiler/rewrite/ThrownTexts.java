@@ -193,15 +193,12 @@ public final class ThrownTexts implements Opcodes {
     // ---- what is pushed to be dropped
 
     private boolean dropDiscarded() {
-        Set<LabelNode> targets = UnreachableCode.targets(method);
+        Set<LabelNode> targets = Instructions.targets(method.instructions);
         boolean changed = false;
         for (AbstractInsnNode pop : List.copyOf(pops)) {
-            AbstractInsnNode before = pop.getPrevious();
-            while (before != null && before.getOpcode() < 0 && !(before instanceof LabelNode label && targets.contains(label))) {
-                before = before.getPrevious();
-            }
+            AbstractInsnNode before = Instructions.previous(pop, targets);
             int size = pop.getOpcode() == POP2 ? 2 : 1;
-            if (before == null || before.getOpcode() < 0) {
+            if (before == null) {
                 continue;
             } else if (isPush(before, size)) {
                 method.instructions.remove(before);

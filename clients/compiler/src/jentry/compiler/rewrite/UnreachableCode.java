@@ -1,15 +1,12 @@
 package jentry.compiler.rewrite;
 
-import java.util.HashSet;
 import java.util.Set;
 import org.objectweb.asm.Opcodes;
 import org.objectweb.asm.tree.AbstractInsnNode;
 import org.objectweb.asm.tree.ClassNode;
 import org.objectweb.asm.tree.JumpInsnNode;
 import org.objectweb.asm.tree.LabelNode;
-import org.objectweb.asm.tree.LookupSwitchInsnNode;
 import org.objectweb.asm.tree.MethodNode;
-import org.objectweb.asm.tree.TableSwitchInsnNode;
 import jentry.compiler.profile.Instructions;
 import jentry.compiler.unroll.Arithmetic;
 import jentry.compiler.unroll.ControlFlowGraph;
@@ -37,14 +34,11 @@ final class UnreachableCode implements Opcodes {
     }
 
     private static boolean foldTests(MethodNode method) {
-        Set<LabelNode> targets = targets(method);
+        Set<LabelNode> targets = Instructions.targets(method.instructions);
         boolean folds = false;
         for (AbstractInsnNode at : method.instructions.toArray()) {
             int opcode = at.getOpcode();
-            AbstractInsnNode before = at.getPrevious();
-            while (before != null && before.getOpcode() < 0 && !(before instanceof LabelNode label && targets.contains(label))) {
-                before = before.getPrevious();
-            }
+            AbstractInsnNode before = Instructions.previous(at, targets);
             if (opcode >= IFEQ && opcode <= IFLE && Instructions.pushed(before) instanceof Integer constant) {
                 if (Arithmetic.holds(opcode - IFEQ, constant, 0)) {
                     method.instructions.set(at, new JumpInsnNode(GOTO, ((JumpInsnNode) at).label));
@@ -56,22 +50,5 @@ final class UnreachableCode implements Opcodes {
             }
         }
         return folds;
-    }
-
-    /** Returns the labels to which branches lead. */
-    static Set<LabelNode> targets(MethodNode method) {
-        Set<LabelNode> all = new HashSet<>();
-        for (AbstractInsnNode at : method.instructions) {
-            if (at instanceof JumpInsnNode jump) {
-                all.add(jump.label);
-            } else if (at instanceof TableSwitchInsnNode it) {
-                all.add(it.dflt);
-                all.addAll(it.labels);
-            } else if (at instanceof LookupSwitchInsnNode it) {
-                all.add(it.dflt);
-                all.addAll(it.labels);
-            }
-        }
-        return all;
     }
 }

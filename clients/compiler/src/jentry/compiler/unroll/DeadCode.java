@@ -13,8 +13,6 @@ import org.objectweb.asm.tree.InsnList;
 import org.objectweb.asm.tree.JumpInsnNode;
 import org.objectweb.asm.tree.LabelNode;
 import org.objectweb.asm.tree.LineNumberNode;
-import org.objectweb.asm.tree.LookupSwitchInsnNode;
-import org.objectweb.asm.tree.TableSwitchInsnNode;
 import org.objectweb.asm.tree.VarInsnNode;
 import jentry.compiler.profile.Instructions;
 
@@ -51,7 +49,7 @@ final class DeadCode implements Opcodes {
 
     /** Removes the labels that no branch and no line number uses: each would start a basic block when frames are computed. */
     static void dropLabels(InsnList code) {
-        Set<LabelNode> used = targets(code);
+        Set<LabelNode> used = Instructions.targets(code);
         for (AbstractInsnNode at : code) {
             if (at instanceof LineNumberNode line) {
                 used.add(line.start);
@@ -64,53 +62,18 @@ final class DeadCode implements Opcodes {
         }
     }
 
-    private static Set<LabelNode> targets(InsnList code) {
-        Set<LabelNode> all = new HashSet<>();
-        for (AbstractInsnNode at : code) {
-            all.addAll(targets(at));
-        }
-        return all;
-    }
-
-    private static List<LabelNode> targets(AbstractInsnNode at) {
-        if (at instanceof JumpInsnNode jump) {
-            return List.of(jump.label);
-        } else if (at instanceof TableSwitchInsnNode it) {
-            return join(it.dflt, it.labels);
-        }
-        return at instanceof LookupSwitchInsnNode it ? join(it.dflt, it.labels) : List.of();
-    }
-
-    private static List<LabelNode> join(LabelNode otherwise, List<LabelNode> labels) {
-        List<LabelNode> all = new java.util.ArrayList<>(labels);
-        all.add(otherwise);
-        return all;
-    }
-
-    /** Returns the previous instruction, if no branch leads between the two. */
-    private static AbstractInsnNode before(AbstractInsnNode at, Set<LabelNode> targets) {
-        AbstractInsnNode before = at.getPrevious();
-        while (before != null && before.getOpcode() < 0) {
-            if (before instanceof LabelNode label && targets.contains(label)) {
-                return null;
-            }
-            before = before.getPrevious();
-        }
-        return before;
-    }
-
     /** Removes a push followed by its pop, and replaces a pure instruction followed by its pop by pops of its operands. */
     private boolean dropDiscarded() {
-        Set<LabelNode> targets = targets(code);
+        Set<LabelNode> targets = Instructions.targets(code);
         boolean changed = false;
         for (AbstractInsnNode at : code.toArray()) {
             if (at.getOpcode() != POP && at.getOpcode() != POP2) {
                 continue;
             }
-            AbstractInsnNode before = before(at, targets);
+            AbstractInsnNode before = Instructions.previous(at, targets);
             if (before == null || !Purity.isPure(before) || Purity.size(before) != (at.getOpcode() == POP2 ? 2 : 1)) {
                 continue;
-            } else if (before.getOpcode() == ARRAYLENGTH && !isPresent(before(before, targets))) {
+            } else if (before.getOpcode() == ARRAYLENGTH && !isPresent(Instructions.previous(before, targets))) {
                 continue;
             }
             for (int size : Purity.operands(before.getOpcode())) {
@@ -169,7 +132,7 @@ final class DeadCode implements Opcodes {
 
     private static BitSet liveBefore(AbstractInsnNode at, BitSet live, Map<LabelNode, BitSet> liveAt) {
         int opcode = at.getOpcode();
-        List<LabelNode> targets = targets(at);
+        List<LabelNode> targets = Instructions.targets(at);
         boolean fallsThrough = opcode != GOTO && opcode != ATHROW && opcode != TABLESWITCH && opcode != LOOKUPSWITCH
             && !(opcode >= IRETURN && opcode <= RETURN);
         if (fallsThrough && targets.isEmpty()) {
