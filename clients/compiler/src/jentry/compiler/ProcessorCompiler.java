@@ -1,6 +1,7 @@
 package jentry.compiler;
 
 import java.util.ArrayList;
+import java.util.HashSet;
 import java.util.List;
 import java.util.Map;
 import java.util.Set;
@@ -69,7 +70,7 @@ public final class ProcessorCompiler {
     /** Returns whether the class of a class file is an EntryProcessor that can be instantiated, or has lambdas that are. */
     public boolean hasProcessors(byte[] classFile) throws CompileException {
         ClassNode node = read(classFile);
-        return isProcessor(node) || !Lambdas.of(node).isEmpty();
+        return isProcessor(node) || !lambdas(node).isEmpty();
     }
 
     /** Returns whether a class is a processor, or would be one if it named the interface itself. */
@@ -106,7 +107,6 @@ public final class ProcessorCompiler {
         ClassNode node = read(classFile);
         List<CompiledClass> compiled = new ArrayList<>();
         List<Problem> problems = new ArrayList<>();
-        List<Lambdas.Lambda> lambdas = Lambdas.of(read(classFile));
         if (isProcessor(node)) {
             try {
                 compiled.add(compileClass(classFile));
@@ -114,9 +114,12 @@ public final class ProcessorCompiler {
                 problems.addAll(e.problems());
             }
         }
-        for (Lambdas.Lambda lambda : lambdas) {
+        Set<String> names = new HashSet<>();
+        for (Lambdas.Lambda lambda : lambdas(classFile)) {
             try {
-                compiled.add(compileLambda(lambda));
+                if (names.add(lambda.className())) {
+                    compiled.add(compileLambda(lambda));
+                }
             } catch (CompileException e) {
                 problems.addAll(e.problems());
             }
@@ -214,9 +217,13 @@ public final class ProcessorCompiler {
         }
     }
 
-    /** Returns the lambdas of a class file that implement EntryProcessor. */
-    public static List<Lambdas.Lambda> lambdas(byte[] classFile) throws CompileException {
-        return Lambdas.of(read(classFile));
+    /** Returns the lambdas of a class file that implement EntryProcessor, or an interface of the program that extends it. */
+    public List<Lambdas.Lambda> lambdas(byte[] classFile) throws CompileException {
+        return lambdas(read(classFile));
+    }
+
+    private List<Lambdas.Lambda> lambdas(ClassNode host) {
+        return Lambdas.of(host, type -> Linker.isProcessor(type, host, program));
     }
 
     /**

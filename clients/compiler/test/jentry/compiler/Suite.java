@@ -45,7 +45,7 @@ final class Suite {
             if (body == null) {
                 return new ProcessorCompiler(false, program).compileClass(classFile);
             }
-            for (Lambdas.Lambda lambda : ProcessorCompiler.lambdas(classFile)) {
+            for (Lambdas.Lambda lambda : new ProcessorCompiler(false, program).lambdas(classFile)) {
                 if (lambda.body().equals(body)) {
                     return new ProcessorCompiler(false, program).compileLambda(lambda);
                 }

@@ -128,10 +128,17 @@ final class FoundPlaces implements KnownValues.Places, Opcodes {
         return places;
     }
 
+    /** Returns the method of the program that a call by an interface of Java or JCache runs, or null: where the processor holds another one, for example. */
+    private Classes.Method ofInterface(MethodInsnNode at, List<? extends BasicValue> operands) {
+        Known.Place receiver = at.getOpcode() == INVOKEINTERFACE ? Known.place(operands.get(0)) : null;
+        boolean isOfProgram = receiver != null && receiver.type() != null && !ProgramClasses.isOfPlatform(receiver.type()) && classes.get(receiver.type()) != null;
+        return isOfProgram ? classes.virtual(receiver.type(), at.name, at.desc) : null;
+    }
+
     /** Returns the method of the program that a call runs, or null if that isn't known or it is one of Java. */
     Classes.Method target(MethodInsnNode at, List<? extends BasicValue> operands) {
         if (at.name.startsWith("<") || ProgramClasses.isOfPlatform(at.owner)) {
-            return null;
+            return ofInterface(at, operands);
         } else if (at.getOpcode() == INVOKESTATIC) {
             return classes.get(at.owner) == null ? null : classes.virtual(at.owner, at.name, at.desc);
         }

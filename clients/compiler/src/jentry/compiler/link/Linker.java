@@ -105,7 +105,12 @@ public final class Linker implements Opcodes {
 
     /** Returns whether a class implements EntryProcessor, also by a base class. */
     public static boolean isProcessor(ClassNode node, ProgramClasses program) {
-        return new Classes(program, node).isBelow(node.name, Members.PROCESSOR);
+        return isProcessor(node.name, node, program);
+    }
+
+    /** Returns whether a type, by its internal name, is EntryProcessor or extends it, as seen from a class. */
+    public static boolean isProcessor(String type, ClassNode from, ProgramClasses program) {
+        return new Classes(program, from).isBelow(type, Members.PROCESSOR);
     }
 
     /**

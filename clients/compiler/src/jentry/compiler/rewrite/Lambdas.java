@@ -8,6 +8,7 @@ import java.util.LinkedHashMap;
 import java.util.List;
 import java.util.Map;
 import java.util.Set;
+import java.util.function.Predicate;
 import org.objectweb.asm.Handle;
 import org.objectweb.asm.MethodVisitor;
 import org.objectweb.asm.Opcodes;
@@ -46,6 +47,11 @@ public final class Lambdas implements Opcodes {
             return (Handle) site.bsmArgs[1];
         }
 
+        /** Returns the internal name of the interface that it is made as. */
+        public String type() {
+            return Type.getReturnType(site.desc).getInternalName();
+        }
+
         /** Returns the internal name of the new class. No other body has it, nor does any class nested in the host. */
         public String className() {
             Set<String> taken = new HashSet<>();
@@ -76,8 +82,12 @@ public final class Lambdas implements Opcodes {
         }
     }
 
-    /** Returns the lambdas of a class that implement EntryProcessor, each body once. */
-    public static List<Lambda> of(ClassNode host) {
+    /**
+     * Returns the lambdas of a class that implement EntryProcessor, each body once for each interface that it is used as.
+     *
+     * @param isProcessor tells of an interface, by its internal name, whether it is EntryProcessor or extends it
+     */
+    public static List<Lambda> of(ClassNode host, Predicate<String> isProcessor) {
         Map<String, Lambda> found = new LinkedHashMap<>();
         for (MethodNode method : host.methods) {
             if (method.name.equals("$deserializeLambda$")) {
@@ -85,10 +95,10 @@ public final class Lambdas implements Opcodes {
                 continue;
             }
             for (AbstractInsnNode at : method.instructions) {
-                boolean makes = at instanceof InvokeDynamicInsnNode it && Type.getReturnType(it.desc).getInternalName().equals(Members.PROCESSOR);
-                if (makes && ((InvokeDynamicInsnNode) at).bsmArgs.length > 1 && ((InvokeDynamicInsnNode) at).bsmArgs[1] instanceof Handle) {
+                boolean makes = at instanceof InvokeDynamicInsnNode it && it.name.equals("process") && it.bsmArgs.length > 1 && it.bsmArgs[1] instanceof Handle;
+                if (makes && isProcessor.test(Type.getReturnType(((InvokeDynamicInsnNode) at).desc).getInternalName())) {
                     Lambda lambda = new Lambda(host, method, (InvokeDynamicInsnNode) at);
-                    found.putIfAbsent(lambda.body().getOwner() + "." + lambda.body().getName() + lambda.body().getDesc(), lambda);
+                    found.putIfAbsent(lambda.type() + " " + lambda.body().getOwner() + "." + lambda.body().getName() + lambda.body().getDesc(), lambda);
                 }
             }
         }

@@ -28,7 +28,6 @@ import jentry.compiler.rewrite.Lambdas;
  */
 public final class LoadedProcessors {
     private static final String LAMBDA = "$$Lambda";
-    private static final String PROCESSOR = "javax.cache.processor.EntryProcessor";
 
     private LoadedProcessors() { }
 
@@ -96,16 +95,13 @@ public final class LoadedProcessors {
 
     private static Lambdas.Lambda lambda(Object processor, Class<?> host) throws CompileException {
         byte[] bytes = classFile(host);
-        List<Lambdas.Lambda> candidates = ProcessorCompiler.lambdas(bytes).stream()
-            .filter(it -> List.of(Type.getArgumentTypes(it.site().desc)).equals(captured(processor))).toList();
+        Set<String> types = Stream.of(processor.getClass().getInterfaces()).map(Type::getInternalName).collect(Collectors.toSet());
+        List<Lambdas.Lambda> candidates = compiler(host).lambdas(bytes).stream()
+            .filter(it -> types.contains(it.type()) && List.of(Type.getArgumentTypes(it.site().desc)).equals(captured(processor))).toList();
         SerializedLambda declared = HeldValues.describe(processor);
         if (declared != null) {
             return only(host, candidates.stream()
                 .filter(it -> it.isBody(declared.getImplClass(), declared.getImplMethodName(), declared.getImplMethodSignature())).toList());
-        }
-        if (List.of(processor.getClass().getInterfaces()).stream().anyMatch(it -> !it.getName().equals(PROCESSOR))) {
-            throw problem(host.getName(), "a lambda of another type than EntryProcessor can't be told from the class's other lambdas",
-                "declare it as an EntryProcessor, or write it as a class of its own");
         }
         if (candidates.size() > 1) {
             Set<Handle> handedOver = new CallerScan(host, bytes).bodies();
