@@ -111,7 +111,8 @@ final class HalvingPattern implements Opcodes {
         return null;
     }
 
-    private static boolean isHalf(Term term) {
+    /** Returns whether a term is another one divided by 2. */
+    static boolean isHalf(Term term) {
         return (term.isOperation(IUSHR) || term.isOperation(ISHR)) && term.right().isConstant(1) || term.isOperation(IDIV) && term.right().isConstant(2);
     }
 }

@@ -3,6 +3,7 @@ package jentry.compiler.unroll;
 import java.util.ArrayList;
 import java.util.List;
 import java.util.function.ToIntFunction;
+import java.util.stream.IntStream;
 import org.objectweb.asm.Opcodes;
 import org.objectweb.asm.tree.analysis.AnalyzerException;
 import org.objectweb.asm.tree.analysis.Frame;
@@ -44,12 +45,17 @@ record PassLimit(Loop loop, int test, int stays, String what, boolean isSignedSh
     }
 
     private static PassLimit of(ControlFlowGraph graph, Loop loop, LoopPass pass, int test) {
+    private static boolean hasOneExit(ControlFlowGraph graph, Loop loop) {
+        return loop.body().stream().flatMap(it -> IntStream.of(graph.successors(it))).filter(it -> !loop.body().get(it)).count() == 1;
+    }
+
         int stays = loop.body().get(graph.successors(test)[1]) ? 1 : 0;
         List<LoopTest> tests = pass.before(test).stream().map(it -> LoopTest.of(graph.instruction(test).getOpcode(), it, stays == 1)).distinct().toList();
         if (tests.size() != 1 || pass.ends().isEmpty()) {
             return null;
         }
-        ShrinkingPattern pattern = ShrinkingPattern.of(tests.get(0), pass.ends());
+        ShrinkingPattern shrinking = ShrinkingPattern.of(tests.get(0), pass.ends());
+        ShrinkingPattern pattern = shrinking == null && hasOneExit(graph, loop) ? CyclingPattern.of(tests.get(0), pass.ends()) : shrinking;
         return pattern == null ? null : new PassLimit(loop, test, stays, pattern.what(), pattern.isSignedShift(), pattern.passes());
     }
 }

@@ -139,6 +139,27 @@ final class Shrinkage {
         return distance == 0 && isInclusive ? all + 1 : Long.SIZE - Long.numberOfLeadingZeros(distance);
     }
 
+    /**
+     * {@code x = y; y = (x + n / x) / 2} while {@code y < x}, and the like.
+     *
+     * <p>Lemma: let y and n be positive and s the root of n. While y > s, n / y is less than s, so the next y is less than (y + s) / 2, and y - s is halved:
+     * after as many passes as a positive number has bits it is less than 1. No y is less than s rounded down, since (y + n / y) / 2 isn't less than s, so two
+     * passes more can make it less. If y < s, the next one isn't less. A y that isn't positive, or an n, ends sooner.
+     */
+    static int newton(boolean isLong) {
+        return (isLong ? 63 : 31) + 2;
+    }
+
+    /**
+     * {@code do { x = f(x); } while (g(x))} where f has so many values.
+     *
+     * <p>Lemma: of one more value than f has, two are equal, and so are those behind each of them. So g, which is true of all of these, is always true, and a
+     * run that goes on then never ends. The value before the first pass may be one that f doesn't have.
+     */
+    static int cycled(int values) {
+        return values + 1;
+    }
+
     private static int roundedUp(int bits, int k) {
         return (bits + k - 1) / k;
     }

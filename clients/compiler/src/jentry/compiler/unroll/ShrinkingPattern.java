@@ -34,8 +34,9 @@ record ShrinkingPattern(String what, boolean isSignedShift, ToIntFunction<Frame<
     static ShrinkingPattern of(LoopTest test, List<Frame<Term>> ends) {
         for (LoopTest one : List.of(test, test.mirrored())) {
             ShrinkingPattern halving = HalvingPattern.of(one, ends);
-            if (halving != null) {
-                return halving;
+            ShrinkingPattern ofTwo = halving != null ? halving : NewtonPattern.of(one, ends);
+            if (ofTwo != null) {
+                return ofTwo;
             }
             ShrinkingPattern masked = ofMasked(one, ends);
             if (masked != null) {

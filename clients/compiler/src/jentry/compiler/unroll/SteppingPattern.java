@@ -72,7 +72,6 @@ final class SteppingPattern implements Opcodes {
             Function<Frame<AbstractValue>, AbstractValue> narrow = fixed(term.left(), ends);
             return narrow == null ? null : frame -> RangeArithmetic.unary(I2L, narrow.apply(frame));
         }
-        boolean isFixed = term.isLocal() && ends.stream().map(it -> it.getLocal(term.local())).allMatch(it -> it.isLocal() && it.local() == term.local());
-        return isFixed ? frame -> frame.getLocal(term.local()) : null;
+        return term.isLocal() && term.isFixed(ends) ? frame -> frame.getLocal(term.local()) : null;
     }
 }

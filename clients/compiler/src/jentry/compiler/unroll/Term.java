@@ -2,6 +2,7 @@ package jentry.compiler.unroll;
 
 import java.util.List;
 import org.objectweb.asm.Opcodes;
+import org.objectweb.asm.tree.analysis.Frame;
 import org.objectweb.asm.tree.analysis.Value;
 
 /**
@@ -70,6 +71,11 @@ record Term(int size, int opcode, Object leaf, List<Term> operands) implements V
     /** Returns the local at the head that this is. */
     int local() {
         return (Integer) leaf;
+    }
+
+    /** Returns whether this is a constant, or a local that no path of a pass changes. */
+    boolean isFixed(List<Frame<Term>> ends) {
+        return isConstant() || isLocal() && ends.stream().map(it -> it.getLocal(local())).allMatch(it -> it.isLocal() && it.local() == local());
     }
 
     /** Returns whether this is one of two operations, that of int or that of long, which follows it by one. */

@@ -233,4 +233,59 @@ class ShrinkageTest {
         assertEquals("8 9 8 8", most[0] + " " + most[1] + " " + most[2] + " " + most[3]);
         assertEquals(65, Shrinkage.halved(AbstractValue.unknown(2), AbstractValue.unknown(2), true));
     }
+
+    private static int newton(long n, long first, long second) {
+        long x = first;
+        long y = second;
+        int passes = 0;
+        for (; y < x && y != 0; passes++) {
+            x = y;
+            y = (x + n / x) / 2;
+        }
+        return passes;
+    }
+
+    private static int newton(int n, int first, int second) {
+        int x = first;
+        int y = second;
+        int passes = 0;
+        for (; y < x && y != 0; passes++) {
+            x = y;
+            y = x + n / x >> 1;
+        }
+        return passes;
+    }
+
+    @Test
+    void newton() {
+        int most = 0;
+        for (int i = 0; i < 10 * TRIES; i++) {
+            long n = number(true);
+            long x = i % 2 == 0 ? Long.MAX_VALUE : number(true);
+            long y = i % 3 == 0 ? n / 2 + 1 : number(true);
+            assertWithin(newton(n, x, y), Shrinkage.newton(true), "the root of " + n + " from " + x + " and " + y);
+            assertWithin(newton((int) n, (int) x, (int) y), Shrinkage.newton(false), "the root of " + (int) n + " from " + (int) x + " and " + (int) y);
+            most = Math.max(most, newton(n >>> 1, Long.MAX_VALUE, Long.MAX_VALUE - 1));
+        }
+        assertTrue(newton(1, Long.MAX_VALUE, Long.MAX_VALUE - 1) >= Shrinkage.newton(true) - 3, "the bound is nearly reached");
+        assertTrue(most >= Shrinkage.newton(true) - 3, "random values come near it, too: " + most);
+    }
+
+    @Test
+    void cycled() {
+        for (int i = 0; i < TRIES; i++) {
+            int[] next = random.ints(1 + random.nextInt(20), 0, 1_000).toArray();
+            int values = next.length;
+            int x = random.nextInt(1_000);
+            boolean[] seen = new boolean[1_000];
+            int passes = 0;
+            do {
+                seen[x] = true;
+                x = next[x % values];
+                passes++;
+            } while (!seen[x]);
+            assertWithin(passes, Shrinkage.cycled(values), values + " values");
+        }
+        assertEquals(65, Shrinkage.cycled(64));
+    }
 }
