@@ -43,6 +43,7 @@ public final class ProcessorCompiler {
     private final ProgramClasses program;
 
     /** Creates a compiler that removes instructions without effect, and knows no other classes. */
+    private final boolean computesSteps;
     public ProcessorCompiler() {
         this(false, ProgramClasses.NONE);
     }
@@ -65,8 +66,34 @@ public final class ProcessorCompiler {
     public ProcessorCompiler(boolean isVerbatim, ProgramClasses program) {
         this.isVerbatim = isVerbatim;
         this.program = program;
+        this(isVerbatim, program, false);
     }
 
+    private ProcessorCompiler(boolean isVerbatim, ProgramClasses program, boolean computesSteps) {
+    }
+
+        this.computesSteps = computesSteps;
+    }
+
+    /** One attempt to compile a processor. */
+    private interface Attempt {
+        CompiledClass by(ProcessorCompiler compiler) throws CompileException;
+    }
+
+    /** Compiles with all loops written out; where that fails, once more with those computed at once that add the same in each pass. */
+    private CompiledClass orComputed(Attempt attempt) throws CompileException {
+        try {
+            return attempt.by(this);
+        } catch (CompileException e) {
+            if (isVerbatim) {
+                throw e;
+            }
+            try {
+                return attempt.by(new ProcessorCompiler(false, program, true));
+            } catch (CompileException ignored) {
+                throw e;
+            }
+        }
     /** Returns whether the class of a class file is an EntryProcessor that can be instantiated, or has lambdas that are. */
     public boolean hasProcessors(byte[] classFile) throws CompileException {
         ClassNode node = read(classFile);
@@ -155,6 +182,10 @@ public final class ProcessorCompiler {
     public CompiledClass compileClass(byte[] classFile, Object processor) throws CompileException {
         ClassNode node = read(classFile);
         String name = Instructions.nameOf(node.name);
+        return orComputed(it -> it.compiledClass(classFile, processor));
+    }
+
+    private CompiledClass compiledClass(byte[] classFile, Object processor) throws CompileException {
         if (classFile.length <= MOST_BYTES && Profile.problems(node, Profile.Stage.COMPLETE).isEmpty()) {
             Bounds bounds = Bounds.of(node);
             return new CompiledClass(name, name, classFile, true, bounds, bounds.steps(), List.of(), Captures.NONE);
@@ -258,6 +289,10 @@ public final class ProcessorCompiler {
         }
     }
 
+        return orComputed(it -> it.compiledLambda(lambda, processor));
+    }
+
+    private CompiledClass compiledLambda(Lambdas.Lambda lambda, Object processor) throws CompileException {
     private static ClassNode read(byte[] classFile) throws CompileException {
         try {
             byte[] bytes = classFile;
@@ -282,7 +317,7 @@ public final class ProcessorCompiler {
         ClassNode node = linked.node();
         try {
             List<String> notes = new ArrayList<>(linked.notes());
-            notes.addAll(Rewriter.rewrite(node, host, linked.constants()));
+            notes.addAll(Rewriter.rewrite(node, host, linked.constants(), computesSteps));
             refuse(Profile.problems(node, Profile.Stage.BEFORE_UNROLLING));
             LoopUnroller unroller = new LoopUnroller(node, linked.captures().hidden().size());
             long steps = unroller.steps();

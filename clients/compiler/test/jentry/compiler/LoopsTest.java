@@ -2,8 +2,11 @@ package jentry.compiler;
 
 import static org.junit.jupiter.api.Assertions.assertEquals;
 import static org.junit.jupiter.api.Assertions.assertFalse;
+import static org.junit.jupiter.api.Assertions.assertThrows;
 import static org.junit.jupiter.api.Assertions.assertTrue;
 
+import jentry.compiler.compare.Comparison;
+import jentry.compiler.rewrite.Rewriter;
 import org.junit.jupiter.api.Test;
 import org.junit.jupiter.params.ParameterizedTest;
 import org.junit.jupiter.params.provider.CsvSource;
@@ -94,6 +97,10 @@ class LoopsTest {
             + "{ hi = mid; } } s = lo * 2 + hi;",
         "halves the distance | int n = entry.getKey().intValue(), lo = 0, hi = entry.exists() ? 1 << 20 : 9; while (lo < hi) { "
             + "int mid = (lo + hi) >> 1; if (mid < n) { lo = mid + 1; } else { hi = mid; } s++; } s = s * 3 + lo;",
+        "computes a square root | long n = entry.getKey(), x = n, y = n / 2 + 1; while (y < x) { x = y; y = (x + n / x) / 2; } s = x;",
+        "computes a square root | int n = entry.getKey().intValue(), x = 1 << 20; for (;;) { int y = n / x + x >> 1; if (y >= x) { break; } x = y; s++; } s = s * 99 + x;",
+        "computes one of few | int x = entry.getKey().intValue(); long w = args.length * 2 + 1; do { x = (x + 1) % 64; s++; } while ((w >>> x & 1) == 0); s = s * 99 + x;",
+        "computes one of few | int n = args.length, x = entry.getKey().intValue(); while ((x * 5 & 12) < n) { x = x + 3 & 15; s = s * 3 + x; }",
         "moves a value | int x = (int) (entry.getKey() & 0xFFFF); while (x > 0) { x -= 60; s++; }",
         "moves a value | long x = Math.min(20000, entry.getKey()); while (x >= 100) { x -= 100; s += x; }",
         "moves a value | int x = (int) (entry.getKey() % 9000); while (x < 0) { x += 17; s = s * 3 + x; } s += x;",
@@ -120,8 +127,12 @@ class LoopsTest {
         "long x = entry.getKey(); while (x != 0) { x >>>= 1; if (args.length > 3) { x += 5; } }",
         "long x = entry.getKey(); while (x != 0) { if (x % 3 == 0) { x >>>= 1; } else { x /= 3; } }",
         "long x = entry.getKey(), y = x; while (y != 0) { x >>>= 1; }",
-        "long x = entry.getKey(), k = x; while (x > 0) { x -= k; }",
-        "long x = entry.getKey(); while (x > 0) { x -= 5; }",
+        "long x = entry.getKey(), k = x; while (x > 0) { x -= k; if (args.length > 3) { s++; } }",
+        "long x = entry.getKey(); while (x != 0) { x -= 5; }",
+        "long x = entry.getKey(), k = 3; while (x > 0) { x -= k; k += 2; }",
+        "long x = entry.getKey(); while (x > 0) { x -= 5; s = s * 3 + 1; }",
+        "int x = entry.getKey().intValue(); long n = entry.getKey(); while (n >= x) { x += 7; }",
+        "long x = entry.getKey(); while (x > s) { x -= 5; s--; }",
         "long lo = 0, hi = 1L << 40; while (lo < hi) { long mid = lo + hi >>> 1; if (mid < entry.getKey()) { lo = mid; } else { hi = mid; } }",
         "long lo = 0, hi = entry.getKey(); while (lo < hi) { long mid = (lo + hi) / 2; if (mid < 77) { lo = mid + 1; } else { hi = mid; } }",
         "long lo = -1L << 40, hi = 1L << 40; while (lo < hi) { long mid = lo + hi >>> 1; if (mid < entry.getKey()) { lo = mid + 1; } else { hi = mid; } }",
@@ -130,6 +141,27 @@ class LoopsTest {
     void loopsThatMayNotEnd(String body) {
         String refusal = Checks.refusal(source(body));
         assertTrue(refusal.matches("P.process, line 5: (no counter ends this loop|this loop (counts to, or from, a number|shifts a value|has too many passes)).*"), refusal);
+    }
+
+    @ParameterizedTest
+    @ValueSource(strings = {
+        "long x = entry.getKey(); while (x > 0) { x -= 5; s++; } s = s * 31 + x;",
+        "long x = entry.getKey(), k = args.length; while (x >= k) { x -= k; s += 3; } s = s * 31 + x;",
+        "long x = entry.getKey(), k = args.length + 1; int n = 7; while (k < x) { n -= 12345678; x -= k; s += 9; } s = s * 31 + x + n;",
+        "int x = entry.getKey().intValue(), by = args.length + 5; while (x < 1000) { s -= 77; x += by; } s = s * 31 + x;",
+        "int x = entry.getKey().intValue(), by = (args.length + 1) << 27, n = 2000000000; while (n >= x) { x = x + by; s++; } s = s * 31 + x;",
+        "Long x = entry.getKey(), by = entry.getValue(); int n = 0; while (x <= 77) { x += by; n++; } s = x * 31 + n;",
+        "Long x = entry.getValue(), most = entry.getKey(); Integer n = 5; while (x < most) { n += 3; x = 1000 + x; } s = x * 31 + n;",
+        "int[] coins = {200, 50, 7, 1}; int x = entry.getKey().intValue(); for (int coin : coins) { while (x >= coin) { x -= coin; s++; } s *= 31; } s += x;",
+        "for (long i = 0; i < entry.getKey(); i++) { break; } long n = entry.getKey(); for (long i = 0; i < n; i += 3) { s += 2; }"})
+    void loopsThatAddTheSame(String body) throws ReflectiveOperationException {
+        byte[] original = source(body);
+        CompiledClass compiled = Checks.compile(original);
+        assertTrue(compiled.notes().stream().anyMatch(it -> it.startsWith(Rewriter.COMPUTED)), compiled.notes().toString());
+        Comparison.Report report = Comparison.compare(Checks.PATH, original, compiled, 10_000, 7);
+        assertEquals("", report.difference().map(Object::toString).orElse(""));
+        assertTrue(report.returned() > 3_000, report.toString());
+        assertThrows(CompileException.class, () -> new ProcessorCompiler(true).compile(original), "where each instruction is kept, nothing is computed");
     }
 
     @Test

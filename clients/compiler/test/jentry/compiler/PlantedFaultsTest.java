@@ -79,6 +79,38 @@ class PlantedFaultsTest {
                 sum = sum * 5 + x;
             }
             return sum;""", ""));
+        sources.put("Rings", Javac.processor("Rings", "Object", """
+            long key = entry.getKey();
+            long sum = 0;
+            long x = key;
+            long y = key / 2 + 1;
+            while (y < x) {
+                x = y;
+                y = (x + key / x) / 2;
+                sum++;
+            }
+            int at = (int) key;
+            do {
+                at = at + 1 & 63;
+                sum = sum * 3 + at;
+            } while ((1L << 50 >>> at & 1) == 0);
+            return sum * 11 + x;""", ""));
+        sources.put("Repeats", Javac.processor("Repeats", "Object", """
+            long key = entry.getKey();
+            long sum = 0;
+            long by = args.length + 7;
+            long left = key;
+            while (left > 1_000) {
+                left -= by;
+                sum += 5;
+            }
+            sum = sum * 7 + left;
+            int cents = (int) key;
+            while (cents <= -30) {
+                cents += 30;
+                sum++;
+            }
+            return sum * 11 + cents;""", ""));
         classes = Javac.compile(sources, "--release", "8");
     }
 
@@ -101,6 +133,11 @@ class PlantedFaultsTest {
         "Shrinks | unroll/Shrinkage.java | return isLong ? 92 - 2 + 1 | return isLong ? 12",
         "Steps | unroll/Shrinkage.java | (x.high() - limit + step - 1) / step | (x.high() - limit) / step",
         "Steps | unroll/SteppingPattern.java | isDown ? x : negative(x); | x;",
+        "Rings | unroll/Shrinkage.java | (isLong ? 63 : 31) + 2 | (isLong ? 21 : 31) + 2",
+        "Rings | unroll/Shrinkage.java | return values + 1; | return values - 40;",
+        "Repeats | library/StepsMethods.java | return whole + 1; | return whole;",
+        "Repeats | unroll/RepeatedSteps.java | isDown ? LADD : LSUB | isDown ? LSUB : LADD",
+        "Repeats | unroll/Step.java | isAdded ? IADD : ISUB | IADD",
         "Shrinks | unroll/UnrolledGraph.java | value.isConstant() && value.low() == 0; | value.isConstant() && value.low() == 1;"})
     void theComparisonFindsIt(String processor, String file, String right, String wrong) throws Exception {
         Path source = Javac.HERE.resolve("src/jentry/compiler").resolve(file);

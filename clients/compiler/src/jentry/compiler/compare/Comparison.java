@@ -27,15 +27,17 @@ public final class Comparison {
      * @param difference the first difference, or empty
      * @param calls the number of calls that were compared
      * @param returned how many of them returned; the others threw
+     * @param leftOut the number of calls that weren't compared: the original made too many passes of a loop that is computed at once, or the tested
+     *     number of such a loop left its range, so that the compiled class threw as its note says
      */
-    public record Report(Optional<Difference> difference, int calls, int returned) {
+    public record Report(Optional<Difference> difference, int calls, int returned, int leftOut) {
         /** Below this number of calls that returned, a comparison says little. */
         public static final int FEW = 1_000;
 
         @Override
         public String toString() {
             return calls + " calls compared, " + (difference.isEmpty() ? "none differs" : "the last differs") + ": " + returned + " returned, "
-                + (calls - returned) + " threw";
+                + (calls - returned) + " threw" + (leftOut == 0 ? "" : "; " + leftOut + " more calls go on in a loop that is computed at once");
         }
     }
 
@@ -76,27 +78,45 @@ public final class Comparison {
      * @throws ReflectiveOperationException if one of the two classes can't be loaded or instantiated
      */
     public static Report compare(ClassPath path, byte[] original, CompiledClass compiled, int calls, long seed) throws ReflectiveOperationException {
-        Runner before = new Runner(path, original, compiled.source());
+        return compare(path, original, compiled, null, calls, seed);
+    }
+
+    /**
+     * Compares two classes as {@link #compare(ClassPath, byte[], CompiledClass, int, long)} does, by calls of one processor.
+     *
+     * @param processor the processor that the class was compiled for, or null for others
+     */
+    public static Report compare(ClassPath path, byte[] original, CompiledClass compiled, Object processor, int calls, long seed)
+            throws ReflectiveOperationException {
+        Runner before = Runner.limited(path, original, compiled);
         Runner after = new Runner(path, compiled.bytes(), compiled.name());
         RandomCalls random = new RandomCalls(original, compiled.source(), seed);
         Random values = new Random(seed);
         int hidden = compiled.captures().hidden().size();
         int returned = 0;
+        int leftOut = 0;
         for (int i = 0; i < calls; i++) {
-            if (i % CALLS_OF_ONE == 0) {
+            if (i == 0 && processor != null) {
+                before.use(processor);
+                after.hide(compiled.captures().arguments(processor));
+            } else if (i % CALLS_OF_ONE == 0 && processor == null) {
                 after.hide(compiled.captures().arguments(before.renew(values)));
             }
             Call call = random.next().within(ArgumentKinds.MOST_ARGUMENTS - hidden);
             Outcome one = before.run(call);
             Outcome other = after.run(call);
+            if (before.isLeftOut(one, other, after.text())) {
+                leftOut++;
+                continue;
+            }
             returned += one.thrown() == null ? 1 : 0;
             boolean hasText = THROWN.contains(String.valueOf(one.thrown())) && one.equals(other);
             if (hasText && !isOfParts(after.text(), before.text())) {
-                return new Report(Optional.of(new Difference(call, with(one, before.text()), with(other, after.text()))), i + 1, returned);
+                return new Report(Optional.of(new Difference(call, with(one, before.text()), with(other, after.text()))), i + 1 - leftOut, returned, leftOut);
             } else if (!one.equals(other)) {
-                return new Report(Optional.of(new Difference(call, one, other)), i + 1, returned);
+                return new Report(Optional.of(new Difference(call, one, other)), i + 1 - leftOut, returned, leftOut);
             }
         }
-        return new Report(Optional.empty(), calls, returned);
+        return new Report(Optional.empty(), calls - leftOut, returned, leftOut);
     }
 }

@@ -8,6 +8,9 @@ import java.lang.reflect.Method;
 import java.lang.reflect.Proxy;
 import java.time.DateTimeException;
 import java.util.Random;
+import jentry.compiler.CompiledClass;
+import jentry.compiler.library.StepsMethods;
+import jentry.compiler.rewrite.Rewriter;
 
 /** Runs a processor on this JVM. */
 public final class Runner {
@@ -16,6 +19,7 @@ public final class Runner {
     private final boolean isOfLambda;
     private final Entry entry = new Entry();
     private final Object proxy;
+    private PassBudget budget;
     private MethodHandle process;
     private Object[] hidden = {};
     private String text;
@@ -36,6 +40,31 @@ public final class Runner {
         method = isOfLambda ? bodyOf(type, source.substring(hash + 1))
             : path.load("javax.cache.processor.EntryProcessor").getMethod("process", entries, Object[].class);
         method.setAccessible(true);
+    }
+
+    /**
+     * Loads a class file whose runs are ended if they make too many passes of loops.
+     *
+     * @param compiled what it was compiled to, which says whether there are loops that may do so
+     * @throws ReflectiveOperationException if the class can't be loaded
+     */
+    public static Runner limited(ClassPath path, byte[] classFile, CompiledClass compiled) throws ReflectiveOperationException {
+        boolean isLimited = compiled.notes().stream().anyMatch(it -> it.startsWith(Rewriter.COMPUTED));
+        Runner runner = new Runner(path, isLimited ? PassBudget.limited(classFile) : classFile, compiled.source());
+        runner.budget = isLimited ? new PassBudget(runner.type) : null;
+        return runner;
+    }
+
+    /**
+     * Returns whether the last run isn't to be compared: it was ended, or it went on in a loop that is computed at once, where the compiled class throws.
+     *
+     * @param before its outcome
+     * @param after the outcome of the compiled class
+     * @param text the text of its exception
+     */
+    public boolean isLeftOut(Outcome before, Outcome after, String text) throws ReflectiveOperationException {
+        boolean goesOn = "ArithmeticException".equals(after.thrown()) && StepsMethods.ENDLESS.equals(text) && !before.equals(after);
+        return budget != null && (budget.isSpent() || goesOn);
     }
 
     private static Method bodyOf(Class<?> type, String body) throws ReflectiveOperationException {
@@ -73,6 +102,17 @@ public final class Runner {
         return holder;
     }
 
+    /**
+     * Uses a given processor.
+     *
+     * @param processor an instance of the class; its loader is one of the class path
+     * @throws ReflectiveOperationException if the class path has another EntryProcessor
+     */
+    public void use(Object processor) throws ReflectiveOperationException {
+        process = MethodHandles.lookup().unreflect(method).asFixedArity().bindTo(processor)
+            .asType(MethodType.methodType(Object.class, Object.class, Object[].class));
+    }
+
     /** Sets the arguments that each call has in front of its own. */
     public void hide(Object... values) {
         hidden = values;
@@ -86,6 +126,9 @@ public final class Runner {
         entry.key = call.key();
         entry.value = call.value();
         text = null;
+        if (budget != null) {
+            budget.renew();
+        }
         try {
             Object result = (Object) process.invokeExact(proxy, call.behind(hidden).arguments());
             boolean isKnown = result == null || result instanceof Number || result instanceof Boolean;

@@ -7,9 +7,13 @@ import java.util.Set;
 import org.objectweb.asm.tree.ClassNode;
 import jentry.compiler.profile.CallGraph;
 import jentry.compiler.profile.ProblemException;
+import jentry.compiler.unroll.RepeatedSteps;
 
 /** Runs the passes before the unrolling of loops. Each one replaces constructs that the server refuses. */
 public final class Rewriter {
+    /** The start of the note of loops whose number of passes isn't limited. */
+    public static final String COMPUTED = "loops that add the same in each pass, computed at once";
+
     private Rewriter() { }
 
     /**
@@ -17,10 +21,11 @@ public final class Rewriter {
      *
      * @param host the class that contained the lambda, or null if the class isn't made from a lambda
      * @param values the values of static fields that aren't those of the class's initialiser, by name
+     * @param computesSteps whether loops that add the same in each pass are computed at once
      * @return the changes, one per line
      * @throws ProblemException if a pass can't preserve the meaning of the class
      */
-    public static List<String> rewrite(ClassNode owner, ClassNode host, Map<String, Object> values) throws ProblemException {
+    public static List<String> rewrite(ClassNode owner, ClassNode host, Map<String, Object> values, boolean computesSteps) throws ProblemException {
         List<String> notes = new ArrayList<>();
         owner.methods.forEach(it -> it.localVariables = null);
         ClassVersion.lower(owner);
@@ -42,6 +47,10 @@ public final class Rewriter {
         CallGraph.dropUnused(owner);
         if (owner.methods.size() < before) {
             notes.add("methods left out that process doesn't reach: " + (before - owner.methods.size()));
+        }
+        int steps = computesSteps ? RepeatedSteps.replace(owner) : 0;
+        if (steps > 0) {
+            notes.add(COMPUTED + ": " + steps + "; a run that would go on throws ArithmeticException");
         }
         add(notes, LibraryCalls.replace(owner), "methods of the JDK copied in");
         int handlers = ArithmeticHandlers.replace(owner);

@@ -4,6 +4,7 @@ import java.util.ArrayList;
 import java.util.HashMap;
 import java.util.List;
 import java.util.Map;
+import java.util.Set;
 import org.objectweb.asm.Opcodes;
 import org.objectweb.asm.Type;
 import org.objectweb.asm.tree.AbstractInsnNode;
@@ -49,6 +50,13 @@ final class LoopPass implements Opcodes {
                 }
             }
         }
+    }
+
+    /** Returns whether a call makes the box of a number, or reads its number. */
+    static boolean isOfBox(MethodInsnNode call) {
+        boolean isLong = call.owner.equals("java/lang/Long");
+        String makes = isLong ? "valueOf(J)Ljava/lang/Long;" : "valueOf(I)Ljava/lang/Integer;";
+        return (isLong || call.owner.equals("java/lang/Integer")) && Set.of(makes, isLong ? "longValue()J" : "intValue()I").contains(call.name + call.desc);
     }
 
     /** Returns the frames of all paths before an instruction. */
@@ -169,6 +177,9 @@ final class LoopPass implements Opcodes {
 
         @Override
         public Term naryOperation(AbstractInsnNode at, List<? extends Term> operands) {
+            if (at instanceof MethodInsnNode call && isOfBox(call)) {
+                return ofBox(call, operands.get(0));
+            }
             boolean isOfLibrary = at instanceof MethodInsnNode it && operands.size() == 1 && (it.name.startsWith("Long_") || it.name.startsWith("Integer_"));
             if (isOfLibrary) {
                 MethodInsnNode call = (MethodInsnNode) at;
@@ -176,6 +187,12 @@ final class LoopPass implements Opcodes {
             }
             return unknown(at, at instanceof MethodInsnNode call ? Type.getReturnType(call.desc)
                 : at instanceof InvokeDynamicInsnNode it ? Type.getReturnType(it.desc) : Type.INT_TYPE);
+        }
+
+        private static Term ofBox(MethodInsnNode call, Term operand) {
+            boolean isBoxed = operand.opcode() == INVOKESTATIC && operand.leaf().equals(call.owner + ".valueOf");
+            return call.getOpcode() == INVOKEVIRTUAL && isBoxed ? operand.left()
+                : new Term(Type.getReturnType(call.desc).getSize(), call.getOpcode(), call.owner + "." + call.name, List.of(operand));
         }
 
         @Override

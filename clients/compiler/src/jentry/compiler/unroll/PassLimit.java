@@ -37,18 +37,19 @@ record PassLimit(Loop loop, int test, int stays, String what, boolean isSignedSh
         return limits;
     }
 
-    private static boolean isEachPassTest(ControlFlowGraph graph, Loop loop, int place) {
+    /** Returns whether a place is a test that leaves the loop, and each pass comes to it. */
+    static boolean isEachPassTest(ControlFlowGraph graph, Loop loop, int place) {
         int[] next = graph.successors(place);
         int opcode = graph.instruction(place).getOpcode();
         boolean isTest = next.length == 2 && opcode >= IFEQ && opcode <= IF_ICMPLE;
         return isTest && loop.body().get(next[0]) != loop.body().get(next[1]) && loop.latches().stream().allMatch(it -> graph.dominates(place, it));
     }
 
-    private static PassLimit of(ControlFlowGraph graph, Loop loop, LoopPass pass, int test) {
     private static boolean hasOneExit(ControlFlowGraph graph, Loop loop) {
         return loop.body().stream().flatMap(it -> IntStream.of(graph.successors(it))).filter(it -> !loop.body().get(it)).count() == 1;
     }
 
+    private static PassLimit of(ControlFlowGraph graph, Loop loop, LoopPass pass, int test) {
         int stays = loop.body().get(graph.successors(test)[1]) ? 1 : 0;
         List<LoopTest> tests = pass.before(test).stream().map(it -> LoopTest.of(graph.instruction(test).getOpcode(), it, stays == 1)).distinct().toList();
         if (tests.size() != 1 || pass.ends().isEmpty()) {
