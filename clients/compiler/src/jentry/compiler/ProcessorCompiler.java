@@ -9,6 +9,7 @@ import org.objectweb.asm.ClassReader;
 import org.objectweb.asm.ClassWriter;
 import org.objectweb.asm.MethodTooLargeException;
 import org.objectweb.asm.Opcodes;
+import org.objectweb.asm.Type;
 import org.objectweb.asm.tree.ClassNode;
 import org.objectweb.asm.tree.MethodNode;
 import jentry.compiler.link.Captures;
@@ -37,13 +38,14 @@ public final class ProcessorCompiler {
     private static final int MOST_BYTES = 65_536;
     private static final int NEWEST_VERSION = 64;
     private static final int MOST_ARGUMENTS = 8;
+    private static final String PARAMETERS = Members.PROCESS.substring(0, Members.PROCESS.indexOf(')') + 1);
     private static final Set<String> NUMBERS = Set.of("java/lang/Number", "java/lang/Long", "java/lang/Integer");
 
     private final boolean isVerbatim;
     private final ProgramClasses program;
+    private final boolean computesSteps;
 
     /** Creates a compiler that removes instructions without effect, and knows no other classes. */
-    private final boolean computesSteps;
     public ProcessorCompiler() {
         this(false, ProgramClasses.NONE);
     }
@@ -64,14 +66,12 @@ public final class ProcessorCompiler {
      * @param program the classes that processors may use
      */
     public ProcessorCompiler(boolean isVerbatim, ProgramClasses program) {
-        this.isVerbatim = isVerbatim;
-        this.program = program;
         this(isVerbatim, program, false);
     }
 
     private ProcessorCompiler(boolean isVerbatim, ProgramClasses program, boolean computesSteps) {
-    }
-
+        this.isVerbatim = isVerbatim;
+        this.program = program;
         this.computesSteps = computesSteps;
     }
 
@@ -94,6 +94,8 @@ public final class ProcessorCompiler {
                 throw e;
             }
         }
+    }
+
     /** Returns whether the class of a class file is an EntryProcessor that can be instantiated, or has lambdas that are. */
     public boolean hasProcessors(byte[] classFile) throws CompileException {
         ClassNode node = read(classFile);
@@ -180,16 +182,20 @@ public final class ProcessorCompiler {
      * @throws CompileException if the class can't be compiled
      */
     public CompiledClass compileClass(byte[] classFile, Object processor) throws CompileException {
-        ClassNode node = read(classFile);
-        String name = Instructions.nameOf(node.name);
         return orComputed(it -> it.compiledClass(classFile, processor));
     }
 
     private CompiledClass compiledClass(byte[] classFile, Object processor) throws CompileException {
+        ClassNode node = read(classFile);
+        String name = Instructions.nameOf(node.name);
         if (classFile.length <= MOST_BYTES && Profile.problems(node, Profile.Stage.COMPLETE).isEmpty()) {
             Bounds bounds = Bounds.of(node);
             return new CompiledClass(name, name, classFile, true, bounds, bounds.steps(), List.of(), Captures.NONE);
-        } else if (Linker.isNeeded(node, program)) {
+        }
+        for (MethodNode method : node.methods) {
+            refuseArray(node, method, method.name.equals("process") && method.desc.startsWith(PARAMETERS) ? method.desc : "");
+        }
+        if (Linker.isNeeded(node, program)) {
             return linked(node, name, processor);
         }
         try {
@@ -203,6 +209,14 @@ public final class ProcessorCompiler {
             } catch (CompileException ignored) {
                 throw e;
             }
+        }
+    }
+
+    /** Refuses a process that returns an array, which the server never gives to a caller. */
+    private static void refuseArray(ClassNode owner, MethodNode method, String descriptor) throws CompileException {
+        Type result = descriptor.isEmpty() ? Type.VOID_TYPE : Type.getReturnType(descriptor);
+        if (result.getSort() == Type.ARRAY) {
+            refuse(List.of(Instructions.problem(owner, method, "a result of type " + result.getClassName(), "return a Long, an Integer, a Boolean or null from process")));
         }
     }
 
@@ -275,6 +289,11 @@ public final class ProcessorCompiler {
      * @throws CompileException if the lambda can't be compiled
      */
     public CompiledClass compileLambda(Lambdas.Lambda lambda, Object processor) throws CompileException {
+        return orComputed(it -> it.compiledLambda(lambda, processor));
+    }
+
+    private CompiledClass compiledLambda(Lambdas.Lambda lambda, Object processor) throws CompileException {
+        refuseArray(lambda.host(), lambda.method(), lambda.body().getDesc());
         try {
             String source = Instructions.nameOf(lambda.host().name) + "#" + lambda.body().getName() + lambda.body().getDesc();
             if (Lambdas.isOwn(lambda)) {
@@ -289,10 +308,6 @@ public final class ProcessorCompiler {
         }
     }
 
-        return orComputed(it -> it.compiledLambda(lambda, processor));
-    }
-
-    private CompiledClass compiledLambda(Lambdas.Lambda lambda, Object processor) throws CompileException {
     private static ClassNode read(byte[] classFile) throws CompileException {
         try {
             byte[] bytes = classFile;

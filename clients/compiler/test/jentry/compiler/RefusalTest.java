@@ -70,6 +70,16 @@ class RefusalTest {
     }
 
     @Test
+    void arraysAsResults() {
+        String ofClass = Checks.refusal(Javac.compile("R", Javac.processor("R", "long[]", "return new long[] {1, args.length};", ""), "--release", "17"));
+        assertTrue(ofClass.startsWith("R.process, line 4: a result of type long[]; return a Long"), ofClass);
+        String host = "import javax.cache.processor.*;\npublic class H {\nstatic EntryProcessor<Long, Long, long[]> made() {\n"
+            + "return (entry, args) -> new long[args.length];\n}\n}\n";
+        String ofLambda = Checks.refusal(Javac.compile("H", host, "--release", "8"));
+        assertTrue(ofLambda.startsWith("H.made, line 4: a result of type long[]"), ofLambda);
+    }
+
+    @Test
     void aTableThatTheHostOfALambdaWrites() {
         String host = "import javax.cache.processor.*;\npublic class H {\nstatic final long[] SEEN = {1, 2};\nstatic void hit() {\nSEEN[0]++;\n}\n"
             + "static EntryProcessor<Long, Long, Long> made() {\nreturn (entry, args) -> SEEN[0];\n}\n}\n";

@@ -3,6 +3,7 @@ package jentry.compiler;
 import java.io.File;
 import java.io.IOException;
 import java.io.UncheckedIOException;
+import java.lang.reflect.Constructor;
 import java.nio.file.Files;
 import java.nio.file.Path;
 import java.util.ArrayList;
@@ -11,6 +12,7 @@ import java.util.List;
 import java.util.Map;
 import java.util.TreeMap;
 import jentry.compiler.compare.ClassPath;
+import jentry.compiler.profile.Instructions;
 import jentry.compiler.profile.Members;
 import jentry.compiler.rewrite.Lambdas;
 import org.objectweb.asm.ClassReader;
@@ -40,7 +42,7 @@ final class Suite {
      * @param program the classes that it may use
      */
     record Processor(String name, byte[] classFile, Handle body, ProgramClasses program) {
-        /** Compiles it. */
+        /** Compiles it for all its objects. */
         CompiledClass compile() throws CompileException {
             if (body == null) {
                 return new ProcessorCompiler(false, program).compileClass(classFile);
@@ -52,6 +54,28 @@ final class Suite {
             }
             throw new CompileException(List.of(new jentry.compiler.profile.Problem(name, "", -1, "the lambda isn't found", "")));
         }
+    }
+
+    /** Returns an object of a class that holds an array or other processors, as a client has when it sends one, or null for other classes. */
+    Object object(Processor processor) throws ReflectiveOperationException {
+        Constructor<?>[] constructors = processor.body == null ? load(processor.name).getDeclaredConstructors() : new Constructor<?>[0];
+        List<Class<?>> types = constructors.length != 1 ? List.of() : List.of(constructors[0].getParameterTypes());
+        List<Object> values = new ArrayList<>();
+        for (Class<?> type : types) {
+            values.add(type == long[].class ? new long[] {1, 8, 1L << 40} : !type.getName().equals(Instructions.nameOf(Members.PROCESSOR)) ? null
+                : values.isEmpty() ? made("Counters$AddAll") : made("GridStyle$Clamp", 10L, 1_000L));
+        }
+        return values.isEmpty() || values.contains(null) ? null : made(processor.name, values.toArray());
+    }
+
+    private Class<?> load(String name) throws ClassNotFoundException {
+        return Class.forName(name, true, path.loader());
+    }
+
+    private Object made(String name, Object... values) throws ReflectiveOperationException {
+        Constructor<?> constructor = load(name).getDeclaredConstructors()[0];
+        constructor.setAccessible(true);
+        return constructor.newInstance(values);
     }
 
     /**

@@ -13,12 +13,13 @@ import java.util.TreeMap;
 import jentry.compiler.compare.Comparison;
 import jentry.compiler.profile.Problem;
 import org.junit.jupiter.api.BeforeAll;
+import org.junit.jupiter.api.Tag;
 import org.junit.jupiter.api.Test;
 import org.junit.jupiter.api.io.TempDir;
 
 /**
  * Tests the processors of test/suite against test/suite/verdicts.tsv: what each needs beside plain code, whether it is accepted as javac made it, by the
- * compiler, or refused, and why.
+ * compiler, by the Java client, which has the object that it sends, or refused, and why.
  *
  * <p>Prints a table by feature. With -Djentry.suite=write (`run-tests PROGRAM --write-suite`) the file gets the verdicts of today.
  */
@@ -34,17 +35,20 @@ class SuiteTest {
     private static final Map<String, Row> ROWS = new TreeMap<>();
     private static final Map<String, CompiledClass> COMPILED = new TreeMap<>();
 
+    /** The objects of those that are accepted for one object alone. */
+    private static final Map<String, Object> OBJECTS = new TreeMap<>();
+
     /**
      * A row of the table.
      *
      * @param needs features, separated by commas
-     * @param verdict `javac`, `compiler` or `refused`
+     * @param verdict `javac`, `compiler`, `client` or `refused`
      * @param reason why it is refused, else empty
      */
     private record Row(String needs, String verdict, String reason) { }
 
     @BeforeAll
-    static void compile() {
+    static void compile() throws ReflectiveOperationException {
         suite = new Suite(folder);
         Map<String, Row> known = known();
         for (Suite.Processor processor : suite.processors()) {
@@ -54,11 +58,25 @@ class SuiteTest {
                 COMPILED.put(processor.name(), compiled);
                 ROWS.put(processor.name(), new Row(needs, compiled.isUnchanged() ? "javac" : "compiler", ""));
             } catch (CompileException e) {
-                ROWS.put(processor.name(), new Row(needs, "refused", reason(e.problems())));
+                boolean isSent = compileObject(processor);
+                ROWS.put(processor.name(), new Row(needs, isSent ? "client" : "refused", isSent ? "" : reason(e.problems())));
             }
         }
         if ("write".equals(System.getProperty("jentry.suite"))) {
             write();
+        }
+    }
+
+    private static boolean compileObject(Suite.Processor processor) throws ReflectiveOperationException {
+        Object object = suite.object(processor);
+        try {
+            if (object != null) {
+                COMPILED.put(processor.name(), new ProcessorCompiler(false, processor.program()).compileClass(processor.classFile(), object));
+                OBJECTS.put(processor.name(), object);
+            }
+            return object != null;
+        } catch (CompileException e) {
+            return false;
         }
     }
 
@@ -119,8 +137,9 @@ class SuiteTest {
             if (compiled == null || compiled.isUnchanged()) {
                 continue;
             }
-            Comparison.Report report = Comparison.compare(suite.path(), processor.classFile(), compiled, CALLS, 3);
+            Comparison.Report report = Comparison.compare(suite.path(), processor.classFile(), compiled, OBJECTS.get(processor.name()), CALLS, 3);
             assertTrue(report.difference().isEmpty(), processor.name() + ": " + report.difference());
+            assertTrue(report.calls() >= Comparison.Report.FEW, processor.name() + ": " + report);
             calls += report.calls();
             returned += report.returned();
             if (report.returned() < Comparison.Report.FEW) {
@@ -134,23 +153,37 @@ class SuiteTest {
     }
 
     @Test
-    void printTheTable() {
-        Map<String, int[]> byFeature = new TreeMap<>();
-        int[] all = new int[4];
-        for (Row row : ROWS.values()) {
-            for (String need : (row.needs + ", all").split(", ")) {
-                int[] counts = need.equals("all") ? all : byFeature.computeIfAbsent(need, it -> new int[4]);
-                counts[0]++;
-                counts[row.verdict.equals("javac") ? 1 : row.verdict.equals("compiler") ? 2 : 3]++;
+    @Tag("server")
+    void theServerDoesTheSame() throws Exception {
+        try (JentryServer server = new JentryServer(Javac.PROGRAM)) {
+            for (Suite.Processor processor : suite.processors()) {
+                CompiledClass compiled = COMPILED.get(processor.name());
+                if (compiled != null) {
+                    Checks.sameByServer(server, suite.path(), processor.classFile(), compiled, OBJECTS.get(processor.name()), 100);
+                }
             }
         }
-        System.out.printf("suite: %-24s %5s %6s %9s %8s%n", "needs", "all", "javac", "compiler", "refused");
+    }
+
+    @Test
+    void printTheTable() {
+        Map<String, int[]> byFeature = new TreeMap<>();
+        int[] all = new int[5];
+        for (Row row : ROWS.values()) {
+            for (String need : (row.needs + ", all").split(", ")) {
+                int[] counts = need.equals("all") ? all : byFeature.computeIfAbsent(need, it -> new int[5]);
+                counts[0]++;
+                counts[List.of("", "javac", "compiler", "client", "refused").indexOf(row.verdict)]++;
+            }
+        }
+        System.out.printf("suite: %-24s %5s %6s %9s %7s %8s%n", "needs", "all", "javac", "compiler", "client", "refused");
         byFeature.forEach(SuiteTest::printRow);
         printRow("all", all);
-        assertEquals(ROWS.size(), all[1] + all[2] + all[3]);
+        assertEquals(ROWS.size(), all[1] + all[2] + all[3] + all[4]);
+        assertTrue(100 * (ROWS.size() - all[4]) >= 85 * ROWS.size(), all[4] + " of " + ROWS.size() + " are refused");
     }
 
     private static void printRow(String name, int[] counts) {
-        System.out.printf("suite: %-24s %5d %6d %9d %8d%n", name, counts[0], counts[1], counts[2], counts[3]);
+        System.out.printf("suite: %-24s %5d %6d %9d %7d %8d%n", name, counts[0], counts[1], counts[2], counts[3], counts[4]);
     }
 }
