@@ -38,6 +38,12 @@ class PlantedFaultsTest {
             small[0] = (byte) sum;
             small[1] += 200;
             return sum * 7 + small[0] + small[1] + Long.numberOfLeadingZeros(sum);""", ""));
+        addLoops(sources);
+        addMoreLoops(sources);
+        classes = Javac.compile(sources, "--release", "8");
+    }
+
+    private static void addLoops(Map<String, String> sources) {
         sources.put("Shrinks", Javac.processor("Shrinks", "Object", """
             long key = entry.getKey();
             long sum = 0;
@@ -79,6 +85,9 @@ class PlantedFaultsTest {
                 sum = sum * 5 + x;
             }
             return sum;""", ""));
+    }
+
+    private static void addMoreLoops(Map<String, String> sources) {
         sources.put("Rings", Javac.processor("Rings", "Object", """
             long key = entry.getKey();
             long sum = 0;
@@ -111,7 +120,6 @@ class PlantedFaultsTest {
                 sum++;
             }
             return sum * 11 + cents;""", ""));
-        classes = Javac.compile(sources, "--release", "8");
     }
 
     @ParameterizedTest

@@ -3,8 +3,8 @@ package jentry.compiler;
 import java.util.Random;
 
 /**
- * Generates random processors whose loops shrink a value: by bits, shifts, quotients, steps, remainders and halves, with tests that fit and tests that
- * don't. A third of them hold values that a constructor sets, and a third are lambdas that capture such values; these are where values start, limits and
+ * Generates random processors whose loops shrink a value: by bits, shifts, quotients, steps, remainders and halves, by Newton's method and in rings, with
+ * tests that fit and tests that don't. A third of them hold values that a constructor sets, and a third are lambdas that capture such values; these are where values start, limits and
  * steps. Some of the loops may never end: the compiler must refuse these.
  */
 final class ShrinkingProgramGenerator {
@@ -25,10 +25,12 @@ final class ShrinkingProgramGenerator {
         int loops = 1 + random.nextInt(2);
         text.append("long key = entry.getKey();\nlong value = entry.exists() ? entry.getValue() : 5;\nlong s = 0;\nint n = args.length;\n");
         for (int i = 0; i < loops; i++) {
-            switch (random.nextInt(6)) {
+            switch (random.nextInt(8)) {
                 case 0 -> euclid();
                 case 1 -> halving();
                 case 2 -> stepping();
+                case 3 -> ring();
+                case 4 -> newton();
                 default -> shrinking(random.nextInt(5) == 0);
             }
         }
@@ -138,6 +140,29 @@ final class ShrinkingProgramGenerator {
         }
         text.append("long ").append(x).append(" = ").append(start).append(";\nwhile (").append(x).append(isDown ? pick(" > ", " >= ") : pick(" < ", " <= "))
             .append(end).append(") {\n").append(x).append(isDown ? " -= " : " += ").append(by).append(";\n").append(use(x)).append("}\n");
+    }
+
+    private void ring() {
+        String x = "x" + names++;
+        String next = pick("(X + 1) % 64", "(X + 5) % 12", "X + 3 & 31", "X * 5 + 1 & 63", "(X + 1) % 64", "(X ^ 3) % 9", "X + 1");
+        String test = pick("(B >>> X & 1) == 0", "(B >>> X & 1) == 0", "X != 5", "X % 7 > 2", "(X & 12) < n").replace("B", pick("key", "value", captured("limit")));
+        text.append("int ").append(x).append(" = ").append(pick("(int) key", "n", values == Values.NONE ? "7" : "step", "0")).append(";\n");
+        String step = x + " = " + next.replace("X", x) + ";\n";
+        boolean isFirst = random.nextBoolean();
+        text.append(isFirst ? "do {\n" : "while (" + test.replace("X", x) + ") {\n").append(random.nextBoolean() ? use(x) + step : step + use(x))
+            .append(isFirst ? "} while (" + test.replace("X", x) + ");\n" : "}\n").append("s += ").append(x).append(";\n");
+    }
+
+    private void newton() {
+        String number = pick("long", "int");
+        String cast = number.equals("int") ? "(int) " : "";
+        int at = names++;
+        text.append(number).append(" N = ".replace("N", "r" + at)).append(cast).append(pick("key", "value", captured("limit"), "(key & 0x3FFFFFFF)")).append(";\n");
+        String step = pick("(X + N / X) / 2", "X + N / X >> 1", "(N / X + X) / 2", "(X + N) / 2").replace("N", "r" + at);
+        String from = pick("r" + at, "r" + at + " / 2 + 9", "1000000");
+        text.append(number).append(" x").append(at).append(" = ").append(from).append(", y").append(at).append(" = ").append(pick("x" + at + " / 2 + 1", "x" + at + " - 1"))
+            .append(";\nwhile (y").append(at).append(" < x").append(at).append(") {\nx").append(at).append(" = y").append(at).append(";\ny").append(at).append(" = ")
+            .append(step.replace("X", "x" + at)).append(";\n").append(use("x" + at)).append("}\ns = s * 7 + x").append(at).append(";\n");
     }
 
     private void halving() {

@@ -27,8 +27,8 @@ public final class Comparison {
      * @param difference the first difference, or empty
      * @param calls the number of calls that were compared
      * @param returned how many of them returned; the others threw
-     * @param leftOut the number of calls that weren't compared: the original made too many passes of a loop that is computed at once, or the tested
-     *     number of such a loop left its range, so that the compiled class threw as its note says
+     * @param leftOut the number of calls that weren't compared: the original made too many passes of a loop, or the tested number of a loop that is computed
+     *     at once left its range, so that the compiled class threw as its note says
      */
     public record Report(Optional<Difference> difference, int calls, int returned, int leftOut) {
         /** Below this number of calls that returned, a comparison says little. */
@@ -37,7 +37,7 @@ public final class Comparison {
         @Override
         public String toString() {
             return calls + " calls compared, " + (difference.isEmpty() ? "none differs" : "the last differs") + ": " + returned + " returned, "
-                + (calls - returned) + " threw" + (leftOut == 0 ? "" : "; " + leftOut + " more calls go on in a loop that is computed at once");
+                + (calls - returned) + " threw" + (leftOut == 0 ? "" : "; " + leftOut + " more calls go on in a loop where the compiled class throws");
         }
     }
 

@@ -16,7 +16,8 @@ import org.objectweb.asm.tree.MethodNode;
 import jentry.compiler.profile.Instructions;
 
 /**
- * Ends runs of a class on this JVM that make too many passes of loops: a loop that the compiler computes at once may have 2^63 of them.
+ * Ends runs of a class on this JVM that make too many passes of loops: a loop that the compiler computes at once may have 2^63 of them, and one that goes
+ * round a ring may never end.
  *
  * <p>Each branch back counts a static field down by Math.subtractExact, which throws when the lowest number is reached.
  */

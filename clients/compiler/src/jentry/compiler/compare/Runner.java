@@ -10,7 +10,7 @@ import java.time.DateTimeException;
 import java.util.Random;
 import jentry.compiler.CompiledClass;
 import jentry.compiler.library.StepsMethods;
-import jentry.compiler.rewrite.Rewriter;
+import jentry.compiler.unroll.LoopUnroller;
 
 /** Runs a processor on this JVM. */
 public final class Runner {
@@ -49,7 +49,7 @@ public final class Runner {
      * @throws ReflectiveOperationException if the class can't be loaded
      */
     public static Runner limited(ClassPath path, byte[] classFile, CompiledClass compiled) throws ReflectiveOperationException {
-        boolean isLimited = compiled.notes().stream().anyMatch(it -> it.startsWith(Rewriter.COMPUTED));
+        boolean isLimited = compiled.notes().stream().anyMatch(it -> it.contains(LoopUnroller.GOES_ON));
         Runner runner = new Runner(path, isLimited ? PassBudget.limited(classFile) : classFile, compiled.source());
         runner.budget = isLimited ? new PassBudget(runner.type) : null;
         return runner;

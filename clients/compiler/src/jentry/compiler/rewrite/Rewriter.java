@@ -7,11 +7,12 @@ import java.util.Set;
 import org.objectweb.asm.tree.ClassNode;
 import jentry.compiler.profile.CallGraph;
 import jentry.compiler.profile.ProblemException;
+import jentry.compiler.unroll.LoopUnroller;
 import jentry.compiler.unroll.RepeatedSteps;
 
 /** Runs the passes before the unrolling of loops. Each one replaces constructs that the server refuses. */
 public final class Rewriter {
-    /** The start of the note of loops whose number of passes isn't limited. */
+    /** The start of the note of loops that are computed at once. */
     public static final String COMPUTED = "loops that add the same in each pass, computed at once";
 
     private Rewriter() { }
@@ -50,7 +51,7 @@ public final class Rewriter {
         }
         int steps = computesSteps ? RepeatedSteps.replace(owner) : 0;
         if (steps > 0) {
-            notes.add(COMPUTED + ": " + steps + "; a run that would go on throws ArithmeticException");
+            notes.add(COMPUTED + ": " + steps + "; " + LoopUnroller.GOES_ON);
         }
         add(notes, LibraryCalls.replace(owner), "methods of the JDK copied in");
         int handlers = ArithmeticHandlers.replace(owner);

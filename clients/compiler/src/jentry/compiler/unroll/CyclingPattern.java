@@ -39,7 +39,7 @@ final class CyclingPattern implements Opcodes {
         boolean isAlone = addLocals(next, used) && ends.stream().allMatch(it -> it.getLocal(self.local()).equals(next))
             && used.stream().allMatch(it -> it.local() == self.local() || it.isFixed(ends));
         CyclingPattern pattern = new CyclingPattern(self, next);
-        return isAlone && pattern.values(AbstractValue.unknown(self.size())) <= MOST_VALUES
+        return isAlone && pattern.values() <= MOST_VALUES
             ? new ShrinkingPattern("computes one of few values from the last one", false, pattern::passes) : null;
     }
 
@@ -55,18 +55,18 @@ final class CyclingPattern implements Opcodes {
         return isPure;
     }
 
+    /** Returns the limit by the range of all values, or by a smaller one that has the value at the start and all that passes make of its values. */
     private int passes(Frame<AbstractValue> frame) {
         AbstractValue start = frame.getLocal(self.local());
         AbstractValue all = start.or(result(next, start));
         AbstractValue beyond = result(next, all);
         boolean isClosed = all.isNarrow() && all.low() <= beyond.low() && beyond.high() <= all.high();
-        long values = isClosed ? Math.min(width(all), values(start)) : values(start);
-        return Shrinkage.cycled((int) values);
+        return Shrinkage.cycled((int) (isClosed ? Math.min(width(all), values()) : values()));
     }
 
-    /** Returns the number of values that one pass can give, or a large one. */
-    private long values(AbstractValue start) {
-        AbstractValue result = result(next, start);
+    /** Returns the number of values that a pass can give of any value, or a large one. */
+    private long values() {
+        AbstractValue result = result(next, AbstractValue.unknown(self.size()));
         return result.isNarrow() ? width(result) : Long.MAX_VALUE;
     }
 

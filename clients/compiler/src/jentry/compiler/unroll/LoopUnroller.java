@@ -26,6 +26,9 @@ import jentry.compiler.profile.Throws;
  * <p>Callers come before the methods they call, starting with `process`, so that what all calls of a method pass to it is known.
  */
 public final class LoopUnroller implements Opcodes {
+    /** The end of the note of a loop that is limited by other means than a counter. */
+    public static final String GOES_ON = "a run that would go on throws ArithmeticException";
+
     private final ClassNode owner;
     private final int hidden;
     private final Map<MethodNode, UnrolledGraph> graphs = new IdentityHashMap<>();
@@ -172,7 +175,7 @@ public final class LoopUnroller implements Opcodes {
             for (Loop loop : graph.graph().loops()) {
                 PassLimit limit = graph.limit(loop);
                 notes.add(method.name + ", line " + graph.graph().line(loop.head()) + ": a loop, " + graph.passes(loop) + " passes written out"
-                    + (limit == null ? "" : ", since it " + limit.what() + "; a run that would go on throws ArithmeticException"));
+                    + (limit == null ? "" : ", since it " + limit.what() + "; " + GOES_ON));
             }
             notes.add(method.name + ": " + graph.graph().size() + " instructions became " + Instructions.count(made));
         }

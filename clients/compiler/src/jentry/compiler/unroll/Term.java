@@ -10,7 +10,8 @@ import org.objectweb.asm.tree.analysis.Value;
  *
  * @param size its number of slots
  * @param opcode ILOAD or LLOAD for a local at the head, LDC for a constant, NOP for a value that isn't followed, else the instruction that computes it
- * @param leaf the local, the Integer or Long, the name of a method (that of a box has its class and a dot in front), or what tells values apart that aren't followed; null for other values
+ * @param leaf the local, the Integer or Long, the name of a method (that of a box has its class and a dot in front), or what tells values apart that
+ *     aren't followed; null for other values
  * @param operands the operands of a computed value
  */
 record Term(int size, int opcode, Object leaf, List<Term> operands) implements Value, Opcodes {
