@@ -165,6 +165,15 @@ class LoopsTest {
         assertThrows(CompileException.class, () -> new ProcessorCompiler(true).compile(original), "where each instruction is kept, nothing is computed");
     }
 
+    /** What a loop throws that is computed at once isn't caught: such a loop may be called where an ArithmeticException is. */
+    @Test
+    void noLoopIsComputedWhereExceptionsAreCaught() {
+        String passes = "static long passes(long x, long k) {\n long n = 0;\n while (x >= k) {\n  x -= k;\n  n++;\n }\n return n;\n}";
+        String body = "try { return passes(entry.getKey(), args.length); } catch (ArithmeticException e) { return -1L; }";
+        String refusal = Checks.refusal(Javac.compile("P", Javac.processor("P", "Object", body, passes), "--release", "17"));
+        assertTrue(refusal.contains("this loop counts to, or from, a number that isn't known"), refusal);
+    }
+
     @Test
     void eachLoopOfAClassIsNamed() {
         String body = "long x = entry.getKey();\nwhile (x != 0) {\n x >>= 1;\n}\nfor (int i = 0; i < entry.getKey(); i++) {\n s++;\n}\n"

@@ -4,8 +4,8 @@ import java.util.Random;
 
 /**
  * Generates random processors whose loops shrink a value: by bits, shifts, quotients, steps, remainders and halves, by Newton's method and in rings, with
- * tests that fit and tests that don't. A third of them hold values that a constructor sets, and a third are lambdas that capture such values; these are where values start, limits and
- * steps. Some of the loops may never end: the compiler must refuse these.
+ * tests that fit and tests that don't. A third of them hold values that a constructor sets, and a third are lambdas that capture such values; these are
+ * where values start, limits and steps. Some of the loops may never end: the compiler must refuse these.
  */
 final class ShrinkingProgramGenerator {
     private final Random random;

@@ -34,11 +34,12 @@ public final class RepeatedSteps implements Opcodes {
         method = graph.method();
     }
 
-    /** Replaces such loops in all methods of a class without exception handlers. Returns how many there were. */
+    /** Replaces such loops in all methods of a class without exception handlers, which could catch what they throw. Returns how many there were. */
     public static int replace(ClassNode owner) {
         int replaced = 0;
+        boolean catches = owner.methods.stream().anyMatch(it -> !it.tryCatchBlocks.isEmpty());
         for (MethodNode method : owner.methods) {
-            while (method.tryCatchBlocks.isEmpty() && method.instructions.size() > 0 && replaceOne(method)) {
+            while (!catches && method.instructions.size() > 0 && replaceOne(method)) {
                 replaced++;
             }
         }
