@@ -1,7 +1,5 @@
 """Tests runs that read and write entries as raw strings (`jentry.raw`), with all other effects of a SET. They run on each server, since the module
 uses functions of the module API alone for it."""
-import glob
-import os
 import random
 
 from commands_test import NOT_A_LONG, OneServer
@@ -14,11 +12,6 @@ HOUR = 3_600_000
 """A time to live in milliseconds, of which no test takes half."""
 
 
-def calls(line, command):
-    """Returns how often the server has run a command."""
-    return int(line.info("commandstats").get("cmdstat_" + command, "calls=0").split(",")[0].split("=")[1])
-
-
 class RawServer(OneServer):
     options = ()
 
@@ -29,9 +22,9 @@ class RawServer(OneServer):
 
     def calls_of(self, action):
         """Returns how many GETs and SETs an action costs."""
-        before = [calls(self.line, name) for name in ("get", "set")]
+        before = [self.line.calls(name) for name in ("get", "set")]
         action()
-        return [calls(self.line, name) - told for name, told in zip(("get", "set"), before)]
+        return [self.line.calls(name) - told for name, told in zip(("get", "set"), before)]
 
     def encoding(self, key="v:1"):
         return self.ask("OBJECT", "ENCODING", key)
@@ -229,15 +222,7 @@ class RawWritten(RawServer):
     options = ("--appendonly", "yes", "--appendfsync", "always")
 
     def logged(self, *words):
-        """Runs a command, and returns its reply and the commands that it wrote to the AOF, without SELECT."""
-        [path] = glob.glob(os.path.join(self.server.folder, "appendonlydir", "*.incr.aof"))
-        before = os.path.getsize(path)
-        told = self.line.get(*words)
-        with open(path, "rb") as file:
-            file.seek(before)
-            lines = file.read().split(b"\r\n")
-        heads = [place for place, line in enumerate(lines) if line.startswith(b"*")]
-        return told, [lines[head + 2 : head + 2 + 2 * int(lines[head][1:]) : 2] for head in heads]
+        return self.server.logged(self.line, *words)
 
     def test_the_set_that_is_logged(self):
         plus = self.define(self.line, "Plus")
@@ -294,9 +279,9 @@ class Setting(ModuleTest):
             line.get("SET", "v:1", 20_000)
             for value, encoding in (("no", b"int"), ("yes", b"raw"), ("no", b"int")):
                 line.get("CONFIG", "SET", "jentry.raw", value)
-                before = calls(line, "get")
+                before = line.calls("get")
                 line.get("JENTRY.INVOKE", add, "v:1", 1)
-                self.assertEqual(calls(line, "get") - before, value == "no")
+                self.assertEqual(line.calls("get") - before, value == "no")
                 self.assertEqual(line.get("OBJECT", "ENCODING", "v:1"), encoding)
             self.assertEqual(line.get("GET", "v:1"), b"20003")
 

@@ -120,17 +120,14 @@ class Around(OneServer):
 class Looks(OneServer):
     """On Redis 7.0 an integer is read directly after GET has confirmed 64 direct reads; everything else is read by GET."""
 
-    def gets(self):
-        return int(self.line.info("commandstats").get("cmdstat_get", "calls=0").split(",")[0].split("=")[1])
-
     def add_to(self, values):
         """Runs Add on entries with these values, and returns the new values and the number of GETs."""
         for number, value in enumerate(values):
             self.line.get("SET", f"v:{number}", value)
-        before = self.gets()
+        before = self.line.calls("get")
         for number in range(len(values)):
             self.line.get("JENTRY.INVOKE", self.add, f"v:{number}", 1)
-        gets = self.gets() - before
+        gets = self.line.calls("get") - before
         return [int(self.ask("GET", f"v:{number}")) for number in range(len(values))], gets
 
     def test_integers_and_texts(self):
@@ -141,9 +138,9 @@ class Looks(OneServer):
         self.assertEqual(self.add_to(values), ([value + 1 for value in values], 0))
         self.line.get("SET", "v:0", 1)
         self.line.get("APPEND", "v:0", 2)
-        before = self.gets()
+        before = self.line.calls("get")
         self.assertEqual(self.line.get("JENTRY.INVOKE", self.add, "v:0", 1), 13)
-        self.assertEqual(self.gets(), before + 1)
+        self.assertEqual(self.line.calls("get"), before + 1)
         self.assertNotIn("keeps integers otherwise", self.server.log())
 
 

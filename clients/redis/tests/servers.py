@@ -4,6 +4,7 @@ JENTRY_REDIS_MODULE names the built module, and JENTRY_PROGRAM the built `jentry
 default redis-server. JENTRY_PRELOAD is a library to preload into the servers, such as the runtime of the address sanitizer with which the module
 was built.
 """
+import glob
 import importlib
 import os
 import random
@@ -115,6 +116,10 @@ class Connection:
         lines = self.get("INFO", section).decode().splitlines()
         return dict(line.split(":", 1) for line in lines if ":" in line)
 
+    def calls(self, command):
+        """Returns how often the server has run a command."""
+        return int(self.info("commandstats").get("cmdstat_" + command, "calls=0").split(",")[0].split("=")[1])
+
 
 class Server:
     """A redis-server with the module. Leaving the `with` statement ends it and deletes its folder."""
@@ -172,6 +177,19 @@ class Server:
 
     def open(self):
         return Connection(self.port)
+
+    def logged(self, line, *words):
+        """Runs a command, and returns its reply and the commands that it wrote to the AOF. The server must write these before it replies, as with
+        `--appendfsync always`."""
+        [path] = glob.glob(os.path.join(self.folder, "appendonlydir", "*.incr.aof"))
+        before = os.path.getsize(path)
+        told = line.get(*words)
+        with open(path, "rb") as file:
+            file.seek(before)
+            lines = file.read().split(b"\r\n")
+        # A command is the number of its arguments, then the length and the bytes of each.
+        heads = [place for place, text in enumerate(lines) if text.startswith(b"*")]
+        return told, [lines[head + 2 : head + 2 + 2 * int(lines[head][1:]) : 2] for head in heads]
 
     def processor_seconds(self):
         """Returns the CPU seconds of the main thread so far, which runs all commands."""

@@ -139,15 +139,12 @@ class Costly(ModuleTest):
 class Direct(ModuleTest):
     """Whether the module reads and writes the integers of Redis 7.0 in place."""
 
-    def calls(self, line, command):
-        return int(line.info("commandstats").get("cmdstat_" + command, "calls=0").split(",")[0].split("=")[1])
-
     def runs(self, line, add, count):
         """Returns how many GETs and SETs this many runs cost."""
-        before = [self.calls(line, name) for name in ("get", "set")]
+        before = [line.calls(name) for name in ("get", "set")]
         for _ in range(count):
             line.get("JENTRY.INVOKE", add, "v:1", 1)
-        return [self.calls(line, name) - told for name, told in zip(("get", "set"), before)]
+        return [line.calls(name) - told for name, told in zip(("get", "set"), before)]
 
     def test_the_log_says_which_way_is_taken(self):
         with Server() as server, server.open() as line:

@@ -1,6 +1,4 @@
 """On Redis 7.0 the integer of an entry is written in place, with all other effects of a SET."""
-import glob
-import os
 import unittest
 
 from commands_test import OneServer
@@ -25,15 +23,12 @@ class Writes(OneServer):
         for _ in range(CHECKS):
             line.get("JENTRY.INVOKE", add, "warm:1", 1)
 
-    def sets(self):
-        return int(self.line.info("commandstats")["cmdstat_set"].split(",")[0].split("=")[1])
-
     def sets_of(self, runs, key="v:1"):
         """Runs Add on an entry, and returns the number of SETs that this caused."""
-        before = self.sets()
+        before = self.line.calls("set")
         for _ in range(runs):
             self.line.get("JENTRY.INVOKE", self.add, key, 1)
-        return self.sets() - before
+        return self.line.calls("set") - before
 
     def held(self, key="v:1"):
         """Returns the value of an entry, its encoding, and the reference count of its object."""
@@ -228,16 +223,7 @@ class Written(Writes):
         return keys, values
 
     def logged(self, *words):
-        """Runs a command, and returns its reply and the commands that it wrote to the AOF."""
-        [path] = glob.glob(os.path.join(self.server.folder, "appendonlydir", "*.incr.aof"))
-        before = os.path.getsize(path)
-        told = self.line.get(*words)
-        with open(path, "rb") as file:
-            file.seek(before)
-            lines = file.read().split(b"\r\n")
-        # A command is the number of its arguments, then the length and the bytes of each.
-        heads = [place for place, line in enumerate(lines) if line.startswith(b"*")]
-        return told, [lines[head + 2 : head + 2 + 2 * int(lines[head][1:]) : 2] for head in heads]
+        return self.server.logged(self.line, *words)
 
     def test_the_set_that_is_logged(self):
         plus, cas = self.define(self.line, "Plus"), self.define(self.line, "CompareAndSet")
