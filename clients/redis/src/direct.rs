@@ -8,17 +8,15 @@
 //!
 //! An object that only the entry refers to is written in place, as INCRBY does, and the module then does everything else that SET does.
 //! Redis shares the objects of 0 to 9,999 among all keys. An entry gets one of these by `StringSet`, as it is.
-//!
-//! `Replicate` looks up its command and copies its arguments, which costs as much as the run. `ReplicateVerbatim` uses the arguments of the
-//! running command as they are. So the module temporarily replaces them with those of a SET, if the number of arguments is the same.
 use crate::api::{Key, Text, OK};
 use crate::raw;
+use crate::replicate;
 use crate::server::{Server, Words};
 use crate::shared::{self, Sharing};
 use std::mem::size_of;
 use std::os::raw::c_int;
 use std::ptr::{null_mut, read_volatile, NonNull};
-use std::sync::atomic::{AtomicBool, AtomicPtr, AtomicU32, Ordering};
+use std::sync::atomic::{AtomicBool, AtomicU32, Ordering};
 
 /// The `OpenKey` modes for reading and for writing.
 pub const READ: c_int = 1;
@@ -29,7 +27,7 @@ const SCRATCH: &[u8] = b"jentry:layout";
 pub const OF_STRINGS: c_int = 1 << 3;
 /// The result of `GetExpire` if an entry has no time to live.
 pub const NO_EXPIRE: i64 = -1;
-/// The release with this layout, in the form of `GetServerVersion` without the last byte.
+/// The release with this layout.
 const RELEASE: i32 = 0x0700;
 /// The number of direct reads that are checked against GET.
 const CHECKS: u32 = 64;
@@ -40,9 +38,6 @@ static CHECKS_LEFT: AtomicU32 = AtomicU32::new(NEVER);
 /// Whether the setting allows direct reads, and whether the layouts are known.
 static IS_ALLOWED: AtomicBool = AtomicBool::new(true);
 static IS_KNOWN: AtomicBool = AtomicBool::new(false);
-/// The arguments of a SET other than key and value; they exist for the server's life.
-static SET: AtomicPtr<Text> = AtomicPtr::new(null_mut());
-static KEEPTTL: AtomicPtr<Text> = AtomicPtr::new(null_mut());
 
 /// The members of a handle up to its value (`RedisModuleKey`).
 #[repr(C)]
@@ -158,7 +153,7 @@ fn length_of(value: i64) -> usize {
 /// address of the bytes that the API reports.
 unsafe fn has_layout(server: Server) -> bool {
     let api = server.api();
-    let text = (api.create_text)(server.context(), b"0".as_ptr().cast(), 1);
+    let text = server.text_of(b"0");
     let object = text.cast::<Object>();
     let mut length = 0;
     let bytes = (api.text_bytes)(text, &mut length);
@@ -180,8 +175,7 @@ unsafe fn members(handle: *mut Key) -> Handle {
 /// key is one that doesn't exist.
 unsafe fn has_handle_layout(server: Server) -> bool {
     let (api, context) = (server.api(), server.context());
-    let text = |bytes: &[u8]| (api.create_text)(context, bytes.as_ptr().cast(), bytes.len());
-    let (key, value) = (text(SCRATCH), text(b"0"));
+    let (key, value) = (server.text_of(SCRATCH), server.text_of(b"0"));
     let handle = (api.open_key)(context, key, READ | WRITE);
     let holds = |object: *mut Text| {
         let now = members(handle);
@@ -239,7 +233,7 @@ pub fn allow(is_allowed: bool) {
 unsafe fn hindrance(server: Server) -> Option<&'static str> {
     if !cfg!(all(target_endian = "little", target_pointer_width = "64")) {
         Some("this isn't a machine of 64 bits with the least significant byte first")
-    } else if (server.api().server_version)() >> 8 != RELEASE {
+    } else if server.release() != RELEASE {
         Some("this isn't Redis 7.0")
     } else if !has_layout(server) {
         Some("its strings have another layout")
@@ -256,13 +250,6 @@ unsafe fn hindrance(server: Server) -> Option<&'static str> {
 /// It must be called while the server loads the module, after the settings.
 pub unsafe fn begin(server: Server) {
     let hindrance = hindrance(server);
-    if hindrance.is_none() {
-        let word = |bytes: &[u8]| {
-            (server.api().create_text)(server.context(), bytes.as_ptr().cast(), bytes.len())
-        };
-        SET.store(word(b"SET"), Ordering::Relaxed);
-        KEEPTTL.store(word(b"KEEPTTL"), Ordering::Relaxed);
-    }
     if hindrance.is_none() {
         shared::begin(server);
     }
@@ -334,23 +321,6 @@ pub unsafe fn learn(server: Server, key: *mut Text, value: i64) {
     }
 }
 
-/// Writes the SET of a value to the AOF and to replicas. If the entry has no time to live, KEEPTTL makes no difference.
-unsafe fn replicate(server: Server, words: Words, key: *mut Text, value: *mut Text, ttl: bool) {
-    let (set, keep) = (SET.load(Ordering::Relaxed), KEEPTTL.load(Ordering::Relaxed));
-    let (api, context, name) = (server.api(), server.context(), b"SET\0".as_ptr().cast());
-    match (words.count(), ttl) {
-        (4, _) => words.with([set, key, value, keep], || server.replicate_verbatim()),
-        (3, false) => words.with([set, key, value], || server.replicate_verbatim()),
-        (_, true) => {
-            let keep = b"KEEPTTL\0".as_ptr();
-            (api.replicate)(context, name, b"ssc\0".as_ptr().cast(), key, value, keep);
-        }
-        (_, false) => {
-            (api.replicate)(context, name, b"ss\0".as_ptr().cast(), key, value);
-        }
-    }
-}
-
 /// Does what a SET of the value with KEEPTTL does, if the module can write the value itself: writes it, notifies clients that watch or track
 /// the key and subscribers to events, and writes the SET to the AOF and to replicas. Returns false without doing anything if it can't.
 ///
@@ -376,7 +346,7 @@ pub unsafe fn write(
     };
     drop(place);
     (server.api().signal_modified)(server.context(), key);
-    replicate(server, words, key, object.as_ptr().cast::<Text>(), may_expire);
+    replicate::set(server, words, key, object.as_ptr().cast::<Text>(), may_expire);
     (server.api().notify)(server.context(), OF_STRINGS, b"set\0".as_ptr().cast(), key);
     true
 }

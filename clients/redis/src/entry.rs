@@ -134,7 +134,7 @@ pub unsafe fn set(
         (Some(Place::Direct(place)), Lifetime::Keep) => {
             direct::write(server, words, key, place, value)
         }
-        (Some(Place::Raw(place)), Lifetime::Keep) => raw::write(server, key, place, value),
+        (Some(Place::Raw(place)), Lifetime::Keep) => raw::write(server, words, key, place, value),
         _ => false,
     };
     if is_written {

@@ -16,6 +16,7 @@ mod names;
 mod persistence;
 mod protocol;
 mod raw;
+mod replicate;
 mod rights;
 mod run;
 mod server;
@@ -67,6 +68,8 @@ pub unsafe extern "C" fn RedisModule_OnLoad(
     if !is_ready {
         return ERR;
     }
-    direct::begin(Server::of(context));
+    let server = Server::of(context);
+    replicate::begin(server);
+    direct::begin(server);
     OK
 }

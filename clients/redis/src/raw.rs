@@ -5,15 +5,13 @@
 //! another layout than those of Redis 7.0. An entry that doesn't exist yet is created by SET.
 use crate::api::{Key, Text, OK};
 use crate::direct::{NO_EXPIRE, OF_STRINGS, READ, WRITE};
-use crate::server::Server;
-use crate::words::long_of;
+use crate::replicate;
+use crate::server::{Server, Words};
+use crate::words::{long_of, Decimal, MOST_BYTES};
 use std::os::raw::c_int;
 use std::ptr::copy_nonoverlapping;
 use std::slice;
 use std::sync::atomic::{AtomicBool, Ordering};
-
-/// The maximum number of bytes of a long in decimal.
-const MOST_BYTES: usize = 20;
 
 /// Whether the setting allows it.
 static IS_ALLOWED: AtomicBool = AtomicBool::new(false);
@@ -33,6 +31,8 @@ pub struct Place {
     server: Server,
     handle: *mut Key,
     value: i64,
+    /// The number of bytes of the string.
+    length: usize,
 }
 
 impl Place {
@@ -48,14 +48,15 @@ impl Place {
     }
 
     /// Writes the value over the bytes of the string. Returns whether that succeeded.
-    unsafe fn write(&self, value: i64) -> bool {
-        let digits = value.to_string();
-        if (self.server.api().truncate)(self.handle, digits.len()) != OK {
+    unsafe fn write(&self, value: &[u8]) -> bool {
+        if self.length != value.len()
+            && (self.server.api().truncate)(self.handle, value.len()) != OK
+        {
             return false;
         }
         match self.bytes(WRITE) {
-            Some((bytes, length)) if length == digits.len() => {
-                copy_nonoverlapping(digits.as_ptr(), bytes, length);
+            Some((bytes, length)) if length == value.len() => {
+                copy_nonoverlapping(value.as_ptr(), bytes, length);
                 true
             }
             _ => false,
@@ -83,7 +84,7 @@ pub unsafe fn look(server: Server, key: *mut Text) -> Option<Place> {
     if handle.is_null() {
         return None;
     }
-    let mut place = Place { server, handle, value: 0 };
+    let mut place = Place { server, handle, value: 0, length: 0 };
     // A longer string is no long, and is left as it is.
     if (api.length)(handle) > MOST_BYTES {
         return None;
@@ -91,6 +92,7 @@ pub unsafe fn look(server: Server, key: *mut Text) -> Option<Place> {
     // There are none of a list, say, and the bytes of a key that doesn't exist are no long.
     let (bytes, length) = place.bytes(READ)?;
     place.value = long_of(slice::from_raw_parts(bytes, length))?;
+    place.length = length;
     Some(place)
 }
 
@@ -100,22 +102,26 @@ pub unsafe fn look(server: Server, key: *mut Text) -> Option<Place> {
 /// The event comes last, because it runs the functions of other modules.
 ///
 /// # Safety
-/// `key` must be a string of the server, and `place` the result of a look at it in this command; the entry must not have changed since.
-pub unsafe fn write(server: Server, key: *mut Text, place: Place, value: i64) -> bool {
+/// `words` must be the command's arguments, `key` a string of the server, and `place` the result of a look at it in this command; the entry
+/// must not have changed since.
+pub unsafe fn write(
+    server: Server,
+    words: Words,
+    key: *mut Text,
+    place: Place,
+    value: i64,
+) -> bool {
     let (api, context) = (server.api(), server.context());
-    if !place.write(value) {
+    let value = Decimal::of(value);
+    if !place.write(value.bytes()) {
         return false;
     }
     let may_expire = (api.expire)(place.handle) != NO_EXPIRE;
     drop(place);
     (api.signal_modified)(context, key);
-    let name = b"SET\0".as_ptr().cast();
-    if may_expire {
-        let keep = b"KEEPTTL\0".as_ptr();
-        (api.replicate)(context, name, b"slc\0".as_ptr().cast(), key, value, keep);
-    } else {
-        (api.replicate)(context, name, b"sl\0".as_ptr().cast(), key, value);
-    }
+    let text = server.text_of(value.bytes());
+    replicate::set(server, words, key, text, may_expire);
+    (api.free_text)(context, text);
     (api.notify)(context, OF_STRINGS, b"set\0".as_ptr().cast(), key);
     true
 }

@@ -167,6 +167,16 @@ impl Server {
         }
     }
 
+    /// Returns a new string of the server, which the caller has to free.
+    pub fn text_of(self, bytes: &[u8]) -> *mut Text {
+        unsafe { (self.api.create_text)(self.context, bytes.as_ptr().cast(), bytes.len()) }
+    }
+
+    /// Returns the release of the server, in the form of `GetServerVersion` without the last byte.
+    pub fn release(self) -> c_int {
+        unsafe { (self.api.server_version)() >> 8 }
+    }
+
     pub fn api(self) -> &'static Api {
         self.api
     }

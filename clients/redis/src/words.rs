@@ -25,6 +25,37 @@ fn signed(negative: bool, digits: &[u8]) -> Option<i64> {
     }
 }
 
+/// The maximum number of bytes of a long in decimal, with its sign.
+pub const MOST_BYTES: usize = MOST_DIGITS + 1;
+
+/// A long in decimal, in a buffer of its own.
+pub struct Decimal {
+    bytes: [u8; MOST_BYTES],
+    start: usize,
+}
+
+impl Decimal {
+    pub fn of(value: i64) -> Decimal {
+        let mut decimal = Decimal { bytes: [b'-'; MOST_BYTES], start: MOST_BYTES };
+        let mut rest = value.unsigned_abs();
+        for byte in decimal.bytes.iter_mut().rev() {
+            *byte = b'0' + (rest % 10) as u8;
+            rest /= 10;
+            decimal.start -= 1;
+            if rest == 0 {
+                break;
+            }
+        }
+        // The bytes ahead of the digits are signs. No long has more than nineteen digits.
+        decimal.start -= usize::from(value < 0);
+        decimal
+    }
+
+    pub fn bytes(&self) -> &[u8] {
+        self.bytes.get(self.start..).unwrap_or(&[])
+    }
+}
+
 /// Splits off a sign. Returns whether it is negative, and the rest.
 fn sign_of(text: &[u8]) -> (bool, &[u8]) {
     match text {

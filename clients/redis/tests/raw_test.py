@@ -12,6 +12,12 @@ HOUR = 3_600_000
 """A time to live in milliseconds, of which no test takes half."""
 
 
+def is_known(line):
+    """Returns whether the module knows that the server hands it the arguments that it replicates, and so may replace them by those of a SET."""
+    told = line.info("server")
+    return told.get("valkey_version", told["redis_version"])[:4] in ("7.0.", "8.0.", "8.1.")
+
+
 class RawServer(OneServer):
     options = ()
 
@@ -225,13 +231,24 @@ class RawWritten(RawServer):
         return self.server.logged(self.line, *words)
 
     def test_the_set_that_is_logged(self):
-        plus = self.define(self.line, "Plus")
+        plus, cas = self.define(self.line, "Plus"), self.define(self.line, "CompareAndSet")
         for keep in ([], [b"KEEPTTL"]):
+            # A SET with as many arguments as the command costs least; KEEPTTL has no effect on an entry without a time to live.
+            keep_of_four = [b"KEEPTTL"] if is_known(self.line) else keep
             self.line.get("SET", "v:1", 20_000, *(["PX", HOUR] if keep else []))
-            for value, words in ((20_001, [plus, "v:1"]), (20_003, [self.add, "v:1", 2])):
-                told = self.logged("JENTRY.INVOKE", *words)
-                self.assertEqual(told, (value, [[b"SET", b"v:1", b"%d" % value, *keep]]))
-            self.assertEqual(self.logged("JENTRY.INVOKE", self.add, "v:1", 0), (20_003, []))
+            for words, value, rest in (
+                (["INVOKE", plus, "v:1"], 20_001, keep),
+                (["INVOKE", self.add, "v:1", 2], 20_003, keep_of_four),
+                (["INVOKEALL", plus, 1, "v:1"], 20_004, keep_of_four),
+                (["INVOKEALL", self.add, 1, "v:1", 79_996], 100_000, keep),
+                (["DETAIL", self.add, "v:1", -100_001], -1, keep_of_four),
+            ):
+                told, logged = self.logged("JENTRY." + words[0], *words[1:])
+                self.assertEqual(told if isinstance(told, int) else told[0], value)
+                self.assertEqual(logged, [[b"SET", b"v:1", b"%d" % value, *rest]])
+            told = self.logged("JENTRY.INVOKE", cas, "v:1", -1, 5)
+            self.assertEqual(told, (1, [[b"SET", b"v:1", b"5", *keep]]))
+            self.assertEqual(self.logged("JENTRY.INVOKE", self.add, "v:1", 0), (5, []))
 
     def run_all(self):
         """Runs Add on entries of several kinds. Returns the keys and their values."""
