@@ -38,8 +38,13 @@ class Neighbour(ModuleTest):
     def setUp(self):
         self.folder = tempfile.mkdtemp(prefix="jentry-neighbour-")
         self.addCleanup(shutil.rmtree, self.folder)
-        self.neighbour = os.path.join(self.folder, "neighbour.so")
-        subprocess.run([CC, "-shared", "-fPIC", "-o", self.neighbour, os.path.join(HERE, "neighbour.c")], check=True)
+        self.neighbour = self.library("neighbour")
+
+    def library(self, name):
+        """Compiles a C file of this folder, and returns the path of the library."""
+        built = os.path.join(self.folder, name + ".so")
+        subprocess.run([CC, "-shared", "-fPIC", "-o", built, os.path.join(HERE, name + ".c")], check=True)
+        return built
 
     def server(self, *options):
         server = Server(*options, "--loadmodule", self.neighbour, arguments=self.arguments, variables=self.variables)
@@ -130,16 +135,16 @@ class NeighbourAndSanitizer(Neighbour):
     """The same on servers with the allocator of the address sanitizer, which overwrites freed memory."""
 
     def setUp(self):
+        super().setUp()
         library = sanitizer()
         if library is None:
             self.skipTest("there is no address sanitizer (apt-get install libgcc-12-dev)")
-        rules = "detect_leaks=0:abort_on_error=1:max_free_fill_size=65536:free_fill_byte=90"
-        self.variables = {"LD_PRELOAD": library, "ASAN_OPTIONS": rules}
+        rules = "detect_leaks=0:abort_on_error=1:verify_asan_link_order=0:max_free_fill_size=65536:free_fill_byte=90"
+        self.variables = {"LD_PRELOAD": self.library("preload") + " " + library, "ASAN_OPTIONS": rules}
         try:
             Server(module=False, variables=self.variables).__exit__()
         except RuntimeError:
             self.skipTest("this server doesn't start with the address sanitizer")
-        super().setUp()
 
 
 class NeighbourAndRaw(Neighbour):
