@@ -2,12 +2,13 @@
 //!
 //! Redis stores a string that is a long as an integer in its object. The module API reads a value by GET and writes it by SET, and these
 //! calls cost more than a run; or it uses `StringDMA`, which converts the integer into a raw string in the keyspace. So the module reads
-//! the object behind a key's handle directly, in the layout of Redis 7.0. On another release, or if a string or a handle that the module
-//! creates at load time has another layout, or if `jentry.direct` is no, it uses GET. Each direct read is checked against what the API
+//! the object behind a key's handle directly, in the layout of a known release. On another release, or if a string or a handle that the
+//! module creates at load time has another layout, or if `jentry.direct` is no, it uses GET. Each direct read is checked against what the API
 //! reports about the key, and the first ones also against GET. After a mismatch the module never reads directly again.
 //!
 //! An object that only the entry refers to is written in place, as INCRBY does, and the module then does everything else that SET does.
-//! Redis shares the objects of 0 to 9,999 among all keys. An entry gets one of these by `StringSet`, as it is.
+//! Redis shares the objects of 0 to 9,999 among all keys. An entry gets one of these by `StringSet`, as it is. Valkey shares none of them,
+//! since an entry's object has the key in its block.
 use crate::api::{Key, Text, OK};
 use crate::raw;
 use crate::replicate;
@@ -15,7 +16,7 @@ use crate::server::{Server, Words};
 use crate::shared::{self, Sharing};
 use std::mem::size_of;
 use std::os::raw::c_int;
-use std::ptr::{null_mut, read_volatile, NonNull};
+use std::ptr::{read_volatile, NonNull};
 use std::sync::atomic::{AtomicBool, AtomicU32, Ordering};
 
 /// The `OpenKey` modes for reading and for writing.
@@ -27,13 +28,28 @@ const SCRATCH: &[u8] = b"jentry:layout";
 pub const OF_STRINGS: c_int = 1 << 3;
 /// The result of `GetExpire` if an entry has no time to live.
 pub const NO_EXPIRE: i64 = -1;
-/// The release with this layout.
-const RELEASE: i32 = 0x0700;
+
+/// A release whose layout is known.
+struct Release {
+    number: c_int,
+    /// The number of flags in the 32 bits of the reference count, from the least significant bit on.
+    flags: u32,
+    /// Whether entries share the objects of small integers.
+    shares: bool,
+}
+
+/// Redis 7.0 and 8.0, and Valkey 8.1.
+const RELEASES: [Release; 3] = [
+    Release { number: 0x0700, flags: 0, shares: true },
+    Release { number: 0x0800, flags: 0, shares: true },
+    Release { number: 0x0801, flags: 2, shares: false },
+];
 /// The number of direct reads that are checked against GET.
 const CHECKS: u32 = 64;
 /// The value of `CHECKS_LEFT` if direct reads are disabled.
 const NEVER: u32 = u32::MAX;
 
+static FLAGS: AtomicU32 = AtomicU32::new(0);
 static CHECKS_LEFT: AtomicU32 = AtomicU32::new(NEVER);
 /// Whether the setting allows direct reads, and whether the layouts are known.
 static IS_ALLOWED: AtomicBool = AtomicBool::new(true);
@@ -48,21 +64,34 @@ struct Handle {
     value: *mut Object,
 }
 
-/// An object (`redisObject`): type and encoding with four bits each, age, reference count, and a pointer or the integer itself.
+/// An object (`redisObject`): type and encoding with four bits each, age, reference count with the release's flags, and a pointer or the
+/// integer itself.
 #[repr(C)]
 #[derive(Clone, Copy)]
 struct Object {
     kind: u8,
     age: [u8; 3],
-    references: i32,
+    references: u32,
     payload: i64,
 }
 
-/// The first byte of two kinds of strings: an integer, and bytes in the object's own block.
+impl Object {
+    fn references(&self) -> u32 {
+        self.references >> FLAGS.load(Ordering::Relaxed)
+    }
+
+    /// Returns whether it is a string of this kind to which one reference exists, and whose bytes are at this address.
+    fn is_text(&self, kind: u8, bytes: *const u8) -> bool {
+        self.kind == kind && self.references() == 1 && self.payload == bytes as i64
+    }
+}
+
+/// The first byte of three kinds of strings: bytes in a block of their own, an integer, and bytes in the object's own block.
+const RAW: u8 = 0;
 const INTEGER: u8 = 0x10;
 const EMBEDDED: u8 = 0x80;
-/// The reference count of a shared object, which never changes.
-const SHARED: i32 = i32::MAX;
+/// The reference count of an object that keys of Redis share. It never changes.
+const SHARED: u32 = i32::MAX as u32;
 
 /// What a command does to the entry that it reads.
 #[derive(Clone, Copy, PartialEq, Eq)]
@@ -100,7 +129,7 @@ impl Place {
     unsafe fn write_in_place(&self, value: i64) -> Option<NonNull<Object>> {
         let object = self.object?;
         let now = object.as_ptr();
-        if (*now).references != 1 || (*now).kind != INTEGER || (*now).payload != self.read {
+        if (*now).references() != 1 || (*now).kind != INTEGER || (*now).payload != self.read {
             return None;
         }
         (*now).payload = value;
@@ -154,13 +183,9 @@ fn length_of(value: i64) -> usize {
 unsafe fn has_layout(server: Server) -> bool {
     let api = server.api();
     let text = server.text_of(b"0");
-    let object = text.cast::<Object>();
     let mut length = 0;
     let bytes = (api.text_bytes)(text, &mut length);
-    let is_same = (*object).kind == EMBEDDED
-        && (*object).references == 1
-        && (*object).payload == bytes as i64
-        && length == 1;
+    let is_same = (*text.cast::<Object>()).is_text(EMBEDDED, bytes) && length == 1;
     (api.free_text)(server.context(), text);
     is_same
 }
@@ -171,23 +196,31 @@ unsafe fn members(handle: *mut Key) -> Handle {
     read_volatile(handle.cast::<Handle>())
 }
 
+/// Returns whether the value of an open key is a raw string in this layout. `StringDMA` turns it into one.
+unsafe fn has_value_layout(server: Server, handle: *mut Key) -> bool {
+    let mut length = 0;
+    let bytes = (server.api().string_bytes)(handle, &mut length, READ);
+    let value = members(handle).value;
+    !value.is_null() && (*value).is_text(RAW, bytes) && length == 1
+}
+
 /// Returns whether the handle of a key has this layout: its block is large enough, and its members change as a value is set and deleted. The
 /// key is one that doesn't exist.
 unsafe fn has_handle_layout(server: Server) -> bool {
     let (api, context) = (server.api(), server.context());
     let (key, value) = (server.text_of(SCRATCH), server.text_of(b"0"));
     let handle = (api.open_key)(context, key, READ | WRITE);
-    let holds = |object: *mut Text| {
+    let has_value = |has_one: bool| {
         let now = members(handle);
-        now.context == context.cast() && now.key == key.cast() && now.value == object.cast()
+        now.context == context.cast() && now.key == key.cast() && now.value.is_null() != has_one
     };
     let is_same = !handle.is_null()
         && (api.block_size)(handle.cast()) >= size_of::<Handle>()
-        && holds(null_mut())
+        && has_value(false)
         && (api.set_string)(handle, value) == OK
         && {
-            let is_value = holds(value);
-            (api.delete_key)(handle) == OK && is_value && holds(null_mut())
+            let is_value = has_value(true) && has_value_layout(server, handle);
+            (api.delete_key)(handle) == OK && is_value && has_value(false)
         };
     (api.close_key)(handle);
     (api.free_text)(context, value);
@@ -204,7 +237,7 @@ pub fn is_checked() -> bool {
 fn end(server: Server) {
     IS_KNOWN.store(false, Ordering::Relaxed);
     CHECKS_LEFT.store(NEVER, Ordering::Relaxed);
-    server.warn("this server keeps integers otherwise than Redis 7.0: the module no longer reads them in place");
+    server.warn("this server keeps integers otherwise than its release: the module no longer reads them in place");
 }
 
 /// Counts a direct read that was checked against GET, or disables direct reads after a mismatch.
@@ -229,18 +262,20 @@ pub fn allow(is_allowed: bool) {
     CHECKS_LEFT.store(if is_on { CHECKS } else { NEVER }, Ordering::Relaxed);
 }
 
-/// Returns why the module can't read directly on this server, or `None`.
-unsafe fn hindrance(server: Server) -> Option<&'static str> {
+/// Returns the release of this server, or why the module can't read directly on it.
+unsafe fn known_release(server: Server) -> Result<&'static Release, &'static str> {
     if !cfg!(all(target_endian = "little", target_pointer_width = "64")) {
-        Some("this isn't a machine of 64 bits with the least significant byte first")
-    } else if server.release() != RELEASE {
-        Some("this isn't Redis 7.0")
-    } else if !has_layout(server) {
-        Some("its strings have another layout")
+        return Err("this isn't a machine of 64 bits with the least significant byte first");
+    }
+    let release = RELEASES.iter().find(|it| it.number == server.release());
+    let release = release.ok_or("this isn't Redis 7.0 or 8.0, or Valkey 8.1")?;
+    FLAGS.store(release.flags, Ordering::Relaxed);
+    if !has_layout(server) {
+        Err("its strings have another layout")
     } else if !has_handle_layout(server) {
-        Some("its handles of keys have another layout")
+        Err("its handles of keys have another layout")
     } else {
-        None
+        Ok(release)
     }
 }
 
@@ -249,20 +284,21 @@ unsafe fn hindrance(server: Server) -> Option<&'static str> {
 /// # Safety
 /// It must be called while the server loads the module, after the settings.
 pub unsafe fn begin(server: Server) {
-    let hindrance = hindrance(server);
-    if hindrance.is_none() {
-        shared::begin(server);
+    let release = known_release(server);
+    if let Ok(release) = release {
+        shared::begin(server, release.shares);
     }
-    IS_KNOWN.store(hindrance.is_none(), Ordering::Relaxed);
+    IS_KNOWN.store(release.is_ok(), Ordering::Relaxed);
     allow(is_allowed());
     let ways = if raw::is_allowed() {
         "integers are read and written as raw strings (jentry.raw)"
     } else {
         "integers are read by GET and written by SET"
     };
-    match hindrance.or(if is_allowed() { None } else { Some("jentry.direct is no") }) {
-        None => server.notice("integers are read and written in place, as in Redis 7.0"),
-        Some(why) => server.notice(&format!("{ways}: {why}")),
+    match release {
+        Ok(_) if is_allowed() => server.notice("integers are read and written in place"),
+        Ok(_) => server.notice(&format!("{ways}: jentry.direct is no")),
+        Err(why) => server.notice(&format!("{ways}: {why}")),
     }
 }
 
@@ -275,14 +311,15 @@ unsafe fn value_at(key: *mut Text, mut place: Place) -> Option<Found> {
         return None;
     }
     let length = (api.length)(place.handle);
-    let Object { kind, references, payload, .. } = match NonNull::new(inside.value) {
+    let object = match NonNull::new(inside.value) {
         Some(object) => *object.as_ref(),
         None => return (length == 0).then_some(Found::Place(place)),
     };
-    if kind != INTEGER {
+    if object.kind != INTEGER {
         return Some(Found::Unknown);
     }
-    if references == SHARED {
+    let payload = object.payload;
+    if object.references() == SHARED {
         shared::learn(payload, inside.value);
     }
     place.may_expire = (api.expire)(place.handle) != NO_EXPIRE;

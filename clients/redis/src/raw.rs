@@ -2,7 +2,7 @@
 //!
 //! `StringDMA` turns an entry into a raw string, which takes more memory than an integer and stays one until a SET or an INCRBY. So this is
 //! only done if `jentry.raw` is yes, and never by a command that only reads. It saves the calls of GET and SET on servers whose objects have
-//! another layout than those of Redis 7.0. An entry that doesn't exist yet is created by SET.
+//! a layout that the module doesn't know. An entry that doesn't exist yet is created by SET.
 use crate::api::{Key, Text, OK};
 use crate::direct::{NO_EXPIRE, OF_STRINGS, READ, WRITE};
 use crate::replicate;

@@ -1,4 +1,5 @@
-//! The integers that Redis shares among all keys: one object for each of 0 to 9,999, which lasts as long as the server.
+//! The integers that Redis shares among all keys: one object for each of 0 to 9,999, which lasts as long as the server. Valkey 8.1 shares none
+//! among keys.
 //!
 //! With an eviction by age or by use Redis shares none, since that needs an age for each key. The module learns an object's address when it
 //! reads an entry that has it.
@@ -9,8 +10,10 @@ use std::os::raw::c_int;
 use std::ptr::null_mut;
 use std::sync::atomic::{AtomicPtr, AtomicU8, Ordering};
 
-/// The number of integers that Redis 7.0 shares.
+/// The number of integers that Redis shares.
 const COUNT: usize = 10_000;
+/// The modules that learn of no change of a key: this one, and the vector sets that are part of Redis 8.0.
+const QUIET: [&[u8]; 2] = [b"jentry", b"vectorset"];
 /// The event class for keys that are new (`NOTIFY_NEW`).
 const OF_NEW_KEYS: c_int = 1 << 14;
 /// The server events for a change of a setting, and of the modules.
@@ -62,13 +65,14 @@ pub fn object_of<T>(value: i64) -> *mut T {
     place_of(value).map_or(null_mut(), |place| place.load(Ordering::Relaxed)).cast()
 }
 
-/// Returns whether the server has other modules.
-unsafe fn has_other_modules(server: Server) -> bool {
+/// Returns whether the server has modules that may learn of a change of a key.
+unsafe fn has_listeners(server: Server) -> bool {
     let call = server.api().call;
     let name = b"MODULE\0".as_ptr().cast();
     let reply = call(server.context(), name, b"c\0".as_ptr().cast(), b"LIST\0".as_ptr());
     Called::of(server, reply).map_or(true, |called| {
-        (0..called.length()).any(|place| !called.is_module(place, b"jentry"))
+        let is_quiet = |place| QUIET.iter().any(|name| called.is_module(place, name));
+        !(0..called.length()).all(is_quiet)
     })
 }
 
@@ -78,7 +82,7 @@ unsafe fn look_up(server: Server) {
     let evicts = !server.has_setting(b"maxmemory\0", |value| value == b"0");
     let sharing = if evicts && server.has_setting(b"maxmemory-policy\0", ages) {
         Sharing::None
-    } else if (server.api().notified_events)() & OF_NEW_KEYS != 0 || has_other_modules(server) {
+    } else if (server.api().notified_events)() & OF_NEW_KEYS != 0 || has_listeners(server) {
         Sharing::BySet
     } else {
         Sharing::ByModule
@@ -90,11 +94,15 @@ unsafe extern "C" fn changed(context: *mut Context, _event: Event, _what: u64, _
     look_up(Server::of(context));
 }
 
-/// Finds out how the server shares integers, now and after each change of its settings and modules.
+/// Finds out how the server shares integers, now and after each change of its settings and modules, if this release shares any.
 ///
 /// # Safety
 /// `server` must be of the module's load.
-pub unsafe fn begin(server: Server) {
+pub unsafe fn begin(server: Server, shares: bool) {
+    if !shares {
+        SHARING.store(Sharing::None as u8, Ordering::Relaxed);
+        return;
+    }
     let subscribe = server.api().subscribe;
     subscribe(server.context(), MODULES_CHANGED, changed);
     subscribe(server.context(), SETTINGS_CHANGED, changed);

@@ -13,7 +13,10 @@ LACKS = (
 )
 NEEDS_PROGRAM = unittest.skipIf(PROGRAM is None, "there is no built jentry")
 OLDEST = "7.0."
-"""How the version begins of the Redis that keeps integers where the module reads and writes them itself, and has no categories of ACLs for modules."""
+"""How the version begins of the Redis that has no categories of ACLs for the commands of modules."""
+KNOWN = ["7.0.", "8.0.", "8.1."]
+"""How the versions begin of Redis and of Valkey whose layout the module knows: it reads and writes their integers in place, and replaces the arguments
+of a command by those that are replicated."""
 NO_CLASS = "NOCLASS no class of this id here: JENTRY.DEFINE it"
 
 
@@ -28,9 +31,18 @@ class ModuleTest(unittest.TestCase):
         """Returns whether the server is Redis 7.0."""
         return line.info("server")["redis_version"].startswith(OLDEST)
 
-    def needs_oldest(self, line):
-        if not self.is_oldest(line):
-            self.skipTest("this isn't Redis 7.0")
+    def is_known(self, line):
+        """Returns whether the module knows the layout of the server."""
+        told = line.info("server")
+        return told.get("valkey_version", told["redis_version"])[:4] in KNOWN
+
+    def needs_known(self, line):
+        if not self.is_known(line):
+            self.skipTest("the module doesn't know the layout of this server")
+
+    def needs_shared(self, line):
+        if "valkey_version" in line.info("server"):
+            self.skipTest("Valkey shares no integers among keys")
 
     def define(self, line, name):
         """Defines an example, and returns its id."""

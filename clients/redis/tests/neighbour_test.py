@@ -54,7 +54,7 @@ class Neighbour(ModuleTest):
     def writes_itself(self, line):
         """Returns whether the module writes entries itself, so that what others do at the event is logged behind the write. What they do at the
         event of a SET is logged ahead of it."""
-        return self.is_oldest(line) or "raw" in self.arguments
+        return self.is_known(line) or "raw" in self.arguments
 
     def warm(self, line, add):
         line.get("SET", "warm:1", 1)

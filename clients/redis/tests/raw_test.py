@@ -12,12 +12,6 @@ HOUR = 3_600_000
 """A time to live in milliseconds, of which no test takes half."""
 
 
-def is_known(line):
-    """Returns whether the module knows that the server hands it the arguments that it replicates, and so may replace them by those of a SET."""
-    told = line.info("server")
-    return told.get("valkey_version", told["redis_version"])[:4] in ("7.0.", "8.0.", "8.1.")
-
-
 class RawServer(OneServer):
     options = ()
 
@@ -234,7 +228,7 @@ class RawWritten(RawServer):
         plus, cas = self.define(self.line, "Plus"), self.define(self.line, "CompareAndSet")
         for keep in ([], [b"KEEPTTL"]):
             # A SET with as many arguments as the command costs least; KEEPTTL has no effect on an entry without a time to live.
-            keep_of_four = [b"KEEPTTL"] if is_known(self.line) else keep
+            keep_of_four = [b"KEEPTTL"] if self.is_known(self.line) else keep
             self.line.get("SET", "v:1", 20_000, *(["PX", HOUR] if keep else []))
             for words, value, rest in (
                 (["INVOKE", plus, "v:1"], 20_001, keep),
@@ -304,12 +298,12 @@ class Setting(ModuleTest):
 
     def test_the_log_says_it(self):
         with Server(arguments=ARGUMENTS) as server, server.open() as line:
-            why = "jentry.direct is no" if self.is_oldest(line) else "this isn't Redis 7.0"
+            why = "jentry.direct is no" if self.is_known(line) else "this isn't Redis 7.0 or 8.0, or Valkey 8.1"
             self.assertIn(f"integers are read and written as raw strings (jentry.raw): {why}", server.log())
 
-    def test_integers_of_redis_7_0_are_written_in_place_anyway(self):
+    def test_integers_are_written_in_place_anyway_where_the_layout_is_known(self):
         with Server(arguments=("raw", "yes")) as server, server.open() as line:
-            self.needs_oldest(line)
+            self.needs_known(line)
             add = self.define(line, "Add")
             line.get("SET", "v:1", 20_000)
             for _ in range(100):

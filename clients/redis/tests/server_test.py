@@ -118,7 +118,7 @@ class Around(OneServer):
 
 
 class Looks(OneServer):
-    """On Redis 7.0 an integer is read directly after GET has confirmed 64 direct reads; everything else is read by GET."""
+    """On a known release an integer is read directly after GET has confirmed 64 direct reads; everything else is read by GET."""
 
     def add_to(self, values):
         """Runs Add on entries with these values, and returns the new values and the number of GETs."""
@@ -131,7 +131,7 @@ class Looks(OneServer):
         return [int(self.ask("GET", f"v:{number}")) for number in range(len(values))], gets
 
     def test_integers_and_texts(self):
-        self.needs_oldest(self.line)
+        self.needs_known(self.line)
         self.add_to([1] * 64)
         digits = [sign * int("9876543210987654321"[:count]) for count in range(1, 19) for sign in (1, -1)]
         values = [0, 9, 10, 9_999, 10_000, 2**63 - 2, -(2**63), *digits]

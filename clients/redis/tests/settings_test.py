@@ -137,7 +137,7 @@ class Costly(ModuleTest):
 
 
 class Direct(ModuleTest):
-    """Whether the module reads and writes the integers of Redis 7.0 in place."""
+    """Whether the module reads and writes integers in place."""
 
     def runs(self, line, add, count):
         """Returns how many GETs and SETs this many runs cost."""
@@ -148,14 +148,14 @@ class Direct(ModuleTest):
 
     def test_the_log_says_which_way_is_taken(self):
         with Server() as server, server.open() as line:
-            is_oldest = self.is_oldest(line)
-            if is_oldest:
-                self.assertIn("integers are read and written in place, as in Redis 7.0", server.log())
+            is_known, other = self.is_known(line), "this isn't Redis 7.0 or 8.0, or Valkey 8.1"
+            if is_known:
+                self.assertIn("integers are read and written in place\n", server.log())
             else:
-                self.assertIn("integers are read by GET and written by SET: this isn't Redis 7.0", server.log())
+                self.assertIn(f"integers are read by GET and written by SET: {other}", server.log())
             self.assertEqual(line.get("DBSIZE"), 0)
         with Server(arguments=("direct", "no", "max-steps", 5)) as server, server.open() as line:
-            why = "jentry.direct is no" if is_oldest else "this isn't Redis 7.0"
+            why = "jentry.direct is no" if is_known else other
             self.assertIn(f"integers are read by GET and written by SET: {why}", server.log())
             self.assertEqual(line.get("CONFIG", "GET", "jentry.direct"), [b"jentry.direct", b"no"])
 
@@ -164,7 +164,7 @@ class Direct(ModuleTest):
             add = self.define(line, "Add")
             self.assertEqual(self.runs(line, add, 100), [100, 100])
             line.get("CONFIG", "SET", "jentry.direct", "yes")
-            if self.is_oldest(line):
+            if self.is_known(line):
                 line.get("SET", "v:1", 20_000)
                 self.assertEqual(self.runs(line, add, 100)[0], 64)
                 self.assertEqual(self.runs(line, add, 100), [0, 0])

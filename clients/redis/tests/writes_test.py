@@ -1,4 +1,4 @@
-"""On Redis 7.0 the integer of an entry is written in place, with all other effects of a SET."""
+"""On a known release the integer of an entry is written in place, with all other effects of a SET."""
 import unittest
 
 from commands_test import OneServer
@@ -7,7 +7,7 @@ from servers import Server, wait_for
 KEYS = 10_000
 """With this number of keys a client's buffer of 16 KB, which Redis makes and frees by its own clock, is less than a twentieth of their memory."""
 SHARED = 2**31 - 1
-"""The reference count of an integer that Redis shares."""
+"""The reference count of an integer that Redis shares. An integer in Valkey has one reference."""
 CHECKS = 64
 """So many looks are held to GET, and until then each write is a SET."""
 
@@ -15,7 +15,8 @@ CHECKS = 64
 class Writes(OneServer):
     def setUp(self):
         super().setUp()
-        self.needs_oldest(self.line)
+        self.needs_known(self.line)
+        self.shared = 1 if "valkey_version" in self.line.info("server") else SHARED
         self.warm(self.line, self.add)
 
     def warm(self, line, add):
@@ -48,24 +49,26 @@ class Writes(OneServer):
     def test_a_shared_integer_is_never_written(self):
         for number in range(1, 4):
             self.line.get("SET", f"v:{number}", 5)
-        self.assertEqual(self.ask("OBJECT", "REFCOUNT", "v:1"), SHARED)
+        self.assertEqual(self.ask("OBJECT", "REFCOUNT", "v:1"), self.shared)
         self.assertEqual(self.sets_of(10), 0)
-        self.assertEqual(self.held(), [b"15", b"int", SHARED])
+        self.assertEqual(self.held(), [b"15", b"int", self.shared])
         self.assertEqual(self.ask("MGET", "v:2", "v:3"), [b"5", b"5"])
         self.line.get("SET", "v:4", 5)
         self.assertEqual(self.ask("INCR", "v:4"), 6)
 
     def test_a_new_entry(self):
-        self.assertEqual(self.sets_of(3), 0)
-        self.assertEqual(self.held(), [b"3", b"int", SHARED])
+        # One SET creates it, unless the module has the shared object of its value.
+        self.assertEqual(self.sets_of(3), self.shared == 1)
+        self.assertEqual(self.held(), [b"3", b"int", self.shared])
 
     def test_a_value_needs_one_set(self):
         """The module knows a shared integer after the first entry that it sets to it."""
         self.line.get("MSET", *(it for number in range(20) for it in (f"v:{number}", 7_777)))
         self.assertLessEqual(sum(self.sets_of(1, f"v:{number}") for number in range(20)), 1)
-        self.assertEqual(self.held("v:19"), [b"7778", b"int", SHARED])
+        self.assertEqual(self.held("v:19"), [b"7778", b"int", self.shared])
 
     def test_at_the_ends_of_the_shared_integers(self):
+        self.needs_shared(self.line)
         self.line.get("SET", "v:1", 9_998)
         self.assertEqual(self.sets_of(1), 1)
         self.assertEqual(self.held(), [b"9999", b"int", SHARED])
@@ -85,7 +88,8 @@ class Writes(OneServer):
     def test_no_memory_beyond_that_of_incrby(self):
         def used(values, *words):
             """Adds the values to each key, and returns the bytes that the keys take."""
-            self.line.get("FLUSHALL")
+            # Valkey frees the entries later, if it isn't told otherwise.
+            self.line.get("FLUSHALL", "SYNC")
             before = int(self.line.info("memory")["used_memory"])
             for number in range(KEYS):
                 for value in values:
@@ -100,6 +104,7 @@ class Writes(OneServer):
             self.assertLess(used(values, "JENTRY.INVOKE", self.add), 1.05 * base, values)
 
     def test_an_eviction_by_age_has_no_shared_integers(self):
+        self.needs_shared(self.line)
         for setting, value in (("maxmemory", "1gb"), ("maxmemory-policy", "allkeys-lru")):
             self.addCleanup(self.line.get, "CONFIG", "SET", setting, self.line.get("CONFIG", "GET", setting)[1])
             self.line.get("CONFIG", "SET", setting, value)
@@ -118,14 +123,14 @@ class Writes(OneServer):
             listener.get("PSUBSCRIBE", "__keyspace@0__:v:*")
             self.sets_of(3)
             self.assertEqual([listener.take()[3] for _ in range(4)], [b"new", b"set", b"set", b"set"])
-        self.assertEqual(self.held(), [b"3", b"int", SHARED])
+        self.assertEqual(self.held(), [b"3", b"int", self.shared])
 
     def test_a_text_of_digits(self):
         self.line.get("SET", "v:1", 1)
         self.line.get("APPEND", "v:1", 2)
         self.assertEqual(self.ask("OBJECT", "ENCODING", "v:1"), b"raw")
         self.assertEqual(self.sets_of(3), 1)
-        self.assertEqual(self.held(), [b"15", b"int", SHARED])
+        self.assertEqual(self.held(), [b"15", b"int", self.shared])
 
     def test_a_copy_is_another_entry(self):
         self.line.get("SET", "v:1", 20_000)
