@@ -24,9 +24,11 @@ PRELOAD = os.environ.get("JENTRY_PRELOAD")
 PRELOADED = {"LD_PRELOAD": PRELOAD, "ASAN_OPTIONS": "detect_leaks=0:abort_on_error=1"} if PRELOAD else {}
 """Redis itself doesn't free all at its end."""
 PATIENCE = 120
-PORTS = range(20_000, 50_000)
+PORTS = range(10_000, 22_000)
 BUS = 10_000
-"""A node's cluster bus listens on its port and this."""
+"""A node's cluster bus listens on its port and this. Both are below those that Linux gives to outgoing connections, from 32,768 on."""
+TRIES = 5
+"""How many ports are tried, since another program may take one before the server does."""
 
 
 class ReplyError(Exception):
@@ -128,13 +130,22 @@ class Server:
         self.options, self.module, self.arguments = options, module, arguments
         self.variables = {**os.environ, **PRELOADED, **(variables or {})}
         self.folder = tempfile.mkdtemp(prefix="jentry-redis-")
-        self.port = free_port()
         self.process = None
         try:
-            self.start()
+            self.start_anywhere()
         except BaseException:
             self.__exit__()
             raise
+
+    def start_anywhere(self):
+        """Starts the server on a free port."""
+        for left in reversed(range(TRIES)):
+            self.port = free_port()
+            try:
+                return self.start()
+            except RuntimeError as error:
+                if not left or "Address already in use" not in str(error):
+                    raise
 
     def start(self):
         """Starts the server, or restarts it with its files."""
@@ -164,8 +175,9 @@ class Server:
             raise RuntimeError("the server has ended:\n" + self.log()[-2000:])
         try:
             with self.open() as line:
-                return line.ask("PING") == b"PONG"
-        except OSError:
+                # Another program may have a server on this port.
+                return line.ask("PING") == b"PONG" and line.info("server")["process_id"] == str(self.process.pid)
+        except (OSError, EOFError, ReplyError):
             return False
 
     def log_path(self):
