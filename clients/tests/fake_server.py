@@ -3,21 +3,24 @@
 clients whose server fails. It accepts every class that begins like a class file, and each class adds one to its entry.
 
     fake_server.py [--die N] [--wrong N] [--short N] [--other N] [--huge N] [--empty N] [--slow SECONDS]
-                   [--classes N] [--pace SECONDS] [--throw NUMBER:INDEX]
+                   [--classes N] [--pace SECONDS] [--throw NUMBER:INDEX] [--pipe BYTES]
 
 --die N exits in round N, before the replies to that round; --wrong N sends one reply too many in round N; --short N leaves out the last
 reply of round N. The other options replace that reply: --other N by one of an unknown kind, --huge N by a frame of 1 MB, --empty N by a
 frame of length 0. Rounds that only define classes don't count. With --slow each round takes SECONDS. With --classes the server denies each
 class after N. With --pace each instruction takes SECONDS, and a class RowN (class_files.another) has 100 * N of them.
 With --throw each run on a key without an entry ends by the exception NUMBER that the class throws itself, whose text is its constant INDEX.
+With --pipe its input's pipe holds BYTES, at least 4,096, after the first round.
 """
 import argparse
+import fcntl
 import re
 import struct
 import sys
 import time
 
 MOST_JOBS = 4_096
+F_SETPIPE_SZ = 1_031  # fcntl has the name since Python 3.10
 OTHER = b"\0\0\0\1\x4d"
 HUGE = struct.pack(">I", 1 << 20) + bytes(1 << 20)
 EMPTY = bytes(4)
@@ -104,6 +107,8 @@ def serve(options, read, write):
                 end("serve fault 3 Malformed")
             out.append(len(told).to_bytes(4, "big") + told)
             continue
+        if options.pipe:
+            fcntl.fcntl(read, F_SETPIPE_SZ, options.pipe)
         rounds, server.jobs, is_counted = rounds + is_counted, 0, False
         time.sleep(options.slow + options.pace * server.spent)
         server.spent = 0
@@ -128,6 +133,7 @@ if __name__ == "__main__":
     parser.add_argument("--slow", type=float, default=0)
     parser.add_argument("--pace", type=float, default=0)
     parser.add_argument("--classes", type=int, default=4_096)
+    parser.add_argument("--pipe", type=int, default=0)
     parser.add_argument("--throw", metavar="NUMBER:INDEX")
     try:
         serve(parser.parse_args(), sys.stdin.buffer, sys.stdout.buffer)

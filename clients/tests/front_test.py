@@ -354,11 +354,6 @@ class Waits(FrontTest):
     def slow(self, seconds):
         return Running(server=STAND_IN + ["--slow", str(seconds)])
 
-    def processor_seconds(self, front):
-        with open(f"/proc/{front.process.pid}/stat") as stat:
-            words = stat.read().rsplit(")", 1)[1].split()
-        return sum(map(int, words[11:13])) / os.sysconf("SC_CLK_TCK")
-
     def test_who_leaves_while_its_round_runs(self):
         """The first round is at the server when its peer leaves, and the others aren't sent there any more."""
         with self.slow(2) as front, front.open() as b:
@@ -368,7 +363,7 @@ class Waits(FrontTest):
                 time.sleep(0.1)
             self.ask(b, get(9) + END, value(None) + ENDED)
             self.ask(b, get(0) + get(1) + get(2) + END, value(0) + 2 * value(None) + ENDED)
-            self.assertLess(self.processor_seconds(front), 0.5)
+            self.assertLess(front.processor_seconds(), 0.5)
 
     def test_who_brings_a_class_and_leaves(self):
         with self.slow(0.5) as front, front.open() as b:
@@ -386,14 +381,14 @@ class Waits(FrontTest):
             self.told(b, value(None) + ENDED)
             self.told(a, 3 * (DONE + ENDED))
             self.ask(a, END, value(3) + ENDED)
-            self.assertLess(self.processor_seconds(front), 0.5)
+            self.assertLess(front.processor_seconds(), 0.5)
 
     def test_a_front_that_nobody_asks_sleeps(self):
         with Running() as front, front.open() as a:
             self.ask(a, put(1, 1) + END, DONE + ENDED)
-            before = self.processor_seconds(front)
+            before = front.processor_seconds()
             time.sleep(1)
-            self.assertLess(self.processor_seconds(front) - before, 0.05)
+            self.assertLess(front.processor_seconds() - before, 0.05)
 
 
 def has_several():

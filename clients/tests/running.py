@@ -111,6 +111,12 @@ class Running:
         with open(f"/proc/{self.process.pid}/statm") as statm:
             return int(statm.read().split()[1]) * os.sysconf("SC_PAGE_SIZE")
 
+    def processor_seconds(self):
+        """Returns the processor time of the front so far."""
+        with open(f"/proc/{self.process.pid}/stat", encoding="utf-8") as stat:
+            words = stat.read().rsplit(")", 1)[1].split()
+        return sum(map(int, words[11:13])) / os.sysconf("SC_CLK_TCK")
+
     def open(self):
         line = socket.socket(socket.AF_INET if isinstance(self.place, tuple) else socket.AF_UNIX)
         line.connect(self.place)  # blocks while the queue of new connections is full

@@ -32,10 +32,12 @@ use std::time::{Duration, Instant};
 pub use timers::Times;
 use timers::{Timers, SWEEP};
 
-/// The tokens of the server's replies and of the waker. Connections have higher ones.
+/// The tokens of the server's replies and of the waker. Connections have higher ones, and the
+/// server's input the highest.
 const SERVER: Token = Token(0);
 pub const WAKER: Token = Token(1);
 const FIRST_CONNECTION: u64 = 2;
+const SERVER_INPUT: Token = Token(usize::MAX);
 
 /// The maximum number of events of a poll.
 const MOST_EVENTS: usize = 256;
@@ -78,6 +80,8 @@ pub struct EventLoop {
     backlog: VecDeque<u64>,
     /// Whether the server has closed its replies; the last ones may not have been read yet.
     server_closed: bool,
+    /// Whether the poll reports room in the server's pipe.
+    awaits_room: bool,
     spin: SpinWait,
     scheduler: Scheduler,
     shared: Shared,
@@ -122,6 +126,7 @@ impl EventLoop {
             gone: Vec::new(),
             backlog: VecDeque::new(),
             server_closed: false,
+            awaits_room: false,
             spin: SpinWait::new(),
             scheduler,
             shared,
@@ -174,7 +179,24 @@ impl EventLoop {
         done.into_iter().for_each(|it| self.deliver(it));
         self.close_gone();
         self.sweep();
-        self.scheduler.send(self.shared.now)
+        self.scheduler.send(self.shared.now)?;
+        self.listen_for_room()
+    }
+
+    /// Registers for room in the server's pipe while a part of a batch needs it, and only then: each
+    /// read of the server could wake this thread.
+    fn listen_for_room(&mut self) -> io::Result<()> {
+        let needs_room = self.scheduler.is_writing();
+        if needs_room == self.awaits_room {
+            return Ok(());
+        }
+        self.awaits_room = needs_room;
+        let (registry, input) = (self.poll.registry(), self.scheduler.input());
+        if needs_room {
+            registry.register(input, SERVER_INPUT, Interest::WRITABLE)
+        } else {
+            registry.deregister(input)
+        }
     }
 
     /// Waits until there is something to do. It polls for some time before it sleeps, unless the
@@ -280,6 +302,7 @@ impl EventLoop {
                     );
                     self.server_closed = ready.is_closed;
                 }
+                SERVER_INPUT => self.scheduler.write()?,
                 WAKER => self.on_wake(),
                 connection => self.on_ready(connection.0 as u64, ready),
             }

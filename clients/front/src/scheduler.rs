@@ -9,10 +9,9 @@ use crate::request::frame_length;
 use crate::server::Server;
 use crate::sub_batch::SubBatch;
 use crate::tally::Tally;
-use mio::unix::pipe::Receiver;
+use mio::unix::pipe::{Receiver, Sender};
 use std::collections::VecDeque;
 use std::io::{self, Read, Write};
-use std::process::ChildStdin;
 use std::time::Instant;
 
 const ROUND_ENDED: u8 = 9;
@@ -47,6 +46,8 @@ pub struct Completed {
 /// A batch at the server, and the sub-batches that waited when it was gathered.
 struct InFlight {
     batch: Batch,
+    /// The number of bytes of the batch that are in the server's pipe, or were.
+    written: usize,
     queued: Vec<Queued<Owner>>,
     sent: Instant,
 }
@@ -60,7 +61,7 @@ struct Replies {
 
 /// The server's two streams, the batch at the server, and the waiting sub-batches.
 pub struct Scheduler {
-    input: ChildStdin,
+    input: Sender,
     output: Receiver,
     buffer: Vec<u8>,
     replies: Replies,
@@ -79,7 +80,8 @@ impl Scheduler {
     /// Creates a scheduler for this server, with a limit on the instructions of a batch.
     pub fn new(server: Server, steps: u64) -> io::Result<Scheduler> {
         let Server { input, output, process } = server;
-        let output = Receiver::from(output);
+        let (input, output) = (Sender::from(input), Receiver::from(output));
+        input.set_nonblocking(true)?;
         output.set_nonblocking(true)?;
         Ok(Scheduler {
             input,
@@ -101,6 +103,11 @@ impl Scheduler {
         &mut self.output
     }
 
+    /// Returns the stream of requests.
+    pub fn input(&mut self) -> &mut Sender {
+        &mut self.input
+    }
+
     /// Returns the limit on the instructions of a batch.
     pub fn steps(&self) -> u64 {
         self.steps
@@ -114,6 +121,11 @@ impl Scheduler {
     /// Returns whether a batch is at the server.
     pub fn is_in_flight(&self) -> bool {
         self.in_flight.is_some()
+    }
+
+    /// Returns whether a part of the batch at the server is not in its pipe yet.
+    pub fn is_writing(&self) -> bool {
+        self.in_flight.as_ref().map_or(false, InFlight::has_unwritten)
     }
 
     /// Returns whether the last batch had a single sub-batch, and none waits.
@@ -161,8 +173,9 @@ impl Scheduler {
         self.completed.take()
     }
 
-    /// Sends a batch of the waiting sub-batches, if there are any and no batch is at the server. An
-    /// error means that the server has ended.
+    /// Sends a batch of the waiting sub-batches, if there are any and no batch is at the server. What
+    /// the server's pipe has no room for is left to [`Scheduler::write`]. An error means that the
+    /// server has ended.
     pub fn send(&mut self, now: Instant) -> io::Result<()> {
         if self.in_flight.is_some() || self.waiting.is_empty() {
             return Ok(());
@@ -174,9 +187,27 @@ impl Scheduler {
             _ => None,
         };
         self.affinity.on_send(only, batch.replies());
-        self.input.write_all(batch.text())?;
         self.was_single = queued.len() == 1;
-        self.in_flight = Some(InFlight { batch, queued, sent: now });
+        self.in_flight = Some(InFlight { batch, written: 0, queued, sent: now });
+        self.write()
+    }
+
+    /// Writes as much of the batch as the server's pipe has room for: a server that reads nothing
+    /// must not hold up the event loop. An error means that the server has ended.
+    pub fn write(&mut self) -> io::Result<()> {
+        let in_flight = match &mut self.in_flight {
+            Some(it) => it,
+            None => return Ok(()),
+        };
+        while in_flight.has_unwritten() {
+            match self.input.write(&in_flight.batch.text()[in_flight.written..]) {
+                Ok(0) => return Err(io::ErrorKind::WriteZero.into()),
+                Ok(count) => in_flight.written += count,
+                Err(e) if e.kind() == io::ErrorKind::Interrupted => {}
+                Err(e) if e.kind() == io::ErrorKind::WouldBlock => return Ok(()),
+                Err(e) => return Err(e),
+            }
+        }
         Ok(())
     }
 
@@ -186,7 +217,7 @@ impl Scheduler {
     ///
     /// Unfinished sub-batches that had no part in this batch come first in the next one. Those that
     /// had a part come after those that arrived meanwhile. An error means that the server has
-    /// ended, or that its replies are invalid.
+    /// ended, or that its replies are invalid, as those to a round that it hasn't got whole.
     pub fn receive(&mut self, tally: &mut Tally) -> io::Result<Option<Vec<Queued<Owner>>>> {
         loop {
             let count = match self.output.read(&mut self.buffer) {
@@ -199,6 +230,9 @@ impl Scheduler {
             self.replies.text.extend_from_slice(&self.buffer[..count]);
             let in_flight = self.in_flight.take().ok_or(io::ErrorKind::InvalidData)?;
             if self.replies.are_complete(in_flight.batch.replies())? {
+                if in_flight.has_unwritten() {
+                    return Err(io::ErrorKind::InvalidData.into());
+                }
                 return self.deal(in_flight, tally).map(Some);
             }
             self.in_flight = Some(in_flight);
@@ -210,7 +244,7 @@ impl Scheduler {
     }
 
     fn deal(&mut self, in_flight: InFlight, tally: &mut Tally) -> io::Result<Vec<Queued<Owner>>> {
-        let InFlight { batch, mut queued, sent } = in_flight;
+        let InFlight { batch, mut queued, sent, .. } = in_flight;
         self.completed = Some(Completed { sent, requests: batch.replies() });
         if !batch.deal(&mut queued, &self.replies.text, &self.replies.ends, tally) {
             return Err(io::ErrorKind::InvalidData.into());
@@ -225,6 +259,12 @@ impl Scheduler {
         self.waiting.extend(unfinished);
         done.extend(gone.into_iter().chain(also_gone));
         Ok(done)
+    }
+}
+
+impl InFlight {
+    fn has_unwritten(&self) -> bool {
+        self.written < self.batch.text().len()
     }
 }
 
