@@ -4,6 +4,7 @@ the requirements. Pictures are written to the folder of chromium_test."""
 import os
 import signal
 import socket
+import threading
 import time
 import unittest
 
@@ -53,11 +54,31 @@ class WhatThePageShows(FrontTest):
                     self.assertGreater(browser.picture(f"page-{state}-{width}-{scheme}"), 10_000)
         browser.devtools("Emulation.clearDeviceMetricsOverride")
 
-    def load(self, front, line, rounds):
+    def load(self, line, rounds, key=1):
         for n in range(rounds):
-            self.ask(line, put(1, n) + END, DONE + ENDED)
-            line.sendall(5 * invoke(0, 1) + END)
+            self.ask(line, put(key, n) + END, DONE + ENDED)
+            line.sendall(5 * invoke(0, key) + END)
             take(line, 5 * 15 + 5)
+
+    def load_until(self, is_done, front):
+        """Makes calls on a connection of its own until `is_done` is set."""
+        with front.open() as line:
+            self.define(line, another(2_400), 0)
+            while not is_done.is_set():
+                self.load(line, 1, key=2)
+                time.sleep(0.02)
+
+    def looks_under_load(self, browser, front):
+        is_done = threading.Event()
+        caller = threading.Thread(target=self.load_until, args=(is_done, front))
+        caller.start()
+        try:
+            browser.wait_for("return Number(document.getElementById('v-calls').textContent) > 0")
+            self.looks(browser, "load")
+            self.assertGreater(browser.run("return Number(document.getElementById('v-calls').textContent)"), 0)
+        finally:
+            is_done.set()
+            caller.join(PATIENCE)
 
     def test_empty_under_load_stalled_and_ended(self):
         with self.front() as front, front.open() as a, Browser() as browser:
@@ -66,22 +87,25 @@ class WhatThePageShows(FrontTest):
             about = browser.run("return document.getElementById('about').textContent")
             for word in (socket.gethostname(), str(front.process.pid), front.place, "fake_server.py", "since "):
                 self.assertIn(word, about)
+            classes = browser.run("return document.getElementById('c-classes').textContent")
+            self.assertEqual(classes, "None but 7 built-in processors of clients, which haven't run.")
             self.looks(browser, "empty")
             self.define(a, another(2_400), 0)
             for _ in range(3):
-                self.load(front, a, 20)
+                self.load(a, 20)
                 time.sleep(1)
             browser.wait_for("return document.querySelectorAll('#classes tr').length === 1")
             (row,) = browser.run("return [...document.querySelectorAll('#classes tr')].map((it) => it.innerText)")
             self.assertIn("Row2400", row)
+            classes = browser.run("return document.getElementById('c-classes').textContent")
+            self.assertTrue(classes.startswith("1 of 8, by the steps of all runs."), classes)
             rate = "[data-metric=jentry_requests_total] .rate"
-            self.assertRegex(browser.wait_for(f"return document.querySelector('{rate}').textContent"), r"^[\d.,]+/s$")
-            self.assertIn(
-                "--requests", browser.run("return document.getElementById('limits').textContent"), "no limits"
-            )
+            self.assertRegex(browser.wait_for(f"return document.querySelector('{rate}').textContent"), r"^[\d.,]+K?/s$")
+            limits = browser.run("return document.getElementById('limits').innerText")
+            self.assertRegex(limits, r"--define-bytes\s+65,536 B/s\s+--drain\s+5 s\s")
             lines = browser.run("return document.querySelectorAll('#p-time line').length")
             self.assertGreater(lines, 2, "the axis of times has no powers of ten")
-            self.looks(browser, "load")
+            self.looks_under_load(browser, front)
             os.kill(front.server(), signal.SIGSTOP)
             a.sendall(get(1) + END)
             browser.wait_for("return document.getElementById('state').className === 'bad'")

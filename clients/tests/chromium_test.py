@@ -114,7 +114,9 @@ class Browser:
     def picture(self, name):
         """Saves a picture of the whole page, and returns its size in bytes."""
         os.makedirs(OUT, exist_ok=True)
-        size = self.run("return [document.documentElement.scrollWidth, document.documentElement.scrollHeight]")
+        size = self.run(
+            "return [Math.max(innerWidth, document.body.scrollWidth), document.documentElement.scrollHeight]"
+        )
         clip = {"x": 0, "y": 0, "width": size[0], "height": size[1], "scale": 1}
         data = self.devtools("Page.captureScreenshot", format="png", captureBeyondViewport=True, clip=clip)["data"]
         with open(os.path.join(OUT, name + ".png"), "wb") as file:
