@@ -42,6 +42,23 @@ def bytes_in_pipe(process):
     return count[0]
 
 
+def is_stopped(process):
+    """Returns whether all threads of a process are stopped. A thread that has a signal to stop may still finish its read."""
+    states = []
+    for task in os.listdir(f"/proc/{process}/task"):
+        with open(f"/proc/{process}/task/{task}/stat", encoding="utf-8") as stat:
+            states.append(stat.read().rsplit(")", 1)[1].split()[0])
+    return set(states) == {"T"}
+
+
+def wait_until(is_so):
+    """Waits until `is_so()` is true, for PATIENCE seconds at most, and returns its last value."""
+    end = time.monotonic() + PATIENCE
+    while not is_so() and time.monotonic() < end:
+        time.sleep(0.02)
+    return is_so()
+
+
 class ServerThatReadsNothing(FrontTest):
     """The server is stopped, and a batch fills its pipe. Nobody but the round's sender waits for that."""
 
@@ -53,11 +70,9 @@ class ServerThatReadsNothing(FrontTest):
         self.server = self.front.server()
         os.kill(self.server, signal.SIGSTOP)
         self.addCleanup(self.wake)
+        self.assertTrue(wait_until(lambda: is_stopped(self.server)))
         self.line.sendall(ROUND)
-        end = time.monotonic() + PATIENCE
-        while bytes_in_pipe(self.server) < PIPE and time.monotonic() < end:
-            time.sleep(0.02)
-        self.assertEqual(bytes_in_pipe(self.server), PIPE)
+        self.assertTrue(wait_until(lambda: bytes_in_pipe(self.server) == PIPE), bytes_in_pipe(self.server))
 
     def wake(self):
         try:
@@ -103,10 +118,7 @@ class ServerThatReadsNothing(FrontTest):
         self.ask(self.open(), END, ENDED)
         self.assertEqual(self.front.metrics()["jentry_waiting_rounds"], 2)
         other.close()
-        end = time.monotonic() + SOON
-        while self.front.metrics()["jentry_waiting_rounds"] > 1 and time.monotonic() < end:
-            time.sleep(0.02)
-        self.assertEqual(self.front.metrics()["jentry_waiting_rounds"], 1)
+        self.assertTrue(wait_until(lambda: self.front.metrics()["jentry_waiting_rounds"] == 1))
         self.wake()
         self.told(self.line, REPLIES)
         self.ask(self.line, get(-1) + END, value(None) + ENDED)
