@@ -152,10 +152,14 @@ class OperatorsPage(FrontTest):
     def compare_numbers(self, browser, front):
         """Checks that the page shows the numbers of /metrics once there are no calls. Returns how many numbers were compared."""
         moving = ("memory", "_cpu_", "counts_age")
+        end = time.monotonic() + PATIENCE
+        while self.sums(front)["jentry_connections"] > 0 and time.monotonic() < end:
+            time.sleep(0.1)
         wanted = {name: value for name, value in self.sums(front).items() if not any(word in name for word in moving)}
-        browser.wait_for(
-            f"return document.querySelector('[data-metric=jentry_rounds_total]').dataset.value === '{wanted['jentry_rounds_total']:.0f}'"
-        )
+        for name in ("jentry_rounds_total", "jentry_connections"):
+            browser.wait_for(
+                f"return document.querySelector('[data-metric={name}]').dataset.value === '{wanted[name]:.0f}'"
+            )
         shown = browser.run(self.TOTALS)
         compared = [name for name in shown if name in wanted]
         self.assertGreaterEqual(len(compared), 18)
