@@ -423,8 +423,9 @@ impl Connection {
 
     fn count_request(&mut self, kind: u8, shared: &mut Shared) -> io::Result<()> {
         if self.requests == 0 {
-            let of_peer = shared.peers.steps_left(self.traffic.owner);
-            self.most_steps = of_peer.max(LIGHT_ROUND).min(shared.limits.round_steps);
+            let most = shared.limits.round_steps;
+            let of_peer = shared.peers.steps_left(self.traffic.owner, most);
+            self.most_steps = of_peer.max(LIGHT_ROUND).min(most);
         }
         self.requests += 1;
         if self.requests > shared.limits.requests {

@@ -11,6 +11,7 @@ mod publishing;
 mod timers;
 
 use crate::batch::Queued;
+use crate::by_number::ByNumber;
 use crate::connection::{Connection, Step, Traffic};
 use crate::control::Control;
 use crate::listen::{Acceptor, Stream};
@@ -25,7 +26,7 @@ use crate::sub_batch::SubBatch;
 use crate::tally::Closed;
 use log::{debug, warn};
 use mio::{Events, Interest, Poll, Token};
-use std::collections::{HashMap, VecDeque};
+use std::collections::VecDeque;
 use std::io;
 use std::sync::Arc;
 use std::time::{Duration, Instant};
@@ -85,7 +86,7 @@ pub struct EventLoop {
     spin: SpinWait,
     scheduler: Scheduler,
     shared: Shared,
-    connections: HashMap<u64, Entry>,
+    connections: ByNumber<Entry>,
     next: u64,
     /// The connection that was last sent replies: the likeliest to call next.
     answered: u64,
@@ -130,7 +131,7 @@ impl EventLoop {
             spin: SpinWait::new(),
             scheduler,
             shared,
-            connections: HashMap::new(),
+            connections: ByNumber::default(),
             next: FIRST_CONNECTION,
             answered: 0,
             direct_reads: 0,

@@ -8,6 +8,7 @@
 mod affinity;
 mod batch;
 mod builtins;
+mod by_number;
 mod class_name;
 mod classes;
 mod connection;

@@ -2,7 +2,7 @@
 //! limits by peer hold where those by connection don't.
 
 use crate::options::user_id;
-use std::collections::HashMap;
+use std::collections::BTreeMap;
 use std::fmt::{self, Display, Formatter};
 use std::net::{IpAddr, Ipv6Addr};
 use std::time::{Duration, Instant};
@@ -101,13 +101,16 @@ struct Account {
 /// The peers that have connections, classes or rounds that wait.
 pub struct Peers {
     limits: PeerLimits,
-    accounts: HashMap<Peer, Account>,
+    /// A lookup among few peers compares less than a hash takes.
+    accounts: BTreeMap<Peer, Account>,
+    /// The instructions of all rounds that wait.
+    steps: u64,
 }
 
 impl Peers {
     /// Creates the peers, which have nothing yet.
     pub fn new(limits: PeerLimits) -> Peers {
-        Peers { limits, accounts: HashMap::new() }
+        Peers { limits, accounts: BTreeMap::new(), steps: 0 }
     }
 
     /// Changes the limits. What a peer has already it keeps.
@@ -121,9 +124,7 @@ impl Peers {
             let (connections, classes, steps) = (it.connections, it.classes, it.steps);
             PeerRow { peer: *peer, connections, classes, steps }
         };
-        let mut rows: Vec<PeerRow> = self.accounts.iter().map(row).collect();
-        rows.sort_by_key(|it| it.peer);
-        rows
+        self.accounts.iter().map(row).collect()
     }
 
     fn burst(&self) -> u64 {
@@ -203,20 +204,27 @@ impl Peers {
         }
     }
 
-    /// Returns the instructions that a peer's rounds may still have while others of it wait.
-    pub fn steps_left(&self, peer: Peer) -> u64 {
+    /// Returns the instructions that a peer's rounds may still have while others of it wait, or
+    /// `most` if they may have more.
+    pub fn steps_left(&self, peer: Peer, most: u64) -> u64 {
+        if self.limits.steps.saturating_sub(self.steps) >= most {
+            // That holds for each peer, and so nearly always.
+            return most;
+        }
         let waiting = self.accounts.get(&peer).map_or(0, |it| it.steps);
-        self.limits.steps.saturating_sub(waiting)
+        self.limits.steps.saturating_sub(waiting).min(most)
     }
 
     /// Counts a round that waits.
     pub fn waits(&mut self, peer: Peer, steps: u64) {
         self.account(peer).steps += steps;
+        self.steps += steps;
     }
 
     /// Counts a round that doesn't wait any more.
     pub fn done(&mut self, peer: Peer, steps: u64) {
         self.account(peer).steps -= steps;
+        self.steps -= steps;
     }
 }
 
@@ -286,7 +294,8 @@ mod tests {
         let (mut peers, now) = (peers(9, &[]), Instant::now());
         peers.open(ONE);
         peers.waits(ONE, 60);
-        assert_eq!((peers.steps_left(ONE), peers.steps_left(Peer::User(2))), (40, 100));
+        assert_eq!([30, 100].map(|most| peers.steps_left(ONE, most)), [30, 40]);
+        assert_eq!([100, 900].map(|most| peers.steps_left(Peer::User(2), most)), [100, 100]);
         peers.close(ONE);
         peers.sweep(now);
         assert_eq!(peers.accounts.len(), 1);
