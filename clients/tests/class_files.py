@@ -72,6 +72,44 @@ def method(pool, code_name, flags, name, descriptor, slots, code):
     return struct.pack(">HHHHHI", flags, pool.text(name), pool.text(descriptor), 1, code_name, len(body)) + body
 
 
+class Processor(Pool):
+    """Builds the class file of a processor with static methods from long to long."""
+
+    TYPE = "(Ljavax/cache/processor/MutableEntry;[Ljava/lang/Object;)Ljava/lang/Object;"
+
+    def __init__(self, name):
+        super().__init__()
+        self.this, self.above, self.code = self.type(name), self.type("java/lang/Object"), self.text("Code")
+        self.interface = self.type("javax/cache/processor/EntryProcessor")
+        self.methods = []
+        constructor = b"\x2a\xb7" + struct.pack(">H", self.method(self.above, "<init>", "()V")) + b"\xb1"
+        self.add_method(1, "<init>", "()V", (1, 1), constructor)
+
+    def add_method(self, *words):
+        """Adds a method: its flags, name, descriptor, slots and code, as `method` takes them."""
+        self.methods.append(method(self, self.code, *words))
+
+    def add_static(self, name, code):
+        self.add_method(8, name, "(J)J", (4, 2), code)
+
+    def call(self, name, of=None, descriptor="(J)J"):
+        """Returns the code of a call of a static method, of the class itself if no other is named."""
+        return b"\xb8" + struct.pack(">H", self.method(of or self.this, name, descriptor))
+
+    def file(self, code):
+        """Returns the class file. `code` leaves the long that `process` returns on the stack."""
+        boxed = self.call("valueOf", self.type("java/lang/Long"), "(J)Ljava/lang/Long;")
+        self.add_method(0x81, "process", self.TYPE, (4, 3), code + boxed + b"\xb0")
+        head = b"\xca\xfe\xba\xbe" + struct.pack(">HHH", 0, 52, len(self.constants) + 1) + b"".join(self.constants)
+        counts = struct.pack(">HHHHHHH", 0x21, self.this, self.above, 1, self.interface, 0, len(self.methods))
+        return head + counts + b"".join(self.methods) + b"\0\0"
+
+
+def additions(count):
+    """A class that adds 1 to 1 as often as this, and takes 2 * count + 3 instructions."""
+    return Processor("Additions").file(b"\x0a" + count * b"\x0a\x61")
+
+
 def heavy_steps(levels):
     """Returns the instructions that a call of a heavy class takes."""
     own = 6
@@ -80,35 +118,11 @@ def heavy_steps(levels):
     return own + 4
 
 
-def heavy(levels=5):
-    """A class that takes some 240,000 instructions, an eighth of them for each level less, and returns the same number each time. Each of its
-    methods calls the next one eight times."""
-    pool = Pool()
-    this, above, processor, code = (
-        pool.type("Heavy"),
-        pool.type("java/lang/Object"),
-        pool.type("javax/cache/processor/EntryProcessor"),
-        pool.text("Code"),
-    )
-
-    def static(of, name, descriptor):
-        return b"\xb8" + struct.pack(">H", pool.method(of, name, descriptor))
-
-    boxed = static(pool.type("java/lang/Long"), "valueOf", "(J)Ljava/lang/Long;")
-    constructor = b"\x2a\xb7" + struct.pack(">H", pool.method(above, "<init>", "()V")) + b"\xb1"
-    process = "(Ljavax/cache/processor/MutableEntry;[Ljava/lang/Object;)Ljava/lang/Object;"
-    methods = [
-        method(pool, code, 1, "<init>", "()V", (1, 1), constructor),
-        method(
-            pool, code, 0x81, "process", process, (4, 3), b"\x0a" + static(this, f"m{levels}", "(J)J") + boxed + b"\xb0"
-        ),
-        method(pool, code, 8, "m0", "(J)J", (4, 2), b"\x1e\x1e\x61\x1e\x83\xad"),
-    ]
-    methods += [
-        method(pool, code, 8, f"m{n}", "(J)J", (4, 2), b"\x1e" + 8 * static(this, f"m{n - 1}", "(J)J") + b"\xad")
-        for n in range(1, levels + 1)
-    ]
-    head = b"\xca\xfe\xba\xbe" + struct.pack(">HHH", 0, 52, len(pool.constants) + 1) + b"".join(pool.constants)
-    return (
-        head + struct.pack(">HHHHHHH", 0x21, this, above, 1, processor, 0, len(methods)) + b"".join(methods) + b"\0\0"
-    )
+def heavy(levels=5, calls=1):
+    """A class that takes some 240,000 instructions for each call, an eighth of them for each level less, and returns the same number each time. Each
+    of its methods calls the next one eight times, and `process` the first one `calls` times."""
+    it = Processor("Heavy")
+    it.add_static("m0", b"\x1e\x1e\x61\x1e\x83\xad")
+    for n in range(1, levels + 1):
+        it.add_static(f"m{n}", b"\x1e" + 8 * it.call(f"m{n - 1}") + b"\xad")
+    return it.file(b"\x0a" + calls * it.call(f"m{levels}"))
