@@ -228,13 +228,15 @@ class Shares(FrontTest):
                 line.sendall(b"".join(invoke(0, key) for key in range(1_000)) + END)
             times, batches, first = [], [], front.metrics()
             for _ in range(9):
-                before = front.metrics()["jentry_batch_seconds_count"]
+                # Asking for the count takes some batches itself, and more on a machine with other work.
+                earlier, before = (front.metrics()["jentry_batch_seconds_count"] for _ in range(2))
                 begun = time.monotonic()
                 b.sendall(invoke(0, 1) + END)
                 self.assertEqual(take_frame(b)[0], 6)
                 take(b, 5)
                 times.append(time.monotonic() - begun)
-                batches.append(front.metrics()["jentry_batch_seconds_count"] - before)
+                after = front.metrics()["jentry_batch_seconds_count"]
+                batches.append((after - before) - (before - earlier))
             self.assertEqual([n for n, it in enumerate(lines) if has_more(it)], [], "a heavy round was answered")
             last = front.metrics()
             spent, count = (last[it] - first[it] for it in ("jentry_batch_seconds_sum", "jentry_batch_seconds_count"))
@@ -249,7 +251,7 @@ class Shares(FrontTest):
                 )
                 # On a busy machine the batches take longer, and this process waits for a processor before it sends and before it reads.
                 self.assertLess(seconds, max(0.2, 12 * batch))
-                self.assertLessEqual(batches, 6)
+                self.assertLessEqual(batches, 3)
 
     def test_a_peer_with_many_connections_has_no_more_than_one_with_few(self):
         with paced(tcp=True) as front, front.open() as b:
