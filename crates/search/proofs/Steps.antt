@@ -7,7 +7,7 @@ use Rattle.std.proofs.lemmas.Option.{slice_get_within, slice_get-get_or}
 use Rattle.search.specs.declared.order.Frame.{Frame}
 use Rattle.search.specs.declared.order.State.{State}
 use Rattle.search.specs.declared.order.State.TheVariants.{New, Open, Done}
-use Rattle.search.specs.Orders.{Links, items_of, links_at, IsAmong, AreAmong, AreBelow, AreLinks, IsOrder, Leads, here, onward, IsCircleIn}
+use Rattle.search.specs.Orders.{Links, items_of, links_at, IsAmong, AreAmong, AreDistinct, AreBelow, AreLinks, IsOrder, Leads, here, onward, IsCircleIn}
 use Rattle.search.specs.Passes.{numbers, IsOpen, AreOpen, IsWay, IsPlaced, IsPass, weight, new_work, open_work, work}
 
 -- ---- lists
@@ -144,6 +144,43 @@ off_top : (n : ℕ) (ks : List ℕ) (q : ℕ) → (q ≡ n → ⊥) → IsAmong 
 off_top n ks q ne (inl e) = absurd (ne (sym e))
 off_top n ks q ne (inr h) = h
 
+-- ---- each number once
+
+in_moved : (ns done : List ℕ) (t q : ℕ) → IsAmong (ns ++ t ∷ done) q → (t ≡ q) ⊎ IsAmong (ns ++ done) q
+in_moved [] done t q h = h
+in_moved (n ∷ ns) done t q (inl e) = inr (inl e)
+in_moved (n ∷ ns) done t q (inr h) = go (in_moved ns done t q h)
+  where
+    go : (t ≡ q) ⊎ IsAmong (ns ++ done) q → (t ≡ q) ⊎ IsAmong (n ∷ ns ++ done) q
+    go (inl e) = inl e
+    go (inr k) = inr (inr k)
+
+moved : (ns done : List ℕ) (t : ℕ) → (IsAmong (ns ++ done) t → ⊥) → AreDistinct (ns ++ done) → AreDistinct (ns ++ t ∷ done)
+moved [] done t new d = (new, d)
+moved (n ∷ ns) done t new d = (λ h. go (in_moved ns done t n h), moved ns done t (λ h. new (inr h)) d.1)
+  where
+    go : (t ≡ n) ⊎ IsAmong (ns ++ done) n → ⊥
+    go (inl e) = new (inl (sym e))
+    go (inr h) = d.0 h
+
+-- a state that is set isn't new, and what wasn't new isn't after another state is set
+set_seen : (ss : List State) (n q : ℕ) (s : State) → (s ≡ New → ⊥) → slice_get (slice_set ss n s) q ≡ Some New → (q ≡ n → ⊥) × (slice_get ss q ≡ Some New)
+set_seen ss n q s old e = go (set_cases ss n q s)
+  where
+    go : ((q ≡ n) × (slice_get (slice_set ss n s) q ≡ Some s)) ⊎ (((q ≡ n) × (slice_get (slice_set ss n s) q ≡ None)) ⊎ ((q ≡ n → ⊥) × (slice_get (slice_set ss n s) q ≡ slice_get ss q)))
+        → (q ≡ n → ⊥) × (slice_get ss q ≡ Some New)
+    go (inl (f, k)) = let both : Some s ≡ Some New = sym k ∙ e in absurd (old cc)
+    go (inr (inl (f, k))) = let both : None ≡ Some New = sym k ∙ e in absurd cc
+    go (inr (inr (ne, k))) = (ne, sym k ∙ e)
+
+still_seen : (ss : List State) (n : ℕ) (s : State) (old new : List ℕ) → (s ≡ New → ⊥) → ((q : ℕ) → IsAmong new q → (n ≡ q) ⊎ IsAmong old q)
+    → ((q : ℕ) → IsAmong old q → slice_get ss q ≡ Some New → ⊥) → (q : ℕ) → IsAmong new q → slice_get (slice_set ss n s) q ≡ Some New → ⊥
+still_seen ss n s old new is from h q k e = go (from q k) (set_seen ss n q s is e)
+  where
+    go : (n ≡ q) ⊎ IsAmong old q → (q ≡ n → ⊥) × (slice_get ss q ≡ Some New) → ⊥
+    go (inl f) (ne, g) = ne (sym f)
+    go (inr o) (ne, g) = h q o g
+
 -- the top frame ends
 pub ended : (g : Links) (ss : List State) (t : Frame) (stack : List Frame) (done : List ℕ) → IsPass g ss (t ∷ stack) done → t.left ≡ 0
     → IsPass g (slice_set ss t.number Done) stack (t.number ∷ done)
@@ -158,7 +195,14 @@ ended g ss t stack done p e =
       below = (top.within, p.below);
       placed = placed_after ss t.number Done (t.number ∷ numbers stack) (numbers stack) done (t.number ∷ done) (inl refl) (λ q ne k. off_top t.number (numbers stack) q ne k) (λ q k. inr k) p.placed;
       ends = λ none. inl (bottom g t stack p.way none);
+      once = moved (numbers stack) done t.number p.once.0 p.once.1;
+      seen = still_seen ss t.number Done (t.number ∷ numbers stack ++ done) (numbers stack ++ t.number ∷ done) (λ f. cc)
+          (λ q k. moved_from (in_moved (numbers stack) done t.number q k)) p.seen;
     }
+  where
+    moved_from : {q : ℕ} → (t.number ≡ q) ⊎ IsAmong (numbers stack ++ done) q → (t.number ≡ q) ⊎ IsAmong (t.number ∷ numbers stack ++ done) q
+    moved_from (inl e) = inl e
+    moved_from (inr k) = inr (inr k)
 
 followed_more : (g : Links) (t : Frame) (l q : ℕ) (later : List ℕ) → slice_get (links_at g t.number) l ≡ Some q → t.left ≡ suc l → IsAmong later q → AreAmong (drop t.left (links_at g t.number)) later
     → AreAmong (drop l (links_at g t.number)) later
@@ -180,13 +224,15 @@ passed g ss t stack done l q p e f s =
       below = p.below;
       placed = p.placed;
       ends = λ none. absurd cc;
+      once = p.once;
+      seen = p.seen;
     }
 
 -- the next link leads to a new number
 pub opened : (g : Links) (ss : List State) (t : Frame) (stack : List Frame) (done : List ℕ) (l q : ℕ) → IsPass g ss (t ∷ stack) done → t.left ≡ suc l
-    → slice_get (links_at g t.number) l ≡ Some q → q < length g
+    → slice_get (links_at g t.number) l ≡ Some q → slice_get ss q ≡ Some New → q < length g
     → IsPass g (slice_set ss q Open) (record { number = q; left = length (links_at g q) } ∷ record { number = t.number; left = l } ∷ stack) done
-opened g ss t stack done l q p e f b =
+opened g ss t stack done l q p e f s b =
     let top : IsOpen g done t = p.opens.0 in
     let most : t.left ≤ length (links_at g t.number) = top.most in
     record {
@@ -203,6 +249,8 @@ opened g ss t stack done l q p e f b =
       below = p.below;
       placed = placed_after ss q Open (t.number ∷ numbers stack) (q ∷ t.number ∷ numbers stack) done done (inl refl) (λ r ne k. inr k) (λ r k. k) p.placed;
       ends = λ none. absurd cc;
+      once = (λ h. p.seen q h s, p.once);
+      seen = still_seen ss q Open (t.number ∷ numbers stack ++ done) (q ∷ t.number ∷ numbers stack ++ done) (λ g. cc) (λ r k. k) p.seen;
     }
 
 -- the next link leads to an open number
@@ -232,6 +280,8 @@ begun g b = record {
   below = tt;
   placed = placed_after (replicate (length g) New) 0 Open [] (0 ∷ []) [] [] (inl refl) (λ r ne k. absurd k) (λ r k. k) (λ q. none_placed (length g) q);
   ends = λ none. absurd cc;
+  once = (λ h. h, tt);
+  seen = still_seen (replicate (length g) New) 0 Open [] (0 ∷ []) (λ g. cc) (λ q k. k) (λ q k e. k);
 }
 
 -- ---- the work that is left

@@ -21,6 +21,11 @@ abbrev pub AreAmong : List ℕ → List ℕ → Type 0
 AreAmong [] ks = Unit {0}
 AreAmong (q ∷ qs) ks = IsAmong ks q × AreAmong qs ks
 
+-- `AreDistinct qs` holds if no two of the numbers are equal
+abbrev pub AreDistinct : List ℕ → Type 0
+AreDistinct [] = Unit {0}
+AreDistinct (q ∷ qs) = (IsAmong qs q → ⊥) × AreDistinct qs
+
 -- `AreBelow n qs` holds if the numbers are below `n`
 abbrev pub AreBelow : ℕ → List ℕ → Type 0
 AreBelow n [] = Unit {0}

@@ -3,7 +3,7 @@ use Rattle.std.specs.Prelude.{◌≡◌, ℕ, ◌+◌, ◌≤◌, ◌<◌, List,
 use Rattle.search.specs.declared.order.Frame.{Frame}
 use Rattle.search.specs.declared.order.State.{State}
 use Rattle.search.specs.declared.order.State.TheVariants.{New, Open, Done}
-use Rattle.search.specs.Orders.{Links, links_at, IsAmong, AreAmong, AreBelow, IsOrder}
+use Rattle.search.specs.Orders.{Links, links_at, IsAmong, AreAmong, AreDistinct, AreBelow, IsOrder}
 
 abbrev pub numbers : List Frame → List ℕ
 numbers [] = []
@@ -41,6 +41,8 @@ pub record IsPass (g : Links) (states : List State) (stack : List Frame) (done :
   pub below : AreBelow (length g) done
   pub placed : (q : ℕ) → IsPlaced q (numbers stack) done (slice_get states q)
   pub ends : stack ≡ [] → IsAmong done 0
+  pub once : AreDistinct (numbers stack ++ done)
+  pub seen : (q : ℕ) → IsAmong (numbers stack ++ done) q → slice_get states q ≡ Some New → ⊥
 
 -- ---- the links that are left to follow
 

@@ -1,7 +1,7 @@
 //! Depth-first search over numbers that lead to numbers.
 
 ghost use Rattle.std.specs.Prelude.{◌≡◌, ℕ, ◌<◌, Some, [], ◌∷◌, length, reverse, slice_get, slice_set, IfOk, MatchOption, IsTrue, IsFalse};
-ghost use Rattle.search.specs.Orders.{items_of, links_at, AreBelow, AreLinks, IsAmong, IsCircleIn, IsOrder};
+ghost use Rattle.search.specs.Orders.{items_of, links_at, AreBelow, AreDistinct, AreLinks, IsAmong, IsCircleIn, IsOrder};
 ghost use Rattle.search.specs.Passes.{IsPass, work};
 
 use std::alloc::{AllocError, Global};
@@ -119,13 +119,14 @@ fn follow(
     }
 }
 
-/// Returns the numbers that 0 leads to, each after all those that it leads to; `None` if some lead in a circle.
+/// Returns the numbers that 0 leads to, each once and after all those that it leads to; `None` if some lead in a circle.
 pub fn ordered(alloc: Global, links: &[Vec<usize>]) -> Result<Option<Vec<usize>>, AllocError>
     requires some { 0 < length links.now }
     requires links { AreLinks (length links.now) (items_of links.now) }
     ensures circle { IfOk result (λ o. MatchOption o (IsCircleIn (items_of links.now) 0) (λ order. IsOrder (items_of links.now) (reverse order.items))) }
     ensures below { IfOk result (λ o. MatchOption o (Unit {0}) (λ order. AreBelow (length (items_of links.now)) (reverse order.items))) }
     ensures start { IfOk result (λ o. MatchOption o (Unit {0}) (λ order. IsAmong (reverse order.items) 0)) }
+    ensures distinct { IfOk result (λ o. MatchOption o (Unit {0}) (λ order. AreDistinct (reverse order.items))) }
 {
     let mut states = vec![in alloc; State::New; links.len()]?;
     let mut path = Vec::new(alloc);

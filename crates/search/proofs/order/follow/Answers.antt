@@ -40,7 +40,7 @@ returns-in_ok-push-in-New-clause-pass c _ =
     c.in_ok-push-in-New.ensures ∙ ap (λ (s : List Frame). record { number = q; left = c.count_of.result } ∷ s) c.in_ok-push.ensures
     ∙ ap (λ n. record { number = q; left = n } ∷ record { number = c.args.top.number; left = c.args.top.left - 1 } ∷ reverse c.args.path.now.items) c.count_of.ensures in
     subst (λ (s : List Frame). IsPass (items_of c.args.links.now) (slice_set c.args.states.now q Open) s (reverse c.args.order.now)) (sym way)
-    (opened _ _ c.args.top _ _ _ q c.requires.pass left c.link_of-q.ensures below)
+    (opened _ _ c.args.top _ _ _ q c.requires.pass left c.link_of-q.ensures c.in-New.ensures below)
 
 pub returns-in_ok-push-in-New-clause-work : goal.returns-in_ok-push-in-New-clause-work
 returns-in_ok-push-in-New-clause-work c _ =
