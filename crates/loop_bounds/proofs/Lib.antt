@@ -1,0 +1,10 @@
+pub mod Rules
+pub mod Certified
+pub mod Limits
+pub mod Costed
+pub mod Lists
+pub mod Growth
+pub mod Exploring
+pub mod Concluded
+pub mod Starting
+pub mod Filled
