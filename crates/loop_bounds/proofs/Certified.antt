@@ -1,23 +1,22 @@
 -- An order of the points that are reached is a certificate, and a circle of their numbers is a circle of points.
-use Rattle.std.proofs.Common.{◌≡◌, ℕ, zero, suc, ◌+◌, ◌<◌, ◌≤◌, Bool, true, false, ◌&&◌, ◌||◌, List, [], ◌∷◌, ◌++◌, length, map, Option, Some, None, ◌⊎◌, inl, inr, refl, sym, ap, ◌∙◌, subst, arith, eqb, eq-eqb}
-use Rattle.std.specs.Prelude.{slice_get, if◌then◌else◌}
+use Rattle.std.proofs.Common.{◌≡◌, ℕ, zero, suc, ◌<◌, Bool, true, false, ◌&&◌, ◌||◌, List, [], ◌∷◌, ◌++◌, length, map, Option, Some, None, ◌⊎◌, inl, inr, refl, sym, ap, ◌∙◌, subst, arith, eqb, eq-eqb}
+use Rattle.std.specs.Prelude.{slice_get}
 use Rattle.std.proofs.lemmas.Bool.Decides.{Decides-int_eq}
-use Rattle.std.proofs.lemmas.Option.{slice_get_within, slice_get-get_or}
+use Rattle.std.proofs.lemmas.Option.{slice_get_within}
 use Rattle.decode.specs.declared.instruction.Placed.{Placed}
-use Rattle.decode.specs.Places.{is_return}
-use Rattle.typecheck.specs.Typing.{Method, Class, instruction_at, call_of}
+use Rattle.typecheck.specs.Typing.{Method, Class, call_of}
 use Rattle.bounds.specs.Paths.{StandsAt}
 use Rattle.unrolled.specs.Known.{Known, Wide, Narrow, Number, Count, Sized, Arguments}
 use Rattle.unrolled.specs.Graph.{Node, successors}
 use Rattle.unrolled.specs.Rules.{Rules}
 use Rattle.unrolled.specs.Paths.{callee_node}
-use Rattle.unrolled.specs.Certificates.{Point, same_known, all_same, same_node, same_point, is_in, all_in, leads_on, method_in, callee_in, checks_at, checks_in, checks_of, checks, covers}
+use Rattle.unrolled.specs.Certificates.{Point, same_known, all_same, same_node, same_point, is_in, all_in, method_in, callee_in, checks_at, checks_in, checks_of, checks, covers}
 use Rattle.unrolled.specs.Circles.{Next, edge, entry, Reached, here, onward, IsCircle}
 use Rattle.unrolled.proofs.Lists.{in_parts, unmapped}
 use Rattle.search.specs.Orders.{Links, links_at, IsAmong, AreAmong, AreBelow, IsOrder, Leads, IsCircleIn}
 use Rattle.search.specs.Orders as orders
 use Rattle.loop_bounds.specs.Nexts.{at_node, start_in, own_start, nexts_at, HasCallee, AreNexts}
-use Rattle.loop_bounds.specs.Graphs.{AreLinked, IsExpanded, AreExpanded}
+use Rattle.loop_bounds.specs.Graphs.{AreLinked, AreExpanded}
 use Rattle.loop_bounds.specs.Listings.{with_point, listed}
 
 -- ---- a point is equal to itself

@@ -1,12 +1,11 @@
 -- What the search answers about a class.
-use Rattle.std.proofs.Common.{◌≡◌, ℕ, ◌<◌, ◌≤◌, Bool, true, List, [], ◌∷◌, length, reverse, Some, ◌⊎◌, inl, inr, refl, sym, ap, ◌∙◌, subst, arith}
+use Rattle.std.proofs.Common.{◌≡◌, ℕ, ◌<◌, Bool, true, List, length, reverse, Some, ◌⊎◌, inl, inr, sym, ◌∙◌, subst, arith}
 use Rattle.std.specs.Prelude.{slice_get}
 use Rattle.std.proofs.lemmas.List.{length-map}
-use Rattle.std.proofs.lemmas.Option.{slice_get_within, slice_get-get_or}
+use Rattle.std.proofs.lemmas.Option.{slice_get_within}
 use Rattle.typecheck.specs.Typing.{Method, Class}
 use Rattle.typecheck.specs.declared.typed.Typed.{Typed}
-use Rattle.bounds.specs.Paths.{Cost}
-use Rattle.bounds.specs.Cells.{Cell, capped, cell_at}
+use Rattle.bounds.specs.Cells.{Cell, cell_at}
 use Rattle.unrolled.specs.Graph.{Node}
 use Rattle.unrolled.specs.Rules.{rules_of, has_loops}
 use Rattle.unrolled.specs.Paths.{start_node}
@@ -22,14 +21,13 @@ use Rattle.search.specs.declared.point.Point as plain
 use Rattle.search.specs.Points.{point_seen}
 use Rattle.search.specs.Followed.{AreFollowings, have_loops}
 use Rattle.search.specs.Orders.{Links, IsAmong, AreBelow, links_at}
-use Rattle.loop_bounds.specs.declared.listing.Listing.{Listing}
 use Rattle.loop_bounds.specs.declared.listing.Answer.{Answer}
 use Rattle.loop_bounds.specs.declared.listing.Answer.TheVariants as answer
 use Rattle.loop_bounds.specs.Methods.{AreMethodsOf}
 use Rattle.loop_bounds.specs.Found.{points_seen}
 use Rattle.loop_bounds.specs.Graphs.{IsExpanded, IsGraph, IsWhole, ReachesMore}
 use Rattle.loop_bounds.specs.Tables.{AreCosts}
-use Rattle.loop_bounds.specs.Listings.{listed, certificate, HasCost, IsOrdered, IsConclusion, IsAnswer}
+use Rattle.loop_bounds.specs.Listings.{listed, HasCost, IsOrdered, IsConclusion, IsAnswer}
 use Rattle.loop_bounds.proofs.Certified.{covers_listed, in_listed, circle_of}
 use Rattle.loop_bounds.proofs.Limits.{few_listed, few_values}
 
@@ -45,7 +43,7 @@ too_large c j m rows limited are e limits (xs, reached, over) = go over
     go (inr l) = by_values xs loops reached l
 
 module _ (c : Class) (j : ℕ) (m : Method) (rows : List Typed) (fs : List Following) (limited : Bool) (are : AreMethodsOf c rows) (follow : AreFollowings rows fs) (same : limited ≡ have_loops rows)
-         (points : List plain.Point) (g : Links) (all : IsWhole rows fs limited (start_point c j m) points g) where
+    (points : List plain.Point) (g : Links) (all : IsWhole rows fs limited (start_point c j m) points g) where
   abbrev ps : List Point
   ps = points_seen points
 

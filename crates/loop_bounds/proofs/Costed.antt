@@ -1,6 +1,6 @@
 -- The costs that the code computes are a table's, saturated.
-use Rattle.std.proofs.Common.{◌≡◌, ℕ, zero, suc, ◌+◌, ◌<◌, ◌≤◌, Bool, true, false, List, [], ◌∷◌, ◌++◌, length, map, Option, Some, None, inl, inr, refl, sym, ap, ◌∙◌, subst, arith}
-use Rattle.std.specs.Prelude.{slice_get, is_some, max, if◌then◌else◌}
+use Rattle.std.proofs.Common.{◌≡◌, ℕ, ◌+◌, Bool, true, false, List, [], ◌∷◌, ◌++◌, map, Option, Some, None, inl, inr, refl, sym, ap, ◌∙◌, subst, arith}
+use Rattle.std.specs.Prelude.{slice_get, is_some, if◌then◌else◌}
 use Rattle.jtypes.specs.Values.{words_of}
 use Rattle.classfile.specs.View.{ClassView}
 use Rattle.decode.specs.declared.instruction.Instruction.{Instruction}
@@ -8,7 +8,7 @@ use Rattle.decode.specs.declared.instruction.Instruction.TheVariants as instruct
 use Rattle.decode.specs.declared.instruction.Placed.{Placed}
 use Rattle.decode.specs.Places.{at_place, is_return, pushed_before}
 use Rattle.frames.specs.declared.frame.Environment.{Environment}
-use Rattle.typecheck.specs.Typing.{Method, Class, instruction_at, call_of, own_of}
+use Rattle.typecheck.specs.Typing.{Method, Class, call_of, own_of}
 use Rattle.typecheck.specs.Calls.{callee_in}
 use Rattle.typecheck.specs.declared.typed.Typed.{Typed}
 use Rattle.bounds.specs.Paths.{Cost, own_slots, words_at, last_cost, after_one, after_call, length_of}
@@ -18,9 +18,8 @@ use Rattle.unrolled.specs.Graph.{Node, Following, arrive, edges, successors}
 use Rattle.unrolled.specs.Rules.{rules_of}
 use Rattle.unrolled.specs.Paths.{callee_node}
 use Rattle.unrolled.specs.Certificates.{Point, is_in, leads_on}
-use Rattle.unrolled.specs.Tables.{Costs, IsTable, greatest_of, greatest_among, cost_from}
-use Rattle.search.specs.Orders.{IsAmong}
-use Rattle.loop_bounds.specs.Methods.{IsMethodOf, AreMethodsOf}
+use Rattle.unrolled.specs.Tables.{Costs, IsTable, greatest_of, greatest_among}
+use Rattle.loop_bounds.specs.Methods.{IsMethodOf}
 use Rattle.loop_bounds.specs.Nexts.{at_node, start_in, own_start, HasCallee, AreNexts}
 use Rattle.loop_bounds.specs.Graphs.{AreLinked, IsExpanded}
 use Rattle.loop_bounds.specs.Tables.{greatest_cell, call_cell, cell_by, AreCellsOf}
@@ -152,8 +151,8 @@ greatest_is t ps cells j (n ∷ m ∷ ns) y (z ∷ ys) e are =
 -- ---- the cost of a point
 
 module _ (c : Class) (marks : List Point) (t : Costs) (table : IsTable c (rules_of c) (λ j y. is_in (record { method = j; node = y }) marks) t)
-         (k : Point) (inside : is_in k marks ≡ true) (ys : List Point) (are : AreNexts c (rules_of c) k ys)
-         (row : Typed) (slots : own_slots are.method ≡ slots_of row) (code : are.method.code ≡ row.code) where
+    (k : Point) (inside : is_in k marks ≡ true) (ys : List Point) (are : AreNexts c (rules_of c) k ys)
+    (row : Typed) (slots : own_slots are.method ≡ slots_of row) (code : are.method.code ≡ row.code) where
   abbrev nodes : List Node
   nodes = successors c.view (rules_of c k.method) are.placed k.node
 

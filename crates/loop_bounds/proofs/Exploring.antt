@@ -1,5 +1,5 @@
 -- The search keeps what is true of its state, and ends with the graph of all points that are reached.
-use Rattle.std.proofs.Common.{◌≡◌, ℕ, zero, suc, ◌+◌, ◌<◌, ◌≤◌, Bool, true, false, List, [], ◌∷◌, ◌++◌, length, map, min, get_or, Option, Some, None, ◌⊎◌, inl, inr, refl, sym, ap, ◌∙◌, subst, arith}
+use Rattle.std.proofs.Common.{◌≡◌, ℕ, zero, suc, ◌+◌, ◌<◌, ◌≤◌, Bool, true, List, [], ◌∷◌, ◌++◌, length, get_or, Some, ◌⊎◌, inl, inr, refl, sym, ap, ◌∙◌, subst, arith}
 use Rattle.std.specs.Prelude.{slice_get, Vec}
 use Rattle.std.specs.declared.alloc.Global.{Global}
 use Rattle.std.proofs.lemmas.List.{length-append}
@@ -7,9 +7,9 @@ use Rattle.std.proofs.lemmas.Bool.{cases_lt}
 use Rattle.std.proofs.lemmas.Option.{slice_get_within, slice_get-get_or}
 use Rattle.typecheck.specs.Typing.{Class}
 use Rattle.typecheck.specs.declared.typed.Typed.{Typed}
-use Rattle.unrolled.specs.Rules.{Rules, rules_of}
+use Rattle.unrolled.specs.Rules.{rules_of}
 use Rattle.unrolled.specs.Certificates.{Point}
-use Rattle.unrolled.specs.Circles.{Reached, here, onward, AreReached, values_in}
+use Rattle.unrolled.specs.Circles.{Reached, here, onward, values_in}
 use Rattle.unrolled.specs.Limits.{node_limit, value_limit}
 use Rattle.search.specs.declared.node.Following.{Following}
 use Rattle.search.specs.declared.point.Point as plain
@@ -20,7 +20,7 @@ use Rattle.loop_bounds.specs.declared.found.Found.{Found}
 use Rattle.loop_bounds.specs.Methods.{AreMethodsOf, HasNumber}
 use Rattle.loop_bounds.specs.Nexts.{AreNexts, IsDeadEnd}
 use Rattle.loop_bounds.specs.Found.{points_seen, EachIsReached, EachHasMethod, IsFound, Grows}
-use Rattle.loop_bounds.specs.Graphs.{AreLinked, IsExpanded, AreExpanded, IsGraph, IsExploring, IsWithin, IsWhole, ReachesMore, ReachesDeadEndIn}
+use Rattle.loop_bounds.specs.Graphs.{AreLinked, IsExpanded, IsExploring, IsWhole, ReachesMore, ReachesDeadEndIn}
 use Rattle.loop_bounds.proofs.Lists.{mapped_at}
 use Rattle.loop_bounds.proofs.Growth.{linked_still}
 use Rattle.loop_bounds.proofs.Limits.{newest_count, newest_values}

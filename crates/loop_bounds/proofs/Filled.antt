@@ -1,15 +1,12 @@
 -- Costs that are filled in an order, in which each point comes after those that it leads to.
-use Rattle.std.proofs.Common.{◌≡◌, ℕ, zero, suc, ◌+◌, ◌<◌, Bool, true, false, eqb, List, [], ◌∷◌, ◌++◌, length, take, drop, reverse, Some, ◌⊎◌, inl, inr, refl, sym, ap, ◌∙◌, subst, arith, add-one, append_assoc}
+use Rattle.std.proofs.Common.{◌≡◌, ℕ, zero, suc, ◌+◌, ◌<◌, Bool, true, false, eqb, List, [], ◌∷◌, ◌++◌, length, take, drop, reverse, Some, ◌⊎◌, inl, inr, refl, sym, ap, ◌∙◌, subst, add-one, append_assoc}
 use Rattle.std.specs.Prelude.{slice_get, slice_set}
 use Rattle.std.proofs.lemmas.Bool.{eqb-true, eqb-false}
 use Rattle.std.proofs.lemmas.List.{reverse-append, get_or-set_same, get_or-set_other}
 use Rattle.typecheck.specs.declared.typed.Typed.{Typed}
 use Rattle.bounds.specs.Cells.{Cell, capped, no_path, cell_at}
-use Rattle.unrolled.specs.Rules.{rules_of}
-use Rattle.unrolled.specs.Tables.{Costs}
-use Rattle.unrolled.specs.Certificates.{Point, is_in}
+use Rattle.unrolled.specs.Certificates.{Point}
 use Rattle.search.specs.Orders.{Links, links_at, IsAmong, AreAmong, AreBelow, IsOrder}
-use Rattle.loop_bounds.specs.Graphs.{IsExpanded}
 use Rattle.loop_bounds.specs.Tables.{AreCellsOf, IsCellOf, AreCosts}
 
 -- ---- an order, by index

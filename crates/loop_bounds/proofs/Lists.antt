@@ -1,5 +1,5 @@
 -- Lists, by index and as a loop goes through them.
-use Rattle.std.proofs.Common.{Bool, true, false, ◌≡◌, ℕ, zero, suc, ◌+◌, ◌-◌, ◌<◌, ◌≤◌, List, [], ◌∷◌, ◌++◌, length, get_or, take, drop, map, reverse, Option, Some, None, ◌⊎◌, inl, inr, refl, sym, ap, ◌∙◌, subst, arith, append_assoc}
+use Rattle.std.proofs.Common.{Bool, true, false, ◌≡◌, ℕ, zero, suc, ◌+◌, ◌-◌, ◌<◌, ◌≤◌, List, [], ◌∷◌, ◌++◌, length, get_or, take, drop, map, reverse, Some, ◌⊎◌, inl, inr, refl, sym, ap, ◌∙◌, subst, arith, append_assoc}
 use Rattle.std.specs.Prelude.{slice_get, All, Result, Ok, Err, IfOk, ◌==◌, if◌then◌else◌}
 use Rattle.decode.specs.declared.instruction.Placed.{Placed}
 use Rattle.decode.specs.Places.{at_place}
@@ -8,7 +8,6 @@ use Rattle.std.proofs.lemmas.List.{append-nil, reverse-append, take-append-drop,
 use Rattle.std.proofs.lemmas.Option.{slice_get-get_or}
 use Rattle.std.proofs.lemmas.Bool.{cases_lt}
 use Rattle.typecheck.specs.declared.typed.Typed.{Typed}
-use Rattle.unrolled.specs.Graph.{Node}
 use Rattle.unrolled.specs.Certificates.{Point}
 use Rattle.search.specs.declared.known.Known as plain_known
 use Rattle.search.specs.declared.node.Node as plain_node
@@ -90,9 +89,9 @@ unfolding operands_seen
 operands_top xs ys n left e l = elim (cases_lt n (length xs)) [
   | inl h ↦ ap (λ (k : List plain_known.Known). map known_seen (reverse k)) e ∙ ap (map known_seen) (sym (reverse_taken xs n left (omega (arith, h, l)))) ∙ sym (take_mapped known_seen n (reverse xs))
   | inr h ↦
-    let none : left ≡ 0 = omega (arith, h, l) in
-    let size : length (map known_seen (reverse xs)) ≤ n = let a = length-map (reverse xs) known_seen in let b = length-reverse xs in omega (arith, a, b, h) in
-    ap (λ (k : List plain_known.Known). map known_seen (reverse k)) (e ∙ ap (λ m. drop m xs) none) ∙ sym (taken_whole (map known_seen (reverse xs)) n size)
+      let none : left ≡ 0 = omega (arith, h, l) in
+      let size : length (map known_seen (reverse xs)) ≤ n = let a = length-map (reverse xs) known_seen in let b = length-reverse xs in omega (arith, a, b, h) in
+      ap (λ (k : List plain_known.Known). map known_seen (reverse k)) (e ∙ ap (λ m. drop m xs) none) ∙ sym (taken_whole (map known_seen (reverse xs)) n size)
 ]
 
 pub operand_count : (xs : List plain_known.Known) → length (operands_seen xs) ≡ length xs

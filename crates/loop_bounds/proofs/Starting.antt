@@ -14,7 +14,6 @@ use Rattle.typecheck.specs.declared.typed.Typed.{Typed}
 use Rattle.unrolled.specs.Known.{Known}
 use Rattle.unrolled.specs.Graph.{Node, Following, successors, entered, taken, arguments_by}
 use Rattle.unrolled.specs.Rules.{rules_of}
-use Rattle.unrolled.specs.Paths.{callee_node}
 use Rattle.unrolled.specs.Certificates.{Point, leads_on}
 use Rattle.unrolled.proofs.Lists.{in_parts, unmapped}
 use Rattle.search.specs.declared.node.Following as plain
@@ -23,7 +22,7 @@ use Rattle.search.specs.Seen.{following_seen}
 use Rattle.search.specs.Followed.{AreFollowings}
 use Rattle.loop_bounds.specs.Methods.{AreMethodsOf, HasNumber, HasNumberIf, LacksNumber}
 use Rattle.loop_bounds.specs.Found.{points_seen, EachHasMethod}
-use Rattle.loop_bounds.specs.Nexts.{at_node, start_in, own_start, nexts_at, HasCallee, AreNexts, HasNoEdge, IsDeadEnd}
+use Rattle.loop_bounds.specs.Nexts.{at_node, start_in, own_start, HasCallee, AreNexts, HasNoEdge, IsDeadEnd}
 use Rattle.loop_bounds.proofs.Rules.{followed, by_call}
 
 -- the method of a class that a number of a typed one names
@@ -59,7 +58,7 @@ nothing_stands c rows i row x are r none =
     (of.0, of.1, subst (λ (o : Option Placed). HasNoEdge c (rules_of c) (at_node row.number x) o) (sym at) tt)
 
 module _ (c : Class) (rows : List Typed) (fs : List plain.Following) (i : ℕ) (row : Typed) (f : plain.Following) (p : Placed) (x : Node) (are : AreMethodsOf c rows) (follow : AreFollowings rows fs)
-         (r : slice_get rows i ≡ Some row) (g : slice_get fs i ≡ Some f) (at : at_place row.code x.place ≡ Some p) where
+    (r : slice_get rows i ≡ Some row) (g : slice_get fs i ≡ Some f) (at : at_place row.code x.place ≡ Some p) where
   abbrev after : List Node
   after = successors c.view (rules_of c row.number) p x
 

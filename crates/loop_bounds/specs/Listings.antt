@@ -1,5 +1,5 @@
 -- The nodes of a class, listed in order and with their costs, and what the search answers.
-use Rattle.std.specs.Prelude.{◌≡◌, ℕ, ◌<◌, List, [], ◌∷◌, reverse, length, Option, Some, None, slice_get}
+use Rattle.std.specs.Prelude.{◌≡◌, ℕ, List, [], ◌∷◌, reverse, length, Option, Some, None, slice_get}
 use Rattle.typecheck.specs.Typing.{Method, Class}
 use Rattle.typecheck.specs.declared.typed.Typed.{Typed}
 use Rattle.bounds.specs.Paths.{Cost}

@@ -1,5 +1,5 @@
 -- The points after a point: the start of the own method that its instruction calls, and its successors.
-use Rattle.std.specs.Prelude.{◌≡◌, ℕ, Bool, true, false, List, [], ◌∷◌, ◌++◌, map, Option, Some, None, slice_get}
+use Rattle.std.specs.Prelude.{◌≡◌, ℕ, true, false, List, [], ◌∷◌, ◌++◌, map, Option, Some, None, slice_get}
 use Rattle.decode.specs.declared.instruction.Placed.{Placed}
 use Rattle.decode.specs.Places.{is_return}
 use Rattle.typecheck.specs.Typing.{Method, Class, instruction_at, call_of}

@@ -6,7 +6,6 @@ use Rattle.typecheck.specs.Typing.{Class, own_of}
 use Rattle.typecheck.specs.Calls.{callee_in}
 use Rattle.typecheck.specs.declared.typed.Typed.{Typed}
 use Rattle.bounds.specs.Cells.{Cell, capped, no_path, either, one_before, call_before, last_cell, slots_of, words_by, cell_at}
-use Rattle.unrolled.specs.Graph.{Node}
 use Rattle.unrolled.specs.Rules.{rules_of}
 use Rattle.unrolled.specs.Certificates.{Point, is_in}
 use Rattle.unrolled.specs.Tables.{Costs, IsTable}

@@ -157,7 +157,10 @@ fn cost_by(
     } else if calls_own(method, place) {
         cost_of_call(method, costs, numbers)
     } else {
-        after_one(words_at(method, place, instruction), greatest(costs, numbers))
+        after_one(
+            words_at(method, place, instruction),
+            greatest(costs, numbers),
+        )
     }
 }
 

@@ -91,11 +91,7 @@ pub fn note(alloc: Global, found: &mut Found, k: Point) -> Result<usize, AllocEr
 }
 
 /// Returns the numbers of points. Those that are new are added.
-pub fn note_all(
-    alloc: Global,
-    found: &mut Found,
-    ks: Vec<Point>,
-) -> Result<Vec<usize>, AllocError>
+pub fn note_all(alloc: Global, found: &mut Found, ks: Vec<Point>) -> Result<Vec<usize>, AllocError>
     requires { IsFound found.old }
     ensures found { IfOk result (λ _. IsFound found.new) }
     ensures grows { IfOk result (λ _. Grows found.old.points.items found.new.points.items (points_seen ks.items)) }

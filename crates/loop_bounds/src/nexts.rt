@@ -66,11 +66,7 @@ fn own_callee(callee: Option<&Callee>) -> Option<usize>
 }
 
 /// Appends the nodes of a method.
-fn add_nodes(
-    mut to: Vec<Point>,
-    method: usize,
-    nodes: Vec<Node>,
-) -> Result<Vec<Point>, AllocError>
+fn add_nodes(mut to: Vec<Point>, method: usize, nodes: Vec<Node>) -> Result<Vec<Point>, AllocError>
     ensures { IfOk result (λ ys. points_seen ys.items ≡ points_seen to.items ++ map (at_node method) (map node_seen nodes.items)) }
 {
     for node in nodes {

@@ -1,4 +1,4 @@
-use Rattle.std.proofs.Common.{◌≡◌, ◌-◌, ◌^◌, length}
+use Rattle.std.proofs.Common.{◌-◌, ◌^◌, length}
 use Rattle.search.specs.Orders.{items_of}
 use Rattle.search.specs.Points.{point_seen}
 use Rattle.loop_bounds.specs.Graphs.{IsExploring}

@@ -1,4 +1,4 @@
-use Rattle.std.proofs.Common.{◌≡◌, ◌≤◌, length, sym, subst, arith}
+use Rattle.std.proofs.Common.{arith}
 use Rattle.search.specs.Orders.{items_of}
 use Rattle.search.proofs.Steps.{length-items_of}
 use Rattle.loop_bounds.proofs.Exploring.{more, whole}

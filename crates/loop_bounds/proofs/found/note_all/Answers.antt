@@ -1,10 +1,10 @@
-use Rattle.std.proofs.Common.{◌≡◌, ◌++◌, ◌∷◌, [], List, length, sym, subst}
+use Rattle.std.proofs.Common.{List, length, sym, subst}
 use Rattle.unrolled.specs.Certificates.{Point}
 use Rattle.search.specs.Points.{point_seen}
 use Rattle.loop_bounds.specs.Found.{points_seen}
 use Rattle.loop_bounds.specs.Graphs.{AreLinked}
-use Rattle.loop_bounds.proofs.Lists.{map_more, mapped_at, yielded_all, yielded_at, yielded_more, nothing_left}
-use Rattle.loop_bounds.proofs.Growth.{grows_none, grows_more, linked_more, below_more, below_length}
+use Rattle.loop_bounds.proofs.Lists.{map_more, mapped_at, yielded_at, yielded_more}
+use Rattle.loop_bounds.proofs.Growth.{grows_more, linked_more, below_more, below_length}
 use Rattle.loop_bounds.proofs.found.note_all.Goals as goal
 
 pub loop-k-preserved : goal.loop-k-preserved

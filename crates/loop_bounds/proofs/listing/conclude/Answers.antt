@@ -1,9 +1,8 @@
-use Rattle.std.proofs.Common.{◌≡◌, ◌<◌, ℕ, List, length, reverse, Option, Some, refl, ap, sym, ◌∙◌, subst}
+use Rattle.std.proofs.Common.{◌≡◌, ℕ, List, length, reverse, Option, refl, ap, sym, ◌∙◌, subst}
 use Rattle.std.specs.Prelude.{MatchOption, Vec}
 use Rattle.std.specs.declared.alloc.Global.{Global}
-use Rattle.bounds.specs.Cells.{Cell}
 use Rattle.search.specs.declared.point.Point as plain
-use Rattle.search.specs.Orders.{Links, items_of, AreLinks, AreBelow, AreDistinct, IsAmong, IsOrder, IsCircleIn}
+use Rattle.search.specs.Orders.{items_of, AreLinks, AreBelow, AreDistinct, IsAmong, IsOrder, IsCircleIn}
 use Rattle.search.proofs.Steps.{length-items_of}
 use Rattle.loop_bounds.specs.Found.{points_seen}
 use Rattle.loop_bounds.specs.Tables.{AreCosts}
@@ -41,6 +40,6 @@ returns-in_ok-costs-in-Some c =
       refl,
       subst (λ (l : List (Vec ℕ Global)). IsOrdered (items_of l) order) c.deref.ensures.value ordered,
       subst (λ (l : List ℕ). AreCosts rows (points_seen c.args.points.items) (items_of c.args.links.items) (reverse l) cells) c.deref-in-Some-3.ensures.value
-      (subst (λ (l : List (Vec ℕ Global)). AreCosts rows (points_seen c.args.points.items) (items_of l) (reverse c.deref-in-Some-3.result.now) cells) c.deref-in-Some-2.ensures.value
-      (subst (λ (l : List plain.Point). AreCosts rows (points_seen l) (items_of c.deref-in-Some-2.result.now) (reverse c.deref-in-Some-3.result.now) cells) c.deref-in-Some.ensures.value costs)),
+          (subst (λ (l : List (Vec ℕ Global)). AreCosts rows (points_seen c.args.points.items) (items_of l) (reverse c.deref-in-Some-3.result.now) cells) c.deref-in-Some-2.ensures.value
+          (subst (λ (l : List plain.Point). AreCosts rows (points_seen l) (items_of c.deref-in-Some-2.result.now) (reverse c.deref-in-Some-3.result.now) cells) c.deref-in-Some.ensures.value costs)),
     )

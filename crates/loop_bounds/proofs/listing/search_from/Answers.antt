@@ -1,4 +1,4 @@
-use Rattle.std.proofs.Common.{◌≡◌, ◌<◌, length, sym, ◌∙◌, subst}
+use Rattle.std.proofs.Common.{sym, ◌∙◌, subst}
 use Rattle.unrolled.specs.Certificates.{Point}
 use Rattle.unrolled.specs.Limits.{start_point}
 use Rattle.unrolled.specs.Rules.{rules_of}

@@ -1,4 +1,4 @@
-use Rattle.std.proofs.Common.{◌≡◌, ◌++◌, [], List, map, ap, ◌∙◌, arith}
+use Rattle.std.proofs.Common.{◌≡◌, ◌++◌, [], List, map, ap, ◌∙◌}
 use Rattle.search.specs.declared.node.Node.{Node}
 use Rattle.search.specs.Seen.{node_seen}
 use Rattle.loop_bounds.specs.Nexts.{at_node}

@@ -1,4 +1,4 @@
-use Rattle.std.proofs.Common.{◌≡◌, ◌<◌, length, get_or, Some, ap, sym, ◌∙◌, subst}
+use Rattle.std.proofs.Common.{◌≡◌, get_or, Some, ap, sym, ◌∙◌, subst}
 use Rattle.std.specs.Prelude.{slice_get, IfOk, MatchOption}
 use Rattle.std.proofs.lemmas.Option.{slice_get-get_or}
 use Rattle.decode.specs.Places.{at_place}

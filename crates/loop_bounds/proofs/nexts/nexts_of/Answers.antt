@@ -1,21 +1,18 @@
-use Rattle.std.proofs.Common.{◌≡◌, ◌<◌, ℕ, List, [], ◌∷◌, ◌++◌, Bool, false, length, get_or, map, Option, Some, None, refl, ap, sym, ◌∙◌, subst, arith, vec_len}
+use Rattle.std.proofs.Common.{◌≡◌, ℕ, List, [], ◌++◌, length, get_or, map, Option, Some, ap, sym, ◌∙◌, subst, arith, vec_len}
 use Rattle.std.specs.Prelude.{slice_get, option_copied, MatchOption, Vec}
 use Rattle.std.specs.declared.alloc.Global.{Global}
 use Rattle.std.proofs.lemmas.List.{length-map}
 use Rattle.std.proofs.lemmas.Option.{slice_get-get_or}
-use Rattle.decode.specs.declared.instruction.Placed.{Placed}
-use Rattle.decode.specs.Places.{at_place, is_return}
+use Rattle.decode.specs.Places.{is_return}
 use Rattle.frames.specs.declared.members.Callee.{Callee}
 use Rattle.typecheck.specs.Typing.{Class, own_of, call_of}
-use Rattle.typecheck.specs.Calls.{AreRising, callee_in, called_by}
+use Rattle.typecheck.specs.Calls.{AreRising, callee_in}
 use Rattle.typecheck.specs.declared.typed.Typed.{Typed}
 use Rattle.unrolled.specs.Graph.{Node, successors}
 use Rattle.unrolled.specs.Rules.{rules_of}
 use Rattle.unrolled.specs.Certificates.{Point}
-use Rattle.search.specs.declared.node.Following as plain
 use Rattle.search.specs.declared.node.Node as plain_node
 use Rattle.search.specs.declared.point.Point as plain_point
-use Rattle.search.specs.Followed.{AreFollowings}
 use Rattle.search.specs.Seen.{node_seen, following_seen}
 use Rattle.loop_bounds.specs.Methods.{AreMethodsOf, HasNumber, HasNumberIf, LacksNumber}
 use Rattle.loop_bounds.specs.Nexts.{at_node, own_start}

@@ -1,10 +1,9 @@
-use Rattle.std.proofs.Common.{◌≡◌, ℕ, [], ◌∷◌, ◌++◌, List, ap, sym, ◌∙◌, subst}
+use Rattle.std.proofs.Common.{◌≡◌, [], ◌∷◌, ◌++◌, List, ap, ◌∙◌}
 use Rattle.std.specs.Prelude.{Some, slice_get}
 use Rattle.unrolled.specs.Graph.{entered}
 use Rattle.unrolled.specs.Rules.{rules_of}
 use Rattle.unrolled.specs.Certificates.{Point}
 use Rattle.search.specs.declared.point.Point as plain
-use Rattle.search.specs.Points.{point_seen}
 use Rattle.search.specs.Seen.{operands_seen}
 use Rattle.loop_bounds.specs.Nexts.{at_node}
 use Rattle.loop_bounds.specs.Found.{points_seen}

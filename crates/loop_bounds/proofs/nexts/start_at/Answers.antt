@@ -1,7 +1,6 @@
-use Rattle.std.proofs.Common.{◌≡◌, ◌<◌, ℕ, Some, length, get_or, ap, sym, ◌∙◌, subst, arith}
+use Rattle.std.proofs.Common.{◌≡◌, Some, get_or, ap, sym, ◌∙◌, arith}
 use Rattle.std.specs.Prelude.{slice_get}
 use Rattle.std.proofs.lemmas.Option.{slice_get-get_or}
-use Rattle.frames.specs.declared.frame.Environment.{Environment}
 use Rattle.typecheck.specs.declared.typed.Typed.{Typed}
 use Rattle.search.specs.Seen.{operands_seen, node_seen}
 use Rattle.loop_bounds.specs.Nexts.{at_node}

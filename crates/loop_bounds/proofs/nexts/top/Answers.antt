@@ -1,4 +1,4 @@
-use Rattle.std.proofs.Common.{◌≡◌, ◌-◌, length, take, drop, arith}
+use Rattle.std.proofs.Common.{◌≡◌, ◌-◌, length, drop, arith}
 use Rattle.std.proofs.lemmas.List.{length-drop}
 use Rattle.loop_bounds.proofs.Lists.{operands_top, taken_whole}
 use Rattle.loop_bounds.proofs.nexts.top.Goals as goal
