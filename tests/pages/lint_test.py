@@ -169,6 +169,8 @@ class Repository(unittest.TestCase):
                     "crates/verify/src/lib.rt:1:fn weave() {}: write translate",
                     "docs/A.md:1:Read crates/older/src.: write crates/newer/",
                     "lint words: 2 lines above",
+                    "failed: bin/lint: pages: docs/A.md:2: 'so many': write a number",
+                    "failed: bin/lint: words: crates/verify/src/lib.rt:1:fn weave() {}: write translate",
                     "0 passed, 2 failed",
                 ],
             )
