@@ -15,7 +15,7 @@ use Rattle.cache.specs.Views.{Part, View, part, none_full, first_view}
 use Rattle.cache.specs.Guarded.{IsAt, IsPart, Fits, Guarded}
 use Rattle.atomic_table.specs.Seated.{TableId}
 use Rattle.cache.specs.Ends.{tables_of, IsReady, AreReady}
-use Rattle.cache.specs.Opened.{Sitting, AreFresh, fresh_seat}
+use Rattle.cache.specs.Opened.{Sitting, AreFresh, HaveRoom, fresh_seat}
 use Rattle.cache.specs.declared.known.Terms.{Terms}
 use Rattle.cache.proofs.Keeps.{S, nothing_held, at_one}
 
@@ -155,9 +155,17 @@ module _ (journal : ℕ) (ms : List Stored) (ys : List Kept) (are : ys ≡ fresh
   pub tables_are : tables_of ys ≡ ms
   tables_are = ap tables_of are ∙ tables-fresh_from (length ms) journal 0 ms
 
-pub fresh_all : (t : TableId) (n : ℕ) (first : Sitting) (others : List Sitting) → first ≡ fresh_seat t n 0 → length others + 1 ≡ n → ((c : ℕ) (s : Sitting) → get_elem? others c ≡ some s → s ≡ fresh_seat t n (suc c)) → AreFresh t n (first ∷ others)
-fresh_all t n first others is count each = record { count = omega (arith, count); each = at }
-  where
-    at : (c : ℕ) (s : Sitting) → get_elem? (first ∷ others) c ≡ some s → s ≡ fresh_seat t n c
-    at zero s e = sym (some-injective first s e) ∙ is
-    at (suc c) s e = each c s e
+-- The first seat and the other seats are all seats.
+module _ (t : TableId) (n room : ℕ) (first : Sitting) (others : List Sitting) (is : first ≡ fresh_seat t n room 0) (count : length others + 1 ≡ n) (each : (c : ℕ) (s : Sitting) → get_elem? others c ≡ some s → s ≡ fresh_seat t n room (suc c)) where
+  seat_at : (c : ℕ) (s : Sitting) → get_elem? (first ∷ others) c ≡ some s → s ≡ fresh_seat t n room c
+  seat_at zero s e = sym (some-injective first s e) ∙ is
+  seat_at (suc c) s e = each c s e
+
+  room_at : (c : ℕ) (s : Sitting) → get_elem? (first ∷ others) c ≡ some s → s.room ≡ room
+  room_at c s e = ap (λ (x : Sitting). x.room) (seat_at c s e)
+
+  pub fresh_all : AreFresh t n (first ∷ others)
+  fresh_all = record { count = omega (arith, count); each = λ c s e. seat_at c s e ∙ ap (λ (r : ℕ). fresh_seat t n r c) (sym (room_at c s e)) }
+
+  pub room_all : HaveRoom room (first ∷ others)
+  room_all c s e = let same = room_at c s e in omega (arith, same)

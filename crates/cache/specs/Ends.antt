@@ -1,5 +1,7 @@
 -- The buffers of a cache, and the return of its stripes.
-use Rattle.std.specs.Prelude.{◌≡◌, ℕ, ℤ, Bool, ◌≤◌, List, [], length, map, vec_capacity, None}
+use Rattle.std.specs.Prelude.{◌≡◌, ℕ, ℤ, Bool, ◌+◌, ◌≤◌, List, [], length, map, vec_len, vec_capacity, None}
+use Rattle.std.specs.Global.{Vec}
+use Rattle.std.specs.List.{All}
 use mathlib.Core.Option.{some}
 use lib.ListN.{get_elem?}
 use Rattle.atomic_table.specs.Table.{Final, Seen}
@@ -12,13 +14,23 @@ use Rattle.cache.specs.Views.{View}
 use Rattle.cache.specs.Guarded.{Guarded}
 use Rattle.cache.specs.declared.known.Terms.{Terms}
 use Rattle.cache.specs.declared.cache.SeatRoom.{SeatRoom}
+use Rattle.cache.specs.declared.receipt.Receipt.{Receipt as ReceiptKept}
 
--- `HasRoom` holds if both buffers are empty and have capacity for `seats` items.
-pub record HasRoom (seats : ℕ) (r : SeatRoom) : Type 0 where
+-- `IsEmptyList` holds if the list is empty and has capacity for the receipts of `calls` calls.
+abbrev pub IsEmptyList : ℕ → Vec ReceiptKept → Type 0
+IsEmptyList calls v = (v.items ≡ []) × (vec_len v + calls ≤ vec_capacity v)
+
+-- `AreLists` holds if there is an empty list for each of `seats` seats, with capacity for the receipts of `calls` calls.
+abbrev pub AreLists : ℕ → ℕ → List (Vec ReceiptKept) → Type 0
+AreLists seats calls lists = (length lists ≡ seats) × All (IsEmptyList calls) lists
+
+-- `HasRoom` holds if both buffers are empty and have capacity for `seats` items, and there is a list of receipts for each seat.
+pub record HasRoom (seats calls : ℕ) (r : SeatRoom) : Type 0 where
   pub list : r.list.items ≡ []
   pub list_room : seats ≤ vec_capacity r.list
   pub receipts : r.receipts.items ≡ []
   pub receipts_room : seats ≤ vec_capacity r.receipts
+  pub lists : AreLists seats calls r.lists.items
 
 abbrev pub histories_of : List Kept → List (List Record)
 histories_of ys = map (λ (y : Kept). y.records) ys

@@ -1,5 +1,5 @@
 -- The invariants of caches and of seats.
-use Rattle.std.specs.Prelude.{◌≡◌, ◌<◌, ◌≤◌, [], length, vec_capacity}
+use Rattle.std.specs.Prelude.{◌≡◌, ◌+◌, ◌<◌, ◌≤◌, [], length, vec_len, vec_capacity}
 use Rattle.atomic_table.specs.Seated.{TableId}
 use Rattle.stripe.specs.Tables.{IsCount, IsJournal, none_back}
 use Rattle.cache.specs.Receipts.{receipts_of}
@@ -30,9 +30,10 @@ pub record IsCache {L : Type 0} (s : Inside L) : Type 0 where
   pub room : s.seats ≤ vec_capacity s.receipts
 
 abbrev pub sitting : InSeat → Sitting
-sitting s = record { table = s.pass.table_id; caller = s.caller; made = s.made; receipts = receipts_of s.receipts.items; full = s.full }
+sitting s = record { table = s.pass.table_id; caller = s.caller; made = s.made; receipts = receipts_of s.receipts.items; full = s.full; room = s.room }
 
--- `IsSeated` holds if the seat's ghost view agrees with its fields, and it has 64 full flags.
+-- `IsSeated` holds if the seat's ghost view agrees with its fields, it has 64 full flags, and its list has capacity for `room` more receipts.
 pub record IsSeated (s : InSeat) : Type 0 where
   pub known : IsKnown s.pass.table_id.slots s.made (part s.caller (receipts_of s.receipts.items) s.full) s.held s.pass.me
   pub full : length s.full ≡ 64
+  pub room : vec_len s.receipts + s.room ≤ vec_capacity s.receipts

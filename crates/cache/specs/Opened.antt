@@ -1,11 +1,12 @@
 -- The models of caches and seats.
-use Rattle.std.specs.Prelude.{◌≡◌, ℕ, zero, suc, ◌<◌, ◌≤◌, List, [], ◌∷◌, ◌++◌, Bool, true, false, length, map, None, slice_set, slice_index_or}
+use Rattle.std.specs.Prelude.{◌≡◌, ℕ, zero, suc, ◌-◌, ◌<◌, ◌≤◌, List, [], ◌∷◌, ◌++◌, Bool, true, false, length, map, None, Result, Err, slice_set, slice_index_or}
 use mathlib.Core.Option.{some}
 use lib.ListN.{get_elem?}
 use Rattle.atomic_table.specs.Seated.{TableId}
 use Rattle.boxcar.specs.Table.{Shelves}
 use Rattle.stripe.specs.declared.call.Reply.{Reply}
 use Rattle.stripe.specs.History.{Call, key_of, stripe_of}
+use Rattle.stripe.specs.Kept.{may_make}
 use Rattle.stripe.specs.Stored.{Stored}
 use Rattle.stripe.specs.Tables.{IsJournal}
 use Rattle.cache.specs.Receipts.{Receipt}
@@ -25,12 +26,14 @@ pub record Opened (L : Type 0) : Type 0 where
 
 -- A seat of a cache: its number, its receipts, and a flag for each stripe that it found full.
 -- `made` is the number of seats in the first seat, and 0 in every other seat.
+-- `room` is the number of further calls whose receipts are preallocated.
 pub record Sitting : Type 0 where
   pub table : TableId
   pub caller : ℕ
   pub made : ℕ
   pub receipts : List Receipt
   pub full : List Bool
+  pub room : ℕ
 
 abbrev pub part_of : Sitting → Part
 part_of s = part s.caller s.receipts s.full
@@ -60,14 +63,18 @@ abbrev pub made_of : ℕ → ℕ → ℕ
 made_of n zero = n
 made_of n (suc c) = 0
 
--- Seat `c` of `n`, before any call.
-abbrev pub fresh_seat : TableId → ℕ → ℕ → Sitting
-fresh_seat t n c = record { table = t; caller = c; made = made_of n c; receipts = []; full = none_full }
+-- Seat `c` of `n`, before any call. The receipts of its first `room` calls are preallocated.
+abbrev pub fresh_seat : TableId → ℕ → ℕ → ℕ → Sitting
+fresh_seat t n room c = record { table = t; caller = c; made = made_of n c; receipts = []; full = none_full; room = room }
 
 -- `AreFresh` holds if `seats` are the `n` seats of a cache before any call, in order.
 pub record AreFresh (t : TableId) (n : ℕ) (seats : List Sitting) : Type 0 where
   pub count : length seats ≡ n
-  pub each : (c : ℕ) (s : Sitting) → get_elem? seats c ≡ some s → s ≡ fresh_seat t n c
+  pub each : (c : ℕ) (s : Sitting) → get_elem? seats c ≡ some s → s ≡ fresh_seat t n s.room c
+
+-- `HaveRoom` holds if the receipts of the next `calls` calls of each seat are preallocated.
+abbrev pub HaveRoom : ℕ → List Sitting → Type 0
+HaveRoom calls seats = (c : ℕ) (s : Sitting) → get_elem? seats c ≡ some s → calls ≤ s.room
 
 -- `IsSeat` holds if `s` is seat `c` of `n` of table `t`, after any calls.
 pub record IsSeat (t : TableId) (n c : ℕ) (s : Sitting) : Type 0 where
@@ -82,8 +89,13 @@ pub record AreSeats {L : Type 0} (d : Opened L) (seats : List Sitting) : Type 0 
 
 -- ---- calls
 
+-- The seat after an answered call, whose receipt takes the place of a preallocated one, if any is left.
 abbrev pub with_receipt : Sitting → Receipt → Sitting
-with_receipt s t = record s { receipts = s.receipts ++ t ∷ [] }
+with_receipt s t = record s { receipts = s.receipts ++ t ∷ []; room = s.room - 1 }
+
+-- The seat with the receipts of its next `room` calls preallocated.
+abbrev pub with_room : Sitting → ℕ → Sitting
+with_room s room = record s { room = room }
 
 abbrev pub with_full : Sitting → ℕ → Sitting
 with_full s i = record s { full = slice_set s.full i true }
@@ -104,3 +116,7 @@ pub record IsAnswered {L : Type 0} (d : Opened L) (old : Sitting) (call : Call) 
 abbrev pub IsTurnedAway : {L : Type 0} → Opened L → Sitting → Call → InvokeRefusal → Sitting → Type 0
 IsTurnedAway d old call JournalFull new = (new ≡ with_full old (stripe_in d call)) × (slice_index_or new.full (stripe_in d call) false ≡ true)
 IsTurnedAway d old call NoMemory new = new ≡ old
+
+-- `NeedsMemory` holds if the call wasn't refused out of memory, or may create an entry, or the seat had no preallocated receipt for it.
+abbrev pub NeedsMemory : Bool → Sitting → Call → Result Reply InvokeRefusal → Type 0
+NeedsMemory loads seat call answer = answer ≡ Err NoMemory → 0 < seat.room → may_make loads call ≡ true

@@ -1,7 +1,7 @@
 //! The cache, and how it is opened and closed.
 
 ghost use Rattle.std.specs.Prelude.{IfOk};
-ghost use Rattle.cache.specs.Ends.{HasRoom};
+ghost use Rattle.cache.specs.Ends.{AreLists, HasRoom};
 
 use crate::ends::{Locked, join_all, locked, rejoined, seated, unpack};
 use crate::known::Terms;
@@ -57,20 +57,38 @@ pub struct Closed<'a> {
     pub receipts: Vec<Vec<Receipt<'a>>>,
 }
 
-/// The buffers of a cache for its seats, and for the lists of their receipts.
+/// The buffers of a cache for its seats, for the lists of their receipts when it is closed, and a list of receipts for each seat.
 #[derive(Drop)]
 struct SeatRoom<'a> {
     list: Vec<Seat<'a>>,
     receipts: Vec<Vec<Receipt<'a>>>,
+    lists: Vec<Vec<Receipt<'a>>>,
 }
 
-/// Allocates empty buffers for `seats` seats.
-fn room_for<'a>(alloc: Global, seats: usize) -> Result<SeatRoom<'a>, AllocError>
-    ensures { IfOk result (HasRoom seats) }
+/// Returns an empty list for each of `seats` seats, with capacity for the receipts of `calls` calls.
+fn empty_lists<'a>(
+    alloc: Global,
+    seats: usize,
+    calls: usize,
+) -> Result<Vec<Vec<Receipt<'a>>>, AllocError>
+    ensures { IfOk result (λ v. AreLists seats calls v.items) }
+{
+    let mut lists = Vec::new(alloc);
+    for _ in 0..seats {
+        let list = Vec::with_capacity(alloc, calls)?;
+        lists.push(list)?;
+    }
+    Ok(lists)
+}
+
+/// Allocates empty buffers for `seats` seats, each of which makes `calls` calls.
+fn room_for<'a>(alloc: Global, seats: usize, calls: usize) -> Result<SeatRoom<'a>, AllocError>
+    ensures { IfOk result (HasRoom seats calls) }
 {
     Ok(SeatRoom {
         list: Vec::with_capacity(alloc, seats)?,
         receipts: Vec::with_capacity(alloc, seats)?,
+        lists: empty_lists(alloc, seats, calls)?,
     })
 }
 
@@ -78,7 +96,7 @@ impl<'a, 'l, L: Loader> Cache<'a, 'l, L> {
     ghost use Rattle.std.specs.Prelude.{◌≡◌, ◌↔◌, length, IfOk, IfErr, OnOk};
     ghost use Rattle.stripe.specs.declared.refusal.OpenRefusal.TheVariants.{BadCount};
     ghost use Rattle.stripe.specs.Tables.{IsCount};
-    ghost use Rattle.cache.specs.Opened.{IsOpened, AreFresh, AreCounts, AreSeats};
+    ghost use Rattle.cache.specs.Opened.{IsOpened, AreFresh, HaveRoom, AreCounts, AreSeats};
     ghost use Rattle.cache.specs.Closing.{Settles, histories_seen, receipts_seen, receipts_in};
 
     /// Opens a cache with these entries, and returns it with its seats. The history of each stripe holds at most `journal` records.
@@ -98,6 +116,27 @@ impl<'a, 'l, L: Loader> Cache<'a, 'l, L> {
         ensures count { IfErr result (λ e. (e.0 ≡ BadCount) ↔ (¬ AreCounts journal seats)) }
         ensures given { IfErr result (λ e. e.1 ≡ tables) }
     {
+        Cache::open_for(alloc, registry, tables, journal, seats, 0, loader)
+    }
+
+    /// Opens a cache as `open` does, with the receipts of the first `calls` calls of each seat preallocated.
+    /// So no such call is refused out of memory, unless it may create an entry.
+    pub fn open_for(
+        alloc: Global,
+        registry: &'a Registry,
+        tables: Tables,
+        journal: usize,
+        seats: usize,
+        calls: usize,
+        loader: &'l L,
+    ) -> Result<(Cache<'a, 'l, L>, Vec<Seat<'a>>), (OpenRefusal, Tables)>
+        ensures cache { IfOk result (λ r. IsOpened registry.now tables journal seats loader.now r.0) }
+        ensures seats { IfOk result (λ r. AreFresh r.0.table seats r.1.items) }
+        ensures room { IfOk result (λ r. HaveRoom calls r.1.items) }
+        ensures counts { OnOk result (AreCounts journal seats) }
+        ensures count { IfErr result (λ e. (e.0 ≡ BadCount) ↔ (¬ AreCounts journal seats)) }
+        ensures given { IfErr result (λ e. e.1 ≡ tables) }
+    {
         if seats == 0 || seats > MOST_SEATS {
             return Err((OpenRefusal::BadCount, tables));
         }
@@ -108,13 +147,17 @@ impl<'a, 'l, L: Loader> Cache<'a, 'l, L> {
         };
         let (stripes, rest) = tables.split(alloc, journal)?;
         let count = stripes.len();
-        let Ok(room) = room_for(alloc, seats) else {
+        let Ok(room) = room_for(alloc, seats, calls) else {
             return Err((OpenRefusal::NoMemory, rejoined(stripes, rest)));
         };
         match locked(alloc, stripes, &terms) {
             Ok((table, pass)) => {
-                let SeatRoom { list, receipts } = room;
-                let list = seated(alloc, &table.shared, pass, list, seats);
+                let SeatRoom {
+                    list,
+                    receipts,
+                    lists,
+                } = room;
+                let list = seated(&table.shared, pass, list, lists, seats, calls);
                 let cache = Cache {
                     table,
                     registry,

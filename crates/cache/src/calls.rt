@@ -1,6 +1,6 @@
 //! The calls of a cache.
 
-ghost use Rattle.std.specs.Prelude.{◌≡◌, ◌<◌, ◌≤◌};
+ghost use Rattle.std.specs.Prelude.{◌≡◌, ◌<◌, ◌≤◌, vec_len, vec_capacity, IsTrue, IsFalse};
 ghost use Rattle.stripe.specs.History.{key_of, stripe_of};
 ghost use Rattle.stripe.specs.Seen.{call_of};
 
@@ -28,6 +28,18 @@ fn place_of(stripes: usize, call: &Call<'_>) -> usize
     stripe_of(stripes, call.key())
 }
 
+/// Reserves capacity for one more receipt, and returns whether there is.
+#[inline(always)]
+fn reserve_one(receipts: &mut Vec<Receipt<'_>>) -> bool
+    ensures items { receipts.new.items ≡ receipts.old.items }
+    ensures len { vec_len receipts.new ≡ vec_len receipts.old }
+    ensures capacity { vec_capacity receipts.old ≤ vec_capacity receipts.new }
+    ensures room { IsTrue result → vec_len receipts.new < vec_capacity receipts.new }
+    ensures none { IsFalse result → vec_capacity receipts.old ≤ vec_len receipts.old }
+{
+    receipts.reserve(1).is_ok()
+}
+
 /// The end of a call: of an invocation the end of its run, of a `get` the loader's answer, if it was asked.
 type Ended = (Option<Done>, Option<LoadAnswer>);
 
@@ -40,7 +52,7 @@ impl<'a, 'l, L: Loader> Cache<'a, 'l, L> {
     ghost use Rattle.stripe.specs.Seen.{call_of};
     ghost use Rattle.stripe.specs.Rows.{arguments};
     ghost use Rattle.registry.specs.Ids.{IsOf, class_of};
-    ghost use Rattle.cache.specs.Opened.{IsAnswered, IsTurnedAway};
+    ghost use Rattle.cache.specs.Opened.{IsAnswered, IsTurnedAway, NeedsMemory};
     ghost use Rattle.cache.specs.Steps.{EndsSo};
 
     /// Makes a call with the stripe of its key locked. The seat keeps the lock, unless the stripe's history is full.
@@ -60,8 +72,9 @@ impl<'a, 'l, L: Loader> Cache<'a, 'l, L> {
         requires ends { (before : Option ℤ) (e : Option DoneSeen × Option AnswerSeen) → F.post end before e → EndsSo L.ASKS (L.gives self.now.loader) before (call_of call) e }
         ensures ok { IfOk result (λ reply. IsAnswered self.now seat.old (call_of call.entry) reply seat.new) }
         ensures err { IfErr result (λ refusal. IsTurnedAway self.now seat.old (call_of call.entry) refusal seat.new) }
+        ensures memory { NeedsMemory L.ASKS seat.old (call_of call.entry) result }
     {
-        if seat.receipts.reserve(1).is_err() {
+        if !reserve_one(&mut seat.receipts) {
             return Err(InvokeRefusal::NoMemory);
         }
         let index = place_of(self.stripes, &call);
@@ -81,6 +94,7 @@ impl<'a, 'l, L: Loader> Cache<'a, 'l, L> {
                     call: record.call,
                     reply: record.reply,
                 });
+                seat.room = seat.room.saturating_sub(1);
                 Ok(record.reply)
             }
             Err(BeginRefusal::JournalFull) => {
@@ -107,6 +121,7 @@ impl<'a, 'l, L: Loader> Cache<'a, 'l, L> {
         requires plain { IsPlain (call_of call) }
         ensures ok { IfOk result (λ reply. IsAnswered self.now seat.old (call_of call.entry) reply seat.new) }
         ensures err { IfErr result (λ refusal. IsTurnedAway self.now seat.old (call_of call.entry) refusal seat.new) }
+        ensures memory { NeedsMemory L.ASKS seat.old (call_of call.entry) result }
     {
         let end = |_before: Option<i64>| -> Ended
             ensures { result ≡ (None, None) }
@@ -127,6 +142,7 @@ impl<'a, 'l, L: Loader> Cache<'a, 'l, L> {
         requires plain { IsPlain (call_of call) }
         ensures ok { IfOk result (λ reply. IsAnswered self.now seat.old (call_of call.entry) reply seat.new) }
         ensures err { IfErr result (λ refusal. IsTurnedAway self.now seat.old (call_of call.entry) refusal seat.new) }
+        ensures memory { NeedsMemory L.ASKS seat.old (call_of call.entry) result }
     {
         let answer = self.plain(rt, seat, call, job, gate);
         self.leave(seat);
@@ -224,6 +240,7 @@ impl<'a, 'l, L: Loader> Cache<'a, 'l, L> {
         requires { seat.old.table ≡ self.now.table }
         ensures ok { IfOk result (λ reply. IsAnswered self.now seat.old (Invoke class.now key (arguments args.entry)) reply seat.new) }
         ensures err { IfErr result (λ refusal. IsTurnedAway self.now seat.old (Invoke class.now key (arguments args.entry)) refusal seat.new) }
+        ensures memory { NeedsMemory L.ASKS seat.old (Invoke class.now key (arguments args.entry)) result }
     {
         let call = Call::Invoke { class, key, args };
         let args = args.args();
@@ -256,6 +273,7 @@ impl<'a, 'l, L: Loader> Cache<'a, 'l, L> {
         requires { seat.old.table ≡ self.now.table }
         ensures ok { IfOk result (λ reply. IsAnswered self.now seat.old (call_of call.entry) reply seat.new) }
         ensures err { IfErr result (λ refusal. IsTurnedAway self.now seat.old (call_of call.entry) refusal seat.new) }
+        ensures memory { NeedsMemory L.ASKS seat.old (call_of call.entry) result }
     {
         match call {
             Call::Invoke { class, key, args } => {
@@ -278,6 +296,7 @@ impl<'a, 'l, L: Loader> Cache<'a, 'l, L> {
         requires { seat.old.table ≡ self.now.table }
         ensures ok { IfOk result (λ reply. IsAnswered self.now seat.old (Get key) reply seat.new) }
         ensures err { IfErr result (λ refusal. IsTurnedAway self.now seat.old (Get key) refusal seat.new) }
+        ensures memory { NeedsMemory L.ASKS seat.old (Get key) result }
     {
         self.get_at(rt, seat, key, 0, &NoGate)
     }
@@ -294,6 +313,7 @@ impl<'a, 'l, L: Loader> Cache<'a, 'l, L> {
         requires { seat.old.table ≡ self.now.table }
         ensures ok { IfOk result (λ reply. IsAnswered self.now seat.old (Get key) reply seat.new) }
         ensures err { IfErr result (λ refusal. IsTurnedAway self.now seat.old (Get key) refusal seat.new) }
+        ensures memory { NeedsMemory L.ASKS seat.old (Get key) result }
     {
         let answer = self.read(rt, seat, key, job, gate);
         self.leave(seat);
@@ -314,6 +334,7 @@ impl<'a, 'l, L: Loader> Cache<'a, 'l, L> {
         requires { seat.old.table ≡ self.now.table }
         ensures ok { IfOk result (λ reply. IsAnswered self.now seat.old (Get key) reply seat.new) }
         ensures err { IfErr result (λ refusal. IsTurnedAway self.now seat.old (Get key) refusal seat.new) }
+        ensures memory { NeedsMemory L.ASKS seat.old (Get key) result }
     {
         let loader = self.loader;
         let end = |before: Option<i64>| (None, ask(loader, key, before));
@@ -362,6 +383,7 @@ impl<'a, 'l, L: Loader> Cache<'a, 'l, L> {
         requires { seat.old.table ≡ self.now.table }
         ensures ok { IfOk result (λ reply. IsAnswered self.now seat.old (Remove key) reply seat.new) }
         ensures err { IfErr result (λ refusal. IsTurnedAway self.now seat.old (Remove key) refusal seat.new) }
+        ensures memory { NeedsMemory L.ASKS seat.old (Remove key) result }
     {
         self.remove_at(rt, seat, key, 0, &NoGate)
     }
@@ -378,6 +400,7 @@ impl<'a, 'l, L: Loader> Cache<'a, 'l, L> {
         requires { seat.old.table ≡ self.now.table }
         ensures ok { IfOk result (λ reply. IsAnswered self.now seat.old (Remove key) reply seat.new) }
         ensures err { IfErr result (λ refusal. IsTurnedAway self.now seat.old (Remove key) refusal seat.new) }
+        ensures memory { NeedsMemory L.ASKS seat.old (Remove key) result }
     {
         self.plain_alone(rt, seat, Call::Remove { key }, job, gate)
     }
@@ -392,6 +415,7 @@ impl<'a, 'l, L: Loader> Cache<'a, 'l, L> {
         requires { seat.old.table ≡ self.now.table }
         ensures ok { IfOk result (λ reply. IsAnswered self.now seat.old (Contains key) reply seat.new) }
         ensures err { IfErr result (λ refusal. IsTurnedAway self.now seat.old (Contains key) refusal seat.new) }
+        ensures memory { NeedsMemory L.ASKS seat.old (Contains key) result }
     {
         self.contains_key_at(rt, seat, key, 0, &NoGate)
     }
@@ -408,6 +432,7 @@ impl<'a, 'l, L: Loader> Cache<'a, 'l, L> {
         requires { seat.old.table ≡ self.now.table }
         ensures ok { IfOk result (λ reply. IsAnswered self.now seat.old (Contains key) reply seat.new) }
         ensures err { IfErr result (λ refusal. IsTurnedAway self.now seat.old (Contains key) refusal seat.new) }
+        ensures memory { NeedsMemory L.ASKS seat.old (Contains key) result }
     {
         self.plain_alone(rt, seat, Call::Contains { key }, job, gate)
     }

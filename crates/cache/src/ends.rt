@@ -5,10 +5,10 @@ ghost use mathlib.Core.Option.{some};
 ghost use lib.ListN.{get_elem?};
 ghost use Rattle.stripe.specs.Tables.{IsCount, fresh_stripes, none_back};
 ghost use Rattle.cache.specs.Views.{seat_view, part, none_full, first_view};
-ghost use Rattle.cache.specs.Opened.{Sitting, IsSeatCount, AreFresh, fresh_seat, view_of};
+ghost use Rattle.cache.specs.Opened.{Sitting, IsSeatCount, AreFresh, HaveRoom, fresh_seat, view_of};
 ghost use Rattle.cache.specs.Closing.{receipts_seen, receipts_in};
 ghost use Rattle.cache.specs.Inside.{IsBoard};
-ghost use Rattle.cache.specs.Ends.{AreReady, CanComeBack, IsUnpacked, tables_of};
+ghost use Rattle.cache.specs.Ends.{AreLists, AreReady, CanComeBack, IsEmptyList, IsUnpacked, tables_of};
 
 use crate::known::{Known, Terms};
 use crate::locks::{Locks, OneMore};
@@ -23,22 +23,25 @@ use stripe::{Rest, Stripe, Tables};
 /// The table that owns the stripes and their locks.
 pub type Locked<'a, L> = Table<Stripe<'a>, Known, Terms<L>, Locks, Global>;
 
-/// Splits all seats but the first from the first one, and pushes them to `list`.
+/// Splits all seats but the first from the first one, each with one of the lists of receipts, and pushes them to `list`.
 fn cut_all<'a, L: Loader>(
-    alloc: Global,
     board: &Board<'a, L>,
     pass: &mut Place<'a>,
     list: &mut Vec<Seat<'a>>,
+    lists: &mut Vec<Vec<Receipt<'a>>>,
     seats: usize,
+    calls: usize,
 )
     requires count { IsSeatCount seats }
     requires board { (pass.old.table_id ≡ board.now.table_id) × (0 < board.now.table_id.words) }
     requires first { pass.old.me ≡ (first_view, []) }
     requires room { (list.old.items ≡ []) × (seats ≤ vec_capacity list.old) }
+    requires lists { AreLists seats calls lists.old.items }
     ensures table { pass.new.table_id ≡ pass.old.table_id }
     ensures pass { pass.new.me ≡ (seat_view seats (part 0 [] none_full), []) }
     ensures count { (length list.new.items + 1 ≡ seats) × (vec_capacity list.old ≤ vec_capacity list.new) }
-    ensures seats { (c : ℕ) (s : Sitting) → get_elem? list.new.items c ≡ some s → s ≡ fresh_seat pass.old.table_id seats (suc c) }
+    ensures seats { (c : ℕ) (s : Sitting) → get_elem? list.new.items c ≡ some s → s ≡ fresh_seat pass.old.table_id seats calls (suc c) }
+    ensures lists { AreLists 1 calls lists.new.items }
 {
     for number in 1..seats {
         let cut = board.split_seat::<OneMore>(pass);
@@ -46,25 +49,33 @@ fn cut_all<'a, L: Loader>(
             pass: cut,
             caller: number as u8,
             made: 0,
-            receipts: Vec::new(alloc),
+            receipts: lists.remove(0),
             full: [false; 64],
+            room: calls,
             held: None,
         });
     }
 }
 
-/// Returns the first seat, before any call.
-fn first_seat<'a>(alloc: Global, pass: Place<'a>, seats: usize) -> Seat<'a>
+/// Returns the first seat, before any call, with this list of receipts.
+fn first_seat<'a>(
+    pass: Place<'a>,
+    receipts: Vec<Receipt<'a>>,
+    seats: usize,
+    calls: usize,
+) -> Seat<'a>
     requires count { IsSeatCount seats }
     requires first { pass.me ≡ (seat_view seats (part 0 [] none_full), []) }
-    ensures { result ≡ fresh_seat pass.entry.table_id seats 0 }
+    requires receipts { IsEmptyList calls receipts }
+    ensures { result ≡ fresh_seat pass.entry.table_id seats calls 0 }
 {
     Seat {
         pass,
         caller: 0,
         made: seats as u8,
-        receipts: Vec::new(alloc),
+        receipts,
         full: [false; 64],
+        room: calls,
         held: None,
     }
 }
@@ -91,22 +102,26 @@ pub fn locked<'a, L: Loader>(
     }
 }
 
-/// Returns all seats of a cache, in the preallocated `list`.
+/// Returns all seats of a cache, in the preallocated `list`. Each has one of the lists of receipts.
 pub fn seated<'a, L: Loader>(
-    alloc: Global,
     board: &Board<'a, L>,
     mut pass: Place<'a>,
     mut list: Vec<Seat<'a>>,
+    mut lists: Vec<Vec<Receipt<'a>>>,
     seats: usize,
+    calls: usize,
 ) -> Vec<Seat<'a>>
     requires count { IsSeatCount seats }
     requires board { (pass.table_id ≡ board.now.table_id) × (0 < board.now.table_id.words) }
     requires first { pass.me ≡ (first_view, []) }
     requires room { (list.items ≡ []) × (seats ≤ vec_capacity list) }
-    ensures { AreFresh pass.entry.table_id seats result.items }
+    requires lists { AreLists seats calls lists.items }
+    ensures fresh { AreFresh pass.entry.table_id seats result.items }
+    ensures room { HaveRoom calls result.items }
 {
-    cut_all(alloc, board, &mut pass, &mut list, seats);
-    first_in(&mut list, first_seat(alloc, pass, seats));
+    cut_all(board, &mut pass, &mut list, &mut lists, seats, calls);
+    let receipts = lists.remove(0);
+    first_in(&mut list, first_seat(pass, receipts, seats, calls));
     list
 }
 

@@ -3,6 +3,7 @@
 use crate::known::Known;
 use crate::receipt::Receipt;
 use atomic_table::Seat as Pass;
+use std::alloc::AllocError;
 use std::marker::Model;
 use stripe::Stripe;
 
@@ -15,6 +16,8 @@ pub struct Seat<'a> {
     pub(crate) made: u8,
     pub(crate) receipts: Vec<Receipt<'a>>,
     pub(crate) full: [bool; 64],
+    /// The number of further calls whose receipts are preallocated.
+    pub(crate) room: usize,
     /// The index of the stripe that the seat has locked, if any.
     pub(crate) held: Option<usize>,
 }
@@ -38,13 +41,20 @@ impl<'a> Model for Seat<'a> {
 }
 
 impl<'a> Seat<'a> {
-    ghost use Rattle.std.specs.Prelude.{◌≡◌};
+    ghost use Rattle.std.specs.Prelude.{◌≡◌, ◌≤◌, OnOk, OnErr};
+    ghost use Rattle.cache.specs.Opened.{with_room};
 
-    /// Preallocates the receipts of the next `calls` calls.
-    /// It ignores an out of memory error: each call reserves its receipt again, and is refused if it can't.
-    pub fn expect(&mut self, calls: usize)
-        ensures { self.new ≡ self.old }
+    /// Preallocates the receipts of the next `calls` calls. The error is out of memory, and leaves the seat unchanged.
+    pub fn expect(&mut self, calls: usize) -> Result<(), AllocError>
+        ensures same { self.new ≡ with_room self.old self.new.room }
+        ensures room { OnOk result (calls ≤ self.new.room) }
+        ensures kept { self.old.room ≤ self.new.room }
+        ensures err { OnErr result (self.new ≡ self.old) }
     {
-        let _ = self.receipts.reserve(calls);
+        self.receipts.reserve(calls)?;
+        if self.room < calls {
+            self.room = calls;
+        }
+        Ok(())
     }
 }

@@ -1,10 +1,10 @@
 //! The steps of a call: lock the stripe, begin, commit and unlock.
 
-ghost use Rattle.std.specs.Prelude.{◌≡◌, ◌<◌, ◌∷◌, [], ℕ, length, Some, None, Err, IfOk, OnErr, IsTrue, IsFalse};
+ghost use Rattle.std.specs.Prelude.{◌≡◌, ◌<◌, ◌∷◌, [], ℕ, length, Some, None, Err, IfOk, OnErr, IsTrue, IsFalse, true};
 ghost use Rattle.stripe.specs.History.{Begun, key_of};
-ghost use Rattle.stripe.specs.Kept.{Kept, CanCommit, asked_by};
+ghost use Rattle.stripe.specs.Kept.{Kept, CanCommit, asked_by, may_make};
 ghost use Rattle.stripe.specs.Seen.{call_of, record_of};
-ghost use Rattle.stripe.specs.declared.refusal.BeginRefusal.TheVariants.{JournalFull};
+ghost use Rattle.stripe.specs.declared.refusal.BeginRefusal.TheVariants.{JournalFull, NoMemory};
 ghost use Rattle.cache.specs.Views.{Part, seat_view, holding, filled_part};
 ghost use Rattle.cache.specs.Inside.{IsBoard};
 ghost use Rattle.cache.specs.Steps.{IsIdle, Holds, IsKnown, CanBegin, HasBegun, HasCommitted, HasNoted, CanReturn, CanFill, CanTell};
@@ -168,6 +168,7 @@ pub fn begin<'a, L: Loader>(
     ensures view { pass.new.me.0 ≡ pass.old.me.0 }
     ensures ok { IfOk result (λ before. (y : Kept) → pass.old.me.1 ≡ (index, y) ∷ [] → HasBegun L.ASKS index (record { caller = caller; number = number; call = call_of call.entry; loads = L.ASKS }) before y pass.new.me.1) }
     ensures err { OnErr result (pass.new.me.1 ≡ pass.old.me.1) }
+    ensures memory { result ≡ Err NoMemory → may_make L.ASKS (call_of call.entry) ≡ true }
     ensures full { result ≡ Err JournalFull → (y : Kept) → pass.old.me.1 ≡ (index, y) ∷ [] → length y.records ≡ y.journal }
 {
     pass.slot_mut(board, index)

@@ -28,7 +28,7 @@ abbrev pub filed : ℕ → ℕ → ℤ → Receipt
 filed stripe place key = record { stripe = stripe; place = place; call = Remove key; reply = Flag false }
 
 abbrev pub sitting : TableId → ℕ → List Receipt → Sitting
-sitting table caller receipts = record { table = table; caller = caller; made = made_of 2 caller; receipts = receipts; full = none_full }
+sitting table caller receipts = record { table = table; caller = caller; made = made_of 2 caller; receipts = receipts; full = none_full; room = 0 }
 
 abbrev pub two_seats : TableId → List Sitting
 two_seats table = sitting table 0 (filed 0 1 (pos 0) ∷ filed 1 0 (pos 1) ∷ []) ∷ sitting table 1 (filed 1 1 (pos 1) ∷ filed 0 0 (pos 0) ∷ []) ∷ []

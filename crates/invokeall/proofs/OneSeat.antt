@@ -1,16 +1,17 @@
 -- A round at one seat.
-use Rattle.std.proofs.Common.{◌≡◌, ℕ, zero, suc, List, [], ◌∷◌, ◌++◌, length, map, take, Ok, Err, refl, sym, ap, ◌∙◌, subst, ◌⊎◌, inl, inr, ⊎_elim, arith, IsPermutation}
+use Rattle.std.proofs.Common.{Bool, true, ◌≡◌, ℕ, zero, suc, List, [], ◌∷◌, ◌++◌, length, map, take, Ok, Err, refl, sym, ap, ◌∙◌, subst, ◌⊎◌, inl, inr, ⊎_elim, arith, IsPermutation}
 use Rattle.std.proofs.lemmas.List.{append-nil}
 use Rattle.std.proofs.lemmas.List.Sorted.{IsPermutation-refl}
 use mathlib.Core.Option.{some, some-injective, some-ne-none}
 use lib.ListN.{get_elem?}
 use Rattle.stripe.specs.declared.call.Reply.{Reply}
 use Rattle.stripe.specs.History.{Call}
-use Rattle.cache.specs.declared.refusal.InvokeRefusal.TheVariants.{JournalFull}
+use Rattle.stripe.specs.Kept.{may_make}
+use Rattle.cache.specs.declared.refusal.InvokeRefusal.TheVariants.{JournalFull, NoMemory}
 use Rattle.cache.specs.Opened.{Opened, Sitting, stripe_in}
 use Rattle.round_outcome.specs.Outcome.{answered}
 use Rattle.round_outcome.specs.Closed.{calls_told, calls_at, AreFiled, AllAreFiled}
-use Rattle.invokeall.specs.Rounds.{Answer, reply_of, IsLaterSeat, IsFull, IsRound}
+use Rattle.invokeall.specs.Rounds.{Answer, reply_of, IsLaterSeat, IsFull, IsRound, NeedMemory}
 use Rattle.invokeall.specs.Workers.{told_answer}
 use Rattle.invokeall.proofs.Turns.{OneCall}
 
@@ -39,13 +40,21 @@ at_more (x ∷ xs) a b (suc j) e = ⊎_elim
     (λ (h : (j ≡ length xs) × (a ≡ b)). inr (ap suc h.0, h.1))
     (at_more xs a b j e)
 
-pub shown_more : {L : Type 0} (d : Opened L) (calls : List Call) (a b : Sitting) (answers : List Answer) (n : ℕ) (c : Call) (x : Answer) → length answers ≡ n → get_elem? calls n ≡ some c → OneCall d c a b x
+pub shown_more : {L : Type 0} (loads : Bool) (d : Opened L) (calls : List Call) (a b : Sitting) (answers : List Answer) (n : ℕ) (c : Call) (x : Answer) → length answers ≡ n → get_elem? calls n ≡ some c → OneCall loads d c a b x
     → IsShown d calls a answers → IsShown d calls b (answers ++ x ∷ [])
-shown_more d calls a b answers n c x long at one old k u e there = ⊎_elim
+shown_more loads d calls a b answers n c x long at one old k u e there = ⊎_elim
     (λ (h : get_elem? answers k ≡ some (Err JournalFull)). one.later.full (stripe_in d u) (old k u h there))
     (λ (h : (k ≡ length answers) × (x ≡ Err JournalFull)).
     subst (λ (z : Call). IsFull d z b) (some-injective c u (sym at ∙ subst (λ (m : ℕ). get_elem? calls m ≡ some u) (h.0 ∙ long) there)) (one.full h.1))
     (at_more answers x (Err JournalFull) k e)
+
+pub need_memory_more : (loads : Bool) (calls : List Call) (answers : List Answer) (n : ℕ) (c : Call) (x : Answer) → length answers ≡ n → get_elem? calls n ≡ some c → (x ≡ Err NoMemory → may_make loads c ≡ true)
+    → NeedMemory loads calls answers → NeedMemory loads calls (answers ++ x ∷ [])
+need_memory_more loads calls answers n c x long at may old k u e there = ⊎_elim
+    (λ (h : get_elem? answers k ≡ some (Err NoMemory)). old k u h there)
+    (λ (h : (k ≡ length answers) × (x ≡ Err NoMemory)).
+    subst (λ (z : Call). may_make loads z ≡ true) (some-injective c u (sym at ∙ subst (λ (m : ℕ). get_elem? calls m ≡ some u) (h.0 ∙ long) there)) (may h.1))
+    (at_more answers x (Err NoMemory) k e)
 
 -- The round after all calls are made.
 pub alone_round : {L : Type 0} (d : Opened L) (calls : List Call) (a b : Sitting) (answers : List Answer) → length answers ≡ length calls → IsLaterSeat a b

@@ -78,7 +78,7 @@ module _ (order : List ℕ) (later : List Bool) (g : ℕ) (t : ℕ → ℕ) (new
       (λ (e : x ≡ g). subst (λ (y : ℕ). times y (behind made order g) + one_if (get_or (set later g (not made)) y false) ≡ t y) (sym e) (of_itself made))
       (λ (ne : x ≢ g). of_another made x ne)
 
-module _ {L : Type 0} (d : Opened L) (counter : Numbering) (groups : Groups) (calls : List Call) (v : Worker) where
+module _ {L : Type 0} (loads : Bool) (d : Opened L) (counter : Numbering) (groups : Groups) (calls : List Call) (v : Worker) where
   abbrev of : List ℕ
   of = groups_in groups calls
 
@@ -91,7 +91,7 @@ module _ {L : Type 0} (d : Opened L) (counter : Numbering) (groups : Groups) (ca
     pub once : (x : ℕ) → times x w.claimer.drawn ≤ 1
     pub within : (x : ℕ) → counter.jobs ≤ x → times x w.claimer.drawn ≡ 0
     pub long : length later ≡ 64
-    pub put_off : HasPutOff d groups calls v w later
+    pub put_off : HasPutOff loads d groups calls v w later
 
   -- The invariant holds before the first claim.
   pub at_start : IsReady d counter n v → IsOnItsWay v (replicate 64 false)
@@ -105,7 +105,7 @@ module _ {L : Type 0} (d : Opened L) (counter : Numbering) (groups : Groups) (ca
         put_off = record {
           order = [];
           claimed = λ x. let a = ap one_if (nothing_marked 64 x) in let b = ap (times x) drawn in omega arith;
-          answered = none_answered d calls v ready.answers;
+          answered = none_answered loads d calls v ready.answers;
         };
       }
 
@@ -124,9 +124,9 @@ module _ {L : Type 0} (d : Opened L) (counter : Numbering) (groups : Groups) (ca
         (λ (e : x ≡ g). let a = times_snoc_same order g in let b = ap (λ (y : ℕ). times y (order ++ g ∷ [])) e in omega arith)
         (λ (ne : x ≢ g). let a = times_snoc_other x order g ne in let b = few_made x in omega arith)))
 
-    answered_more : (w' : Worker) (g : ℕ) (made : Bool) → (made ≡ true → HasAnswered d calls v w' (members_of_all of n order ++ members of g n)) → (made ≡ false → HasAnswered d calls v w' (members_of_all of n order))
-        → HasAnswered d calls v w' (members_of_all of n (behind made order g))
-    answered_more w' g true did did_not = subst (HasAnswered d calls v w') (sym (members_more of order n g)) (did refl)
+    answered_more : (w' : Worker) (g : ℕ) (made : Bool) → (made ≡ true → HasAnswered loads d calls v w' (members_of_all of n order ++ members of g n)) → (made ≡ false → HasAnswered loads d calls v w' (members_of_all of n order))
+        → HasAnswered loads d calls v w' (members_of_all of n (behind made order g))
+    answered_more w' g true did did_not = subst (HasAnswered loads d calls v w') (sym (members_more of order n g)) (did refl)
     answered_more w' g false did did_not = did_not refl
 
     -- A newly claimed group.
@@ -135,7 +135,7 @@ module _ {L : Type 0} (d : Opened L) (counter : Numbering) (groups : Groups) (ca
       new_claimed = let a = none_above w.claimer.drawn g above in let b = i.put_off.claimed g in omega arith
 
       pub on_claim : (w' : Worker) (made : Bool) → g < counter.jobs → counter.jobs ≤ 64 → w'.claimer ≡ with_number w.claimer g
-          → (made ≡ true → HasAnswered d calls v w' (members_of_all of n order ++ members of g n)) → (made ≡ false → HasAnswered d calls v w' (members_of_all of n order)) → IsOnItsWay w' (set later g (not made))
+          → (made ≡ true → HasAnswered loads d calls v w' (members_of_all of n order ++ members of g n)) → (made ≡ false → HasAnswered loads d calls v w' (members_of_all of n order)) → IsOnItsWay w' (set later g (not made))
       on_claim w' made below few claimer did did_not =
           let more : w'.claimer.drawn ≡ w.claimer.drawn ++ g ∷ [] = ap (λ (s : Share). s.drawn) claimer in
           let none = none_above w.claimer.drawn g above in
@@ -161,7 +161,7 @@ module _ {L : Type 0} (d : Opened L) (counter : Numbering) (groups : Groups) (ca
       new_caught = let a = i.put_off.claimed g in let b = i.once g in let c = one_marked in omega arith
 
       pub on_return : (w' : Worker) (made : Bool) → g < counter.jobs → counter.jobs ≤ 64 → w'.claimer ≡ w.claimer
-          → (made ≡ true → HasAnswered d calls v w' (members_of_all of n order ++ members of g n)) → (made ≡ false → HasAnswered d calls v w' (members_of_all of n order)) → IsOnItsWay w' (set later g (not made))
+          → (made ≡ true → HasAnswered loads d calls v w' (members_of_all of n order ++ members of g n)) → (made ≡ false → HasAnswered loads d calls v w' (members_of_all of n order)) → IsOnItsWay w' (set later g (not made))
       on_return w' made below few claimer did did_not =
           let same : w'.claimer.drawn ≡ w.claimer.drawn = ap (λ (s : Share). s.drawn) claimer in
           record {
@@ -189,7 +189,7 @@ module _ {L : Type 0} (d : Opened L) (counter : Numbering) (groups : Groups) (ca
           put_off = record {
             order = order;
             claimed = λ x. i.put_off.claimed x ∙ sym (ap (times x) same);
-            answered = same_answered d calls v w s (members_of_all of n order) i.put_off.answered;
+            answered = same_answered loads d calls v w s (members_of_all of n order) i.put_off.answered;
           };
         }
 

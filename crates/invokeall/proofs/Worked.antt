@@ -1,5 +1,5 @@
 -- The result of all workers.
-use Rattle.std.proofs.Common.{◌≡◌, ◌⊎◌, ℕ, zero, suc, ◌+◌, ◌<◌, ◌≤◌, ◌==◌, ltb, List, [], ◌∷◌, ◌++◌, length, map, get_or, if◌then◌else◌, Option, Some, None, Err, true, refl, sym, ap, ◌∙◌, subst, inl, inr, ⊎_elim, arith, append_assoc}
+use Rattle.std.proofs.Common.{Bool, ◌≡◌, ◌⊎◌, ℕ, zero, suc, ◌+◌, ◌<◌, ◌≤◌, ◌==◌, ltb, List, [], ◌∷◌, ◌++◌, length, map, get_or, if◌then◌else◌, Option, Some, None, Err, true, refl, sym, ap, ◌∙◌, subst, inl, inr, ⊎_elim, arith, append_assoc}
 use Rattle.std.specs.Prelude.{flat_map}
 use Rattle.std.specs.List.{All}
 use Rattle.std.specs.List.Sorted.{IsPermutation}
@@ -13,9 +13,10 @@ use Rattle.claims.specs.Counters.{Numbering, Share, AreAll, fresh, one_if, times
 use Rattle.claims.proofs.Totals.{total_append}
 use Rattle.stripe.specs.declared.call.Reply.{Reply}
 use Rattle.stripe.specs.History.{Call}
+use Rattle.stripe.specs.Kept.{may_make}
 use Rattle.cache.specs.Receipts.{Receipt}
-use Rattle.cache.specs.declared.refusal.InvokeRefusal.TheVariants.{JournalFull}
-use Rattle.cache.specs.Opened.{Opened, Sitting}
+use Rattle.cache.specs.declared.refusal.InvokeRefusal.TheVariants.{JournalFull, NoMemory}
+use Rattle.cache.specs.Opened.{Opened, Sitting, HaveRoom}
 use Rattle.round_outcome.specs.Outcome.{answered}
 use Rattle.round_outcome.specs.Closed.{all_receipts, calls_told, calls_at, AreFiled, AllAreFiled}
 use Rattle.invokeall.specs.declared.groups.Groups.{Groups}
@@ -23,7 +24,7 @@ use Rattle.invokeall.specs.declared.job.Job.{Job}
 use Rattle.invokeall.specs.declared.worker.Worker.{Worker}
 use Rattle.invokeall.specs.Jobs.{calls_of}
 use Rattle.invokeall.specs.Groups.{group_of, groups_in, AreGroups}
-use Rattle.invokeall.specs.Rounds.{Answer, reply_of, IsLaterSeat, IsFull, IsRound, IsAtHome}
+use Rattle.invokeall.specs.Rounds.{Answer, reply_of, IsLaterSeat, IsFull, IsRound, IsAtHome, NeedMemory}
 use Rattle.invokeall.specs.Workers.{IsReady, HasWorked, told_row, told_at, numbers}
 use Rattle.invokeall.specs.Buffers.{Row, Places, HasRoom, blanks, placed, entries_of, seats_of, claimers_of, rows_of, IsThere}
 use Rattle.invokeall.proofs.Members.{times_all_members, sum_if, same_if, if_one, if_below}
@@ -53,13 +54,13 @@ some_same a b e = ap (λ (p : Option Answer). value p a) e
     value (Some x) d = x
     value None d = d
 
-module _ {L : Type 0} (d : Opened L) (counter : Numbering) (groups : Groups) (calls : List Call) where
+module _ {L : Type 0} (loads : Bool) (d : Opened L) (counter : Numbering) (groups : Groups) (calls : List Call) where
   abbrev pub AllWorked : List Worker → List Worker → Type 0
   AllWorked [] [] = Unit {0}
-  AllWorked (v ∷ vs) (w ∷ ws) = HasWorked d counter groups calls v w × AllWorked vs ws
+  AllWorked (v ∷ vs) (w ∷ ws) = HasWorked loads d counter groups calls v w × AllWorked vs ws
   AllWorked _ _ = ⊥
 
-  pub all_worked : (vs ws : List Worker) → length ws ≡ length vs → ((i : ℕ) (e : Worker) → i < length vs → HasWorked d counter groups calls (get_or vs i e) (get_or ws i e)) → AllWorked vs ws
+  pub all_worked : (vs ws : List Worker) → length ws ≡ length vs → ((i : ℕ) (e : Worker) → i < length vs → HasWorked loads d counter groups calls (get_or vs i e) (get_or ws i e)) → AllWorked vs ws
   all_worked [] [] same each = tt
   all_worked [] (w ∷ ws) same each = absurd (omega arith)
   all_worked (v ∷ vs) [] same each = absurd (omega arith)
@@ -218,6 +219,29 @@ module _ {L : Type 0} (d : Opened L) (counter : Numbering) (groups : Groups) (ca
       let same : g.1 ≡ full = sym (some_same full g.1 g.2) in
       full_shown vs ws a k c there g.0 (subst (λ (b : Answer). get_elem? es g.0 ≡ some (k, b)) same g.3))
       (from_entry (blanks (length calls)) es k (Some full) (subst (λ (l : Places). get_elem? l k ≡ some (Some full)) are (some_at answers k full e)))
+
+  need_shown : (vs ws : List Worker) → AllWorked vs ws → HaveRoom (length calls) (seats_of vs) → (k : ℕ) (c : Call) → get_elem? calls k ≡ some c → (j : ℕ) → get_elem? (entries_of (rows_of ws)) j ≡ some (k, Err NoMemory)
+      → may_make loads c ≡ true
+  need_shown [] [] a room k c there j e = absurd (some-ne-none (k, Err NoMemory) (sym e))
+  need_shown [] (w ∷ ws) a room k c there j e = absurd a
+  need_shown (v ∷ vs) [] a room k c there j e = absurd a
+  need_shown (v ∷ vs) (w ∷ ws) a room k c there j e = ⊎_elim
+      (λ (g : (m : ℕ) × (get_elem? w.answers.items m ≡ some (k, Err NoMemory))). a.0.answered.memory (room 0 v.seat refl) g.0 k c g.1 there)
+      (λ (g : (m : ℕ) × (get_elem? (entries_of (rows_of ws)) m ≡ some (k, Err NoMemory))). need_shown vs ws a.1 (λ i s h. room (suc i) s h) k c there g.0 g.1)
+      (at_append w.answers.items (entries_of (rows_of ws)) j (k, Err NoMemory) e)
+
+  -- Each call refused out of memory may create an entry, if each seat had room for all calls.
+  pub need_by_all : (vs ws : List Worker) (old : List Sitting) (answers : List Answer) → AllWorked vs ws → old ≡ seats_of vs → map Some answers ≡ placed (blanks (length calls)) (entries_of (rows_of ws))
+      → HaveRoom (length calls) old → NeedMemory loads calls answers
+  need_by_all vs ws old answers a before are room k c e there =
+      let es : List (ℕ × Answer) = entries_of (rows_of ws) in
+      let lack : Answer = Err NoMemory in
+      ⊎_elim
+      (λ (g : get_elem? (blanks (length calls)) k ≡ some (Some lack)). absurd (let f = blank_at (length calls) k (Some lack) g in cc))
+      (λ (g : (j : ℕ) × (b : Answer) × (Some lack ≡ Some b) × (get_elem? es j ≡ some (k, b))).
+      let same : g.1 ≡ lack = sym (some_same lack g.1 g.2) in
+      need_shown vs ws a (subst (HaveRoom (length calls)) before room) k c there g.0 (subst (λ (b : Answer). get_elem? es g.0 ≡ some (k, b)) same g.3))
+      (from_entry (blanks (length calls)) es k (Some lack) (subst (λ (l : Places). get_elem? l k ≡ some (Some lack)) are (some_at answers k lack e)))
 
   -- The results of the workers make a round.
   pub is_round : (vs ws : List Worker) (old new : List Sitting) (answers : List Answer) → AllWorked vs ws → old ≡ seats_of vs → new ≡ seats_of ws

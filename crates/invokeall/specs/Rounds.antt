@@ -1,12 +1,13 @@
 -- The result of a round of jobs.
-use Rattle.std.specs.Prelude.{◌≡◌, ℕ, List, ◌++◌, map, IsPermutation, length, Option, Some, None, Result, Ok, Err, true, slice_index_or, false}
+use Rattle.std.specs.Prelude.{◌≡◌, ℕ, Bool, List, ◌++◌, map, IsPermutation, length, Option, Some, None, Result, Ok, Err, true, slice_index_or, false}
 use mathlib.Core.Option.{some}
 use lib.ListN.{get_elem?}
 use Rattle.stripe.specs.declared.call.Reply.{Reply}
 use Rattle.stripe.specs.History.{Call}
+use Rattle.stripe.specs.Kept.{may_make}
 use Rattle.cache.specs.Receipts.{Receipt}
 use Rattle.cache.specs.declared.refusal.InvokeRefusal.{InvokeRefusal}
-use Rattle.cache.specs.declared.refusal.InvokeRefusal.TheVariants.{JournalFull}
+use Rattle.cache.specs.declared.refusal.InvokeRefusal.TheVariants.{JournalFull, NoMemory}
 use Rattle.cache.specs.Opened.{Opened, Sitting, stripe_in}
 use Rattle.round_outcome.specs.Outcome.{answered}
 use Rattle.round_outcome.specs.Closed.{calls_at, AllAreFiled}
@@ -39,6 +40,10 @@ IsAtHome d s = s.table ≡ d.table
 abbrev pub ShowsAtSeats : {L : Type 0} → Opened L → List Call → List Sitting → List Answer → Type 0
 ShowsAtSeats d calls seats answers = (k : ℕ) (c : Call) → get_elem? answers k ≡ some (Err JournalFull) → get_elem? calls k ≡ some c
     → (i : ℕ) × (s : Sitting) × (get_elem? seats i ≡ some s) × IsFull d c s
+
+-- `NeedMemory` holds if each call refused out of memory may create an entry.
+abbrev pub NeedMemory : Bool → List Call → List Answer → Type 0
+NeedMemory loads calls answers = (k : ℕ) (c : Call) → get_elem? answers k ≡ some (Err NoMemory) → get_elem? calls k ≡ some c → may_make loads c ≡ true
 
 -- `IsRound` holds if there is one answer to each call, in order, and the new receipts are, in some order, those of the answered calls.
 pub record IsRound {L : Type 0} (d : Opened L) (calls : List Call) (old new : List Sitting) (answers : List Answer) : Type 0 where

@@ -81,9 +81,8 @@ fn empty_rows(alloc: Global, jobs: usize, count: usize) -> Result<Vec<Row>, Allo
     Ok(rows)
 }
 
-/// Pushes a worker for each seat, in order. Each seat preallocates the receipts of `calls` calls, unless it is out of memory.
+/// Pushes a worker for each seat, in order.
 pub fn make_workers<'a>(
-    calls: usize,
     seats: Vec<Seat<'a>>,
     mut workspaces: Vec<Workspace>,
     mut claimers: Vec<Claimer>,
@@ -98,8 +97,7 @@ pub fn make_workers<'a>(
     ensures claimers { claimers_of workers.new.items ≡ claimers.items }
     ensures lists { rows_of workers.new.items ≡ lists.items }
 {
-    for mut seat in seats {
-        seat.expect(calls);
+    for seat in seats {
         workers.push_reserved(Worker {
             before: CacheLinePad::new(),
             seat,

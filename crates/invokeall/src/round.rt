@@ -6,7 +6,8 @@ ghost use Rattle.claims.specs.Counters.{IsJobCount, IsWorkerCount};
 ghost use Rattle.invokeall.specs.declared.worker.Worker.{Worker};
 ghost use Rattle.invokeall.specs.Jobs.{IsCallable, calls_of, all_seen};
 ghost use Rattle.invokeall.specs.Groups.{AreGroups};
-ghost use Rattle.invokeall.specs.Rounds.{IsRound, IsAtHome};
+ghost use Rattle.cache.specs.Opened.{HaveRoom};
+ghost use Rattle.invokeall.specs.Rounds.{IsRound, IsAtHome, NeedMemory};
 ghost use Rattle.invokeall.specs.Buffers.{CanHold};
 ghost use Rattle.invokeall.specs.Workers.{IsReady, HasWorked};
 
@@ -33,7 +34,8 @@ use std::thread::Threads;
 /// There are as many threads as workers, jobs or stripes, whichever are fewest. A single one is the caller's. Several are new threads.
 ///
 /// All buffers of the round itself are allocated before the first claim. The error is out of memory then, and no job has run.
-/// Later a job may be refused by its answer.
+/// Later a job may be refused by its answer. If each seat has the receipts of as many calls as jobs preallocated (`Seat::expect`), no job is
+/// refused out of memory, unless it may create an entry.
 pub fn run_round<'a, R: Threads + Wait + Sync + AllocGlobal, G: Gate + Sync, L: Loader + Sync>(
     rt: &R,
     cache: &Cache<'a, '_, L>,
@@ -48,6 +50,7 @@ pub fn run_round<'a, R: Threads + Wait + Sync + AllocGlobal, G: Gate + Sync, L: 
     requires home { All (IsAtHome cache.now) seats.old.items }
     requires callable { All (IsCallable cache.now.registry) jobs.now }
     ensures ok { IfOk result (λ answers. IsRound cache.now (calls_of jobs.now) seats.old.items seats.new.items answers.items) }
+    ensures memory { IfOk result (λ answers. HaveRoom (length (calls_of jobs.now)) seats.old.items → NeedMemory L.ASKS (calls_of jobs.now) answers.items) }
     ensures workspaces { OnOk result (length workspaces.new.items ≡ length workspaces.old.items) }
     ensures err { OnErr result ((seats.new.items ≡ seats.old.items) × (workspaces.new.items ≡ workspaces.old.items)) }
 {
@@ -76,6 +79,7 @@ pub fn run_in<'a, R: Threads + Wait + Sync, G: Gate + Sync, L: Loader + Sync>(
     requires home { All (IsAtHome round.now.cache.now) seats.old.items }
     requires buffers { CanHold (length (all_seen round.now.calls.now)) (length seats.old.items) buffers }
     ensures round { IsRound round.now.cache.now (all_seen round.now.calls.now) seats.old.items seats.new.items result.items }
+    ensures memory { HaveRoom (length (all_seen round.now.calls.now)) seats.old.items → NeedMemory L.ASKS (all_seen round.now.calls.now) result.items }
     ensures workspaces { length workspaces.new.items ≡ length workspaces.old.items }
 {
     let calls = round.calls;
@@ -94,7 +98,7 @@ pub fn run_in<'a, R: Threads + Wait + Sync, G: Gate + Sync, L: Loader + Sync>(
     let groups = groups.of(calls);
     let old = mem::replace(seats, back);
     let used = mem::replace(workspaces, spaces);
-    make_workers(calls.len(), old, used, claimers, lists, &mut workers);
+    make_workers(old, used, claimers, lists, &mut workers);
     run_all(rt, round, &counter, &groups, workers.as_mut_slice());
     into_parts(workers, seats, workspaces, &mut spent, &mut rows);
     counter.close(spent);
@@ -119,7 +123,7 @@ fn run_all<'a, R: Threads + Wait + Sync, G: Gate + Sync, L: Loader + Sync>(
     requires few { counter.now.jobs ≤ 64 }
     requires groups { AreGroups (all_seen round.now.calls.now) groups.now }
     requires ready { All (IsReady round.now.cache.now counter.now (length (all_seen round.now.calls.now))) workers.old }
-    ensures { (i : ℕ) (d : Worker) → i < length workers.old → HasWorked round.now.cache.now counter.now groups.now (all_seen round.now.calls.now) (slice_index_or workers.old i d) (slice_index_or workers.new i d) }
+    ensures { (i : ℕ) (d : Worker) → i < length workers.old → HasWorked L.ASKS round.now.cache.now counter.now groups.now (all_seen round.now.calls.now) (slice_index_or workers.old i d) (slice_index_or workers.new i d) }
 {
     let Round { cache, calls, gate } = *round;
     let task = RoundTask {

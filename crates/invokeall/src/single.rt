@@ -1,8 +1,8 @@
 //! The run of a round by one worker.
 
-ghost use Rattle.std.specs.Prelude.{◌≡◌, ◌∷◌, [], length};
+ghost use Rattle.std.specs.Prelude.{◌≡◌, ◌≤◌, ◌∷◌, [], length};
 ghost use Rattle.invokeall.specs.Jobs.{all_seen};
-ghost use Rattle.invokeall.specs.Rounds.{IsRound};
+ghost use Rattle.invokeall.specs.Rounds.{IsRound, NeedMemory};
 ghost use Rattle.invokeall.specs.Buffers.{HasRoom};
 
 use crate::job::JobReply;
@@ -14,7 +14,7 @@ use machine::Workspace;
 use std::sync::Wait;
 
 /// Makes the calls in order at one seat, and pushes their answers, for which there is capacity.
-/// It preallocates their receipts, unless it is out of memory.
+/// If the seat has their receipts preallocated (`Seat::expect`), no call is refused out of memory, unless it may create an entry.
 /// It reports the ends of the calls to the gate after the last one, when the seat holds no stripe.
 pub fn run_alone<'a, R: Wait, G: Gate, L: Loader>(
     rt: &R,
@@ -25,10 +25,10 @@ pub fn run_alone<'a, R: Wait, G: Gate, L: Loader>(
 )
     requires home { seat.old.table ≡ round.now.cache.now.table }
     requires room { HasRoom (length round.now.calls.now) answers.old }
-    ensures { IsRound round.now.cache.now (all_seen round.now.calls.now) (seat.old ∷ []) (seat.new ∷ []) answers.new.items }
+    ensures round { IsRound round.now.cache.now (all_seen round.now.calls.now) (seat.old ∷ []) (seat.new ∷ []) answers.new.items }
+    ensures memory { length (all_seen round.now.calls.now) ≤ seat.old.room → NeedMemory L.ASKS (all_seen round.now.calls.now) answers.new.items }
 {
     let Round { cache, calls, gate } = *round;
-    seat.expect(calls.len());
     for number in 0..calls.len() {
         let call = call_numbered(calls, number);
         let answer = cache.call_at(rt, seat, workspace, call, number, gate);

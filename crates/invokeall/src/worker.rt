@@ -53,7 +53,7 @@ impl<'s, 'a, 'l, R: Wait, G: Gate, L: Loader> WorkerTask<Worker<'a>>
 
     ghost accepts = { λ s w. IsReady s.cache.now s.counter.now (length (all_seen s.calls.now)) w × (s.counter.now.jobs ≡ length s.groups.now.firsts.items) × (s.counter.now.jobs ≤ 64) × AreGroups (all_seen s.calls.now) s.groups.now };
 
-    ghost leaves = { λ s v w. HasWorked s.cache.now s.counter.now s.groups.now (all_seen s.calls.now) v w };
+    ghost leaves = { λ s v w. HasWorked L.ASKS s.cache.now s.counter.now s.groups.now (all_seen s.calls.now) v w };
 
     fn serve(&self, worker: &mut Worker<'a>) {
         work(self, worker)
@@ -74,7 +74,7 @@ pub fn work<'a, R: Wait, G: Gate, L: Loader>(
     requires few { task.now.counter.now.jobs ≤ 64 }
     requires groups { AreGroups (all_seen task.now.calls.now) task.now.groups.now }
     requires ready { IsReady task.now.cache.now task.now.counter.now (length (all_seen task.now.calls.now)) worker.old }
-    ensures { HasWorked task.now.cache.now task.now.counter.now task.now.groups.now (all_seen task.now.calls.now) worker.old worker.new }
+    ensures { HasWorked L.ASKS task.now.cache.now task.now.counter.now task.now.groups.now (all_seen task.now.calls.now) worker.old worker.new }
 {
     let mut later = [false; 64];
     while let Some(group) = worker.claimer.claim(task.counter) {
@@ -111,8 +111,8 @@ fn work_within<'a, R: Wait, G: Gate, L: Loader>(
     requires free { AreDifferent (length (all_seen task.now.calls.now)) (numbers worker.old.answers.items ++ members (groups_in task.now.groups.now (all_seen task.now.calls.now)) group (length (all_seen task.now.calls.now))) }
     requires room { length (all_seen task.now.calls.now) ≤ vec_capacity worker.old.answers }
     ensures claimer { worker.new.claimer ≡ worker.old.claimer }
-    ensures made { IsTrue result → (v : Worker) (before : List ℕ) → HasAnswered task.now.cache.now (all_seen task.now.calls.now) v worker.old before → HasAnswered task.now.cache.now (all_seen task.now.calls.now) v worker.new (before ++ members (groups_in task.now.groups.now (all_seen task.now.calls.now)) group (length (all_seen task.now.calls.now))) }
-    ensures put_off { IsFalse result → (v : Worker) (before : List ℕ) → HasAnswered task.now.cache.now (all_seen task.now.calls.now) v worker.old before → HasAnswered task.now.cache.now (all_seen task.now.calls.now) v worker.new before }
+    ensures made { IsTrue result → (v : Worker) (before : List ℕ) → HasAnswered L.ASKS task.now.cache.now (all_seen task.now.calls.now) v worker.old before → HasAnswered L.ASKS task.now.cache.now (all_seen task.now.calls.now) v worker.new (before ++ members (groups_in task.now.groups.now (all_seen task.now.calls.now)) group (length (all_seen task.now.calls.now))) }
+    ensures put_off { IsFalse result → (v : Worker) (before : List ℕ) → HasAnswered L.ASKS task.now.cache.now (all_seen task.now.calls.now) v worker.old before → HasAnswered L.ASKS task.now.cache.now (all_seen task.now.calls.now) v worker.new before }
 {
     let RoundTask {
         rt,
@@ -146,7 +146,7 @@ fn work_on<'a, R: Wait, G: Gate, L: Loader>(
     requires free { AreDifferent (length (all_seen task.now.calls.now)) (numbers worker.old.answers.items ++ members (groups_in task.now.groups.now (all_seen task.now.calls.now)) group (length (all_seen task.now.calls.now))) }
     requires room { length (all_seen task.now.calls.now) ≤ vec_capacity worker.old.answers }
     ensures claimer { worker.new.claimer ≡ worker.old.claimer }
-    ensures answered { (v : Worker) (before : List ℕ) → HasAnswered task.now.cache.now (all_seen task.now.calls.now) v worker.old before → HasAnswered task.now.cache.now (all_seen task.now.calls.now) v worker.new (before ++ members (groups_in task.now.groups.now (all_seen task.now.calls.now)) group (length (all_seen task.now.calls.now))) }
+    ensures answered { (v : Worker) (before : List ℕ) → HasAnswered L.ASKS task.now.cache.now (all_seen task.now.calls.now) v worker.old before → HasAnswered L.ASKS task.now.cache.now (all_seen task.now.calls.now) v worker.new (before ++ members (groups_in task.now.groups.now (all_seen task.now.calls.now)) group (length (all_seen task.now.calls.now))) }
 {
     let RoundTask {
         rt,

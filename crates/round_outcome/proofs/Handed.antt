@@ -193,9 +193,10 @@ pub worlds_hand_out_histories : (loads : Bool) (gives : ℤ → LoadAnswer → T
 worlds_hand_out_histories loads gives opening finished now l given = record { legal = l.legal; given = given; once = IsPermutation-refl (calls_in finished); left = l.left }
 
 pub rounds_are_done : (loads : Bool) (gives : ℤ → LoadAnswer → Type 0) → RoundsAreDone loads gives
-rounds_are_done loads gives before made after history h calls answers count once =
+rounds_are_done loads gives before made after history h calls answers count refused once =
     record {
       count = count;
+      refused = refused;
       history = history;
       is = record { legal = h.legal; given = h.given; once = IsPermutation-trans (answered calls answers) made (calls_in history) once h.once; left = h.left };
     }

@@ -1,18 +1,20 @@
 -- The example round is done, and a round with a value that no call stored isn't.
-use Rattle.std.proofs.Common.{arith, ◌≡◌, ℕ, zero, suc, pos, Bool, true, false, List, [], ◌∷◌, All, Some, None, if◌then◌else◌, IsPermutation, refl, subst}
+use Rattle.std.proofs.Common.{arith, ◌≡◌, ℕ, zero, suc, pos, Bool, true, false, List, [], ◌∷◌, All, Option, Some, None, unwrap_or, if◌then◌else◌, IsPermutation, refl, sym, ap, subst}
 use Rattle.std.proofs.lemmas.List.Elements.{All-cons, All-nil, All-head}
 use Rattle.std.proofs.lemmas.List.Sorted.{IsPermutation-middle, All-permutation, length_permutation}
 use Rattle.std.specs.Ordering.{int_eq}
 use Rattle.stripe.specs.declared.call.Reply.{Reply}
 use Rattle.stripe.specs.declared.call.Reply.TheVariants.{Done, Value, Flag}
 use Rattle.stripe.specs.History.{Call, Get, Put, Contains, Record, Answers, IsLegal, AreGiven}
-use Rattle.round_outcome.specs.Outcome.{IsDone, calls_in}
+use Rattle.stripe.specs.Kept.{may_make}
+use Rattle.round_outcome.specs.Outcome.{IsDone, AreRefused, calls_in}
 use Rattle.round_outcome.specs.Example.{no_answers, no_entries, round, replies, round_history, left_by_round, NoValueFromNowhere}
 
 pub round_is_done : IsDone false no_answers no_entries round replies left_by_round
 round_is_done =
     record {
       count = refl;
+      refused = put_refused;
       history = round_history;
       is = record {
         legal = ((refl, refl, refl), ((refl, refl, refl), ((refl, refl, refl), tt)));
@@ -22,6 +24,14 @@ round_is_done =
       };
     }
   where
+    -- Only the second `put` has no reply.
+    put_refused : AreRefused false round replies
+    put_refused zero call is none = absurd (cc)
+    put_refused (suc zero) call is none = absurd (cc)
+    put_refused (suc (suc zero)) call is none = ap (λ (c : Option Call). may_make false (unwrap_or c (Put (pos 2) (pos 5)))) (sym is)
+    put_refused (suc (suc (suc zero))) call is none = absurd (cc)
+    put_refused (suc (suc (suc (suc k)))) call is none = absurd (cc)
+
     none_asked : AreGiven no_answers round_history
     none_asked zero d h = tt
     none_asked (suc zero) d h = tt

@@ -8,7 +8,7 @@ use Rattle.cache.specs.declared.refusal.InvokeRefusal.{InvokeRefusal}
 use Rattle.cache.specs.Opened.{Opened, Sitting, IsAnswered, IsTurnedAway}
 use Rattle.cache.specs.Closing.{Settles}
 use Rattle.world.specs.Lawful.{IsLawful}
-use Rattle.round_outcome.specs.Outcome.{IsHistoryOf, IsDone, answered, calls_in}
+use Rattle.round_outcome.specs.Outcome.{IsHistoryOf, IsDone, AreRefused, answered, calls_in}
 use Rattle.round_outcome.specs.Closed.{all_records, calls_at, AreFiled, AllAreFiled}
 
 -- The concatenated histories of a closed cache are a history of the calls that its seats have receipts of,
@@ -38,11 +38,11 @@ WorldsHandOutHistories loads gives =
     (opening : List Stored) (finished : List Record) (now : Entries) → IsLawful loads opening finished now → AreGiven gives finished
     → IsHistoryOf loads gives (entry_among opening) (calls_in finished) now finished
 
--- A round is done if its answered calls are, in some order, those of a history.
+-- A round is done if its answered calls are, in some order, those of a history, and each other call may create an entry.
 abbrev pub RoundsAreDone : Bool → (ℤ → LoadAnswer → Type 0) → Type 0
 RoundsAreDone loads gives =
     (before : Entries) (made : List (Call × Reply)) (after : Entries) (history : List Record) → IsHistoryOf loads gives before made after history
-    → (calls : List Call) (answers : List (Option Reply)) → length answers ≡ length calls → IsPermutation (answered calls answers) made
+    → (calls : List Call) (answers : List (Option Reply)) → length answers ≡ length calls → AreRefused loads calls answers → IsPermutation (answered calls answers) made
     → IsDone loads gives before calls answers after
 
 -- Two histories, the second from the entries that the first leaves, concatenate to one history.

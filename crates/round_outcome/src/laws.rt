@@ -28,7 +28,8 @@ pub fn what_a_world_hands_out_is_an_outcome<L: Loader>(_loader: &L)
     ensures { WorldsHandOutHistories L.ASKS (L.gives _loader.now) }
 {}
 
-/// Proves that a round is done if it has a reply or a refusal for each call, and the answered calls are, in some order, those of a history.
+/// Proves that a round is done if it has a reply or a refusal for each call, each refused call may create an entry, and the answered calls
+/// are, in some order, those of a history.
 pub fn who_answers_an_outcome_is_done<L: Loader>(_loader: &L)
     ensures { RoundsAreDone L.ASKS (L.gives _loader.now) }
 {}

@@ -12,8 +12,8 @@ use Rattle.stripe.specs.Kept.{may_make}
 use Rattle.stripe.specs.Stored.{Stored}
 use Rattle.world.specs.World.{World, Running, Progress, opened, history_of, is_on, starts_of, with_running, with_record, with_progress, running_call, record_of_call, stripe_in}
 use Rattle.world.specs.Forward.{turns_on, turns_left}
-use Rattle.round_outcome.specs.Outcome.{answered, calls_in}
-use Rattle.round_robin.specs.Scheduling.{Stage, IsNumbered, IsRight, RunsOrRefused, IsGoing, IsAsBefore, AreIdleBefore, AreRefused}
+use Rattle.round_outcome.specs.Outcome.{AreRefused, answered, calls_in}
+use Rattle.round_robin.specs.Scheduling.{Stage, IsNumbered, IsRight, RunsOrRefused, IsGoing, IsAsBefore, AreIdleBefore}
 use Rattle.round_robin.proofs.Replies.{get_set, get_other, get_cases, get_in, get_replicate, replicate_get, none_answered, answered_more, fewer_answered, few_filtered}
 use Rattle.round_robin.proofs.Moves.{no_some, some_turns, no_turns, Steps, nothing, goes}
 

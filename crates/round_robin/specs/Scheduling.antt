@@ -1,5 +1,5 @@
 -- The state of a running round.
-use Rattle.std.specs.Prelude.{◌≡◌, ℕ, ◌<◌, ◌≤◌, ◌⊎◌, Bool, true, List, length, map, replicate, Option, Some, None, slice_get, IsPermutation}
+use Rattle.std.specs.Prelude.{◌≡◌, ℕ, ◌<◌, ◌≤◌, ◌⊎◌, true, List, length, map, replicate, Option, Some, None, slice_get, IsPermutation}
 use Rattle.stripe.specs.declared.call.Reply.{Reply}
 use Rattle.stripe.specs.History.{Call, key_of, stripe_of}
 use Rattle.stripe.specs.Kept.{may_make}
@@ -71,7 +71,3 @@ AreIdleBefore i s = (j : ℕ) → j < i → turns_left s.world j ≡ 0
 pub record IsOver (s : Stage) : Type 0 where
   pub begun : s.begun ≡ length s.calls
   pub idle : AreIdleBefore (length s.world.opening) s
-
--- `AreRefused` holds if each call without a reply may create an entry.
-abbrev pub AreRefused : Bool → List Call → List (Option Reply) → Type 0
-AreRefused loads calls replies = (k : ℕ) (call : Call) → slice_get calls k ≡ Some call → slice_get replies k ≡ Some None → may_make loads call ≡ true

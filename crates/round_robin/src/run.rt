@@ -3,8 +3,8 @@
 ghost use Rattle.std.specs.Prelude.{◌≡◌, ◌≤◌, length, map, replicate, IfOk, IfErr, None};
 ghost use Rattle.stripe.specs.Seen.{call_of};
 ghost use Rattle.stripe.specs.Stored.{entry_among};
-ghost use Rattle.round_outcome.specs.Outcome.{IsDone};
-ghost use Rattle.round_robin.specs.Scheduling.{stage, IsGoing, IsRoom, AreRefused};
+ghost use Rattle.round_outcome.specs.Outcome.{IsDone, AreRefused};
+ghost use Rattle.round_robin.specs.Scheduling.{stage, IsGoing, IsRoom};
 
 use crate::scheduler::{Scheduler, SchedulerBuffers};
 use jtypes::Loader;

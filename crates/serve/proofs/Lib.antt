@@ -5,5 +5,6 @@ mod Devices
 mod Listed
 mod Ends
 mod Fronts
+mod Made
 mod Onward
 mod Told

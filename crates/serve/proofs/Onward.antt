@@ -10,7 +10,6 @@ use Rattle.jtypes.specs.Loading.{IsGiven}
 use Rattle.typecheck.specs.Typing.{Class}
 use Rattle.stripe.specs.History.{Call, Entries, Record, key_of}
 use Rattle.stripe.specs.declared.call.Reply.{Reply as Answer}
-use Rattle.round_outcome.specs.Outcome.{IsDone, IsHistoryOf, answered}
 use Rattle.wire.specs.Requests.{Request, Define, Put, Get, Remove, Contains, Invoke, InvokeAll, RoundEnd}
 use Rattle.wire.specs.declared.reply.Denial.TheVariants.{TooManyClasses}
 use Rattle.wire.specs.declared.reply.Reply.{Reply}
@@ -22,6 +21,7 @@ use Rattle.serve.specs.Rounds.{Work, Part, Adds, Gathers, told, work_reply, most
 use Rattle.serve.specs.Rounds as rounds
 use Rattle.serve.specs.Served.{requests_text, replies_text, Stand, stand, first_stand, IsRound, ended, all_told, Serves, IsServed, AreOpen, Fails, unread, no_memory, writer, IsCutShort, EndsEarly}
 use Rattle.serve.specs.CutShort.{GoesOn, FramesGoOn}
+use Rattle.serve.proofs.Made.{all_made}
 use Rattle.serve.proofs.Fronts.{OneFront, Compared, shorter, longer, compare}
 use Rattle.serve.proofs.Rounds.{each_more, texts_append, texts_more, serves_more, nothing_yet}
 
@@ -69,27 +69,7 @@ gather first front (r ∷ rest) g are =
     } in
     subst (Gathered first) (append_assoc front (r ∷ []) rest) (gather first (front ++ r ∷ []) rest more are.1)
 
-abbrev no_answers : List Call → List (Option Answer)
-no_answers [] = []
-no_answers (c ∷ calls) = None ∷ no_answers calls
-
-as_many_answers : (calls : List Call) → length (no_answers calls) ≡ length calls
-as_many_answers [] = refl
-as_many_answers (c ∷ calls) = let e = as_many_answers calls in omega (arith, e)
-
-none_is_answered : (calls : List Call) → answered calls (no_answers calls) ≡ []
-none_is_answered [] = refl
-none_is_answered (c ∷ calls) = none_is_answered calls
-
 module _ (loads : Bool) (gives : ℤ → LoadAnswer → Type 0) where
-  -- A round in which no call is answered is done.
-  none_done : (before : Entries) (calls : List Call) → IsDone loads gives before calls (no_answers calls) before
-  none_done before calls = record {
-    count = as_many_answers calls;
-    history = [];
-    is = subst (λ made. IsHistoryOf loads gives before made before []) (sym (none_is_answered calls)) (record { legal = tt; once = IsPermutation-refl []; left = λ k. refl; given = All-nil (λ (r : Record). IsGiven gives (key_of r.call) r.asked) });
-  }
-
   record Round (s : Stand) (requests : List Request) : Type 0 where
     replies : List Reply
     after : Stand
@@ -97,10 +77,11 @@ module _ (loads : Bool) (gives : ℤ → LoadAnswer → Type 0) where
 
   some_round : (s : Stand) (requests : List Request) → AreOpen requests → Round s requests
   some_round s requests are =
-      let g = gather s.classes [] requests (record { works = []; calls = []; later = s.classes; gathered = rounds.none }) are in record {
-        replies = map (work_reply (no_answers g.calls)) g.works;
-        after = stand g.later s.entries;
-        is = record { works = g.works; calls = g.calls; answers = no_answers g.calls; gathered = g.gathered; done = none_done s.entries g.calls; told = refl };
+      let g = gather s.classes [] requests (record { works = []; calls = []; later = s.classes; gathered = rounds.none }) are in
+      let made = all_made loads gives g.calls s.entries in record {
+        replies = map (work_reply made.answers) g.works;
+        after = stand g.later made.after;
+        is = record { works = g.works; calls = g.calls; answers = made.answers; gathered = g.gathered; done = made.done; told = refl };
       }
 
   -- ---- each stream can be answered

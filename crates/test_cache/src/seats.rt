@@ -50,7 +50,7 @@ fn refused(
     }
 }
 
-/// Opens a cache with one seat.
+/// Opens a cache with one seat, which has the receipts of its first two calls preallocated.
 fn opened<'a>(
     alloc: Global,
     registry: &'a Registry,
@@ -62,7 +62,7 @@ fn opened<'a>(
     ensures seat { IfOk result (λ r. IsSeat r.0.table 1 0 r.1) }
 {
     let tables = Tables::new(alloc, stripes)?;
-    match Cache::open(alloc, registry, tables, journal, 1, &NoLoader) {
+    match Cache::open_for(alloc, registry, tables, journal, 1, 2, &NoLoader) {
         Ok((cache, mut seats)) => {
             let seat = seats.remove(0);
             Ok((cache, seat))
@@ -160,7 +160,7 @@ fn are_answers(told: &[Told; 5]) -> bool {
         .as_slice()
 }
 
-/// Does the same on key 1 in a new workspace; returns `None` when out of memory.
+/// Does the same on key 1 in a new workspace, with the receipts preallocated; returns `None` when out of memory.
 fn asked_in_new<'a, R: Wait>(
     rt: &R,
     alloc: Global,
@@ -174,6 +174,9 @@ fn asked_in_new<'a, R: Wait>(
     ensures caller { seat.new.caller ≡ seat.old.caller }
     ensures made { seat.new.made ≡ seat.old.made }
 {
+    if seat.expect(5).is_err() {
+        return None;
+    }
     match Workspace::new(alloc) {
         Ok(mut workspace) => Some(asked_all(rt, cache, seat, &mut workspace, plus, 1)),
         Err(_) => None,

@@ -1,11 +1,13 @@
 -- The stream of a put and a get has its answer, and no other.
-use Rattle.std.proofs.Common.{arith, ◌≡◌, ◌≢◌, ℕ, ℤ, pos, false, List, [], ◌∷◌, ◌++◌, Some, None, refl, sym, ap, ◌∙◌, subst, inl, inr, append_assoc}
+use Rattle.std.proofs.Common.{arith, ◌≡◌, ◌≢◌, ℕ, zero, suc, ℤ, pos, false, List, [], ◌∷◌, ◌++◌, Some, None, refl, sym, ap, ◌∙◌, subst, inl, inr, append_assoc}
 use Rattle.std.proofs.lemmas.List.Elements.{All-cons, All-nil}
 use Rattle.std.proofs.lemmas.List.Sorted.{IsPermutation-refl}
 use Rattle.std.specs.List.{AllByRecursion}
 use Rattle.jtypes.specs.declared.loader.LoadAnswer.{LoadAnswer}
 use Rattle.jtypes.specs.Entry.{Entry}
 use Rattle.jtypes.specs.Loading.{IsGiven}
+use Rattle.round_outcome.specs.Outcome.{AreRefused}
+use Rattle.stripe.specs.declared.call.Reply.{Reply as Told}
 use Rattle.stripe.specs.declared.call.Reply.TheVariants as told
 use Rattle.stripe.specs.History.{Record, entries_after, key_of}
 use Rattle.stripe.specs.History as call
@@ -18,7 +20,7 @@ use Rattle.serve.specs.Rounds.{Job, one}
 use Rattle.serve.specs.Rounds as rounds
 use Rattle.serve.specs.Served.{requests_text, replies_text, Stand, stand, first_stand, IsRound, ended, all_told, Answers, IsServed}
 use Rattle.serve.specs.Served as served
-use Rattle.test_serve.specs.OneStream.{stream, answer, done, value_1, MayAnswer, whole, get_lacks, put_lacks, both_lack}
+use Rattle.test_serve.specs.OneStream.{stream, answer, done, value_1, MayAnswer, whole, put_lacks}
 use Rattle.test_serve.proofs.Read.{OneFront, one_reading}
 use Rattle.test_serve.proofs.Gathered.{not_nil, same_front, are_open}
 use Rattle.test_serve.proofs.Rounds.{PutTold, GetTold, put_round, get_round}
@@ -50,6 +52,11 @@ text_is = refl
 module _ (gives : ℤ → LoadAnswer → Type 0) where
   -- ---- the stream has its answer
 
+  -- a call with a reply isn't refused
+  none_refused : (calls : List call.Call) (r : Told) → AreRefused false calls (Some r ∷ [])
+  none_refused calls r zero c is none = absurd (cc)
+  none_refused calls r (suc k) c is none = absurd (cc)
+
   abbrev put_record : Record
   put_record = record { caller = 0; number = 0; call = call.Put (pos 5) (pos 1); reply = told.Done; after = Some (pos 1); asked = None }
 
@@ -70,6 +77,7 @@ module _ (gives : ℤ → LoadAnswer → Type 0) where
     gathered = rounds.more [] [] [] [] [] put (one 0 (call.Put (pos 5) (pos 1))) rounds.none (rounds.puts (pos 5) (pos 1));
     done = record {
       count = refl;
+      refused = none_refused (call.Put (pos 5) (pos 1) ∷ []) told.Done;
       history = put_record ∷ [];
       is = record { legal = ((refl, refl, refl), tt); given = All-cons (λ (r : Record). IsGiven gives (key_of r.call) r.asked) put_record [] tt (All-nil (λ (r : Record). IsGiven gives (key_of r.call) r.asked)); once = IsPermutation-refl _; left = λ k. refl };
     };
@@ -84,6 +92,7 @@ module _ (gives : ℤ → LoadAnswer → Type 0) where
     gathered = rounds.more [] [] [] [] [] get (one 0 (call.Get (pos 5))) rounds.none (rounds.gets (pos 5));
     done = record {
       count = refl;
+      refused = none_refused (call.Get (pos 5) ∷ []) (told.Value (Some (pos 1)));
       history = get_record ∷ [];
       is = record { legal = ((refl, refl, refl), tt); given = All-cons (λ (r : Record). IsGiven gives (key_of r.call) r.asked) get_record [] tt (All-nil (λ (r : Record). IsGiven gives (key_of r.call) r.asked)); once = IsPermutation-refl _; left = λ k. refl };
     };
@@ -204,13 +213,11 @@ module _ (gives : ℤ → LoadAnswer → Type 0) where
   may p g after (inl (is, put)) got = subst (λ x. MayAnswer (replied x g)) (sym is) (value (subst (λ (e : Entry). GetTold e g) put got))
     where
       value : GetTold (Some (pos 1)) g → MayAnswer (replied reply.Done g)
-      value (inl e) = subst (λ x. MayAnswer (replied reply.Done x)) (sym e) whole
-      value (inr e) = subst (λ x. MayAnswer (replied reply.Done x)) (sym e) get_lacks
+      value e = subst (λ x. MayAnswer (replied reply.Done x)) (sym e) whole
   may p g after (inr (is, kept)) got = subst (λ x. MayAnswer (replied x g)) (sym is) (none (subst (λ (e : Entry). GetTold e g) kept got))
     where
       none : GetTold None g → MayAnswer (replied (reply.Denied NoMemory) g)
-      none (inl e) = subst (λ x. MayAnswer (replied (reply.Denied NoMemory) x)) (sym e) put_lacks
-      none (inr e) = subst (λ x. MayAnswer (replied (reply.Denied NoMemory) x)) (sym e) both_lack
+      none e = subst (λ x. MayAnswer (replied (reply.Denied NoMemory) x)) (sym e) put_lacks
 
   both_answered : {asked : List Request} {replies : List Reply} {t : Stand} → Answers false gives asked replies t → asked ≡ requests → MayAnswer (replies_text replies)
   both_answered {t = t} a e =

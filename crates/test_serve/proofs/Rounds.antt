@@ -1,5 +1,5 @@
 -- Rounds of one call on key 5: its reply, and the entry after it.
-use Rattle.std.proofs.Common.{arith, ◌≡◌, ◌⊎◌, ℤ, pos, Bool, true, false, List, [], ◌∷◌, map, Option, Some, None, if◌then◌else◌, All, refl, sym, ap, ◌∙◌, subst, inl, inr}
+use Rattle.std.proofs.Common.{arith, ◌≡◌, ◌⊎◌, ℤ, pos, Bool, true, false, List, [], ◌∷◌, map, Option, Some, None, if◌then◌else◌, All, refl, sym, ap, ◌∙◌, subst, inl, inr, true≢false}
 use Rattle.std.proofs.lemmas.List.Elements.{All-cons, All-nil, All-head}
 use Rattle.std.proofs.lemmas.List.Sorted.{All-permutation, length_permutation}
 use Rattle.std.specs.Ordering.{int_eq}
@@ -8,6 +8,7 @@ use Rattle.jtypes.specs.declared.loader.LoadAnswer.{LoadAnswer}
 use Rattle.stripe.specs.declared.call.Reply.{Reply as Told}
 use Rattle.stripe.specs.History.{Call, Record, Entries, Answers, key_of}
 use Rattle.stripe.specs.History as call
+use Rattle.stripe.specs.Kept.{may_make}
 use Rattle.round_outcome.specs.Outcome.{IsDone, IsHistoryOf, calls_in}
 use Rattle.wire.specs.Requests.{Put, Get}
 use Rattle.wire.specs.declared.reply.Denial.TheVariants.{NoMemory}
@@ -17,9 +18,9 @@ use Rattle.serve.specs.Rounds.{Work, Job, work_reply, job_reply}
 use Rattle.serve.specs.Served.{Stand, IsRound}
 use Rattle.test_serve.proofs.Gathered.{put_gathered, get_gathered}
 
--- `Comes before c after answers` holds if `c` is refused and its entry unchanged, or `Answers` relates its reply to both entries
+-- `Comes before c after answers` holds if `c` may create an entry, is refused and its entry unchanged, or `Answers` relates its reply to both entries
 pub data Comes (before : Entries) (c : Call) (after : Entries) : List (Option Told) → Type 0 where
-  refused : after (key_of c) ≡ before (key_of c) → Comes before c after (None ∷ [])
+  refused : may_make false c ≡ true → after (key_of c) ≡ before (key_of c) → Comes before c after (None ∷ [])
   made : (r : Told) (asked : Option LoadAnswer) → Answers false (before (key_of c)) c r (after (key_of c)) asked → Comes before c after (Some r ∷ [])
 
 module _ (gives : ℤ → LoadAnswer → Type 0) (before after : Entries) (c : Call) (itself : int_eq (key_of c) (key_of c) ≡ true) where
@@ -41,7 +42,7 @@ module _ (gives : ℤ → LoadAnswer → Type 0) (before after : Entries) (c : C
 
   comes : (answers : List (Option Told)) → IsDone false gives before (c ∷ []) answers after → Comes before c after answers
   comes [] d = let n = d.count in absurd (omega (arith, n))
-  comes (None ∷ []) d = refused (unmade d.history d.is)
+  comes (None ∷ []) d = refused (d.refused 0 c refl refl) (unmade d.history d.is)
   comes (Some t ∷ []) d = made_once t d.history d.is
   comes (a ∷ b ∷ answers) d = let n = d.count in absurd (omega (arith, n))
 
@@ -52,7 +53,7 @@ abbrev pub PutTold : Entry → Reply → Entry → Type 0
 PutTold before r after = ((r ≡ reply.Done) × (after ≡ Some (pos 1))) ⊎ ((r ≡ reply.Denied NoMemory) × (after ≡ before))
 
 put_told : (before after : Entries) (answers : List (Option Told)) → Comes before (call.Put (pos 5) (pos 1)) after answers → PutTold (before (pos 5)) (work_reply answers (Job 0)) (after (pos 5))
-put_told before after answers (refused kept) = inr (refl, kept)
+put_told before after answers (refused may kept) = inr (refl, kept)
 put_told before after answers (made r asked a) = inl (ap (λ (t : Told). job_reply (Some t)) a.0, a.1)
 
 pub put_round : (gives : ℤ → LoadAnswer → Type 0) (s t : Stand) (replies : List Reply) → IsRound false gives s (Put (pos 5) (pos 1) ∷ []) replies t
@@ -65,17 +66,18 @@ put_round gives s t replies round =
 
 -- ---- the get
 
+-- a get that asks no loader has an answer, since it creates no entry
 abbrev pub GetTold : Entry → Reply → Type 0
-GetTold before r = (r ≡ reply.Value before) ⊎ (r ≡ reply.Denied NoMemory)
+GetTold before r = r ≡ reply.Value before
 
 get_told : (before after : Entries) (e : Entry) → before (pos 5) ≡ e → (answers : List (Option Told)) → Comes before (call.Get (pos 5)) after answers → GetTold e (work_reply answers (Job 0))
-get_told before after e is answers (refused kept) = inr refl
+get_told before after e is answers (refused may kept) = absurd (true≢false (sym may))
 get_told before after None is answers (made r asked a) =
     let on : Answers false None (call.Get (pos 5)) r (after (pos 5)) asked = subst (λ (x : Entry). Answers false x (call.Get (pos 5)) r (after (pos 5)) asked) is a in
-    inl (ap (λ (t : Told). job_reply (Some t)) on.0)
+    ap (λ (t : Told). job_reply (Some t)) on.0
 get_told before after (Some n) is answers (made r asked a) =
     let on : Answers false (Some n) (call.Get (pos 5)) r (after (pos 5)) asked = subst (λ (x : Entry). Answers false x (call.Get (pos 5)) r (after (pos 5)) asked) is a in
-    inl (ap (λ (t : Told). job_reply (Some t)) on.0)
+    ap (λ (t : Told). job_reply (Some t)) on.0
 
 pub get_round : (gives : ℤ → LoadAnswer → Type 0) (s t : Stand) (replies : List Reply) (e : Entry) → s.entries (pos 5) ≡ e → IsRound false gives s (Get (pos 5) ∷ []) replies t → (r : Reply) × (replies ≡ r ∷ []) × GetTold e r
 get_round gives s t replies e is round =

@@ -37,12 +37,10 @@ round_ended = 0 ∷ 0 ∷ 0 ∷ 1 ∷ 9 ∷ []
 abbrev pub answer : List ℕ → List ℕ → List ℕ
 answer put get = put ++ round_ended ++ get ++ round_ended
 
--- `MayAnswer output` holds if the get returns the value that was put, or a call in `output` is out of memory
+-- `MayAnswer output` holds if the get returns the value that was put, or no value after a put that was out of memory
 pub data MayAnswer : List ℕ → Type 0 where
   whole : MayAnswer (answer done value_1)
-  get_lacks : MayAnswer (answer done lacks_memory)
   put_lacks : MayAnswer (answer lacks_memory no_value)
-  both_lack : MayAnswer (answer lacks_memory lacks_memory)
 
 -- `HasItsAnswer gives` holds if the stream is served with the first of these outputs and no loader is asked
 abbrev pub HasItsAnswer : (ℤ → LoadAnswer → Type 0) → Type 0

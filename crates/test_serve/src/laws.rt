@@ -6,7 +6,7 @@ use jtypes::Loader;
 use wire::one_front;
 
 /// The stream that puts 1 on key 5 in one round and gets key 5 in the next is served with the value 1 as the reply to the get.
-/// Any other output that it is served with is one in which a call is out of memory.
+/// Any other output that it is served with is one in which the put is out of memory, and the get returns no value.
 /// No loader is asked, whatever it would give.
 pub fn one_stream_has_one_answer<L: Loader>(_loader: &L)
     ensures served { HasItsAnswer (L.gives _loader.now) }

@@ -8,7 +8,7 @@ use Rattle.stripe.specs.Stored.{Stored, entry_among}
 use Rattle.cache.specs.Receipts.{Receipt}
 use Rattle.cache.specs.Opened.{Opened, Sitting, AreFresh}
 use Rattle.cache.specs.Closing.{Settles}
-use Rattle.round_outcome.specs.Outcome.{IsDone, IsHistoryOf, answered}
+use Rattle.round_outcome.specs.Outcome.{IsDone, IsHistoryOf, AreRefused, answered}
 use Rattle.round_outcome.specs.Closed.{all_records, all_receipts, calls_told, calls_at, AreFiled, AllAreFiled}
 use Rattle.round_outcome.proofs.Handed.{caches_hand_out_histories, none_is_filed, rounds_are_done}
 use Rattle.invokeall.specs.Rounds.{Answer, reply_of, IsRound}
@@ -40,6 +40,6 @@ module _ {L : Type 0} (loads : Bool) (gives : ℤ → LoadAnswer → Type 0) (d 
         caches_hand_out_histories L loads gives d new tables histories settled (round.filed filed)
 
     -- So the round is done.
-    pub round_done : IsDone loads gives (entry_among d.tables) calls (map reply_of answers) (entry_among tables)
-    round_done =
-        rounds_are_done loads gives (entry_among d.tables) (calls_at new) (entry_among tables) (all_records histories) history_left calls (map reply_of answers) (as_many answers ∙ round.count) once_told
+    pub round_done : AreRefused loads calls (map reply_of answers) → IsDone loads gives (entry_among d.tables) calls (map reply_of answers) (entry_among tables)
+    round_done refused =
+        rounds_are_done loads gives (entry_among d.tables) (calls_at new) (entry_among tables) (all_records histories) history_left calls (map reply_of answers) (as_many answers ∙ round.count) refused once_told

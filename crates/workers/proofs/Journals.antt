@@ -1,6 +1,7 @@
 -- A round has at most as many jobs as a history may have records, so no job is refused for a full history.
+-- So a refused job was refused out of memory.
 use Rattle.std.proofs.Common.{◌≡◌, ◌≢◌, ℕ, ℤ, zero, suc, ◌<◌, ◌≤◌, List, [], ◌∷◌, length, map, get_or, Bool, true, false, Ok, Err, refl, sym, ap, ◌∙◌, arith, length-append, IsPermutation}
-use Rattle.std.specs.Prelude.{slice_index_or}
+use Rattle.std.specs.Prelude.{Option, slice_index_or, unwrap_or}
 use Rattle.std.specs.List.{All}
 use Rattle.std.proofs.lemmas.List.Sorted.{length_permutation}
 use mathlib.Core.Option.{some, some-injective, some-ne-none}
@@ -9,12 +10,12 @@ use Rattle.jtypes.specs.declared.loader.LoadAnswer.{LoadAnswer}
 use Rattle.stripe.specs.History.{Call, Record}
 use Rattle.stripe.specs.Stored.{Stored}
 use Rattle.cache.specs.declared.refusal.InvokeRefusal.{InvokeRefusal}
-use Rattle.cache.specs.declared.refusal.InvokeRefusal.TheVariants.{JournalFull}
+use Rattle.cache.specs.declared.refusal.InvokeRefusal.TheVariants.{JournalFull, NoMemory}
 use Rattle.cache.specs.Opened.{Opened, Sitting, AreFresh, stripe_in}
 use Rattle.cache.specs.Closing.{Settles, history_at, full_at}
-use Rattle.round_outcome.specs.Outcome.{answered, calls_in}
+use Rattle.round_outcome.specs.Outcome.{AreRefused, answered, calls_in}
 use Rattle.round_outcome.specs.Closed.{all_records, calls_at}
-use Rattle.invokeall.specs.Rounds.{Answer, reply_of, IsRound, ShowsAtSeats}
+use Rattle.invokeall.specs.Rounds.{Answer, reply_of, IsRound, ShowsAtSeats, NeedMemory}
 use Rattle.workers.specs.Buffers.{HasPlace}
 use Rattle.workers.proofs.Done.{once_told, history_left}
 
@@ -75,8 +76,26 @@ answer_at [] i e below = absurd (omega arith)
 answer_at (x ∷ xs) zero e below = refl
 answer_at (x ∷ xs) (suc i) e below = answer_at xs i e (omega arith)
 
+none_is_full : {L : Type 0} (loads : Bool) (gives : ℤ → LoadAnswer → Type 0) (d : Opened L) (n : ℕ) (old new : List Sitting) (calls : List Call) (answers : List Answer) (tables : List Stored) (hs : List (List Record)) → length calls ≤ d.journal
+    → AreFresh d.table n old → IsRound d calls old new answers → Settles loads gives d new tables hs → (k : ℕ) → get_elem? answers k ≢ some (Err JournalFull)
+none_is_full loads gives d n old new calls answers tables hs few fresh round s =
+    let history = history_left loads gives d n old new calls answers fresh round tables hs s in
+    never_full loads gives d new calls answers tables hs few round.count s (once_told loads gives d n old new calls answers fresh round) history.once round.full
+
 pub all_have_places : {L : Type 0} (loads : Bool) (gives : ℤ → LoadAnswer → Type 0) (d : Opened L) (n : ℕ) (old new : List Sitting) (calls : List Call) (answers : List Answer) (tables : List Stored) (hs : List (List Record)) → length calls ≤ d.journal
     → AreFresh d.table n old → IsRound d calls old new answers → Settles loads gives d new tables hs → All HasPlace answers
 all_have_places loads gives d n old new calls answers tables hs few fresh round s = λ i e below full.
-    let history = history_left loads gives d n old new calls answers fresh round tables hs s in
-    never_full loads gives d new calls answers tables hs few round.count s (once_told loads gives d n old new calls answers fresh round) history.once round.full i (answer_at answers i e below ∙ ap some full)
+    none_is_full loads gives d n old new calls answers tables hs few fresh round s i (answer_at answers i e below ∙ ap some full)
+
+-- A refused call that has a place was refused out of memory, so it may create an entry.
+refused_by : (loads : Bool) (calls : List Call) (answers : List Answer) → ((k : ℕ) → get_elem? answers k ≢ some (Err JournalFull)) → NeedMemory loads calls answers → AreRefused loads calls (map reply_of answers)
+refused_by loads [] answers placed need k call is none = absurd (cc)
+refused_by loads (c ∷ cs) [] placed need k call is none = absurd (cc)
+refused_by loads (c ∷ cs) (Ok r ∷ rest) placed need zero call is none = absurd (cc)
+refused_by loads (c ∷ cs) (Err NoMemory ∷ rest) placed need zero call is none = need 0 call refl (ap (λ (o : Option Call). some (unwrap_or o c)) is)
+refused_by loads (c ∷ cs) (Err JournalFull ∷ rest) placed need zero call is none = absurd (placed 0 refl)
+refused_by loads (c ∷ cs) (a ∷ rest) placed need (suc k) call is none = refused_by loads cs rest (λ j. placed (suc j)) (λ j u e there. need (suc j) u e there) k call is none
+
+pub all_refused : {L : Type 0} (loads : Bool) (gives : ℤ → LoadAnswer → Type 0) (d : Opened L) (n : ℕ) (old new : List Sitting) (calls : List Call) (answers : List Answer) (tables : List Stored) (hs : List (List Record)) → length calls ≤ d.journal
+    → AreFresh d.table n old → IsRound d calls old new answers → Settles loads gives d new tables hs → NeedMemory loads calls answers → AreRefused loads calls (map reply_of answers)
+all_refused loads gives d n old new calls answers tables hs few fresh round s need = refused_by loads calls answers (none_is_full loads gives d n old new calls answers tables hs few fresh round s) need

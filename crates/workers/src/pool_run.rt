@@ -4,7 +4,7 @@ ghost use Rattle.std.specs.Prelude.{◌≡◌, ◌<◌, ◌≤◌, length, map, 
 ghost use Rattle.std.specs.List.{All};
 ghost use Rattle.claims.specs.Counters.{IsJobCount};
 ghost use Rattle.stripe.specs.Stored.{entry_among};
-ghost use Rattle.cache.specs.Opened.{IsSeatCount, AreFresh};
+ghost use Rattle.cache.specs.Opened.{IsSeatCount, AreFresh, HaveRoom};
 ghost use Rattle.round_outcome.specs.Outcome.{IsDone};
 ghost use Rattle.invokeall.specs.Jobs.{all_seen};
 ghost use Rattle.invokeall.specs.Rounds.{reply_of};
@@ -39,7 +39,7 @@ pub struct PoolRound<'s, 'a, G, L> {
 pub struct RoundLeft {
     /// The entries after the round.
     pub tables: Tables,
-    /// The answer to each call, in the order of the calls. A refused call was out of memory, and changed no entry.
+    /// The answer to each call, in the order of the calls. A refused call was out of memory and may create an entry. It changed no entry.
     pub answers: Vec<JobReply>,
 }
 
@@ -90,7 +90,15 @@ pub fn run_by_workers<'a, R: Threads + Wait + Sync, G: Gate + Sync, L: Loader + 
     let Ok(buffers) = buffers_for(alloc, many, tables.stripes(), seats, kept) else {
         return Err(tables);
     };
-    match Cache::open(alloc, round.registry, tables, records, seats, round.loader) {
+    match Cache::open_for(
+        alloc,
+        round.registry,
+        tables,
+        records,
+        seats,
+        many,
+        round.loader,
+    ) {
         Ok((cache, seats)) => Ok(run_on(rt, cache, seats, round, buffers, kept)),
         Err((_, tables)) => Err(tables),
     }
@@ -108,6 +116,7 @@ fn run_on<'a, R: Threads + Wait + Sync, G: Gate + Sync, L: Loader + Sync>(
     requires count { IsSeatCount cache.seats }
     requires journal { length (all_seen round.now.calls.now) ≤ cache.journal }
     requires seats { AreFresh cache.table cache.seats seats.items }
+    requires receipts { HaveRoom (length (all_seen round.now.calls.now)) seats.items }
     requires buffers { CanHold (length (all_seen round.now.calls.now)) cache.seats buffers }
     ensures done { IsDone L.ASKS (L.gives cache.entry.loader) (entry_among cache.entry.tables) (all_seen round.now.calls.now) (map reply_of result.answers.items) (entry_among result.tables) }
     ensures placed { All HasPlace result.answers.items }

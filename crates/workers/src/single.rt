@@ -3,7 +3,7 @@
 ghost use Rattle.std.specs.Prelude.{◌≡◌, ◌≤◌, length, map, IfOk, IfErr};
 ghost use Rattle.std.specs.List.{All};
 ghost use Rattle.stripe.specs.Stored.{entry_among};
-ghost use Rattle.cache.specs.Opened.{AreFresh};
+ghost use Rattle.cache.specs.Opened.{AreFresh, HaveRoom};
 ghost use Rattle.round_outcome.specs.Outcome.{IsDone};
 ghost use Rattle.invokeall.specs.Jobs.{all_seen};
 ghost use Rattle.invokeall.specs.Rounds.{reply_of};
@@ -42,7 +42,16 @@ pub fn run_by_one<'a, R: Wait, G: Gate, L: Loader>(
     let Ok(mut workspace) = kept.workspace(alloc) else {
         return Err(tables);
     };
-    match Cache::open(alloc, round.registry, tables, records, 1, round.loader) {
+    let calls = round.calls.len();
+    match Cache::open_for(
+        alloc,
+        round.registry,
+        tables,
+        records,
+        1,
+        calls,
+        round.loader,
+    ) {
         Ok((cache, seats)) => {
             let left = run_at_one(rt, cache, seats, round, &mut workspace, answers);
             kept.keep(workspace);
@@ -64,6 +73,7 @@ fn run_at_one<'a, R: Wait, G: Gate, L: Loader>(
     requires count { cache.seats ≡ 1 }
     requires journal { length (all_seen round.now.calls.now) ≤ cache.journal }
     requires seats { AreFresh cache.table cache.seats seats.items }
+    requires receipts { HaveRoom (length (all_seen round.now.calls.now)) seats.items }
     requires room { HasRoom (length round.now.calls.now) answers }
     ensures done { IsDone L.ASKS (L.gives cache.entry.loader) (entry_among cache.entry.tables) (all_seen round.now.calls.now) (map reply_of result.answers.items) (entry_among result.tables) }
     ensures placed { All HasPlace result.answers.items }

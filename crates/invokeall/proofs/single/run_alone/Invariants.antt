@@ -1,8 +1,8 @@
-use Rattle.std.proofs.Common.{◌≡◌, ◌≤◌, ◌++◌, length, take, map, vec_capacity}
+use Rattle.std.proofs.Common.{◌≡◌, ◌+◌, ◌≤◌, ◌++◌, length, take, map, vec_capacity}
 use Rattle.round_outcome.specs.Outcome.{answered}
 use Rattle.round_outcome.specs.Closed.{calls_told, AreFiled}
 use Rattle.invokeall.specs.Jobs.{all_seen}
-use Rattle.invokeall.specs.Rounds.{reply_of, IsLaterSeat}
+use Rattle.invokeall.specs.Rounds.{reply_of, IsLaterSeat, NeedMemory}
 use Rattle.invokeall.proofs.OneSeat.{IsShown}
 use Rattle.invokeall.proofs.single.run_alone.Given as goal
 
@@ -15,4 +15,6 @@ invariant-loop-number g l = record {
   filed : AreFiled (length l.round.cache.now.tables) l.initial.seat.receipts → AreFiled (length l.round.cache.now.tables) l.seat.receipts;
   full : IsShown l.round.cache.now (all_seen l.round.calls.now) l.seat l.answers.items;
   room : length l.round.calls.now ≤ vec_capacity l.answers;
+  left : l.initial.seat.room ≤ l.seat.room + l.number;
+  memory : length (all_seen l.round.calls.now) ≤ l.initial.seat.room → NeedMemory g.L.Loader.ASKS (all_seen l.round.calls.now) l.answers.items;
 }

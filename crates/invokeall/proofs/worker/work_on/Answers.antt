@@ -31,7 +31,7 @@ loop-number-init g c =
       here = λ below. first.here (omega (arith, length-map c.args.task.now.calls.now call_of));
       numbers_are = sym (ap (λ (l : List ℕ). numbers worker.answers.items ++ l) none ∙ append-nil (numbers worker.answers.items));
       room = omega arith;
-      answered = λ v before h. subst (HasAnswered c.args.task.now.cache.now calls v worker) (sym (ap (λ (l : List ℕ). before ++ l) none ∙ append-nil before)) h;
+      answered = λ v before h. subst (HasAnswered g.L.Loader.ASKS c.args.task.now.cache.now calls v worker) (sym (ap (λ (l : List ℕ). before ++ l) none ∙ append-nil before)) h;
     }
 
 pub push_reserved-requires : goal.push_reserved-requires
@@ -74,7 +74,11 @@ loop-number-preserved g c =
     let first : List ℕ = numbers c.args.worker.now.answers.items in
     let x : Answer = c.call_at-answer.result in
     let worker : Worker = record { before = c.loop-number.worker.before; seat = after; workspace = c.call_at-answer.new.workspace; claimer = c.loop-number.worker.claimer; answers = c.push_reserved.new.self; behind = c.loop-number.worker.behind } in
-    let one = one_call c.args.task.now.cache.now (call_of c.call_numbered-call.result) before after x c.call_at-answer.ensures.ok c.call_at-answer.ensures.err in
+    let one = one_call g.L.Loader.ASKS c.args.task.now.cache.now (call_of c.call_numbered-call.result) before after x c.call_at-answer.ensures.ok c.call_at-answer.ensures.err c.call_at-answer.ensures.memory in
+    let many = numbers_long xs in
+    let told = ap (λ (l : List ℕ). length l) i.numbers_are in
+    let few = room_more of first group (length calls) n c.requires.free below is in
+    let fewer : length xs < length calls = omega (arith, many, told, few) in
     let items : c.push_reserved.new.self.items ≡ xs ++ (n, x) ∷ [] = c.push_reserved.ensures.items in
     record {
       home = one.later.table ∙ i.home;
@@ -84,8 +88,8 @@ loop-number-preserved g c =
       here = λ h. next.here (omega (arith, length-map c.args.task.now.calls.now call_of)) ∙ is;
       numbers_are = ap numbers items ∙ numbers_more xs n x ∙ ap (λ (l : List ℕ). l ++ n ∷ []) i.numbers_are ∙ append_assoc first (members of group n) (n ∷ []) ∙ ap (λ (l : List ℕ). first ++ l) (sym more);
       room = omega (arith, c.push_reserved.ensures.capacity, i.room);
-      answered = λ v ns h. subst (HasAnswered c.args.task.now.cache.now calls v worker) (append_assoc ns (members of group n) (n ∷ []) ∙ ap (λ (l : List ℕ). ns ++ l) (sym more))
-          (one_answered c.args.task.now.cache.now calls v c.loop-number.worker worker (ns ++ members of group n) n (call_of c.call_numbered-call.result) x c.call_numbered-call.ensures one items (omega (arith, c.push_reserved.ensures.capacity)) (i.answered v ns h));
+      answered = λ v ns h. subst (HasAnswered g.L.Loader.ASKS c.args.task.now.cache.now calls v worker) (append_assoc ns (members of group n) (n ∷ []) ∙ ap (λ (l : List ℕ). ns ++ l) (sym more))
+          (one_answered g.L.Loader.ASKS c.args.task.now.cache.now calls v c.loop-number.worker worker (ns ++ members of group n) n (call_of c.call_numbered-call.result) x c.call_numbered-call.ensures one fewer items (omega (arith, c.push_reserved.ensures.capacity)) (i.answered v ns h));
     }
 
 pub loop-number-smaller : goal.loop-number-smaller
@@ -105,5 +109,5 @@ returns-clause-answered g c =
     let of : List ℕ = groups_in c.args.task.now.groups.now calls in
     let all : c.loop-number.number ≡ length calls = omega (arith, i.few, c.loop-number-test.false, length-map c.args.task.now.calls.now call_of) in
     let w : Worker = c.loop-number.worker in
-    λ v before h. subst (λ (s : Sitting). HasAnswered c.args.task.now.cache.now calls v (record w { seat = s }) (before ++ members of c.args.group (length calls))) (sym c.leave.ensures)
-    (subst (λ (k : ℕ). HasAnswered c.args.task.now.cache.now calls v w (before ++ members of c.args.group k)) all (i.answered v before h))
+    λ v before h. subst (λ (s : Sitting). HasAnswered g.L.Loader.ASKS c.args.task.now.cache.now calls v (record w { seat = s }) (before ++ members of c.args.group (length calls))) (sym c.leave.ensures)
+    (subst (λ (k : ℕ). HasAnswered g.L.Loader.ASKS c.args.task.now.cache.now calls v w (before ++ members of c.args.group k)) all (i.answered v before h))

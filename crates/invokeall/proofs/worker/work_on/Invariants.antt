@@ -14,7 +14,7 @@ invariant-loop-number g l = record {
   here : l.number < length l.task.calls.now → get_or (groups_in l.task.groups.now (all_seen l.task.calls.now)) l.number 0 ≡ l.group;
   numbers_are : numbers l.worker.answers.items ≡ numbers l.initial.worker.answers.items ++ members (groups_in l.task.groups.now (all_seen l.task.calls.now)) l.group l.number;
   room : vec_capacity l.initial.worker.answers ≤ vec_capacity l.worker.answers;
-  answered : (v : Worker) (before : List ℕ) → HasAnswered l.task.cache.now (all_seen l.task.calls.now) v l.initial.worker before → HasAnswered l.task.cache.now (all_seen l.task.calls.now) v l.worker (before ++ members (groups_in l.task.groups.now (all_seen l.task.calls.now)) l.group l.number);
+  answered : (v : Worker) (before : List ℕ) → HasAnswered g.L.Loader.ASKS l.task.cache.now (all_seen l.task.calls.now) v l.initial.worker before → HasAnswered g.L.Loader.ASKS l.task.cache.now (all_seen l.task.calls.now) v l.worker (before ++ members (groups_in l.task.groups.now (all_seen l.task.calls.now)) l.group l.number);
 }
 
 abbrev pub decreases-loop-number : goal.decreases-loop-number

@@ -14,4 +14,4 @@ returns-clause-made g c = λ made v before h.
       | then-first-calls+else-not-hold_within b ↦ b.worker-is ∙ ap (λ (s : Sitting). record w { seat = s }) b.hold_within.ensures
       | else-first-calls b ↦ b.worker-is
     ] in
-    c.work_on.ensures.answered v before (subst (λ (x : Worker). HasAnswered c.args.task.now.cache.now (all_seen c.args.task.now.calls.now) v x before) (sym same) h)
+    c.work_on.ensures.answered v before (subst (λ (x : Worker). HasAnswered g.L.Loader.ASKS c.args.task.now.cache.now (all_seen c.args.task.now.calls.now) v x before) (sym same) h)

@@ -38,7 +38,7 @@ served d old new fresh same kept = record {
   each = λ c s e.
       let below : c < length old = let w = within new c s e in omega (arith, same) in
       let x = there old c below in
-      let was : slice_index_or old c s ≡ fresh_seat d.table d.seats c = found old c x.0 s x.1 ∙ fresh.each c x.0 x.1 in
+      let was : slice_index_or old c s ≡ fresh_seat d.table d.seats x.0.room c = found old c x.0 s x.1 ∙ fresh.each c x.0 x.1 in
       let is : s ≡ slice_index_or new c s = sym (found new c s s e) in
       let k = kept c s below in
       record {

@@ -3,7 +3,7 @@ use Rattle.cache.specs.Opened.{Opened, Sitting}
 use Rattle.invokeall.specs.Jobs.{all_seen}
 use Rattle.invokeall.proofs.Homes.{fresh_seats, seats_home, still_seats}
 use Rattle.workers.proofs.Done.{round_done}
-use Rattle.workers.proofs.Journals.{all_have_places}
+use Rattle.workers.proofs.Journals.{all_have_places, all_refused}
 use Rattle.workers.proofs.pool_run.run_on.Goals as goal
 
 pub run_in-answers-requires-clause-home : goal.run_in-answers-requires-clause-home
@@ -27,3 +27,5 @@ pub returns-clause-done : goal.returns-clause-done
 returns-clause-done g c =
     let d : Opened _ = c.args.cache in
     round_done g.L.Loader.ASKS (g.L.Loader.gives d.loader) d d.seats c.args.seats.items c.run_in-answers.new.seats.items (all_seen c.args.round.now.calls.now) c.run_in-answers.result.items c.requires.seats c.run_in-answers.ensures.round c.close-tables.result.tables _ c.close-tables.ensures.settled
+    (all_refused g.L.Loader.ASKS (g.L.Loader.gives d.loader) d d.seats c.args.seats.items c.run_in-answers.new.seats.items (all_seen c.args.round.now.calls.now) c.run_in-answers.result.items c.close-tables.result.tables _ c.requires.journal c.requires.seats c.run_in-answers.ensures.round c.close-tables.ensures.settled
+    (c.run_in-answers.ensures.memory c.requires.receipts))

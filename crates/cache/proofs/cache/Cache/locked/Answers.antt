@@ -32,7 +32,7 @@ overflow_cast-number g c =
     let home : s.pass.table_id ≡ c.self.inside.table.shared.table_id = ap (λ (x : Sitting). x.table) c.seat.view_is ∙ c.requires.seat ∙ ap (λ (d : Opened _). d.table) (sym c.self.view_is) in
     let t = c.hold.ensures.holds s.made p (subst (λ (x : TableId). IsKnown x.slots s.made p s.held s.pass.me) home c.seat.invariant.known) in
     let few : length (receipts_of s.receipts.items) ≤ 262144 = t.free.receipts p refl in
-    let same : c.len-number.result ≡ length s.receipts.items = let e = ap (λ (l : List ReceiptKept). length l) c.reserve.ensures.items in grind (arith, common_steps) in
+    let same : c.len-number.result ≡ length s.receipts.items = let e = ap (λ (l : List ReceiptKept). length l) c.reserve_one.ensures.items in grind (arith, common_steps) in
     omega (arith, few, same, length-map s.receipts.items receipt_of)
 
 pub begin-requires-clause-held : goal.begin-requires-clause-held
@@ -74,7 +74,7 @@ note-requires-clause-held g c =
     let r : Record = record_of c.commit-place.result.0 in
     let w = c.commit-place.ensures.committed (begun t.stripe b) b u.is refl in
     let view = c.commit-place.ensures.view ∙ c.begin.ensures.view ∙ ap (λ (m : Sat). m.0) t.is in
-    let same : c.len-number.result ≡ length s.receipts.items = let e = ap (λ (l : List ReceiptKept). length l) c.reserve.ensures.items in grind (arith, common_steps) in
+    let same : c.len-number.result ≡ length s.receipts.items = let e = ap (λ (l : List ReceiptKept). length l) c.reserve_one.ensures.items in grind (arith, common_steps) in
     let ended = c.end-done.result in
     let gives : ℤ → LoadAnswer → Type 0 = g.L.Loader.gives c.self.inside.table.shared.key.loader.value in
     let loader = c.self.invariant.loader ∙ ap (λ (d : Opened _). d.loader) c.self.view_is in
@@ -111,7 +111,7 @@ invariant_of-seat-in-Ok g c =
     let view = c.commit-place.ensures.view ∙ c.begin.ensures.view ∙ ap (λ (m : Sat). m.0) t.is in
     let given = c.note.ensures.noted s.made p t.stripe (committed (begun t.stripe b) r) r (λ k. (view k, w.is k)) refl in
     let x : ReceiptKept = record { stripe = c.place_of-index.result; place = c.commit-place.result.1; call = r0.call; reply = r0.reply } in
-    let items : c.push_reserved.new.self.items ≡ s.receipts.items ++ x ∷ [] = c.push_reserved.ensures.items ∙ ap (λ (l : List ReceiptKept). l ++ x ∷ []) c.reserve.ensures.items in
+    let items : c.push_reserved.new.self.items ≡ s.receipts.items ++ x ∷ [] = c.push_reserved.ensures.items ∙ ap (λ (l : List ReceiptKept). l ++ x ∷ []) c.reserve_one.ensures.items in
     let all : receipts_of c.push_reserved.new.self.items ≡ receipts_of s.receipts.items ++ receipt_behind c.place_of-index.result t.stripe.records r ∷ []
     = ap receipts_of items ∙ map-append receipt_of s.receipts.items (x ∷ []) ∙ ap (λ (q : ℕ). receipts_of s.receipts.items ++ record { stripe = c.place_of-index.result; place = q; call = r.call; reply = r.reply } ∷ []) w.place_is in
     let z : Kept = committed (begun t.stripe b) r in
@@ -122,6 +122,7 @@ invariant_of-seat-in-Ok g c =
     record {
       known = subst (λ (x : TableId × List Receipt × Option ℕ). IsKnown x.0.slots s.made (part s.caller x.1 s.full) x.2 c.note.new.pass.me) (λ k. (sym (table ∙ home) k, sym all k, sym c.hold.ensures.held k)) mine;
       full = c.seat.invariant.full;
+      room = let before = c.seat.invariant.room in let some_room = c.reserve_one.ensures.room c.if-not-reserve_one.false in omega (arith, before, some_room, c.reserve_one.ensures.len, c.reserve_one.ensures.capacity, c.push_reserved.ensures.len, c.push_reserved.ensures.capacity, c.saturating_sub-seat-inside.ensures);
     }
 
 pub returns-in-Ok-clause-ok : goal.returns-in-Ok-clause-ok
@@ -137,7 +138,7 @@ returns-in-Ok-clause-ok g c =
     let w = c.commit-place.ensures.committed (begun t.stripe b) b u.is refl in
     let one : Receipt = receipt_behind c.place_of-index.result t.stripe.records r in
     let x : ReceiptKept = record { stripe = c.place_of-index.result; place = c.commit-place.result.1; call = r0.call; reply = r0.reply } in
-    let items : c.push_reserved.new.self.items ≡ s.receipts.items ++ x ∷ [] = c.push_reserved.ensures.items ∙ ap (λ (l : List ReceiptKept). l ++ x ∷ []) c.reserve.ensures.items in
+    let items : c.push_reserved.new.self.items ≡ s.receipts.items ++ x ∷ [] = c.push_reserved.ensures.items ∙ ap (λ (l : List ReceiptKept). l ++ x ∷ []) c.reserve_one.ensures.items in
     let all : receipts_of c.push_reserved.new.self.items ≡ receipts_of s.receipts.items ++ one ∷ []
     = ap receipts_of items ∙ map-append receipt_of s.receipts.items (x ∷ []) ∙ ap (λ (q : ℕ). receipts_of s.receipts.items ++ record { stripe = c.place_of-index.result; place = q; call = r.call; reply = r.reply } ∷ []) w.place_is in
     let table = c.note.ensures.table ∙ c.commit-place.ensures.table ∙ c.begin.ensures.table ∙ c.hold.ensures.table in
@@ -148,7 +149,7 @@ returns-in-Ok-clause-ok g c =
       call_is = w.made.call;
       reply_is = refl;
       stripe_is = index ∙ ap (λ (n : ℕ). stripe_of n key) (c.self.invariant.stripes ∙ ap (λ (d : Opened _). length d.tables) c.self.view_is);
-      left = (λ k. record { table = table k; caller = s.caller; made = s.made; receipts = all k; full = s.full }) ∙ ap (λ (y : Sitting). with_receipt y one) c.seat.view_is;
+      left = (λ k. record { table = table k; caller = s.caller; made = s.made; receipts = all k; full = s.full; room = c.saturating_sub-seat-inside.ensures k }) ∙ ap (λ (y : Sitting). with_receipt y one) c.seat.view_is;
     }
 
 pub give_full-requires-clause-held : goal.give_full-requires-clause-held
@@ -172,8 +173,9 @@ invariant_of-seat-in-Err-JournalFull g c =
     let t = c.hold.ensures.holds s.made p (subst (λ (x : TableId). IsKnown x.slots s.made p s.held s.pass.me) home c.seat.invariant.known) in
     let view = c.begin.ensures.view ∙ ap (λ (m : Sat). m.0) t.is in
     record {
-      known = c.give_full.ensures.given s.made p t.stripe view ∙ ap (λ (l : List ReceiptKept). (seat_view s.made (part s.caller (receipts_of l) (set s.full c.place_of-index.result true)), [])) (sym c.reserve.ensures.items);
+      known = c.give_full.ensures.given s.made p t.stripe view ∙ ap (λ (l : List ReceiptKept). (seat_view s.made (part s.caller (receipts_of l) (set s.full c.place_of-index.result true)), [])) (sym c.reserve_one.ensures.items);
       full = length-set s.full c.place_of-index.result true ∙ c.seat.invariant.full;
+      room = let before = c.seat.invariant.room in omega (arith, before, c.reserve_one.ensures.len, c.reserve_one.ensures.capacity);
     }
 
 pub invariant_of-seat-in-Err-NoMemory : goal.invariant_of-seat-in-Err-NoMemory
@@ -188,6 +190,10 @@ invariant_of-seat-in-Err-NoMemory g c =
     let mine : IsKnown c.self.inside.table.shared.table_id.slots s.made p (Some c.place_of-index.result) c.begin.new.pass.me
     = (omega (arith, c.place_of-index.ensures.within, c.self.invariant.stripes, c.self.invariant.board.slots), record { stripe = t.stripe; is = λ k. (view k, kept k); free = t.free }) in
     record {
-      known = subst (λ (x : TableId × List ReceiptKept × Option ℕ). IsKnown x.0.slots s.made (part s.caller (receipts_of x.1) s.full) x.2 c.begin.new.pass.me) (λ k. (sym (table ∙ home) k, sym c.reserve.ensures.items k, sym c.hold.ensures.held k)) mine;
+      known = subst (λ (x : TableId × List ReceiptKept × Option ℕ). IsKnown x.0.slots s.made (part s.caller (receipts_of x.1) s.full) x.2 c.begin.new.pass.me) (λ k. (sym (table ∙ home) k, sym c.reserve_one.ensures.items k, sym c.hold.ensures.held k)) mine;
       full = c.seat.invariant.full;
+      room = let before = c.seat.invariant.room in omega (arith, before, c.reserve_one.ensures.len, c.reserve_one.ensures.capacity);
     }
+
+pub returns-clause-memory : goal.returns-clause-memory
+returns-clause-memory g c = λ e room. c.begin.ensures.memory (c.in-Err-NoMemory.is ∙ ap Err c.in-Err-NoMemory.field-0-is)

@@ -5,7 +5,7 @@ use Rattle.stripe.specs.Tables.{IsCount, none_back}
 use Rattle.cache.specs.Inside.{IsBoard}
 use Rattle.cache.specs.declared.known.Terms.{Terms}
 use Rattle.cache.proofs.Starts.{long, are_ready, come_back, tables_are}
-use Rattle.cache.proofs.cache.Cache.open.Goals as goal
+use Rattle.cache.proofs.cache.Cache.open_for.Goals as goal
 
 pub rejoined-requires-clause-stripes : goal.rejoined-requires-clause-stripes
 rejoined-requires-clause-stripes g c = are_ready c.args.journal c.args.tables c.in_ok-stripes.stripes.items c.in_ok-stripes.ensures.stripes
