@@ -1,6 +1,7 @@
 //! The cost model, which chooses the number of workers of a round.
 
 ghost use Rattle.std.specs.Prelude.{◌≡◌, ◌<◌, ◌≤◌};
+ghost use Rattle.workers.specs.Costs.{IsCost};
 
 use verify::Verified;
 
@@ -11,7 +12,9 @@ pub const STEPS_PER_WORKER: u32 = 524_288;
 pub const CALL_COST: u64 = 192;
 
 /// Returns the estimated maximum cost in instructions of an invocation of this class: `CALL_COST` plus the step bound of the class.
-pub fn cost_of(class: &Verified) -> u64 {
+pub fn cost_of(class: &Verified) -> u64
+    ensures { IsCost class.now result }
+{
     CALL_COST + u64::from(class.bounds().steps)
 }
 
