@@ -98,6 +98,12 @@ static OUTCOMES: [(Outcome, &[u8]); 10] = [
 ];
 
 #[test]
+fn the_version_is_written(rt: HostRuntime) {
+    let frame = [0, 0, 0, 5, 10, 0, 0, 0, 2];
+    assert!(rt; is_written(rt.alloc(), Reply::Version(2), &frame));
+}
+
+#[test]
 fn outcomes_are_written(rt: HostRuntime) {
     for (outcome, frame) in OUTCOMES {
         assert!(rt; is_written(rt.alloc(), Reply::Result(outcome), frame));

@@ -2,11 +2,12 @@
 
 mod hands;
 mod readers;
+mod second;
 
 use jtypes::Arg;
 use std::alloc::{AllocError, Global};
 use std::test::Fail;
-use wire::{Counted, Request, WireFault, read_request};
+use wire::{Counted, Protocol, Request, WireFault, read_request};
 
 type Answer = Result<Option<Request>, WireFault>;
 
@@ -38,19 +39,24 @@ fn front_of(answer: &Answer) -> Told {
 
 /// Reads the next request.
 fn next(alloc: Global, reader: &mut Counted<&[u8]>) -> Told {
-    front_of(&read_request(alloc, reader, &mut Vec::new(alloc)))
+    front_of(&read_request(alloc, Protocol::One, reader, &mut Vec::new(alloc)))
 }
 
 /// Reads the first request of these bytes.
 fn read(alloc: Global, bytes: &[u8]) -> Answer {
-    read_request(alloc, &mut Counted::new(bytes), &mut Vec::new(alloc))
+    read_request(
+        alloc,
+        Protocol::One,
+        &mut Counted::new(bytes),
+        &mut Vec::new(alloc),
+    )
 }
 
 /// Reads the first request of these bytes and its arguments, into a vector that holds another argument before.
 fn read_with_args(alloc: Global, bytes: &[u8]) -> Result<(Answer, Vec<Arg>), AllocError> {
     let mut args = Vec::new(alloc);
     args.push(Arg::Integer(77))?;
-    let answer = read_request(alloc, &mut Counted::new(bytes), &mut args);
+    let answer = read_request(alloc, Protocol::One, &mut Counted::new(bytes), &mut args);
     Ok((answer, args))
 }
 
@@ -221,7 +227,7 @@ fn each_front_of_a_frame_is_cut(rt: HostRuntime) {
 /// Returns the length in bytes of the class file that is defined, and the next request.
 fn class_and_next(alloc: Global, bytes: &[u8]) -> Option<(usize, Told)> {
     let mut reader = Counted::new(bytes);
-    let class = read_request(alloc, &mut reader, &mut Vec::new(alloc));
+    let class = read_request(alloc, Protocol::One, &mut reader, &mut Vec::new(alloc));
     let Ok(Some(Request::Define(class))) = class else {
         return None;
     };

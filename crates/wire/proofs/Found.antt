@@ -9,9 +9,9 @@ use Rattle.jtypes.specs.declared.types.Arg.{Arg}
 use Rattle.jtypes.specs.declared.types.Arg.TheVariants as arg
 use Rattle.jtypes.specs.declared.refusal.Refusal.TheVariants.{BadOperand}
 use Rattle.jtypes.specs.Layout.{Layout, known, stopped, chosen, number, many, IsLaidOut, ◌>>=◌}
-use Rattle.wire.specs.Requests.{Request, Put, Get, Remove, Contains, Invoke, InvokeAll, RoundEnd}
+use Rattle.wire.specs.Requests.{Request, Put, Get, Remove, Contains, Invoke, InvokeAll, RoundEnd, Version, Forget}
 use Rattle.wire.specs.Frames.{AreBytes, long_text, int_text, arg_text, texts, args_text, request_text, IsArg, AreArgs, IsInRange}
-use Rattle.wire.specs.Bodies.{long, int, arg_of, argument, arguments, put, invoke, small, keys_and_arguments, alone}
+use Rattle.wire.specs.Bodies.{long, int, arg_of, argument, arguments, put, invoke, forget, small, keys_and_arguments, alone}
 use Rattle.wire.proofs.Numbers.{bytes_front, bytes_back, bytes_of_number, number_small}
 
 -- `Finds` holds if bytes laid out as a value are the text of the value, and `P` holds of it.
@@ -154,6 +154,13 @@ found_invoke text r h (class, a, b, parts, laid_class, (key, c, d, parts', laid_
     let whole : text ≡ big_bytes 4 class ++ long_text key ++ args_text args = behind text a b (big_bytes 4 class) parts n.0 ∙ ap (λ t. big_bytes 4 class ++ t) (behind b c d (long_text key) parts' k.0 ∙ ap (λ t. long_text key ++ t) f.0) in
     subst (λ (q : Request). IsTold 6 text q) (sym is) (ap (λ t. 6 ∷ t) whole, (omega (arith, n.1), k.1, f.1))
 
+found_forget : (text : List ℕ) (r : Request) → AreBytes text → IsLaidOut forget text r → IsTold 10 text r
+unfolding forget
+found_forget text r h laid =
+    let (class, inside, is) = one_found (number 4) (λ class. Forget class) text r laid in
+    let n = found_number 4 text class h inside in
+    subst (λ (q : Request). IsTold 10 text q) (sym is) (ap (λ t. 10 ∷ t) n.0, omega (arith, n.1))
+
 pub found_keys : (class count : ℕ) (text : List ℕ) (r : Request) → class < 2 ^ 32 → count < 2 ^ 16 → AreBytes text → IsLaidOut (keys_and_arguments class count) text r
     → (7 ∷ big_bytes 4 class ++ big_bytes 2 count ++ text ≡ request_text r) × IsInRange r
 unfolding keys_and_arguments
@@ -176,7 +183,9 @@ found_key kind g text r told h laid =
 pub found_small : (kind : ℕ) (text : List ℕ) (r : Request) → AreBytes text → IsLaidOut (small kind) text r → IsTold kind text r
 unfolding small
 found_small kind text r h laid =
-    let eight = chosen (kind == 8) (known RoundEnd) (stopped BadOperand) in
+    let ten = chosen (kind == 10) forget (stopped BadOperand) in
+    let nine = chosen (kind == 9) (known Version) ten in
+    let eight = chosen (kind == 8) (known RoundEnd) nine in
     let six = chosen (kind == 6) invoke eight in
     let five = chosen (kind == 5) (long >>= λ key. known (Contains key)) six in
     let four = chosen (kind == 4) (long >>= λ key. known (Remove key)) five in
@@ -191,9 +200,15 @@ found_small kind text r h laid =
             | inl (is, found) ↦ at 5 is (found_key 5 (λ z. Contains z) text r (λ z f. (refl, f)) h found)
             | inr (_, h6) ↦ elim (chosen_cases (kind == 6) invoke eight text r h6) [
               | inl (is, found) ↦ at 6 is (found_invoke text r h found)
-              | inr (_, h8) ↦ elim (chosen_cases (kind == 8) (known RoundEnd) (stopped BadOperand) text r h8) [
+              | inr (_, h8) ↦ elim (chosen_cases (kind == 8) (known RoundEnd) nine text r h8) [
                 | inl (is, (none, end)) ↦ at 8 is (subst (λ (q : Request). IsTold 8 text q) (sym end) (ap (λ t. 8 ∷ t) none, tt))
-                | inr (_, nothing) ↦ absurd nothing
+                | inr (_, h9) ↦ elim (chosen_cases (kind == 9) (known Version) ten text r h9) [
+                  | inl (is, (none, version)) ↦ at 9 is (subst (λ (q : Request). IsTold 9 text q) (sym version) (ap (λ t. 9 ∷ t) none, tt))
+                  | inr (_, h10) ↦ elim (chosen_cases (kind == 10) forget (stopped BadOperand) text r h10) [
+                    | inl (is, found) ↦ at 10 is (found_forget text r h found)
+                    | inr (_, nothing) ↦ absurd nothing
+                  ]
+                ]
               ]
             ]
           ]

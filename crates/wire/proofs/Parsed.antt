@@ -9,8 +9,9 @@ use Rattle.jtypes.specs.declared.refusal.Refusal.{Refusal}
 use Rattle.jtypes.specs.declared.refusal.Refusal.TheVariants as refusal
 use Rattle.jtypes.specs.Layout.{Layout, first, Gives, number}
 use Rattle.jtypes.proofs.Laws.{whole_found, stands_from_fails, first_stands}
-use Rattle.wire.specs.Requests.{Request, Define, Put, Get, Remove, Contains, Invoke, InvokeAll, RoundEnd}
+use Rattle.wire.specs.Requests.{Request, Define, Put, Get, Remove, Contains, Invoke, InvokeAll, RoundEnd, Version, Forget}
 use Rattle.wire.specs.declared.fault.WireFault.{WireFault}
+use Rattle.wire.specs.declared.protocol.Protocol.{Protocol}
 use Rattle.wire.specs.Frames.{AreBytes, long_text, arg_text, texts, args_text, request_text, IsText, IsNoRequest, IsRead, AreArgs}
 use Rattle.wire.specs.Bodies.{small, keys_and_arguments, alone}
 use Rattle.wire.specs.Reading.{Parses, IsFaultOf, BeginsNoInvocation}
@@ -76,6 +77,8 @@ is_invoke_all class count rest (InvokeAll c keys args) h k t =
     let two = same_numbers 2 count (length keys) rest (texts long_text keys ++ args_text args) (omega (arith, k)) (omega (arith, t.in_range.1)) one.1 in
     record { keys = keys; args = args; is = ap (λ n. InvokeAll n keys args) (sym one.0); many = sym two.0; few = t.in_range.3; text = two.1 }
 is_invoke_all class count rest RoundEnd h k t = absurd (seven_is_not 8 _ _ t.is (omega arith))
+is_invoke_all class count rest Version h k t = absurd (seven_is_not 9 _ _ t.is (omega arith))
+is_invoke_all class count rest (Forget c) h k t = absurd (seven_is_not 10 _ _ t.is (omega arith))
 
 pub keys_ok : (class count : ℕ) (rest : List ℕ) (r : Request) → class < 2 ^ 32 → count < 2 ^ 16 → AreBytes rest → Gives {X = Request} (λ r. (r, [])) (Ok r) (first (alone (keys_and_arguments class count)) rest) → IsText (keys_text class count rest) r
 keys_ok class count rest r h k bytes given =
@@ -126,6 +129,8 @@ long_body kind body one seven h r t = go r t.is t
     go (Invoke class key args) e t = let n = ap length (same_tail kind 6 body _ e).1 in omega (arith, n, h, args_length args, t.in_range.2.few)
     go (InvokeAll class keys args) e t = seven (same_tail kind 7 body _ e).0
     go RoundEnd e t = let n = ap length (same_tail kind 8 body _ e).1 in omega (arith, n, h)
+    go Version e t = let n = ap length (same_tail kind 9 body _ e).1 in omega (arith, n, h)
+    go (Forget class) e t = let n = ap length (same_tail kind 10 body _ e).1 in omega (arith, n, h)
 
 -- The rest of an `InvokeAll` on `count` keys has 8 * `count` + 1 to 8 * `count` + 73 bytes.
 pub other_length : (class count : ℕ) (rest : List ℕ) → class < 2 ^ 32 → count < 2 ^ 16 → (length rest < 8 * count + 1) ⊎ (8 * count + 73 < length rest) → IsNoRequest (keys_text class count rest)
@@ -152,12 +157,14 @@ short_body body h r t = go r t.is
     go (Invoke class key args) e = seven_is_not 6 _ _ e (omega arith)
     go (InvokeAll class keys args) e = let n = ap length (same_tail 7 7 body _ e).1 in omega (arith, n, h, length-append (texts long_text keys) (args_text args))
     go RoundEnd e = seven_is_not 8 _ _ e (omega arith)
+    go Version e = seven_is_not 9 _ _ e (omega arith)
+    go (Forget class) e = seven_is_not 10 _ _ e (omega arith)
 
 -- ---- no invocation
 
 -- Bytes begin with no `Invoke` if their length field is 0 or above 86, or if they end before the text does.
 pub other_frame : (bytes : List ℕ) (n : ℕ) → take 4 bytes ≡ big_bytes 4 n → n < 2 ^ 32 → (n ≡ 0) ⊎ ((86 < n) ⊎ (length bytes < 4 + n)) → BeginsNoInvocation bytes
-other_frame bytes n head fits other class key args rest h =
+other_frame bytes n head fits other p class key args rest h =
     let r : Request = Invoke class key args in
     let text : List ℕ = request_text r in
     let body : List ℕ = big_bytes 4 class ++ long_text key ++ args_text args in
@@ -176,7 +183,7 @@ other_frame bytes n head fits other class key args rest h =
     ]
 
 -- The text of a whole frame of length `n` is the `n` bytes after the length field.
-pub text_of_frame : (bytes : List ℕ) (n : ℕ) (r : Request) (rest : List ℕ) → take 4 bytes ≡ big_bytes 4 n → n < 2 ^ 32 → IsRead bytes r rest → IsText (take n (drop 4 bytes)) r
+pub text_of_frame : {p : Protocol} (bytes : List ℕ) (n : ℕ) (r : Request) (rest : List ℕ) → take 4 bytes ≡ big_bytes 4 n → n < 2 ^ 32 → IsRead p bytes r rest → IsText (take n (drop 4 bytes)) r
 text_of_frame bytes n r rest head fits h =
     let text : List ℕ = request_text r in
     let whole : big_bytes 4 n ++ drop 4 bytes ≡ big_bytes 4 (length text) ++ (text ++ rest) =

@@ -11,9 +11,9 @@ use Rattle.jtypes.specs.declared.types.Arg.{Arg}
 use Rattle.jtypes.specs.declared.types.Arg.TheVariants as arg
 use Rattle.jtypes.specs.declared.refusal.Refusal.{Refusal}
 use Rattle.jtypes.specs.Layout.{Layout, known, number, many, first, part_or, ◌>>=◌}
-use Rattle.wire.specs.Requests.{Request, Define, Put, Get, Remove, Contains, Invoke, InvokeAll, RoundEnd}
+use Rattle.wire.specs.Requests.{Request, Define, Put, Get, Remove, Contains, Invoke, InvokeAll, RoundEnd, Version, Forget}
 use Rattle.wire.specs.Frames.{long_text, int_text, arg_text, texts, args_text, request_text, IsArg, AreArgs, IsInRange}
-use Rattle.wire.specs.Bodies.{long, int, arg_of, argument, arguments, put, invoke, small, keys_and_arguments, alone}
+use Rattle.wire.specs.Bodies.{long, int, arg_of, argument, arguments, put, invoke, forget, small, keys_and_arguments, alone}
 
 -- `Reads` holds if the layout reads each value with `P` from its text, whatever bytes follow.
 abbrev pub Reads : {A : Type 0} → Layout A → (A → List ℕ) → (A → Type 0) → Type 0
@@ -87,6 +87,12 @@ read_invoke class key args h =
     let end : first arguments (args_text args) ≡ Ok (args, []) = at_end arguments args_text AreArgs read_arguments args h.2 in
     rw (read_number 4 class (long_text key ++ args_text args) (omega (arith, h.0)), read_long key (args_text args) h.1, end) refl
 
+read_forget : (class : ℕ) → class < 2 ^ 32 → first forget (big_bytes 4 class) ≡ Ok (Forget class, [])
+unfolding forget
+read_forget class h =
+    let end : first (number 4) (big_bytes 4 class) ≡ Ok (class, []) = at_end (number 4) (λ k. big_bytes 4 k) (λ k. k < 256 ^ 4) (read_number 4) class (omega (arith, h)) in
+    rw end refl
+
 pub read_keys : (class : ℕ) (keys : List ℤ) (args : List Arg) → IsInRange (InvokeAll class keys args) → first (keys_and_arguments class (length keys)) (texts long_text keys ++ args_text args) ≡ Ok (InvokeAll class keys args, [])
 unfolding keys_and_arguments
 read_keys class keys args h =
@@ -116,3 +122,5 @@ read_small (Contains key) kind text h e one seven = let (k, t) = parts kind 5 te
 read_small (Invoke class key args) kind text h e one seven = let (k, t) = parts kind 6 text _ e in rw (k, t) (read_invoke class key args h)
 read_small (InvokeAll class keys args) kind text h e one seven = absurd (seven cc)
 read_small RoundEnd kind text h e one seven = let (k, t) = parts kind 8 text _ e in rw (k, t) refl
+read_small Version kind text h e one seven = let (k, t) = parts kind 9 text _ e in rw (k, t) refl
+read_small (Forget class) kind text h e one seven = let (k, t) = parts kind 10 text _ e in rw (k, t) (read_forget class h)

@@ -5,7 +5,7 @@ use Rattle.jtypes.specs.declared.types.Arg.{Arg}
 use Rattle.jtypes.specs.declared.types.Arg.TheVariants as arg
 use Rattle.jtypes.specs.declared.refusal.Refusal.TheVariants.{BadOperand}
 use Rattle.jtypes.specs.Layout.{Layout, known, stopped, chosen, ended, number, many, needed, ◌>>=◌, ◌>>◌}
-use Rattle.wire.specs.Requests.{Request, Put, Get, Remove, Contains, Invoke, InvokeAll, RoundEnd}
+use Rattle.wire.specs.Requests.{Request, Put, Get, Remove, Contains, Invoke, InvokeAll, RoundEnd, Version, Forget}
 
 unfoldable pub long : Layout ℤ
 long = do
@@ -51,6 +51,11 @@ invoke = do
   args ← arguments
   known (Invoke class key args)
 
+unfoldable pub forget : Layout Request
+forget = do
+  class ← number 4
+  known (Forget class)
+
 -- The body of a request other than `Define` and `InvokeAll`, by its kind.
 unfoldable pub small : ℕ → Layout Request
 small kind =
@@ -60,7 +65,9 @@ small kind =
     (chosen (kind == 5) (long >>= λ key. known (Contains key))
     (chosen (kind == 6) invoke
     (chosen (kind == 8) (known RoundEnd)
-    (stopped BadOperand))))))
+    (chosen (kind == 9) (known Version)
+    (chosen (kind == 10) forget
+    (stopped BadOperand))))))))
 
 -- The rest of an `InvokeAll` after the class and the key count: the keys, then the arguments.
 unfoldable pub keys_and_arguments : (class count : ℕ) → Layout Request

@@ -10,8 +10,10 @@ use Rattle.jtypes.specs.declared.types.JavaFault.{JavaFault}
 use Rattle.jtypes.specs.declared.types.JavaFault.TheVariants.{Thrown}
 use Rattle.jtypes.specs.declared.types.Outcome.TheVariants.{Returned, Threw}
 use Rattle.jtypes.specs.Refusals.{number, detail, fault_number, exception_number}
-use Rattle.wire.specs.Requests.{Request, Define, Put, Get, Remove, Contains, Invoke, InvokeAll}
+use Rattle.wire.specs.Requests.{Request, Define, Put, Get, Remove, Contains, Invoke, InvokeAll, Forget}
 use Rattle.wire.specs.Requests as request
+use Rattle.wire.specs.declared.protocol.Protocol.{Protocol}
+use Rattle.wire.specs.declared.protocol.Protocol.TheVariants.{One, Two}
 use Rattle.wire.specs.declared.reply.Denial.{Denial}
 use Rattle.wire.specs.declared.reply.Denial.TheVariants.{UnknownClass, JournalFull, NoMemory, TooManyClasses, TooManyJobs}
 use Rattle.wire.specs.declared.reply.JobOutcome.{JobOutcome}
@@ -54,6 +56,8 @@ request_text (Contains key) = 5 ∷ long_text key
 request_text (Invoke class key args) = 6 ∷ big_bytes 4 class ++ long_text key ++ args_text args
 request_text (InvokeAll class keys args) = 7 ∷ big_bytes 4 class ++ big_bytes 2 (length keys) ++ texts long_text keys ++ args_text args
 request_text request.RoundEnd = 8 ∷ []
+request_text request.Version = 9 ∷ []
+request_text (Forget class) = 10 ∷ big_bytes 4 class
 
 abbrev pub denial_number : Denial → ℕ
 denial_number UnknownClass = 1
@@ -102,6 +106,7 @@ reply_text (Result o) = 6 ∷ outcome_text o
 reply_text (Results jobs) = results_text jobs
 reply_text (reply.Denied d) = 8 ∷ denial_number d ∷ []
 reply_text reply.RoundEnd = 9 ∷ []
+reply_text (reply.Version protocol) = 10 ∷ big_bytes 4 protocol
 
 -- ---- frames
 
@@ -144,17 +149,44 @@ IsInRange (Contains key) = FitsSigned w64 key
 IsInRange (Invoke class key args) = (class < 2 ^ 32) × FitsSigned w64 key × AreArgs args
 IsInRange (InvokeAll class keys args) = (class < 2 ^ 32) × (length keys < 2 ^ 16) × AllByRecursion (FitsSigned w64) keys × AreArgs args
 IsInRange request.RoundEnd = Unit {0}
+IsInRange request.Version = Unit {0}
+IsInRange (Forget class) = class < 2 ^ 32
 
 -- `IsText` holds if `text` is the text of `r`, and `r` is in range.
 pub record IsText (text : List ℕ) (r : Request) : Type 0 where
   pub is : text ≡ request_text r
   pub in_range : IsInRange r
 
+-- `IsNoRequest` holds if no request of any protocol has this text.
 abbrev pub IsNoRequest : List ℕ → Type 0
 IsNoRequest text = (r : Request) → IsText text r → ⊥
 
--- `IsRequest` holds if `r` has a frame: it is in range, and its text is not too long.
-pub record IsRequest (r : Request) : Type 0 where
+-- ---- protocols
+
+abbrev pub IsTwo : Protocol → Type 0
+IsTwo One = ⊥
+IsTwo Two = Unit {0}
+
+-- `Knows` holds if the protocol has requests of this kind. Protocol 1 has the kinds 1 to 8, and protocol 2 has all.
+abbrev pub Knows : Protocol → Request → Type 0
+Knows p (Define bytes) = Unit {0}
+Knows p (Put key value) = Unit {0}
+Knows p (Get key) = Unit {0}
+Knows p (Remove key) = Unit {0}
+Knows p (Contains key) = Unit {0}
+Knows p (Invoke class key args) = Unit {0}
+Knows p (InvokeAll class keys args) = Unit {0}
+Knows p request.RoundEnd = Unit {0}
+Knows p request.Version = IsTwo p
+Knows p (Forget class) = IsTwo p
+
+-- `IsNoneOf` holds if no request of this protocol has this text.
+abbrev pub IsNoneOf : Protocol → List ℕ → Type 0
+IsNoneOf p text = (r : Request) → IsText text r → Knows p r → ⊥
+
+-- `IsRequest` holds if `r` has a frame in this protocol: the protocol has its kind, it is in range, and its text is not too long.
+pub record IsRequest (p : Protocol) (r : Request) : Type 0 where
+  pub known : Knows p r
   pub in_range : IsInRange r
   pub short : length (request_text r) ≤ longest
 
@@ -180,18 +212,18 @@ pub data Front : Type 0 where
   Whole : Request → (rest : List ℕ) → Front
   Faulty : ReadFault → Front
 
--- `IsRead` holds if the bytes are the frame of `r` followed by `rest`.
-pub record IsRead (bytes : List ℕ) (r : Request) (rest : List ℕ) : Type 0 where
+-- `IsRead` holds if the bytes are the frame of `r` in this protocol, followed by `rest`.
+pub record IsRead (p : Protocol) (bytes : List ℕ) (r : Request) (rest : List ℕ) : Type 0 where
   pub parts : bytes ≡ request_frame r ++ rest
-  pub request : IsRequest r
+  pub request : IsRequest p r
 
--- `IsFaulty` holds if the bytes begin with no frame, for this reason. A frame that is cut is `Truncated`, whatever its body.
-pub data IsFaulty (bytes : List ℕ) : ReadFault → Type 0 where
-  cut_length : 0 < length bytes → length bytes < 4 → IsFaulty bytes Truncated
-  too_long : (n : ℕ) (rest : List ℕ) → bytes ≡ big_bytes 4 n ++ rest → n < 2 ^ 32 → longest < n → IsFaulty bytes TooLong
-  empty : (rest : List ℕ) → bytes ≡ big_bytes 4 0 ++ rest → IsFaulty bytes Malformed
-  cut_body : (n : ℕ) (rest : List ℕ) → bytes ≡ big_bytes 4 n ++ rest → 1 ≤ n → n ≤ longest → length rest < n → IsFaulty bytes Truncated
-  no_request : (text rest : List ℕ) → bytes ≡ frame text ++ rest → 1 ≤ length text → length text ≤ longest → IsNoRequest text → IsFaulty bytes Malformed
+-- `IsFaulty` holds if the bytes begin with no frame of the protocol, for this reason. A frame that is cut is `Truncated`, whatever its body.
+pub data IsFaulty (p : Protocol) (bytes : List ℕ) : ReadFault → Type 0 where
+  cut_length : 0 < length bytes → length bytes < 4 → IsFaulty p bytes Truncated
+  too_long : (n : ℕ) (rest : List ℕ) → bytes ≡ big_bytes 4 n ++ rest → n < 2 ^ 32 → longest < n → IsFaulty p bytes TooLong
+  empty : (rest : List ℕ) → bytes ≡ big_bytes 4 0 ++ rest → IsFaulty p bytes Malformed
+  cut_body : (n : ℕ) (rest : List ℕ) → bytes ≡ big_bytes 4 n ++ rest → 1 ≤ n → n ≤ longest → length rest < n → IsFaulty p bytes Truncated
+  no_request : (text rest : List ℕ) → bytes ≡ frame text ++ rest → 1 ≤ length text → length text ≤ longest → IsNoneOf p text → IsFaulty p bytes Malformed
 
 -- `IsPart` holds if the bytes end inside the length field or inside the text of a frame.
 pub data IsPart (bytes : List ℕ) : Type 0 where
@@ -206,7 +238,7 @@ pub record IsBegun (bytes : List ℕ) : Type 0 where
   pub short : length_is ≤ longest
   pub within : length rest ≤ length_is
 
-abbrev pub IsFront : List ℕ → Front → Type 0
-IsFront bytes AtEnd = bytes ≡ []
-IsFront bytes (Whole r rest) = IsRead bytes r rest
-IsFront bytes (Faulty f) = IsFaulty bytes f
+abbrev pub IsFront : Protocol → List ℕ → Front → Type 0
+IsFront p bytes AtEnd = bytes ≡ []
+IsFront p bytes (Whole r rest) = IsRead p bytes r rest
+IsFront p bytes (Faulty f) = IsFaulty p bytes f

@@ -9,8 +9,9 @@ use Rattle.wire.specs.Requests.{Request, Invoke}
 use Rattle.wire.specs.declared.request.Invocation.{Invocation}
 use Rattle.wire.specs.declared.fault.WireFault.{WireFault}
 use Rattle.wire.specs.declared.fault.WireFault.TheVariants as fault
+use Rattle.wire.specs.declared.protocol.Protocol.{Protocol}
 use Rattle.wire.specs.Counting.{Counting, HasRisen, StaysCounted}
-use Rattle.wire.specs.Frames.{IsText, IsNoRequest, IsRead, IsFaulty, IsPart, IsBegun, TooLong, Truncated, Malformed, Front, AtEnd, Whole, Faulty}
+use Rattle.wire.specs.Frames.{Knows, IsText, IsNoRequest, IsRead, IsFaulty, IsPart, IsBegun, TooLong, Truncated, Malformed, Front, AtEnd, Whole, Faulty}
 
 abbrev pub wire_fault_number : WireFault → ℕ
 wire_fault_number fault.TooLong = 1
@@ -52,9 +53,9 @@ abbrev pub IsPassed : ℕ → Option (List ℕ) → List ℕ → WireFault → T
 IsPassed n left bytes fault.Malformed = length bytes ≡ n
 IsPassed n left bytes e = IsCut n left bytes e
 
--- `BeginsNoInvocation` holds if the bytes begin with no frame of an `Invoke`.
+-- `BeginsNoInvocation` holds if the bytes begin with no frame of an `Invoke`, in any protocol.
 abbrev pub BeginsNoInvocation : List ℕ → Type 0
-BeginsNoInvocation bytes = (class : ℕ) (key : ℤ) (args : List Arg) (rest : List ℕ) → IsRead bytes (Invoke class key args) rest → ⊥
+BeginsNoInvocation bytes = (p : Protocol) (class : ℕ) (key : ℤ) (args : List Arg) (rest : List ℕ) → IsRead p bytes (Invoke class key args) rest → ⊥
 
 -- `InvocationIs` holds if the result is the `Invoke` of the text, with these arguments, or none if the text has none.
 abbrev pub InvocationIs : List ℕ → List Arg → Option Invocation → Type 0
@@ -83,15 +84,22 @@ abbrev pub HeadGives : Option (List ℕ) → (List ℕ → Type 0) → Option �
 HeadGives left Gave (Some n) = Gave (big_bytes 4 n) × (n < 2 ^ 32)
 HeadGives left Gave None = Gave [] × IsAtEnd left
 
--- `ReadGives` holds if the result is that of a read of one frame that consumed `bytes`.
-abbrev pub ReadGives : Option (List ℕ) → List ℕ → Result (Option Request) WireFault → Type 0
-ReadGives left bytes (Ok (Some r)) = IsRead bytes r []
-ReadGives left bytes (Ok None) = (bytes ≡ []) × IsAtEnd left
-ReadGives left bytes (Err fault.TooLong) = IsFaulty bytes TooLong
-ReadGives left bytes (Err fault.Truncated) = IsFaulty bytes Truncated × IsAtEnd left
-ReadGives left bytes (Err fault.Malformed) = IsFaulty bytes Malformed
-ReadGives left bytes (Err fault.Read) = IsPart bytes
-ReadGives left bytes (Err fault.NoMemory) = IsBegun bytes
+-- `ReadGives` holds if the result is that of a read of one frame of this protocol that consumed `bytes`.
+abbrev pub ReadGives : Protocol → Option (List ℕ) → List ℕ → Result (Option Request) WireFault → Type 0
+ReadGives p left bytes (Ok (Some r)) = IsRead p bytes r []
+ReadGives p left bytes (Ok None) = (bytes ≡ []) × IsAtEnd left
+ReadGives p left bytes (Err fault.TooLong) = IsFaulty p bytes TooLong
+ReadGives p left bytes (Err fault.Truncated) = IsFaulty p bytes Truncated × IsAtEnd left
+ReadGives p left bytes (Err fault.Malformed) = IsFaulty p bytes Malformed
+ReadGives p left bytes (Err fault.Read) = IsPart bytes
+ReadGives p left bytes (Err fault.NoMemory) = IsBegun bytes
+
+-- `Admits` holds if the result is the request that was read, or `Malformed` if the protocol doesn't have it.
+abbrev pub Admits : Protocol → Request → Result (Option Request) WireFault → Type 0
+Admits p r (Ok (Some q)) = (q ≡ r) × Knows p r
+Admits p r (Ok None) = ⊥
+Admits p r (Err fault.Malformed) = Knows p r → ⊥
+Admits p r (Err _) = ⊥
 
 abbrev pub found : Result Request WireFault → Result (Option Request) WireFault
 found (Ok r) = Ok (Some r)

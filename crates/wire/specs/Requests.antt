@@ -15,6 +15,8 @@ pub data Request : Type 0 where
   Invoke : (class : ℕ) → (key : ℤ) → (args : List Arg) → Request
   InvokeAll : (class : ℕ) → (keys : List ℤ) → (args : List Arg) → Request
   RoundEnd : Request
+  Version : Request
+  Forget : (class : ℕ) → Request
 
 -- The request that the code returns, with the arguments from the separate buffer.
 abbrev pub with_args : List Arg → Head → Request
@@ -26,6 +28,8 @@ with_args args (head.Contains key) = Contains key
 with_args args (head.Invoke class key) = Invoke class key args
 with_args args (head.InvokeAll class keys) = InvokeAll class keys args
 with_args args head.RoundEnd = RoundEnd
+with_args args head.Version = Version
+with_args args (head.Forget class) = Forget class
 
 -- The result of a parse, with the arguments that it stored in the separate buffer.
 abbrev pub asked : List Arg → Result Head WireFault → Result Request WireFault

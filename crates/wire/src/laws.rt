@@ -2,8 +2,9 @@
 
 ghost use Rattle.std.specs.Prelude.{◌≡◌, ℕ, List};
 ghost use Rattle.wire.specs.Frames.{Front, IsFront};
+ghost use Rattle.wire.specs.declared.protocol.Protocol.{Protocol};
 
-/// Law: a byte sequence has at most one front, which is the end, a whole frame or a fault.
+/// Law: in each protocol a byte sequence has at most one front, which is the end, a whole frame or a fault.
 pub fn one_front()
-    ensures once { (bytes : List ℕ) (f g : Front) → IsFront bytes f → IsFront bytes g → f ≡ g }
+    ensures once { (p : Protocol) (bytes : List ℕ) (f g : Front) → IsFront p bytes f → IsFront p bytes g → f ≡ g }
 {}

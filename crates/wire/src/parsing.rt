@@ -7,7 +7,7 @@ ghost use Rattle.jtypes.specs.declared.types.Arg.{Arg};
 ghost use Rattle.wire.specs.Frames.{AreBytes, IsText};
 ghost use Rattle.wire.specs.Requests.{Invoke, with_args, asked};
 ghost use Rattle.wire.specs.Reading.{Parses, IsFaultOf, InvocationIs};
-ghost use Rattle.wire.specs.Bodies.{long, int, arg_of, argument, arguments, put, invoke, small, keys_and_arguments, alone};
+ghost use Rattle.wire.specs.Bodies.{long, int, arg_of, argument, arguments, put, invoke, forget, small, keys_and_arguments, alone};
 
 use crate::{Invocation, Request, WireFault};
 use byteorder::{BigEndian, ByteOrder};
@@ -103,6 +103,14 @@ fn read_invoke(cursor: &mut Cursor<'_>, args: &mut Vec<Arg>) -> Result<Request, 
     Ok(Request::Invoke { class, key })
 }
 
+#[tactic(auto, unfolding(crate::specs::Bodies::forget))]
+fn read_forget(cursor: &mut Cursor<'_>) -> Result<Request, Refusal>
+    ensures { (args : List Arg) → Takes (with_args args) result (first forget cursor.old) cursor.new }
+{
+    let class = cursor.u32()?;
+    Ok(Request::Forget { class })
+}
+
 #[tactic(auto, unfolding(crate::specs::Bodies::small))]
 fn read_small(kind: u8, cursor: &mut Cursor<'_>, args: &mut Vec<Arg>) -> Result<Request, Refusal>
     ensures { Takes (with_args args.new.items) result (first (small kind) cursor.old) cursor.new }
@@ -120,6 +128,8 @@ fn read_small(kind: u8, cursor: &mut Cursor<'_>, args: &mut Vec<Arg>) -> Result<
         }),
         6 => read_invoke(cursor, args),
         8 => Ok(Request::RoundEnd),
+        9 => Ok(Request::Version),
+        10 => read_forget(cursor),
         _ => Err(Refusal::BadOperand),
     }
 }

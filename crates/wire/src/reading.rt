@@ -4,15 +4,17 @@ ghost use Rattle.std.specs.Prelude.{◌≡◌, ◌<◌, ◌≤◌, ◌^◌, ◌+
 ghost use Rattle.std.specs.Io.KnownBytes.{IsAtEnd};
 ghost use Rattle.byteorder.specs.Endian.{big_bytes};
 ghost use Rattle.jtypes.specs.declared.types.Arg.{Arg};
+ghost use Rattle.wire.specs.declared.protocol.Protocol.{Protocol};
+ghost use Rattle.wire.specs.declared.protocol.Protocol.TheVariants.{Two};
 ghost use Rattle.wire.specs.Frames.{Front, IsFront, IsRead};
-ghost use Rattle.wire.specs.Requests.{Invoke, asked, next_asked};
+ghost use Rattle.wire.specs.Requests.{Invoke, with_args, asked, next_asked};
 ghost use Rattle.wire.specs.Counting.{StaysCounted};
-ghost use Rattle.wire.specs.Reading.{Took, TookSome, FaultCounts, ReadCounts, IsCut, IsCutOrLacks, IsPassed, Completes, HeadGives, ReadGives, Tells, BeginsNoInvocation, found};
+ghost use Rattle.wire.specs.Reading.{Took, TookSome, FaultCounts, ReadCounts, IsCut, IsCutOrLacks, IsPassed, Completes, HeadGives, ReadGives, Admits, Tells, BeginsNoInvocation, found};
 
 use crate::parsing::{
     are_bytes, class_and_count, invocation_of, keys_request, may_hold, request_of,
 };
-use crate::{Ahead, Counted, Invocation, Request, WireFault};
+use crate::{Ahead, Counted, Invocation, Protocol, Request, WireFault};
 use byteorder::{BigEndian, ByteOrder};
 use jtypes::{Arg, Items};
 use std::alloc::{AllocError, Global};
@@ -234,7 +236,7 @@ fn length_in(bytes: &[u8]) -> Option<u32>
 // Reads the length field of the next frame. Returns none at the end of the input.
 fn read_length<R: Ahead>(reader: &mut Counted<R>) -> Result<Option<u32>, WireFault>
     ensures ok { IfOk result (λ o. HeadGives (R.remaining reader.new.inner) (Took R.remaining reader.old reader.new) o) }
-    ensures err { IfErr result (λ e. TookSome R.remaining reader.old reader.new (λ left bytes. ReadGives left bytes (Err e))) }
+    ensures err { IfErr result (λ e. TookSome R.remaining reader.old reader.new (λ left bytes. ReadGives Two left bytes (Err e))) }
     ensures counted { ReadCounts result reader.old reader.new }
 {
     if let Some(length) = length_in(reader.at_hand()) {
@@ -272,7 +274,7 @@ pub fn invocation_at_hand<R: Ahead>(
     reader: &mut Counted<R>,
     args: &mut Vec<Arg>,
 ) -> Result<Option<Invocation>, AllocError>
-    ensures some { IfOk result (λ o. IfSome o (λ i. TookSome R.remaining reader.old reader.new (λ _ bytes. IsRead bytes (Invoke i.class i.key args.new.items) []))) }
+    ensures some { IfOk result (λ o. IfSome o (λ i. TookSome R.remaining reader.old reader.new (λ _ bytes. (p : Protocol) → IsRead p bytes (Invoke i.class i.key args.new.items) []))) }
     ensures none { IfOk result (λ o. IfNone o ((reader.new ≡ reader.old) × BeginsNoInvocation (R.ahead reader.old.inner))) }
     ensures err { OnErr result (reader.new ≡ reader.old) }
     ensures counted { StaysCounted reader.old reader.new }
@@ -288,14 +290,14 @@ pub fn invocation_at_hand<R: Ahead>(
     Ok(Some(invocation))
 }
 
-// Reads the text of a frame with this length field.
+// Reads the text of a frame with this length field, of a request of any protocol.
 fn read_frame<R: Ahead>(
     alloc: Global,
     reader: &mut Counted<R>,
     length: u32,
     args: &mut Vec<Arg>,
 ) -> Result<Request, WireFault>
-    ensures bytes { TookSome R.remaining reader.old reader.new (λ left bytes. ReadGives left (big_bytes 4 length ++ bytes) (found (asked args.new.items result))) }
+    ensures bytes { TookSome R.remaining reader.old reader.new (λ left bytes. ReadGives Two left (big_bytes 4 length ++ bytes) (found (asked args.new.items result))) }
     ensures counted { ReadCounts result reader.old reader.new }
 {
     if length == 0 {
@@ -312,22 +314,34 @@ fn read_frame<R: Ahead>(
     }
 }
 
-/// Reads one frame and returns its request, or none at the end of the input.
+// Returns the request, or `Malformed` if the protocol doesn't have it.
+fn known(protocol: Protocol, request: Request) -> Result<Option<Request>, WireFault>
+    ensures { (args : List Arg) → Admits protocol (with_args args request) (next_asked args result) }
+{
+    if protocol.knows(&request) {
+        Ok(Some(request))
+    } else {
+        Err(WireFault::Malformed)
+    }
+}
+
+/// Reads one frame and returns its request, or none at the end of the input. A request that the protocol doesn't have is `Malformed`.
 /// The arguments of an invocation replace the contents of `args`.
 /// A read that returns an error is not retried, whatever the error.
 pub fn read_request<R: Ahead>(
     alloc: Global,
+    protocol: Protocol,
     reader: &mut Counted<R>,
     args: &mut Vec<Arg>,
 ) -> Result<Option<Request>, WireFault>
-    ensures bytes { TookSome R.remaining reader.old reader.new (λ left bytes. ReadGives left bytes (next_asked args.new.items result)) }
-    ensures exact { IfSome (R.remaining reader.old.inner) (λ input. (f : Front) → IsFront input f → Tells f (next_asked args.new.items result)) }
+    ensures bytes { TookSome R.remaining reader.old reader.new (λ left bytes. ReadGives protocol left bytes (next_asked args.new.items result)) }
+    ensures exact { IfSome (R.remaining reader.old.inner) (λ input. (f : Front) → IsFront protocol input f → Tells f (next_asked args.new.items result)) }
     ensures counted { ReadCounts result reader.old reader.new }
 {
     match read_length(reader) {
         Ok(None) => Ok(None),
         Ok(Some(length)) => match read_frame(alloc, reader, length, args) {
-            Ok(request) => Ok(Some(request)),
+            Ok(request) => known(protocol, request),
             Err(e) => Err(e),
         },
         Err(e) => Err(e),

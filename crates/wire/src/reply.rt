@@ -57,4 +57,6 @@ pub enum Reply {
     Results(Items<(i64, JobOutcome)>),
     Denied(Denial),
     RoundEnd,
+    /// The number of the protocol.
+    Version(u32),
 }

@@ -3,7 +3,7 @@
 ghost use Rattle.std.specs.Prelude.{◌≡◌, ◌+◌, ◌≤◌, [], ◌∷◌, ◌++◌, length};
 ghost use Rattle.byteorder.specs.Endian.{big_bytes};
 ghost use Rattle.wire.specs.Frames.{long_text, arg_text, fault_text, outcome_text, job_text, reply_text};
-ghost use Rattle.wire.specs.declared.reply.Reply.TheVariants.{Defined, Refused, Value, Result};
+ghost use Rattle.wire.specs.declared.reply.Reply.TheVariants.{Defined, Refused, Value, Result, Version};
 ghost use Rattle.std.specs.Prelude.{Some};
 
 use crate::JobOutcome;
@@ -47,6 +47,15 @@ pub fn refused_text(refusal: Refusal) -> Text
     text.byte(2);
     text.byte(refusal.number());
     text.u32(refusal.detail());
+    text
+}
+
+pub fn version_text(protocol: u32) -> Text
+    ensures { result ≡ reply_text (Version protocol) }
+{
+    let mut text = Text::new();
+    text.byte(10);
+    text.u32(protocol);
     text
 }
 

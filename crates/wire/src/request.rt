@@ -24,4 +24,8 @@ pub enum Request {
     InvokeAll { class: u32, keys: Items<i64> },
     /// Ends a round: the requests since the previous `RoundEnd`.
     RoundEnd,
+    /// Asks for the number of the protocol. Of protocol 2, as are the kinds after it.
+    Version,
+    /// Forgets the class with this number. The number is not given to another class.
+    Forget { class: u32 },
 }

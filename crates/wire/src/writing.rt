@@ -9,6 +9,7 @@ ghost use Rattle.jtypes.specs.declared.types.Arg.TheVariants.{Long};
 
 use crate::reply_texts::{
     byte_text, defined_text, job_text, kind_text, refused_text, result_text, value_text,
+    version_text,
 };
 use crate::text::Text;
 use crate::{Counted, JobOutcome, Reply};
@@ -57,6 +58,7 @@ pub fn write_reply<W: Write>(writer: &mut Counted<W>, reply: &Reply) -> Result<(
         Reply::Results(jobs) => write_results(writer, jobs.as_slice()),
         Reply::Denied(denial) => write_text(writer, byte_text(8, denial.number())),
         Reply::RoundEnd => write_text(writer, kind_text(9)),
+        Reply::Version(protocol) => write_text(writer, version_text(*protocol)),
     }
 }
 

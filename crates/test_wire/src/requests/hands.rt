@@ -5,7 +5,9 @@ use jtypes::Arg;
 use std::alloc::{AllocError, Global};
 use std::io::BufReader;
 use std::test::Fail;
-use wire::{Ahead, Counted, Invocation, Plain, WireFault, invocation_at_hand, read_request};
+use wire::{
+    Ahead, Counted, Invocation, Plain, Protocol, WireFault, invocation_at_hand, read_request,
+};
 
 /// The requests and the arguments that are read from a stream.
 #[derive(Drop)]
@@ -23,7 +25,7 @@ fn hear<R: Ahead + Drop>(alloc: Global, reader: R) -> Result<Heard, AllocError> 
     };
     let mut args = Vec::new(alloc);
     for _ in 0..4 {
-        let told = front_of(&read_request(alloc, &mut reader, &mut args));
+        let told = front_of(&read_request(alloc, Protocol::One, &mut reader, &mut args));
         heard.told.push(told)?;
         if matches!(told, Told::End | Told::Fault(_)) {
             return Ok(heard);
@@ -73,7 +75,7 @@ fn taken<R: Ahead + Drop>(alloc: Global, reader: R) -> (Taken, Told) {
     };
     (
         invocation,
-        front_of(&read_request(alloc, &mut reader, &mut args)),
+        front_of(&read_request(alloc, Protocol::One, &mut reader, &mut args)),
     )
 }
 

@@ -4,7 +4,7 @@ use super::PUT;
 use std::alloc::Global;
 use std::io;
 use std::io::Read;
-use wire::{Counted, Plain, Request, WireFault, read_request};
+use wire::{Counted, Plain, Protocol, Request, WireFault, read_request};
 
 /// A reader that returns one byte a call, and then fails with `error`.
 #[derive(Drop)]
@@ -30,7 +30,7 @@ impl<'a> Read for Drops<'a> {
 fn read_from(alloc: Global, rest: &[u8], error: io::ErrorKind) -> (Result<bool, WireFault>, u64) {
     let inner = Drops { rest, error };
     let mut reader = Counted::new(Plain { inner });
-    let told = match read_request(alloc, &mut reader, &mut Vec::new(alloc)) {
+    let told = match read_request(alloc, Protocol::One, &mut reader, &mut Vec::new(alloc)) {
         Ok(Some(Request::Put { key, value })) => Ok(key == 5 && value == 1),
         Ok(_) => Ok(false),
         Err(fault) => Err(fault),

@@ -21,7 +21,7 @@ returns-clause-some g c =
     let text : IsText (take n (drop 4 hand)) r = subst (λ (m : ℕ). IsText (take m (drop 4 hand)) r) same is in (
       take (4 + n) hand,
       subst (λ (l : List ℕ). Took g.R.Read.remaining c.args.reader.now c.pass.new.self (take (4 + n) l)) (sym c.at_hand-hand.ensures) c.pass.ensures.bytes,
-      frame_at_front n hand r h.0 h.3 (omega (arith, h.2)) text,
+      λ p. frame_at_front p n hand r tt h.0 h.3 (omega (arith, h.2)) text,
     )
 
 pub returns-in_default-clause-none : goal.returns-in_default-clause-none
@@ -35,7 +35,7 @@ returns-in_default-2-clause-none g c =
     let args : List Arg = c.invocation_of.new.args.items in
     let same : 4 + n - 4 ≡ n = omega arith in
     let none = subst (λ (o : Option Invocation). InvocationIs (take (4 + n - 4) (drop 4 hand)) args o) c.in_default-2.is c.in_ok-invocation.ensures in
-    let begins : BeginsNoInvocation hand = λ class key others rest read.
+    let begins : BeginsNoInvocation hand = λ p class key others rest read.
     let text = text_of_frame hand n (Invoke class key others) rest h.0 (omega (arith, h.2)) read in
     none class key others (subst (λ (m : ℕ). IsText (take m (drop 4 hand)) (Invoke class key others)) (sym same) text) in
     (refl, subst BeginsNoInvocation c.at_hand-hand.ensures begins)
