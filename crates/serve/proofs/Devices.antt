@@ -3,6 +3,7 @@ use Rattle.std.proofs.Common.{◌≡◌, ℕ, List, Option, Err, ◌∙◌, subs
 use Rattle.std.specs.Io.KnownBytes.{IsAtEnd}
 use Rattle.wire.specs.declared.fault.WireFault.{WireFault}
 use Rattle.wire.specs.declared.fault.WireFault.TheVariants as wire
+use Rattle.wire.specs.declared.protocol.Protocol.{Protocol}
 use Rattle.wire.specs.Counting.{Counting, HasRisen, StaysCounted, HasFailed}
 use Rattle.wire.specs.Reading.{FaultCounts, ReadGives}
 use Rattle.serve.specs.declared.fault.ServeFault.{ServeFault}
@@ -47,9 +48,9 @@ write_fails_later fault.Write a b c h k = failed_later a b c h k
 write_fails_later fault.BadCount a b c h k = stays_on a b c h k
 
 -- If a frame is `Truncated`, the input is at its end.
-pub ends : (e : WireFault) (left : Option (List ℕ)) (bytes : List ℕ) → ReadGives left bytes (Err e) → fault_of_wire e ≡ fault.Truncated → IsAtEnd left
-ends wire.TooLong left bytes gives is = absurd cc
-ends wire.Truncated left bytes gives is = gives.1
-ends wire.Malformed left bytes gives is = absurd cc
-ends wire.Read left bytes gives is = absurd cc
-ends wire.NoMemory left bytes gives is = absurd cc
+pub ends : (p : Protocol) (e : WireFault) (left : Option (List ℕ)) (bytes : List ℕ) → ReadGives p left bytes (Err e) → fault_of_wire e ≡ fault.Truncated → IsAtEnd left
+ends p wire.TooLong left bytes gives is = absurd cc
+ends p wire.Truncated left bytes gives is = gives.1
+ends p wire.Malformed left bytes gives is = absurd cc
+ends p wire.Read left bytes gives is = absurd cc
+ends p wire.NoMemory left bytes gives is = absurd cc

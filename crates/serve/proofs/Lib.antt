@@ -8,3 +8,5 @@ mod Fronts
 mod Made
 mod Onward
 mod Told
+mod Numbered
+mod First

@@ -15,7 +15,7 @@ use Rattle.verdict.specs.Verdict.{IsRefused, IsAccepted, IsClassOf}
 use Rattle.stripe.specs.History.{Call}
 use Rattle.stripe.specs.History as call
 use Rattle.jtypes.specs.declared.types.Arg.{Arg}
-use Rattle.wire.specs.Requests.{Request, Define, Put, Get, Remove, Contains, Invoke, InvokeAll, RoundEnd}
+use Rattle.wire.specs.Requests.{Request, Define, Put, Get, Remove, Contains, Invoke, InvokeAll, RoundEnd, Version, Forget}
 use Rattle.wire.specs.Frames.{IsInRange}
 use Rattle.wire.specs.declared.reply.Reply.TheVariants as reply
 use Rattle.wire.specs.declared.reply.Denial.TheVariants.{UnknownClass, TooManyJobs}
@@ -23,7 +23,8 @@ use Rattle.stripe.specs.declared.call.Call.{Call as CallTaken}
 use Rattle.stripe.specs.Seen.{call_of as seen_call}
 use Rattle.invokeall.specs.Jobs.{all_seen}
 use Rattle.invokeall.specs.Collected.{different, invocations}
-use Rattle.serve.specs.Rounds.{most_classes, Part, part, Job, JobForEach, Adds, Gathers, Work, most_jobs, with_room, told, of_class, one, each, defines, refuses, lacks_memory, too_many, puts, gets, removes, looks, invokes, invokes_all}
+use Rattle.serve.specs.Classes.{Classes, class_at, HasRoom}
+use Rattle.serve.specs.Rounds.{Part, part, Job, JobForEach, Adds, Gathers, Work, most_jobs, with_room, told, of_class, one, each, defines, refuses, lacks_memory, too_many, puts, gets, removes, looks, invokes, invokes_all, tells_version, forgets, forgets_none}
 use Rattle.serve.specs.Rounds as rounds
 use Rattle.serve.specs.declared.batch.Batch.{Batch}
 use Rattle.serve.specs.declared.batch.Work.{Work as Planned}
@@ -42,6 +43,8 @@ few_of (Contains key) h = tt
 few_of (Invoke class key args) h = h.2.few
 few_of (InvokeAll class keys args) h = h.3.few
 few_of RoundEnd h = tt
+few_of Version h = tt
+few_of (Forget class) h = tt
 
 -- ---- the number of jobs of a round is at most the maximum
 
@@ -62,20 +65,23 @@ of_class_fits : (at : ℕ) (o : Option Class) (f : Class → Part) → ((c : Cla
 of_class_fits at None f g h = told_fits at h
 of_class_fits at (Some c) f g h = g c
 
-adds_fit : {classes later : List Class} {at : ℕ} {r : Request} {p : Part} → Adds classes at r p later → at ≤ most_jobs → at + length p.calls ≤ most_jobs
+adds_fit : {classes later : Classes} {at : ℕ} {r : Request} {p : Part} → Adds classes at r p later → at ≤ most_jobs → at + length p.calls ≤ most_jobs
 adds_fit {at = at} (defines bytes c r few is) h = told_fits at h
 adds_fit {at = at} (refuses bytes r few is) h = told_fits at h
 adds_fit {at = at} (lacks_memory bytes few) h = told_fits at h
 adds_fit {at = at} (too_many bytes many) h = told_fits at h
+adds_fit {at = at} tells_version h = told_fits at h
+adds_fit {at = at} (forgets n c is) h = told_fits at h
+adds_fit {at = at} (forgets_none n is) h = told_fits at h
 adds_fit {at = at} (puts key value) h = one_fits at (call.Put key value) h
 adds_fit {at = at} (gets key) h = one_fits at (call.Get key) h
 adds_fit {at = at} (removes key) h = one_fits at (call.Remove key) h
 adds_fit {at = at} (looks key) h = one_fits at (call.Contains key) h
-adds_fit {classes} {at = at} (invokes n key args) h = of_class_fits at (slice_get classes n) (λ c. one at (call.Invoke c key args)) (λ c. one_fits at (call.Invoke c key args) h) h
+adds_fit {classes} {at = at} (invokes n key args) h = of_class_fits at (class_at classes n) (λ c. one at (call.Invoke c key args)) (λ c. one_fits at (call.Invoke c key args) h) h
 adds_fit {classes} {at = at} (invokes_all n keys args) h =
-    of_class_fits at (slice_get classes n) (λ c. each at (different keys) args c) (λ c. with_room_fits at (part (JobForEach at (different keys)) (invocations c args (different keys))) h) h
+    of_class_fits at (class_at classes n) (λ c. each at (different keys) args c) (λ c. with_room_fits at (part (JobForEach at (different keys)) (invocations c args (different keys))) h) h
 
-pub few_jobs : {first later : List Class} {requests : List Request} {works : List Work} {calls : List Call} → Gathers first requests works calls later → length calls ≤ most_jobs
+pub few_jobs : {first later : Classes} {requests : List Request} {works : List Work} {calls : List Call} → Gathers first requests works calls later → length calls ≤ most_jobs
 few_jobs rounds.none = omega arith
 few_jobs (rounds.more requests works calls now later r p g a) = let fits = adds_fit a (few_jobs g) in omega (arith, fits, length-append calls p.calls)
 
@@ -118,12 +124,12 @@ grown (Err x) new w old middle e h = tt
 pub one_more_call : (old new : List CallTaken) (c : CallTaken) → new ≡ old ++ c ∷ [] → all_seen new ≡ all_seen old ++ seen_call c ∷ []
 one_more_call old new c is = ap all_seen is ∙ map-append seen_call old (c ∷ [])
 
-pub adds_jobs : {E : Type 0} (res : Result (Unit {0}) E) (classes : List Class) (old new : Batch) (r s : Request) (p : Part) → r ≡ s → OnOk res (Grows old new p)
+pub adds_jobs : {E : Type 0} (res : Result (Unit {0}) E) (classes : Classes) (old new : Batch) (r s : Request) (p : Part) → r ≡ s → OnOk res (Grows old new p)
     → Adds classes (length (calls_of old)) s p classes → OnOk res (Adding classes old r new classes)
 adds_jobs (Ok x) classes old new r s p e g a = subst (λ (z : Request). Adding classes old z new classes) (sym e) (record { part = p; adds = a; grows = g })
 adds_jobs (Err x) classes old new r s p e g a = tt
 
-pub adds_told : {E : Type 0} (res : Result (Unit {0}) E) (classes later : List Class) (old new : Batch) (r s : Request) (w : Planned) → r ≡ s → OnOk res (new.works.items ≡ old.works.items ++ w ∷ [])
+pub adds_told : {E : Type 0} (res : Result (Unit {0}) E) (classes later : Classes) (old new : Batch) (r s : Request) (w : Planned) → r ≡ s → OnOk res (new.works.items ≡ old.works.items ++ w ∷ [])
     → new.calls ≡ old.calls → Adds classes (length (calls_of old)) s (part (work_of w) []) later → OnOk res (Adding classes old r new later)
 adds_told (Ok x) classes later old new r s w e works calls a =
     subst (λ (z : Request). Adding classes old z new later) (sym e) (record { part = part (work_of w) []; adds = a; grows = one_more_told old new w works calls })
@@ -151,16 +157,16 @@ there [] n h = absurd (omega (arith, h))
 there (x ∷ xs) zero h = (x, refl)
 there (x ∷ xs) (suc n) h = there xs n (omega (arith, h))
 
-pub invoke_known : (classes : List Class) (at n : ℕ) (key : ℤ) (args : List Arg) (x : Class) → slice_get classes n ≡ Some x → Adds classes at (Invoke n key args) (one at (call.Invoke x key args)) classes
+pub invoke_known : (classes : Classes) (at n : ℕ) (key : ℤ) (args : List Arg) (x : Class) → class_at classes n ≡ Some x → Adds classes at (Invoke n key args) (one at (call.Invoke x key args)) classes
 invoke_known classes at n key args x e = subst (λ o. Adds classes at (Invoke n key args) (of_class o (λ c. one at (call.Invoke c key args))) classes) e (invokes n key args)
 
-pub invoke_unknown : (classes : List Class) (at n : ℕ) (key : ℤ) (args : List Arg) → slice_get classes n ≡ None → Adds classes at (Invoke n key args) (told (reply.Denied UnknownClass)) classes
+pub invoke_unknown : (classes : Classes) (at n : ℕ) (key : ℤ) (args : List Arg) → class_at classes n ≡ None → Adds classes at (Invoke n key args) (told (reply.Denied UnknownClass)) classes
 invoke_unknown classes at n key args e = subst (λ o. Adds classes at (Invoke n key args) (of_class o (λ c. one at (call.Invoke c key args))) classes) e (invokes n key args)
 
-pub invoke_all_known : (classes : List Class) (at n : ℕ) (keys : List ℤ) (args : List Arg) (x : Class) → slice_get classes n ≡ Some x → Adds classes at (InvokeAll n keys args) (each at (different keys) args x) classes
+pub invoke_all_known : (classes : Classes) (at n : ℕ) (keys : List ℤ) (args : List Arg) (x : Class) → class_at classes n ≡ Some x → Adds classes at (InvokeAll n keys args) (each at (different keys) args x) classes
 invoke_all_known classes at n keys args x e = subst (λ o. Adds classes at (InvokeAll n keys args) (of_class o (λ c. each at (different keys) args c)) classes) e (invokes_all n keys args)
 
-pub invoke_all_unknown : (classes : List Class) (at n : ℕ) (keys : List ℤ) (args : List Arg) → slice_get classes n ≡ None → Adds classes at (InvokeAll n keys args) (told (reply.Denied UnknownClass)) classes
+pub invoke_all_unknown : (classes : Classes) (at n : ℕ) (keys : List ℤ) (args : List Arg) → class_at classes n ≡ None → Adds classes at (InvokeAll n keys args) (told (reply.Denied UnknownClass)) classes
 invoke_all_unknown classes at n keys args e = subst (λ o. Adds classes at (InvokeAll n keys args) (of_class o (λ c. each at (different keys) args c)) classes) e (invokes_all n keys args)
 
 -- ---- one element at a time
@@ -197,14 +203,14 @@ pushed x args old new c keys i d all h called is g =
     ap (λ l. l ++ invocations x args (drop (i + 1) keys)) (one_more_call old new c is)
     ∙ map_step (λ k. call.Invoke x k args) (all_seen old) keys i d (seen_call c) all h called g
 
-pub refused_as : (classes : List Class) (at : ℕ) (bytes : List ℕ) (r : Refusal) → length classes < most_classes → (r ≡ refusal.NoMemory) ⊎ IsRefused Third bytes r → Adds classes at (Define bytes) (told (reply.Refused r)) classes
+pub refused_as : (classes : Classes) (at : ℕ) (bytes : List ℕ) (r : Refusal) → HasRoom classes → (r ≡ refusal.NoMemory) ⊎ IsRefused Third bytes r → Adds classes at (Define bytes) (told (reply.Refused r)) classes
 refused_as classes at bytes r few (inl e) = subst (λ x. Adds classes at (Define bytes) (told (reply.Refused x)) classes) (sym e) (lacks_memory bytes few)
 refused_as classes at bytes r few (inr is) = refuses bytes r few is
 
 -- A class is defined with the number and the list of classes that the code has.
-pub defined_as : (classes later : List Class) (at n : ℕ) (bytes : List ℕ) (c : Class) (b : Bounds) → length classes < most_classes → n ≡ length classes → later ≡ classes ++ c ∷ [] → IsAccepted Third bytes → IsClassOf Third bytes c
+pub defined_as : (classes later : Classes) (at n : ℕ) (bytes : List ℕ) (c : Class) (b : Bounds) → HasRoom classes → n ≡ length classes → later ≡ classes ++ Some c ∷ [] → IsAccepted Third bytes → IsClassOf Third bytes c
     → ((j : ℕ) → IsProcessOf c j → AreBounds c j b) → Adds classes at (Define bytes) (told (reply.Defined n b.steps b.words)) later
 defined_as classes later at n bytes c b few count items accepted class bounds =
-    subst (λ (l : List Class). Adds classes at (Define bytes) (told (reply.Defined n b.steps b.words)) l) (sym items)
-    (subst (λ (m : ℕ). Adds classes at (Define bytes) (told (reply.Defined m b.steps b.words)) (classes ++ c ∷ [])) (sym count)
+    subst (λ (l : Classes). Adds classes at (Define bytes) (told (reply.Defined n b.steps b.words)) l) (sym items)
+    (subst (λ (m : ℕ). Adds classes at (Define bytes) (told (reply.Defined m b.steps b.words)) (classes ++ Some c ∷ [])) (sym count)
     (defines bytes c (reply.Defined (length classes) b.steps b.words) few (record { accepted = accepted; class = class; bounds = b; bounds_are = bounds; reply = refl })))

@@ -5,11 +5,12 @@ use Rattle.std.specs.List.{AllByRecursion}
 use Rattle.std.specs.Io.KnownBytes.{Consumes}
 use Rattle.std.proofs.KnownBytes.{Consumes-trans}
 use Rattle.jtypes.specs.declared.loader.LoadAnswer.{LoadAnswer}
-use Rattle.typecheck.specs.Typing.{Class}
+use Rattle.serve.specs.Classes.{Classes}
 use Rattle.stripe.specs.History.{Call, Entries}
 use Rattle.stripe.specs.declared.call.Call.{Call as CallTaken}
 use Rattle.invokeall.specs.Jobs.{all_seen}
 use Rattle.wire.specs.Requests.{Request, RoundEnd}
+use Rattle.wire.specs.declared.protocol.Protocol.{Protocol}
 use Rattle.wire.specs.declared.reply.Reply.{Reply}
 use Rattle.wire.specs.declared.reply.Reply.TheVariants as reply
 use Rattle.wire.specs.declared.fault.WireFault.{WireFault}
@@ -33,9 +34,9 @@ pub each_append : {A : Type 0} (P : A → Type 0) (xs ys : List A) → AllByRecu
 each_append P [] ys h g = g
 each_append P (x ∷ xs) ys h g = (h.0, each_append P xs ys h.1 g)
 
-pub open_requests : (xs : List Request) → AreOpen xs → AllByRecursion IsRequest xs
-open_requests [] h = tt
-open_requests (x ∷ xs) h = (h.0.0, open_requests xs h.1)
+pub open_requests : (p : Protocol) (xs : List Request) → AreOpen p xs → AllByRecursion (IsRequest p) xs
+open_requests p [] h = tt
+open_requests p (x ∷ xs) h = (h.0.0, open_requests p xs h.1)
 
 pub texts_append : {A : Type 0} (f : A → List ℕ) (xs ys : List A) → texts f (xs ++ ys) ≡ texts f xs ++ texts f ys
 texts_append f [] ys = refl
@@ -46,25 +47,25 @@ texts_more f xs x = texts_append f xs (x ∷ []) ∙ ap (λ l. texts f xs ++ l) 
 
 -- ---- one more request
 
-pub took_more : (a b c : Option (List ℕ)) (xs : List Request) (r : Request) (bytes : List ℕ) → Consumes a b (requests_text xs) → Consumes b c bytes → IsRead bytes r []
+pub took_more : {p : Protocol} (a b c : Option (List ℕ)) (xs : List Request) (r : Request) (bytes : List ℕ) → Consumes a b (requests_text xs) → Consumes b c bytes → IsRead p bytes r []
     → Consumes a c (requests_text (xs ++ r ∷ []))
 took_more a b c xs r bytes h g e =
     subst (λ l. Consumes a c l) (ap (λ l. requests_text xs ++ l) (e.parts ∙ append-nil (request_frame r)) ∙ sym (texts_more request_frame xs r)) (Consumes-trans a b c (requests_text xs) bytes h g)
 
-pub as_many : {first later : List Class} {requests : List Request} {works : List Work} {calls : List Call} → Gathers first requests works calls later → length works ≡ length requests
+pub as_many : {first later : Classes} {requests : List Request} {works : List Work} {calls : List Call} → Gathers first requests works calls later → length works ≡ length requests
 as_many rounds.none = refl
 as_many (rounds.more requests works calls now later r p g a) = length-append works (p.work ∷ []) ∙ ap (λ n. n + 1) (as_many g) ∙ sym (length-append requests (r ∷ []))
 
-pub begun : (first : List Class) (works : List Planned) (calls : List CallTaken) → works ≡ [] → calls ≡ [] → Gathers first [] (map work_of works) (all_seen calls) first
+pub begun : (first : Classes) (works : List Planned) (calls : List CallTaken) → works ≡ [] → calls ≡ [] → Gathers first [] (map work_of works) (all_seen calls) first
 begun first works calls e c = subst (λ l. Gathers first [] (map work_of l) (all_seen calls) first) (sym e) (subst (λ l. Gathers first [] [] (all_seen l) first) (sym c) rounds.none)
 
-pub gathered_more : (first now later : List Class) (xs : List Request) (r : Request) (old new : Batch) → Gathers first xs (works_of old) (calls_of old) now → Adding now old r new later
+pub gathered_more : (first now later : Classes) (xs : List Request) (r : Request) (old new : Batch) → Gathers first xs (works_of old) (calls_of old) now → Adding now old r new later
     → Gathers first (xs ++ r ∷ []) (works_of new) (calls_of new) later
 gathered_more first now later xs r old new g a =
     subst (λ l. Gathers first (xs ++ r ∷ []) l (calls_of new) later) (sym a.grows.works)
     (subst (λ l. Gathers first (xs ++ r ∷ []) (works_of old ++ a.part.work ∷ []) l later) (sym a.grows.calls) (rounds.more xs (works_of old) (calls_of old) now later r a.part g a.adds))
 
-pub stops_of : (left : Option (List ℕ)) (requests : List Request) (bytes : List ℕ) (e : WireFault) → ReadGives left bytes (Err e) → Stops requests bytes (fault_of_wire e)
+pub stops_of : {p : Protocol} (left : Option (List ℕ)) (requests : List Request) (bytes : List ℕ) (e : WireFault) → ReadGives p left bytes (Err e) → Stops p requests bytes (fault_of_wire e)
 stops_of left requests bytes wire.TooLong gives = served.too_long bytes gives
 stops_of left requests bytes wire.Truncated gives = served.cut bytes gives.0
 stops_of left requests bytes wire.Malformed gives = served.malformed bytes gives
@@ -73,29 +74,29 @@ stops_of left requests bytes wire.NoMemory gives = served.frame_memory bytes giv
 
 -- ---- one more round
 
-pub end_is_request : IsRequest RoundEnd
-end_is_request = record { in_range = tt; short = omega arith }
+pub end_is_request : {p : Protocol} → IsRequest p RoundEnd
+end_is_request = record { known = tt; in_range = tt; short = omega arith }
 
-pub serves_more : (loads : Bool) (gives : ℤ → LoadAnswer → Type 0) (taken given : List ℕ) (s t : Stand) (requests : List Request) (replies : List Reply) → Serves loads gives taken given s → AreOpen requests → IsRound loads gives s requests replies t
-    → Serves loads gives (taken ++ requests_text (ended requests)) (given ++ replies_text (all_told replies)) t
-serves_more loads gives taken given s t requests replies v are r = record {
+pub serves_more : (p : Protocol) (loads : Bool) (gives : ℤ → LoadAnswer → Type 0) (taken given : List ℕ) (s t : Stand) (requests : List Request) (replies : List Reply) → Serves p loads gives taken given s → AreOpen p requests → IsRound loads gives s requests replies t
+    → Serves p loads gives (taken ++ requests_text (ended requests)) (given ++ replies_text (all_told replies)) t
+serves_more p loads gives taken given s t requests replies v are r = record {
   requests = v.requests ++ ended requests;
   replies = v.replies ++ all_told replies;
-  each = each_append IsRequest v.requests (ended requests) v.each (each_more IsRequest requests RoundEnd (open_requests requests are) end_is_request);
+  each = each_append (IsRequest p) v.requests (ended requests) v.each (each_more (IsRequest p) requests RoundEnd (open_requests p requests are) end_is_request);
   read = ap (λ l. l ++ requests_text (ended requests)) v.read ∙ sym (texts_append request_frame v.requests (ended requests));
   written = ap (λ l. l ++ replies_text (all_told replies)) v.written ∙ sym (texts_append reply_frame v.replies (all_told replies));
   answers = served.round v.requests v.replies s t requests replies v.answers r;
 }
 
 -- Nothing is served at the start.
-pub nothing_yet : (loads : Bool) (gives : ℤ → LoadAnswer → Type 0) (classes : List Class) (entries : Entries) → classes ≡ [] → ((k : lib.IntN.ℤ) → entries k ≡ None) → Serves loads gives [] [] (stand classes entries)
-nothing_yet loads gives classes entries e f =
+pub nothing_yet : (p : Protocol) (loads : Bool) (gives : ℤ → LoadAnswer → Type 0) (classes : Classes) (entries : Entries) → classes ≡ [] → ((k : lib.IntN.ℤ) → entries k ≡ None) → Serves p loads gives [] [] (stand classes entries)
+nothing_yet p loads gives classes entries e f =
     let same : first_stand ≡ stand classes entries = λ i. stand (sym e i) (λ k. sym (f k) i) in
     record { requests = []; replies = []; each = tt; read = refl; written = refl; answers = subst (λ (s : Stand). Answers loads gives [] [] s) same served.Answers.none }
 
 -- A stream that reads and writes nothing is cut short by `NoMemory`.
-pub nothing_served : (loads : Bool) (gives : ℤ → LoadAnswer → Type 0) → IsCutShort loads gives [] [] Rattle.serve.specs.declared.fault.ServeFault.TheVariants.NoMemory
-nothing_served loads gives = record {
+pub nothing_served : (p : Protocol) (loads : Bool) (gives : ℤ → LoadAnswer → Type 0) → IsCutShort p loads gives [] [] Rattle.serve.specs.declared.fault.ServeFault.TheVariants.NoMemory
+nothing_served p loads gives = record {
   front = [];
   back = [];
   input_is = refl;
@@ -103,12 +104,12 @@ nothing_served loads gives = record {
   part = [];
   output_is = refl;
   left = first_stand;
-  serves = nothing_yet loads gives [] (λ k. None) refl (λ k. refl);
+  serves = nothing_yet p loads gives [] (λ k. None) refl (λ k. refl);
   fails = served.unread [] [] Rattle.serve.specs.declared.fault.ServeFault.TheVariants.NoMemory tt refl refl served.memory;
 }
 
 -- A round that was read and run is a round of the definitions.
-pub round_of : {loads : Bool} {gives : ℤ → LoadAnswer → Type 0} {old new : Option (List ℕ)} {first later : List Class} {plan : Batch} (w : IsWhole old new first plan later) (before after : Entries) (text : List ℕ) (run : IsRun loads gives before (calls_of plan) (works_of plan) after text)
+pub round_of : {p : Protocol} {loads : Bool} {gives : ℤ → LoadAnswer → Type 0} {old new : Option (List ℕ)} {first later : Classes} {plan : Batch} (w : IsWhole p old new first plan later) (before after : Entries) (text : List ℕ) (run : IsRun loads gives before (calls_of plan) (works_of plan) after text)
     → IsRound loads gives (stand first before) w.requests (map (rounds.work_reply run.answers) (works_of plan)) (stand later after)
 round_of {plan = plan} w before after text run = record { works = works_of plan; calls = calls_of plan; answers = run.answers; gathered = w.gathered; done = run.done; told = refl }
 

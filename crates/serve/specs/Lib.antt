@@ -4,3 +4,4 @@ pub mod Settings
 pub mod Devices
 pub mod Kept
 pub mod CutShort
+pub mod Classes

@@ -1,5 +1,5 @@
 -- The work and the replies for the requests of a round (JSR 107, Cache).
-use Rattle.std.specs.Prelude.{◌≡◌, ℕ, ℤ, ◌+◌, ◌<◌, ◌≤◌, nat_le, List, [], ◌∷◌, ◌++◌, length, drop, Option, Some, None, slice_get, slice_index_or, if◌then◌else◌}
+use Rattle.std.specs.Prelude.{◌≡◌, ℕ, ℤ, ◌+◌, nat_le, List, [], ◌∷◌, ◌++◌, length, drop, Option, Some, None, slice_index_or, if◌then◌else◌}
 use Rattle.jtypes.specs.declared.refusal.Refusal.{Refusal}
 use Rattle.jtypes.specs.declared.refusal.Refusal.TheVariants as refusal
 use Rattle.jtypes.specs.declared.types.Arg.{Arg}
@@ -13,17 +13,14 @@ use Rattle.stripe.specs.History as call
 use Rattle.stripe.specs.declared.call.Reply.{Reply as Answer}
 use Rattle.stripe.specs.declared.call.Reply.TheVariants as answer
 use Rattle.invokeall.specs.Collected.{different, invocations}
-use Rattle.wire.specs.Requests.{Request, Define, Put, Get, Remove, Contains, Invoke, InvokeAll}
+use Rattle.wire.specs.Requests.{Request, Define, Put, Get, Remove, Contains, Invoke, InvokeAll, Version, Forget}
 use Rattle.wire.specs.declared.reply.Denial.TheVariants.{UnknownClass, NoMemory, TooManyClasses, TooManyJobs}
 use Rattle.wire.specs.declared.reply.JobOutcome.{JobOutcome}
 use Rattle.wire.specs.declared.reply.JobOutcome.TheVariants as job
 use Rattle.wire.specs.declared.reply.Reply.{Reply}
 use Rattle.wire.specs.declared.reply.Reply.TheVariants as reply
 use Rattle.jtypes.specs.Profile.{Third}
-
--- The maximum number of classes of a stream.
-abbrev pub most_classes : ℕ
-most_classes = 4096
+use Rattle.serve.specs.Classes.{Classes, class_at, without, HasRoom, IsFull}
 
 -- The maximum number of jobs of a round.
 abbrev pub most_jobs : ℕ
@@ -73,24 +70,27 @@ pub record IsDefined (bytes : List ℕ) (n : ℕ) (c : Class) (r : Reply) : Type
   pub bounds_are : (j : ℕ) → IsProcessOf c j → AreBounds c j bounds
   pub reply : r ≡ reply.Defined n bounds.steps bounds.words
 
--- `Adds` holds if a request adds this part to a round with `at` jobs, and leaves these accepted classes. A `RoundEnd` adds none.
-pub data Adds (classes : List Class) (at : ℕ) : Request → Part → List Class → Type 0 where
-  defines : (bytes : List ℕ) (c : Class) (r : Reply) → length classes < most_classes → IsDefined bytes (length classes) c r
-      → Adds classes at (Define bytes) (told r) (classes ++ c ∷ [])
-  refuses : (bytes : List ℕ) (r : Refusal) → length classes < most_classes → IsRefused Third bytes r → Adds classes at (Define bytes) (told (reply.Refused r)) classes
-  lacks_memory : (bytes : List ℕ) → length classes < most_classes → Adds classes at (Define bytes) (told (reply.Refused refusal.NoMemory)) classes
-  too_many : (bytes : List ℕ) → most_classes ≤ length classes → Adds classes at (Define bytes) (told (reply.Denied TooManyClasses)) classes
+-- `Adds` holds if a request adds this part to a round with `at` jobs, and leaves these classes. A `RoundEnd` adds none.
+pub data Adds (classes : Classes) (at : ℕ) : Request → Part → Classes → Type 0 where
+  defines : (bytes : List ℕ) (c : Class) (r : Reply) → HasRoom classes → IsDefined bytes (length classes) c r
+      → Adds classes at (Define bytes) (told r) (classes ++ Some c ∷ [])
+  refuses : (bytes : List ℕ) (r : Refusal) → HasRoom classes → IsRefused Third bytes r → Adds classes at (Define bytes) (told (reply.Refused r)) classes
+  lacks_memory : (bytes : List ℕ) → HasRoom classes → Adds classes at (Define bytes) (told (reply.Refused refusal.NoMemory)) classes
+  too_many : (bytes : List ℕ) → IsFull classes → Adds classes at (Define bytes) (told (reply.Denied TooManyClasses)) classes
   puts : (key value : ℤ) → Adds classes at (Put key value) (one at (call.Put key value)) classes
   gets : (key : ℤ) → Adds classes at (Get key) (one at (call.Get key)) classes
   removes : (key : ℤ) → Adds classes at (Remove key) (one at (call.Remove key)) classes
   looks : (key : ℤ) → Adds classes at (Contains key) (one at (call.Contains key)) classes
-  invokes : (n : ℕ) (key : ℤ) (args : List Arg) → Adds classes at (Invoke n key args) (of_class (slice_get classes n) (λ c. one at (call.Invoke c key args))) classes
-  invokes_all : (n : ℕ) (keys : List ℤ) (args : List Arg) → Adds classes at (InvokeAll n keys args) (of_class (slice_get classes n) (λ c. each at (different keys) args c)) classes
+  invokes : (n : ℕ) (key : ℤ) (args : List Arg) → Adds classes at (Invoke n key args) (of_class (class_at classes n) (λ c. one at (call.Invoke c key args))) classes
+  invokes_all : (n : ℕ) (keys : List ℤ) (args : List Arg) → Adds classes at (InvokeAll n keys args) (of_class (class_at classes n) (λ c. each at (different keys) args c)) classes
+  tells_version : Adds classes at Version (told (reply.Version 2)) classes
+  forgets : (n : ℕ) (c : Class) → class_at classes n ≡ Some c → Adds classes at (Forget n) (told reply.Done) (without n classes)
+  forgets_none : (n : ℕ) → class_at classes n ≡ None → Adds classes at (Forget n) (told (reply.Denied UnknownClass)) classes
 
 -- `Gathers` holds if these are the works of a round's requests so far, the calls of its jobs, and the accepted classes.
-pub data Gathers (first : List Class) : List Request → List Work → List Call → List Class → Type 0 where
+pub data Gathers (first : Classes) : List Request → List Work → List Call → Classes → Type 0 where
   none : Gathers first [] [] [] first
-  more : (requests : List Request) (works : List Work) (calls : List Call) (now later : List Class) (r : Request) (p : Part) → Gathers first requests works calls now
+  more : (requests : List Request) (works : List Work) (calls : List Call) (now later : Classes) (r : Request) (p : Part) → Gathers first requests works calls now
       → Adds now (length calls) r p later → Gathers first (requests ++ r ∷ []) (works ++ p.work ∷ []) (calls ++ p.calls) later
 
 -- ---- replies

@@ -28,6 +28,10 @@ pub enum Work<'r> {
     Defined { class: u32, steps: u32, words: u32 },
     Refused(Refusal),
     Denied(Denial),
+    /// The number of the protocol.
+    Version,
+    /// A class was forgotten.
+    Forgotten,
     /// The answer to the job with this index.
     Job(u32),
     /// The answers to the jobs from this index on, one for each of the keys.

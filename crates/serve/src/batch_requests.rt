@@ -1,76 +1,26 @@
 //! Adding requests to a round.
 
-ghost use Rattle.std.specs.Prelude.{◌≡◌, ◌≢◌, ◌≤◌, ℕ, [], length, OnOk, Some, None, IfSome, IfNone, slice_get};
-ghost use Rattle.wire.specs.Requests.{with_args, Define, Invoke, InvokeAll, RoundEnd};
-ghost use Rattle.serve.specs.Rounds.{Adds, part};
-ghost use Rattle.serve.specs.Kept.{AreOf, HasFew, classes_of, work_of, Adding};
+ghost use Rattle.std.specs.Prelude.{◌≢◌, ◌≤◌, length, OnOk};
+ghost use Rattle.wire.specs.Requests.{with_args, Invoke, InvokeAll, RoundEnd};
+ghost use Rattle.serve.specs.Kept.{AreOf, HasFew, classes_of, Adding};
 
 use crate::batch::{
     Batch, Work, contains, get, many_jobs, one_invocation, push_call, put, remove, tell,
 };
+use crate::classes::{class_at, define, forget};
 use crate::context::RoundSource;
-use jtypes::{Arg, Refusal};
-use registry::{ClassId, Registry};
-use std::alloc::{AllocError, Global};
+use jtypes::Arg;
+use registry::ClassId;
+use std::alloc::AllocError;
 use std::sync::Wait;
-use verify::Verified;
 use wire::{Denial, Request};
-
-/// The maximum number of classes of a stream.
-const MOST_CLASSES: usize = 4096;
-
-/// Verifies a class file and defines its class. The result has the class's number and bounds, or the refusal or denial.
-fn define<T: Wait>(
-    rt: &T,
-    alloc: Global,
-    registry: &Registry,
-    ids: &mut Vec<ClassId>,
-    bytes: &[u8],
-) -> Work<'static>
-    requires { AreOf registry.now ids.old.items }
-    ensures adds { (at : ℕ) → Adds (classes_of ids.old.items) at (Define bytes.now) (part (work_of result) []) (classes_of ids.new.items) }
-    ensures known { AreOf registry.now ids.new.items }
-{
-    let count = ids.len();
-    if count >= MOST_CLASSES {
-        return Work::Denied(Denial::TooManyClasses);
-    }
-    if ids.reserve(1).is_err() {
-        return Work::Refused(Refusal::NoMemory);
-    }
-    match registry.define(rt, alloc, bytes) {
-        Ok(id) => {
-            let bounds = registry.class(&id).bounds();
-            ids.push_reserved(id);
-            Work::Defined {
-                class: count as u32,
-                steps: bounds.steps,
-                words: bounds.words,
-            }
-        }
-        Err(refusal) => Work::Refused(refusal),
-    }
-}
-
-/// Returns the accepted class with this number, or none.
-fn class_at<'r>(registry: &'r Registry, ids: &[ClassId], class: usize) -> Option<&'r Verified>
-    requires { AreOf registry.now ids.now }
-    ensures some { IfSome result (λ c. slice_get (classes_of ids.now) class ≡ Some c.now) }
-    ensures none { IfNone result (slice_get (classes_of ids.now) class ≡ None) }
-{
-    if class < ids.len() {
-        Some(registry.class(&ids[class]))
-    } else {
-        None
-    }
-}
 
 /// Adds an invocation of the class with this number, on this key with these arguments, to the round.
 /// It is denied with `UnknownClass` if no accepted class has the number.
 #[inline(always)]
 pub fn add_invoke<'r>(
     source: &RoundSource<'r>,
-    ids: &[ClassId],
+    ids: &[Option<ClassId>],
     plan: &mut Batch<'r>,
     class: usize,
     key: &i64,
@@ -88,7 +38,7 @@ pub fn add_invoke<'r>(
 
 fn add_invoke_all<'r>(
     source: &RoundSource<'r>,
-    ids: &[ClassId],
+    ids: &[Option<ClassId>],
     plan: &mut Batch<'r>,
     class: usize,
     keys: &[i64],
@@ -108,7 +58,7 @@ fn add_invoke_all<'r>(
 pub fn add<'r, T: Wait>(
     rt: &T,
     source: &RoundSource<'r>,
-    ids: &mut Vec<ClassId>,
+    ids: &mut Vec<Option<ClassId>>,
     plan: &mut Batch<'r>,
     request: Request,
     args: &[Arg],
@@ -125,7 +75,7 @@ pub fn add<'r, T: Wait>(
 fn add_behind<'r, T: Wait>(
     rt: &T,
     source: &RoundSource<'r>,
-    ids: &mut Vec<ClassId>,
+    ids: &mut Vec<Option<ClassId>>,
     plan: &mut Batch<'r>,
     request: &Request,
     args: &[Arg],
@@ -159,5 +109,10 @@ fn add_behind<'r, T: Wait>(
             )
         }
         Request::RoundEnd => Ok(()),
+        Request::Version => tell(plan, Work::Version),
+        Request::Forget { class } => {
+            let work = forget(ids, *class as usize);
+            tell(plan, work)
+        }
     }
 }

@@ -18,11 +18,11 @@ pub struct Server<'h, T, G, L> {
     pub loader: &'h L,
 }
 
-/// The state that a round passes to the next one: the classes that the stream defined, by number,
+/// The state that a round passes to the next one: the classes that the stream defined and didn't forget, by number,
 /// the size of the previous round, and the workspaces of the workers.
 #[derive(Drop)]
 pub struct StreamState {
-    pub ids: Vec<ClassId>,
+    pub ids: Vec<Option<ClassId>>,
     pub room: Room,
     pub workspaces: WorkspacePool,
 }

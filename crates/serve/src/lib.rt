@@ -3,6 +3,7 @@
 
 mod batch;
 mod batch_requests;
+mod classes;
 mod context;
 mod fault;
 mod jobs;
@@ -15,7 +16,7 @@ mod settings;
 mod stream;
 
 pub use fault::ServeFault;
-pub use laws::cut_streams_go_on;
+pub use laws::{cut_streams_go_on, protocol_1_forgets_no_class};
 pub use settings::Settings;
 pub use stream::serve;
 pub use workers::STEPS_PER_WORKER;

@@ -31,8 +31,8 @@ pub fn read_round<'r, T: Wait, R: Ahead, G, L>(
     reader: &mut Counted<R>,
 ) -> Result<Option<Batch<'r>>, ServeFault>
     requires { AreOf server.now.registry.now state.old.ids.items }
-    ensures ok { IfOk result (λ round. RoundRead (R.remaining reader.old.inner) (R.remaining reader.new.inner) (classes_of state.old.ids.items) (classes_of state.new.ids.items) round) }
-    ensures err { IfErr result (λ e. IsBroken (R.remaining reader.old.inner) (R.remaining reader.new.inner) e) }
+    ensures ok { IfOk result (λ round. RoundRead server.now.settings.protocol (R.remaining reader.old.inner) (R.remaining reader.new.inner) (classes_of state.old.ids.items) (classes_of state.new.ids.items) round) }
+    ensures err { IfErr result (λ e. IsBroken server.now.settings.protocol (R.remaining reader.old.inner) (R.remaining reader.new.inner) e) }
     ensures end { result ≡ Err ServeFault.Truncated → IsAtEnd (R.remaining reader.new.inner) }
     ensures counted { ReadsAreCounted result reader.old reader.new }
     ensures known { AreOf server.now.registry.now state.new.ids.items }
@@ -53,7 +53,7 @@ pub fn read_round<'r, T: Wait, R: Ahead, G, L>(
             add_invoke(&source, ids, &mut plan, class, key, args.as_slice())?;
             continue;
         }
-        match read_request(alloc, reader, &mut args)? {
+        match read_request(alloc, server.settings.protocol, reader, &mut args)? {
             Some(request) => {
                 if is_end(&request) {
                     state.room = room_of(&plan);

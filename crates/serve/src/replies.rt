@@ -103,6 +103,8 @@ fn reply_to(alloc: Global, work: &Work<'_>, answers: &[JobReply]) -> Result<Repl
         }),
         Work::Refused(refusal) => Ok(Reply::Refused(refusal)),
         Work::Denied(denial) => Ok(Reply::Denied(denial)),
+        Work::Version => Ok(Reply::Version(2)),
+        Work::Forgotten => Ok(Reply::Done),
         Work::Job(at) => Ok(job_reply(answer_at(answers, at as usize))),
         Work::JobForEach(at, keys) => {
             let list = results(alloc, answers_from(answers, at as usize), keys.items)?;

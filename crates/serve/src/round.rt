@@ -73,8 +73,8 @@ pub fn one_round<T: Threads + Wait + Sync, R: Ahead, W: Write, G: Gate + Sync, L
 ) -> Result<Option<Tables>, ServeFault>
     requires known { AreOf server.now.registry.now state.old.ids.items }
     requires workers { server.now.settings.workers ≤ 16 }
-    ensures ok { IfOk result (λ left. RoundServed L.ASKS (L.gives server.now.loader.now) (R.remaining reader.old.inner) (R.remaining reader.new.inner) (W.contents writer.old.inner) (W.contents writer.new.inner) (stand (classes_of state.old.ids.items) (entry_among tables)) (classes_of state.new.ids.items) left) }
-    ensures err { IfErr result (λ e. RoundFailed L.ASKS (L.gives server.now.loader.now) (R.remaining reader.old.inner) (R.remaining reader.new.inner) (W.contents writer.old.inner) (W.contents writer.new.inner) (stand (classes_of state.old.ids.items) (entry_among tables)) e) }
+    ensures ok { IfOk result (λ left. RoundServed server.now.settings.protocol L.ASKS (L.gives server.now.loader.now) (R.remaining reader.old.inner) (R.remaining reader.new.inner) (W.contents writer.old.inner) (W.contents writer.new.inner) (stand (classes_of state.old.ids.items) (entry_among tables)) (classes_of state.new.ids.items) left) }
+    ensures err { IfErr result (λ e. RoundFailed server.now.settings.protocol L.ASKS (L.gives server.now.loader.now) (R.remaining reader.old.inner) (R.remaining reader.new.inner) (W.contents writer.old.inner) (W.contents writer.new.inner) (stand (classes_of state.old.ids.items) (entry_among tables)) e) }
     ensures end { result ≡ Err ServeFault.Truncated → IsAtEnd (R.remaining reader.new.inner) }
     ensures reads { ReadsAreCounted result reader.old reader.new }
     ensures writes { WritesAreCounted result writer.old writer.new }

@@ -1,5 +1,7 @@
 //! The settings of a server.
 
+use wire::Protocol;
+
 /// The number of workers of a round, and the number of stripes of entries. Without workers the calls of a round run one after another.
 ///
 /// A round has one worker for each `share` instructions of its estimated cost, at least one and at most `workers`.
@@ -11,4 +13,5 @@ pub struct Settings {
     pub stripes: usize,
     /// With 0 each round has all workers.
     pub share: u32,
+    pub protocol: Protocol,
 }

@@ -42,9 +42,9 @@ pub fn serve<
     gate: &G,
     loader: &L,
 ) -> Result<(), ServeFault>
-    ensures served { OnOk result (TookAndGave (R.remaining reader.old.inner) (R.remaining reader.new.inner) (W.contents writer.old.inner) (W.contents writer.new.inner) (IsServed L.ASKS (L.gives loader.now))) }
+    ensures served { OnOk result (TookAndGave (R.remaining reader.old.inner) (R.remaining reader.new.inner) (W.contents writer.old.inner) (W.contents writer.new.inner) (IsServed settings.protocol L.ASKS (L.gives loader.now))) }
     ensures whole { OnOk result (IsAtEnd (R.remaining reader.new.inner)) }
-    ensures cut { IfErr result (λ fault. TookAndGave (R.remaining reader.old.inner) (R.remaining reader.new.inner) (W.contents writer.old.inner) (W.contents writer.new.inner) (λ taken given. EndsEarly L.ASKS (L.gives loader.now) taken given fault)) }
+    ensures cut { IfErr result (λ fault. TookAndGave (R.remaining reader.old.inner) (R.remaining reader.new.inner) (W.contents writer.old.inner) (W.contents writer.new.inner) (λ taken given. EndsEarly settings.protocol L.ASKS (L.gives loader.now) taken given fault)) }
     ensures truncated { result ≡ Err ServeFault.Truncated → IsAtEnd (R.remaining reader.new.inner) }
     ensures reads { ReadsAreCounted result reader.old reader.new }
     ensures writes { WritesAreCounted result writer.old writer.new }
@@ -82,9 +82,9 @@ fn stream<T: Threads + Wait + Sync, R: Ahead, W: Write, G: Gate + Sync, L: Loade
 ) -> Result<(), ServeFault>
     requires empty { (k : ℤ) → entry_among tables k ≡ None }
     requires workers { server.now.settings.workers ≤ 16 }
-    ensures served { OnOk result (TookAndGave (R.remaining reader.old.inner) (R.remaining reader.new.inner) (W.contents writer.old.inner) (W.contents writer.new.inner) (IsServed L.ASKS (L.gives server.now.loader.now))) }
+    ensures served { OnOk result (TookAndGave (R.remaining reader.old.inner) (R.remaining reader.new.inner) (W.contents writer.old.inner) (W.contents writer.new.inner) (IsServed server.now.settings.protocol L.ASKS (L.gives server.now.loader.now))) }
     ensures whole { OnOk result (IsAtEnd (R.remaining reader.new.inner)) }
-    ensures cut { IfErr result (λ fault. TookAndGave (R.remaining reader.old.inner) (R.remaining reader.new.inner) (W.contents writer.old.inner) (W.contents writer.new.inner) (λ taken given. IsCutShort L.ASKS (L.gives server.now.loader.now) taken given fault)) }
+    ensures cut { IfErr result (λ fault. TookAndGave (R.remaining reader.old.inner) (R.remaining reader.new.inner) (W.contents writer.old.inner) (W.contents writer.new.inner) (λ taken given. IsCutShort server.now.settings.protocol L.ASKS (L.gives server.now.loader.now) taken given fault)) }
     ensures truncated { result ≡ Err ServeFault.Truncated → IsAtEnd (R.remaining reader.new.inner) }
     ensures reads { ReadsAreCounted result reader.old reader.new }
     ensures writes { WritesAreCounted result writer.old writer.new }

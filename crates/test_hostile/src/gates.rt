@@ -9,7 +9,7 @@ use std::sync::atomic::{AtomicUsize, Ordering};
 use std::test::Fail;
 use std::thread;
 use std::time::{Clock, Duration};
-use wire::Counted;
+use wire::{Counted, Protocol};
 
 /// The number of jobs, each on a different stripe.
 const JOBS: usize = 16;
@@ -78,6 +78,7 @@ fn sixteen_stripes_work_at_once(rt: HostRuntime) -> Result<(), Fail> {
         workers: 16,
         stripes: 16,
         share: 0,
+        protocol: Protocol::One,
     };
     let mut reader = Counted::new(input.as_slice());
     let mut writer = Counted::new(Vec::new(alloc));

@@ -8,7 +8,7 @@ use std::alloc::{AllocError, Global};
 use std::sync::Wait;
 use std::test::Fail;
 use std::thread::Threads;
-use wire::Counted;
+use wire::{Counted, Protocol};
 
 /// Returns a stream of two rounds. The first defines Plus as class 0 and puts 41 on key 7.
 /// The second invokes class 0 on key 7, and by one request on the keys 7 and 8.
@@ -186,6 +186,7 @@ fn is_served<T: Threads + Wait + Sync + AllocGlobal>(
         workers,
         stripes: 16,
         share: 0,
+        protocol: Protocol::One,
     };
     let fault = serve(rt, &mut reader, &mut writer, settings, &NoGate, &NoLoader).err();
     let output = writer.into_inner();

@@ -9,7 +9,7 @@ use std::process::Abort;
 use std::sync::Wait;
 use std::test::Fail;
 use std::thread::Threads;
-use wire::{Counted, Plain};
+use wire::{Counted, Plain, Protocol};
 
 /// A put of 1 on key 5, a round end, a get of key 5, a round end.
 static REQUESTS: [u8; 44] = [
@@ -44,6 +44,7 @@ fn settings(workers: usize) -> Settings {
         workers,
         stripes: 2,
         share: 0,
+        protocol: Protocol::One,
     }
 }
 

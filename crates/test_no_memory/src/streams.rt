@@ -8,7 +8,7 @@ use std::alloc::{AllocError, Global};
 use std::sync::Wait;
 use std::test::Fail;
 use std::thread::Threads;
-use wire::Counted;
+use wire::{Counted, Protocol};
 
 /// The number of keys, which are 0 to 39.
 const KEYS: u8 = 40;
@@ -124,6 +124,7 @@ fn script_is_served<T: Threads + Wait + Sync + AllocGlobal>(
         workers,
         stripes: 4,
         share: 0,
+        protocol: Protocol::One,
     };
     let fault = serve(rt, &mut reader, &mut writer, settings, &NoGate, &NoLoader).err();
     let output = writer.into_inner();

@@ -12,6 +12,7 @@ use Rattle.stripe.specs.declared.call.Reply.TheVariants as told
 use Rattle.stripe.specs.History.{Record, entries_after, key_of}
 use Rattle.stripe.specs.History as call
 use Rattle.wire.specs.Requests.{Request, Put, Get, RoundEnd}
+use Rattle.wire.specs.declared.protocol.Protocol.{Protocol}
 use Rattle.wire.specs.Frames.{IsRequest}
 use Rattle.wire.specs.declared.reply.Denial.TheVariants.{NoMemory}
 use Rattle.wire.specs.declared.reply.Reply.{Reply}
@@ -34,22 +35,22 @@ get = Get (pos 5)
 abbrev requests : List Request
 requests = put ∷ RoundEnd ∷ get ∷ RoundEnd ∷ []
 
-put_is_request : IsRequest put
-put_is_request = record { in_range = (record { sfits = omega arith }, record { sfits = omega arith }); short = omega arith }
+put_is_request : {p : Protocol} → IsRequest p put
+put_is_request = record { known = tt; in_range = (record { sfits = omega arith }, record { sfits = omega arith }); short = omega arith }
 
-get_is_request : IsRequest get
-get_is_request = record { in_range = record { sfits = omega arith }; short = omega arith }
+get_is_request : {p : Protocol} → IsRequest p get
+get_is_request = record { known = tt; in_range = record { sfits = omega arith }; short = omega arith }
 
-end_is_request : IsRequest RoundEnd
-end_is_request = record { in_range = tt; short = omega arith }
+end_is_request : {p : Protocol} → IsRequest p RoundEnd
+end_is_request = record { known = tt; in_range = tt; short = omega arith }
 
-all_requests : AllByRecursion IsRequest requests
+all_requests : {p : Protocol} → AllByRecursion (IsRequest p) requests
 all_requests = (put_is_request, (end_is_request, (get_is_request, (end_is_request, tt))))
 
 text_is : stream ≡ requests_text requests
 text_is = refl
 
-module _ (gives : ℤ → LoadAnswer → Type 0) where
+module _ (p : Protocol) (gives : ℤ → LoadAnswer → Type 0) where
   -- ---- the stream has its answer
 
   -- a call with a reply isn't refused
@@ -99,7 +100,7 @@ module _ (gives : ℤ → LoadAnswer → Type 0) where
     told = refl;
   }
 
-  pub is_served : IsServed false gives stream (answer done value_1)
+  pub is_served : IsServed p false gives stream (answer done value_1)
   is_served = record {
     left = after_get;
     serves = record {
@@ -232,7 +233,7 @@ module _ (gives : ℤ → LoadAnswer → Type 0) where
       some : [] ≡ requests → ⊥
       some e = cc
 
-  pub no_other : OneFront → (output : List ℕ) → IsServed false gives stream output → MayAnswer output
+  pub no_other : OneFront p → (output : List ℕ) → IsServed p false gives stream output → MayAnswer output
   no_other once output i =
       let v = i.serves in
       subst MayAnswer (sym v.written) (both_answered v.answers (one_reading once v.requests requests v.each all_requests (sym v.read ∙ text_is)))

@@ -1,1 +1,2 @@
 pub mod OneStream
+pub mod Versions

@@ -1,6 +1,7 @@
 -- A stream of two rounds, byte by byte: a put of 1 on key 5, and a get of key 5. And the answers to it.
 use Rattle.std.specs.Prelude.{false, ℕ, ℤ, List, [], ◌∷◌, ◌++◌}
 use Rattle.jtypes.specs.declared.loader.LoadAnswer.{LoadAnswer}
+use Rattle.wire.specs.declared.protocol.Protocol.{Protocol}
 use Rattle.serve.specs.Served.{IsServed}
 
 -- a frame is its length in four bytes, the kind of the request or of the reply, and its numbers of eight bytes each
@@ -42,10 +43,10 @@ pub data MayAnswer : List ℕ → Type 0 where
   whole : MayAnswer (answer done value_1)
   put_lacks : MayAnswer (answer lacks_memory no_value)
 
--- `HasItsAnswer gives` holds if the stream is served with the first of these outputs and no loader is asked
-abbrev pub HasItsAnswer : (ℤ → LoadAnswer → Type 0) → Type 0
-HasItsAnswer gives = IsServed false gives stream (answer done value_1)
+-- `HasItsAnswer p gives` holds if the stream is served with the first of these outputs and no loader is asked
+abbrev pub HasItsAnswer : Protocol → (ℤ → LoadAnswer → Type 0) → Type 0
+HasItsAnswer p gives = IsServed p false gives stream (answer done value_1)
 
--- `HasNoOther gives` holds if `MayAnswer` holds of each output that the stream is served with and no loader is asked
-abbrev pub HasNoOther : (ℤ → LoadAnswer → Type 0) → Type 0
-HasNoOther gives = (output : List ℕ) → IsServed false gives stream output → MayAnswer output
+-- `HasNoOther p gives` holds if `MayAnswer` holds of each output that the stream is served with and no loader is asked
+abbrev pub HasNoOther : Protocol → (ℤ → LoadAnswer → Type 0) → Type 0
+HasNoOther p gives = (output : List ℕ) → IsServed p false gives stream output → MayAnswer output

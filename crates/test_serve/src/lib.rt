@@ -7,4 +7,4 @@ mod requests;
 #[cfg(test)]
 mod turned;
 
-pub use laws::one_stream_has_one_answer;
+pub use laws::{one_stream_has_one_answer, versions_have_one_answer};

@@ -2,6 +2,7 @@
 
 mod holding;
 mod meetings;
+mod second;
 mod shared;
 
 use cache::{Gate, NoGate};
@@ -14,7 +15,7 @@ use std::io::{Read, Write};
 use std::sync::Wait;
 use std::test::Fail;
 use std::thread::Threads;
-use wire::{Ahead, Counted, Plain};
+use wire::{Ahead, Counted, Plain, Protocol};
 
 /// How the service of a stream ended: its fault, `None` if it has none, and the bytes of the replies.
 #[derive(Drop)]
@@ -33,6 +34,7 @@ fn serve_all<T: Threads + Wait + Sync + AllocGlobal>(
         workers,
         stripes: 16,
         share: 0,
+        protocol: Protocol::One,
     };
     serve_beside(rt, alloc, input, settings, &NoGate)
 }
@@ -161,6 +163,7 @@ static SETTINGS: Settings = Settings {
     workers: 4,
     stripes: 16,
     share: 0,
+    protocol: Protocol::One,
 };
 
 /// Serves a round end from a reader that fails after `end` bytes.

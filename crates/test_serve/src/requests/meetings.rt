@@ -9,6 +9,7 @@ use std::sync::Wait;
 use std::test::Fail;
 use std::thread::Threads;
 use std::time::Clock;
+use wire::Protocol;
 
 /// Appends an invocation of class 0 on a key, with the argument `by`.
 fn invoke(input: &mut Vec<u8>, key: u8, by: u8) -> Result<(), AllocError> {
@@ -51,6 +52,7 @@ fn met<R: Threads + Wait + Clock + Sync + AllocGlobal>(
         workers: 2,
         stripes: 2,
         share,
+        protocol: Protocol::One,
     };
     let ended = serve_beside(rt, alloc, input, settings, &gate);
     (ended.fault, gate.saw(), both_returned(&ended.output))

@@ -12,7 +12,7 @@ use std::sync::Wait;
 use std::test::Fail;
 use std::thread::Threads;
 use std::time::Clock;
-use wire::Counted;
+use wire::{Counted, Protocol};
 
 /// The worker counts with which each stream is served.
 static WORKERS: [usize; 3] = [1, 4, 16];
@@ -35,6 +35,7 @@ fn serve_shared<T: Threads + Wait + Clock + Sync + AllocGlobal, L: Loader + Sync
         workers,
         stripes: 16,
         share: 0,
+        protocol: Protocol::One,
     };
     let (held, other) = if workers > 1 { jobs } else { (NO_JOB, NO_JOB) };
     let gate = Holding::new(rt, held, other);

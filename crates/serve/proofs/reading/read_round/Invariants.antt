@@ -13,7 +13,7 @@ invariant-loop g l = record {
   known : AreOf l.server.registry.now l.state.ids.items;
   kept : StaysCounted l.initial.reader l.reader;
   requests : List Request;
-  are : AreOpen requests;
+  are : AreOpen l.server.settings.protocol requests;
   took : Consumes (g.R.Read.remaining l.initial.reader.inner) (g.R.Read.remaining l.reader.inner) (requests_text requests);
   gathered : Gathers (classes_of l.initial.state.ids.items) requests (works_of l.plan) (calls_of l.plan) (classes_of l.state.ids.items);
 }

@@ -16,5 +16,5 @@ invariant-loop g l = record {
   given : List ℕ;
   took : Consumes (g.R.Read.remaining l.initial.reader.inner) (g.R.Read.remaining l.reader.inner) taken;
   gave : Appends (g.W.Write.contents l.initial.writer.inner) (g.W.Write.contents l.writer.inner) given;
-  serves : Serves g.L.Loader.ASKS (g.L.Loader.gives l.server.loader.now) taken given (stand (classes_of l.state.ids.items) (entry_among l.tables));
+  serves : Serves l.server.settings.protocol g.L.Loader.ASKS (g.L.Loader.gives l.server.loader.now) taken given (stand (classes_of l.state.ids.items) (entry_among l.tables));
 }
