@@ -6,6 +6,7 @@ use clap::{Arg as Word, ArgAction, ArgMatches, Command, Error};
 use jtypes::{Arg, Args};
 use serve::{STEPS_PER_WORKER, Settings};
 use std::alloc::{AllocError, Global};
+use wire::Protocol;
 
 /// The default number of workers of `serve`.
 const WORKERS: usize = 4;
@@ -67,12 +68,13 @@ fn run_form<'a>(alloc: Global) -> Result<Command<'a>, AllocError> {
         .arg(args)
 }
 
-/// `serve [--workers N] [--stripes N] [--load FILE]`
+/// `serve [--workers N] [--stripes N] [--load FILE] [--protocol N]`
 fn serve_form<'a>(alloc: Global) -> Result<Command<'a>, AllocError> {
     command(alloc, "serve")
         .arg(option(alloc, "workers"))?
         .arg(option(alloc, "stripes"))?
-        .arg(option(alloc, "load"))
+        .arg(option(alloc, "load"))?
+        .arg(option(alloc, "protocol"))
 }
 
 /// Returns the grammar of the command line: `check FILE`, `explain FILE`, `run` and `serve`.
@@ -163,12 +165,22 @@ fn count(matches: &ArgMatches<'_>, name: &str, without: usize) -> Option<usize> 
     usize::try_from(number(text)?).ok()
 }
 
+/// Parses the number of a protocol, 1 or 2, or returns protocol 1 if the option is absent.
+fn protocol_of(matches: &ArgMatches<'_>) -> Option<Protocol> {
+    match count(matches, "protocol", 1)? {
+        1 => Some(Protocol::One),
+        2 => Some(Protocol::Two),
+        _ => None,
+    }
+}
+
 /// Parses the settings of `serve`.
 fn settings_of(matches: &ArgMatches<'_>) -> Option<Settings> {
     Some(Settings {
         workers: count(matches, "workers", WORKERS)?,
         stripes: count(matches, "stripes", STRIPES)?,
         share: STEPS_PER_WORKER,
+        protocol: protocol_of(matches)?,
     })
 }
 
