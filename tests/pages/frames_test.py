@@ -5,7 +5,7 @@ import tempfile
 import unittest
 
 from page import TOP, rows_of
-from protocol_test import session
+from protocol_test import sessions
 
 sys.path[:0] = [os.path.join(TOP, "protocol"), os.path.join(TOP, "examples")]
 import frames
@@ -24,7 +24,7 @@ def words_of(row, folder):
 
 class Golden(unittest.TestCase):
     def test_the_session_of_the_page_has_no_others(self):
-        for side, text in zip((golden.requests(), golden.replies()), session()):
+        for side, text in zip((golden.requests(), golden.replies()), sessions()[0]):
             known = {row.frame: row.line for row in side}
             lines = [known.get(it, it.hex(" ")) for it in golden.frames_of(text)]
             self.assertGreater(len(lines), 8)

@@ -9,9 +9,13 @@ from page import TOP, text_of
 PROGRAM = os.environ.get("JENTRY_PROGRAM")
 
 
-def session():
-    """Returns the bytes that the client sends and those that the server sends. The page has them as pairs of digits, and files by their names."""
-    block = re.search(r"```\n(> 00 00 .*?)```", text_of("docs/PROTOCOL.md"), re.S)[1]
+def sessions():
+    """Returns the bytes that the client sends and those that the server sends, of each session on the page."""
+    return [sides_of(block) for block in re.findall(r"```\n(> 00 00 .*?)```", text_of("docs/PROTOCOL.md"), re.S)]
+
+
+def sides_of(block):
+    """Returns the bytes of the client and those of the server. The page has them as pairs of digits, and files by their names."""
     sides = {">": b"", "<": b""}
     for line in block.rstrip("\n").split("\n"):
         words = re.split(r" {3,}", line[1:].lstrip())[0].split()
@@ -26,12 +30,10 @@ def session():
 
 @unittest.skipUnless(PROGRAM, "there is no program (bin/build makes it)")
 class Session(unittest.TestCase):
-    def test_the_bytes_are_these(self):
-        sent, wanted = session()
-        self.assertGreater(len(sent), 800)
+    def holds(self, sent, wanted, *options):
         for workers in ("0", "1", "4"):
             ran = subprocess.run(
-                [PROGRAM, "serve", "--workers", workers],
+                [PROGRAM, "serve", "--workers", workers, *options],
                 input=sent,
                 stdout=subprocess.PIPE,
                 stderr=subprocess.PIPE,
@@ -39,6 +41,14 @@ class Session(unittest.TestCase):
             )
             self.assertEqual((ran.returncode, ran.stderr.decode()), (0, ""))
             self.assertEqual(ran.stdout.hex(" "), wanted.hex(" "))
+
+    def test_the_bytes_are_these(self):
+        first, second = sessions()
+        self.assertGreater(len(first[0]), 800)
+        self.holds(*first)
+        self.holds(*first, "--protocol", "2")
+        self.assertGreater(len(second[0]), 15)
+        self.holds(*second, "--protocol", "2")
 
 
 if __name__ == "__main__":

@@ -17,7 +17,7 @@ ADVICE = "crates/explain_text/src/advice.rt"
 LIMITS = {
     "LONGEST": ("crates/wire/src/reading.rt", r"const LONGEST: u32 = ([\d_]+);"),
     "MOST_JOBS": ("crates/serve/src/batch.rt", r"pub const MOST_JOBS: usize = ([\d_]+);"),
-    "MOST_CLASSES": ("crates/serve/src/batch_requests.rt", r"const MOST_CLASSES: usize = ([\d_]+);"),
+    "MOST_CLASSES": ("crates/serve/src/classes.rt", r"const MOST_CLASSES: usize = ([\d_]+);"),
     "MOST_ARGUMENTS": ("crates/jtypes/src/args.rt", r"ensures few \{ length self\.now ≤ (\d+)\)? \}"),
 }
 """Where the server's sources have each limit."""
