@@ -111,6 +111,7 @@ module _ (gives : ℤ → LoadAnswer → Type 0) where
         (rounds.more [] [] [] [] [] Version (told (reply.Version 2)) rounds.none rounds.tells_version) (rounds.forgets_none 0 refl);
     done = record {
       count = refl;
+      refused = λ k c is none. absurd (cc);
       history = [];
       is = record { legal = tt; given = All-nil (λ (r : Record). IsGiven gives (key_of r.call) r.asked); once = IsPermutation-refl []; left = λ k. refl };
     };
