@@ -23,13 +23,13 @@ returns-in-Ok-clause-exact g c =
     let args : List Arg = c.read_frame.new.args.items in
     let (bytes, took, gives) = c.in-Ok.ensures.bytes in
     exact c.args.protocol _ _ (big_bytes 4 n ++ bytes) (next_asked args c.known.result) (Consumes-trans _ _ _ _ _ o.0 took)
-        (admitted c.args.protocol _ (big_bytes 4 n ++ bytes) (with_args args c.in-Ok.request) (next_asked args c.known.result) gives (c.known.ensures args))
+    (admitted c.args.protocol _ (big_bytes 4 n ++ bytes) (with_args args c.in-Ok.request) (next_asked args c.known.result) gives (c.known.ensures args))
 
 pub returns-in-Ok-clause-counted : goal.returns-in-Ok-clause-counted
 returns-in-Ok-clause-counted g c =
     let args : List Arg = c.read_frame.new.args.items in
     counts_admitted c.args.protocol (with_args args c.in-Ok.request) args c.known.result c.args.reader.now c.read_frame.new.reader (c.known.ensures args)
-        (stays_on c.args.reader.now c.read_length.new.reader c.read_frame.new.reader c.in-Ok-Some.ensures.counted c.in-Ok.ensures.counted)
+    (stays_on c.args.reader.now c.read_length.new.reader c.read_frame.new.reader c.in-Ok-Some.ensures.counted c.in-Ok.ensures.counted)
 
 pub returns-in-Err-read_frame-clause-bytes : goal.returns-in-Err-read_frame-clause-bytes
 returns-in-Err-read_frame-clause-bytes g c =
