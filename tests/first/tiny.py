@@ -54,6 +54,9 @@ def make(folder):
     for name in ("bin", "packaging"):
         shutil.copytree(f"{TOP}/{name}", f"{folder}/{name}", ignore=shutil.ignore_patterns("__pycache__"))
     shutil.copyfile(f"{TOP}/HANDLES", f"{folder}/HANDLES")
+    # The module by which bin/test names failed tests.
+    os.makedirs(f"{folder}/tests/program")
+    shutil.copyfile(f"{TOP}/tests/program/failed.py", f"{folder}/tests/program/failed.py")
     write(f"{folder}/crates.txt", CRATES)
     write(f"{folder}/crates/low/src/lib.rt", LIBRARY)
     write(f"{folder}/crates/jentry/src/main.rt", PROGRAM)
